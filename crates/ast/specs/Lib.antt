@@ -1,0 +1,10 @@
+pub mod Exact
+pub mod Meaning
+pub mod Numbering
+pub mod Placed
+pub mod Program
+pub mod Record
+pub mod References
+pub mod Store
+pub mod Tree
+pub mod View

@@ -1,0 +1,147 @@
+//! What a command line asks for.
+
+ghost use Rattle.std.specs.Prelude.{◌≡◌, IfOk, codes, option_map};
+ghost use Rattle.clap.specs.Words.{first_of, found_of, one_of, rows_of, subcommand_rows_of};
+ghost use Rattle.doac.specs.CommandLine.{HeldIn, Holds, IsFlag, IsNumber};
+
+use crate::explain::is_explained;
+use clap::ArgMatches;
+use clap::error::ErrorKind;
+use std::alloc::AllocError;
+use thiserror::Error;
+
+/// What the command line asks for.
+#[derive(Clone, Copy, Debug, PartialEq, Eq)]
+pub enum Command<'a> {
+    /// `check F`: whether the source of this file is in the profile.
+    Check(&'a str),
+    /// `seq F [INPUT] [--store]`: the run of the source of a file, on the input of another one, if
+    /// there is one; and whether the store is wanted.
+    Seq(&'a str, Option<&'a str>, bool),
+    /// `explain N`: what this refusal or fault means.
+    Explain(u8),
+}
+
+/// Why the words of a command line name no command.
+#[derive(Debug, Drop, Error)]
+pub enum LineFault {
+    /// They ask for help, which is no mistake.
+    #[error("{0}")]
+    Help(clap::Error),
+    /// They are none of the program's command lines.
+    #[error("{0}")]
+    Mistake(clap::Error),
+    /// They hold no command.
+    #[error("error: no command was given\n")]
+    NoCommand,
+    /// They ask to explain a number that is no refusal's and no fault's.
+    #[error("error: no refusal and no fault has this number\n\nUsage: doac explain <N>\n\nFor more information, try '--help'.\n")]
+    NoSuchNumber,
+    /// Memory was refused.
+    #[error("out of memory\n")]
+    Memory,
+}
+
+impl LineFault {
+    ghost use Rattle.std.specs.Prelude.{◌≡◌};
+    ghost use Rattle.doac.specs.CommandLine.{line_status};
+
+    /// The exit status: 0 for help, 3 for a mistake, 5 for memory.
+    pub fn status(&self) -> u8
+        ensures { result ≡ line_status self.now }
+    {
+        match self {
+            LineFault::Help(_) => 0,
+            LineFault::Mistake(_) => 3,
+            LineFault::NoCommand => 3,
+            LineFault::NoSuchNumber => 3,
+            LineFault::Memory => 5,
+        }
+    }
+}
+
+impl From<AllocError> for LineFault {
+    fn from(_: AllocError) -> Self {
+        LineFault::Memory
+    }
+}
+
+impl From<clap::Error> for LineFault {
+    fn from(error: clap::Error) -> Self {
+        match error.kind() {
+            ErrorKind::DisplayHelp => LineFault::Help(error),
+            ErrorKind::OutOfMemory => LineFault::Memory,
+            _ => LineFault::Mistake(error),
+        }
+    }
+}
+
+/// The command that the matches of a command line hold.
+pub fn held<'a>(matches: &ArgMatches<'a>) -> Result<Command<'a>, LineFault>
+    ensures { IfOk result (λ command. HeldIn (subcommand_rows_of matches.now) command) }
+{
+    match matches.subcommand() {
+        Some((name, given)) => named(name, given),
+        None => Err(LineFault::NoCommand),
+    }
+}
+
+fn named<'a>(name: &str, given: &ArgMatches<'a>) -> Result<Command<'a>, LineFault>
+    ensures { IfOk result (λ command. Holds name.now (rows_of (found_of given.now)) command) }
+{
+    match name {
+        "check" => checking(given),
+        "seq" => running(given),
+        "explain" => explaining(given),
+        _ => Err(LineFault::NoCommand),
+    }
+}
+
+fn text<'a>(given: &ArgMatches<'a>, id: &str) -> Option<&'a str>
+    ensures { option_map (λ s. s.now) result ≡ first_of id.now (rows_of (found_of given.now)) }
+{
+    given.get_str(id)
+}
+
+fn flag(given: &ArgMatches<'_>, id: &str) -> bool
+    ensures { IsFlag result (one_of id.now (rows_of (found_of given.now))) }
+{
+    given.get_flag(id)
+}
+
+fn checking<'a>(given: &ArgMatches<'a>) -> Result<Command<'a>, LineFault>
+    ensures { IfOk result (λ command. Holds (codes "check") (rows_of (found_of given.now)) command) }
+{
+    match text(given, "F") {
+        Some(source) => Ok(Command::Check(source)),
+        None => Err(LineFault::NoCommand),
+    }
+}
+
+fn running<'a>(given: &ArgMatches<'a>) -> Result<Command<'a>, LineFault>
+    ensures { IfOk result (λ command. Holds (codes "seq") (rows_of (found_of given.now)) command) }
+{
+    match text(given, "F") {
+        Some(source) => Ok(Command::Seq(source, text(given, "INPUT"), flag(given, "store"))),
+        None => Err(LineFault::NoCommand),
+    }
+}
+
+fn explaining<'a>(given: &ArgMatches<'a>) -> Result<Command<'a>, LineFault>
+    ensures { IfOk result (λ command. Holds (codes "explain") (rows_of (found_of given.now)) command) }
+{
+    match text(given, "N") {
+        Some(number) => Ok(Command::Explain(explained(number)?)),
+        None => Err(LineFault::NoCommand),
+    }
+}
+
+/// The number of a text, if it is that of a refusal or a fault.
+fn explained(text: &str) -> Result<u8, LineFault>
+    ensures { IfOk result (λ number. IsNumber number text.now) }
+{
+    match text.parse::<u8>() {
+        Ok(number) if is_explained(number) => Ok(number),
+        _ => Err(LineFault::NoSuchNumber),
+    }
+}

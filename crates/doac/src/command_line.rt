@@ -1,0 +1,84 @@
+//! The command line, read by clap.
+
+ghost use Rattle.std.specs.Prelude.{◌≡◌, IfOk, false, map};
+ghost use Rattle.clap.specs.Words.{app_of, rule_of};
+ghost use Rattle.doac.specs.CommandLine.{Names, doac, input, number, source, store};
+
+use crate::command::{LineFault, held};
+use clap::{Arg, ArgAction};
+use std::alloc::{AllocError, Global};
+use std::convert::AsStr;
+
+fn source<'a>(alloc: Global) -> Arg<'a>
+    ensures rule { rule_of result ≡ source }
+    ensures local { result.global ≡ false }
+{
+    Arg::new(alloc, "F")
+        .required(true)
+        .action(ArgAction::Set)
+        .help("The file of the FORTRAN 77 source")
+}
+
+fn input<'a>(alloc: Global) -> Arg<'a>
+    ensures rule { rule_of result ≡ input }
+    ensures local { result.global ≡ false }
+{
+    Arg::new(alloc, "INPUT")
+        .action(ArgAction::Set)
+        .help("The file of the input; without it the input is empty")
+}
+
+fn store<'a>(alloc: Global) -> Arg<'a>
+    ensures rule { rule_of result ≡ store }
+    ensures local { result.global ≡ false }
+{
+    Arg::new(alloc, "store")
+        .long("store")
+        .action(ArgAction::SetTrue)
+        .help("Writes each variable's value after a run without a fault")
+}
+
+fn number<'a>(alloc: Global) -> Arg<'a>
+    ensures rule { rule_of result ≡ number }
+    ensures local { result.global ≡ false }
+{
+    Arg::new(alloc, "N")
+        .required(true)
+        .action(ArgAction::Set)
+        .help("The number behind REFUSED or FAULT")
+}
+
+/// The program's command lines.
+fn parser<'a>(alloc: Global) -> Result<clap::Command<'a>, AllocError>
+    ensures { IfOk result (λ c. app_of c ≡ doac) }
+{
+    let check = clap::Command::new(alloc, "check")
+        .about("Checks a source and writes ACCEPTED or REFUSED")
+        .arg(source(alloc))?;
+    let seq = clap::Command::new(alloc, "seq")
+        .about("Runs a source, one statement after another, and writes what it prints")
+        .arg(source(alloc))?
+        .arg(input(alloc))?
+        .arg(store(alloc))?;
+    let explain = clap::Command::new(alloc, "explain")
+        .about("Explains a refusal or a fault by its number")
+        .arg(number(alloc))?;
+    clap::Command::new(alloc, "doac")
+        .about("Checks and runs FORTRAN 77 programs")
+        .subcommand_required(true)
+        .disable_help_subcommand(true)
+        .subcommand(check)?
+        .subcommand(seq)?
+        .subcommand(explain)
+}
+
+/// Reads a command line, of which the first word is the program's name.
+pub fn command<'a, S: AsStr>(
+    alloc: Global,
+    words: &'a [S],
+) -> Result<crate::command::Command<'a>, LineFault>
+    ensures { IfOk result (Names (map S.text words.entry.now)) }
+{
+    let matches = parser(alloc)?.try_get_matches_from(words)?;
+    held(&matches)
+}

@@ -1,0 +1,23 @@
+//! `doac`: checks and runs FORTRAN 77 programs.
+#![tactic(auto)]
+
+mod command;
+mod command_line;
+mod engines;
+mod explain;
+mod fault;
+mod outcome;
+mod page;
+mod program;
+mod shown;
+mod store;
+mod streams;
+
+use std::process::ExitCode;
+
+fn main(rt: HostRuntime) -> ExitCode {
+    ExitCode::from(program::run(&rt))
+}
+
+#[cfg(test)]
+mod tests;

@@ -1,0 +1,153 @@
+//! What the engines write.
+
+ghost use Rattle.std.specs.Prelude.{◌≡◌, ◌++◌, IfOk, OnOk};
+ghost use Rattle.ast.specs.Program.{program as program_of};
+ghost use Rattle.ast.specs.View.{cells, cells_in};
+ghost use Rattle.doac.specs.Engines.{Checks, Runs, ShowsRun, outcome_of};
+ghost use Rattle.doac.specs.Shown.{EndShown, Extends, accepted, refused, statements};
+
+use crate::fault::EngineFault;
+use crate::outcome::Outcome;
+use crate::shown::{append_accepted, append_fault, append_refused};
+use crate::store::append_store;
+use crate::streams::write_all;
+use ast::{Answer, Cell, End, Line, Program};
+use interpreter::run_seq;
+use profile_check::{Refusal, program};
+use std::alloc::{AllocError, Global};
+use std::io::Write;
+
+/// The text that an engine writes, and its outcome.
+#[derive(Drop)]
+pub struct Page {
+    pub text: Vec<u8>,
+    pub outcome: Outcome,
+}
+
+/// What `check` writes of a source.
+pub fn checked(alloc: Global, source: &[u8]) -> Result<Page, AllocError>
+    ensures { IfOk result (λ page. Checks source.now page.outcome page.text.items) }
+{
+    match program(alloc, source) {
+        Ok(program) => accepted(alloc, &program),
+        Err(Refusal::Refused { number, line }) => refused(alloc, number, line),
+        Err(Refusal::Memory) => Err(AllocError),
+    }
+}
+
+/// What `seq` writes of a source and an input; at Completed with the store where it is wanted.
+pub fn run(alloc: Global, source: &[u8], input: &[u8], store: bool) -> Result<Page, AllocError>
+    ensures { IfOk result (λ page. Runs store source.now input.now page.outcome page.text.items) }
+{
+    match program(alloc, source) {
+        Ok(program) => completed(alloc, &program, input, store),
+        Err(Refusal::Refused { number, line }) => refused(alloc, number, line),
+        Err(Refusal::Memory) => Err(AllocError),
+    }
+}
+
+/// How many statements a program has, END counted.
+fn statement_count(program: &Program) -> usize
+    ensures { result ≡ statements (program_of program.now).block }
+{
+    program.body.len()
+}
+
+fn accepted(alloc: Global, program: &Program) -> Result<Page, AllocError>
+    ensures { IfOk result (λ page. (page.outcome ≡ Outcome.Completed)
+        × (page.text.items ≡ accepted (program_of program.now).block)) }
+{
+    let mut text = Vec::new(alloc);
+    append_accepted(&mut text, statement_count(program))?;
+    Ok(Page {
+        text,
+        outcome: Outcome::Completed,
+    })
+}
+
+fn refused(alloc: Global, number: u8, line: Line) -> Result<Page, AllocError>
+    ensures { IfOk result (λ page. (page.outcome ≡ Outcome.Refused number)
+        × (page.text.items ≡ refused number line)) }
+{
+    let mut text = Vec::new(alloc);
+    append_refused(&mut text, number, line)?;
+    Ok(Page {
+        text,
+        outcome: Outcome::Refused(number),
+    })
+}
+
+fn completed(
+    alloc: Global,
+    program: &Program,
+    input: &[u8],
+    store: bool,
+) -> Result<Page, AllocError>
+    ensures { IfOk result (λ page. ShowsRun store (program_of program.now) input.now page.outcome page.text.items) }
+{
+    let answer = run_seq(alloc, program, input)?;
+    shown(answer, store)
+}
+
+fn shown(answer: Answer, store: bool) -> Result<Page, AllocError>
+    ensures { IfOk result (λ page. (page.outcome ≡ outcome_of answer.end)
+        × Extends (EndShown store (cells answer.store) answer.end) answer.output.items page.text.items) }
+{
+    let outcome = outcome(answer.end);
+    let mut text = answer.output;
+    let mut cells = answer.store.cells;
+    append_end(&mut text, answer.end, &mut cells, store)?;
+    Ok(Page { text, outcome })
+}
+
+fn outcome(end: End) -> Outcome
+    ensures { result ≡ outcome_of end }
+{
+    match end {
+        End::Done => Outcome::Completed,
+        End::Fault(fault, _) => Outcome::Faulted(fault),
+    }
+}
+
+fn append_end(
+    text: &mut Vec<u8>,
+    end: End,
+    cells: &mut [Cell],
+    store: bool,
+) -> Result<(), AllocError>
+    ensures { OnOk result (Extends (EndShown store (cells_in cells.old) end) text.old.items text.new.items) }
+{
+    match end {
+        End::Fault(fault, line) => append_fault(text, fault, line),
+        End::Done => append_wanted(text, cells, store),
+    }
+}
+
+fn append_wanted(text: &mut Vec<u8>, cells: &mut [Cell], store: bool) -> Result<(), AllocError>
+    ensures { OnOk result (Extends (EndShown store (cells_in cells.old) End.Done) text.old.items text.new.items) }
+{
+    if store {
+        append_store(text, cells)
+    } else {
+        Ok(())
+    }
+}
+
+impl Page {
+    ghost use Rattle.std.specs.Prelude.{◌≡◌, IfOk, IfErr};
+    ghost use Rattle.std.specs.Io.KnownBytes.{Appends};
+    ghost use Rattle.doac.specs.Engines.{AppendsPart, IsWriting};
+
+    /// Writes the text.
+    pub fn write<W: Write>(&self, writer: &mut W) -> Result<Outcome, EngineFault>
+        ensures ok { IfOk result (λ outcome. (outcome ≡ self.now.outcome)
+            × Appends (W.contents writer.old) (W.contents writer.new) self.now.text.items) }
+        ensures err { IfErr result (λ fault. IsWriting fault
+            × AppendsPart (W.contents writer.old) (W.contents writer.new) self.now.text.items) }
+    {
+        match write_all(writer, &self.text) {
+            Ok(()) => Ok(self.outcome),
+            Err(error) => Err(EngineFault::Writing(error)),
+        }
+    }
+}

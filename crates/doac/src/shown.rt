@@ -1,0 +1,69 @@
+//! Lines of standard output.
+
+ghost use Rattle.std.specs.Prelude.{◌≡◌, ◌++◌, OnOk, decimal};
+ghost use Rattle.doac.specs.Shown.{accepted_with, refused, faulted, fault_name, fault_number};
+
+use ast::{Fault, Line};
+use itoa::{Buffer, Integer};
+use std::alloc::AllocError;
+
+/// Appends a number in shortest decimal.
+pub fn append_number<I: Integer>(out: &mut Vec<u8>, number: I) -> Result<(), AllocError>
+    ensures { OnOk result (out.new.items ≡ out.old.items ++ I.text number) }
+{
+    let mut buffer = Buffer::new();
+    out.extend_from_slice(buffer.format(number).as_bytes())
+}
+
+/// Appends the line of a source that is accepted; `statements` counts END.
+pub fn append_accepted(out: &mut Vec<u8>, statements: usize) -> Result<(), AllocError>
+    ensures { OnOk result (out.new.items ≡ out.old.items ++ accepted_with statements) }
+{
+    out.extend_from_slice(b"ACCEPTED STATEMENTS ")?;
+    append_number(out, statements)?;
+    out.extend_from_slice(b" LOOPS 0\n")
+}
+
+/// Appends the line of a source that is refused.
+pub fn append_refused(out: &mut Vec<u8>, number: u8, line: Line) -> Result<(), AllocError>
+    ensures { OnOk result (out.new.items ≡ out.old.items ++ refused number line) }
+{
+    out.extend_from_slice(b"REFUSED ")?;
+    append_number(out, number)?;
+    out.extend_from_slice(b" LINE ")?;
+    append_number(out, line)?;
+    out.extend_from_slice(b"\n")
+}
+
+/// The number of a fault.
+pub fn fault_number(fault: Fault) -> u8
+    ensures { result ≡ fault_number fault }
+{
+    match fault {
+        Fault::Overflow => 1,
+        Fault::ZeroDivisor => 3,
+    }
+}
+
+/// The name of a fault.
+pub fn fault_name(fault: Fault) -> &'static [u8]
+    ensures { result.now ≡ fault_name fault }
+{
+    match fault {
+        Fault::Overflow => b"OVERFLOW",
+        Fault::ZeroDivisor => b"ZERO DIVISOR",
+    }
+}
+
+/// Appends the line of a fault.
+pub fn append_fault(out: &mut Vec<u8>, fault: Fault, line: Line) -> Result<(), AllocError>
+    ensures { OnOk result (out.new.items ≡ out.old.items ++ faulted fault line) }
+{
+    out.extend_from_slice(b"FAULT ")?;
+    append_number(out, fault_number(fault))?;
+    out.extend_from_slice(b" ")?;
+    out.extend_from_slice(fault_name(fault))?;
+    out.extend_from_slice(b" LINE ")?;
+    append_number(out, line)?;
+    out.extend_from_slice(b"\n")
+}

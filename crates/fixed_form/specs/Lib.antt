@@ -1,0 +1,4 @@
+pub mod Line
+pub mod Lines
+pub mod Answers
+pub mod Steps

@@ -1,0 +1,159 @@
+//! One line: its columns, and what they make of it.
+
+ghost use Rattle.std.specs.Prelude.{◌≡◌, ◌+◌, ◌-◌, ◌<◌, take, drop, slice_index_or, IfOk};
+ghost use Rattle.std.specs.List.{list_all};
+ghost use Rattle.fixed_form.specs.Line.{filled, columns, is_blank, is_printable, is_comment, is_readable, is_continuation, is_end, without_blanks};
+ghost use Rattle.fixed_form.specs.Steps.{field_of, class_of};
+
+use crate::label::{LabelField, read_label};
+use std::alloc::{AllocError, Global};
+
+/// The columns that are read.
+const LAST_COLUMN: usize = 72;
+
+/// What a line is, and the number of the rule that it breaks wherever it stands.
+#[derive(Clone, Copy)]
+pub enum Class {
+    Comment,
+    Refused(u8),
+    Initial(Option<u32>),
+}
+
+/// The first characters of a line, `count` of them where there are as many.
+fn front(line: &[u8], count: usize) -> &[u8]
+    ensures { result.now ≡ take count line.now }
+{
+    if count < line.len() {
+        &line[..count]
+    } else {
+        line
+    }
+}
+
+/// The character at an index, a blank behind the line's end.
+fn character_at(line: &[u8], index: usize) -> u8
+    ensures { result ≡ slice_index_or line.now index 32 }
+{
+    if index < line.len() {
+        line[index]
+    } else {
+        b' '
+    }
+}
+
+fn are_blank(characters: &[u8]) -> bool
+    ensures { result ≡ list_all is_blank characters.now }
+{
+    characters.iter().all(|c| *c == b' ')
+}
+
+fn are_printable(characters: &[u8]) -> bool
+    ensures { result ≡ list_all is_printable characters.now }
+{
+    characters.iter().all(|c| 32 <= *c && *c <= 126)
+}
+
+/// Whether the columns of a line are blank, up to the last that counts.
+#[tactic(auto, using(crate::proofs::Columns::blank_columns))]
+fn is_blank_to(line: &[u8], last: usize) -> bool
+    ensures { result ≡ list_all is_blank (columns 1 last line.now) }
+{
+    are_blank(front(line, last))
+}
+
+/// Whether they hold characters of the profile alone.
+#[tactic(auto, using(crate::proofs::Columns::printable_columns))]
+fn is_printable_to(line: &[u8], last: usize) -> bool
+    ensures { result ≡ list_all is_printable (columns 1 last line.now) }
+{
+    are_printable(front(line, last))
+}
+
+fn is_comment(line: &[u8]) -> bool
+    ensures { result ≡ is_comment line.now }
+{
+    let mark = character_at(line, 0);
+    mark == b'C' || mark == b'c' || mark == b'*' || is_blank_to(line, LAST_COLUMN)
+}
+
+fn is_continuation(line: &[u8]) -> bool
+    ensures { result ≡ is_continuation line.now }
+{
+    let mark = character_at(line, 5);
+    !(mark == b' ' || mark == b'0')
+}
+
+/// What the columns up to the last of the label's say.
+#[tactic(auto, using(crate::proofs::Columns::label_columns))]
+fn label_field(line: &[u8], last: usize) -> LabelField
+    requires { last < 6 }
+    ensures { result ≡ field_of (without_blanks (columns 1 last line.now)) }
+{
+    read_label(front(line, last))
+}
+
+/// What a line is.
+pub fn classify(line: &[u8]) -> Class
+    ensures { result ≡ class_of line.now }
+{
+    if is_comment(line) {
+        return Class::Comment;
+    }
+    if !is_printable_to(line, LAST_COLUMN) {
+        return Class::Refused(1);
+    }
+    if is_continuation(line) {
+        return Class::Refused(28);
+    }
+    match label_field(line, 5) {
+        LabelField::Blank => Class::Initial(None),
+        LabelField::Label(label) => Class::Initial(Some(label)),
+        LabelField::Malformed => Class::Refused(2),
+    }
+}
+
+/// Some characters, filled with blanks or cut to a number of them.
+#[tactic(auto, using(crate::proofs::Columns::filled_parts))]
+fn fill(alloc: Global, characters: &[u8], count: usize) -> Result<Vec<u8>, AllocError>
+    ensures { IfOk result (λ v. v.items ≡ filled count characters.now) }
+{
+    let mut text = Vec::with_capacity(alloc, count)?;
+    text.extend_from_slice(front(characters, count))?;
+    text.resize(count, b' ')?;
+    Ok(text)
+}
+
+/// The characters from an index on.
+fn rest(line: &[u8], index: usize) -> &[u8]
+    ensures { result.now ≡ drop index line.now }
+{
+    if index < line.len() {
+        &line[index..]
+    } else {
+        &[]
+    }
+}
+
+/// Columns 7 to 72 of a line.
+#[tactic(auto, unfolding(crate::specs::Line::columns))]
+pub fn statement_text(alloc: Global, line: &[u8]) -> Result<Vec<u8>, AllocError>
+    ensures { IfOk result (λ v. v.items ≡ columns 7 72 line.now) }
+{
+    fill(alloc, rest(line, 6), 66)
+}
+
+/// Whether a text is END, blanks and case aside.
+pub fn is_end(text: &[u8]) -> bool
+    ensures { result ≡ is_end text.now }
+{
+    let mut left: &[u8] = b"END";
+    for character in text {
+        if *character != b' ' {
+            match left {
+                [first, others @ ..] if *first == character.to_ascii_uppercase() => left = others,
+                _ => return false,
+            }
+        }
+    }
+    left.is_empty()
+}

@@ -1,0 +1,100 @@
+-- Texts are read to statements one by one.
+use Rattle.std.proofs.Common.{◌≡◌, ℕ, ◌+◌, ◌<◌, List, [], ◌∷◌, ◌++◌, refl, ap, ◌∙◌, sym, subst, map, length, get_or, drop, take, add-one, drop-cons, append_assoc, append-nil, take-append-drop, Result, Ok, Err, IfErr, Vec, Global}
+use Rattle.std.proofs.Math.Seq.{take-suc}
+use Rattle.std.proofs.lemmas.List.{map-append}
+use Rattle.std.specs.Result.{IsErrAnd}
+use Rattle.ast.specs.Tree.{Statement}
+use Rattle.ast.specs.View.{statement}
+use Rattle.ast.specs.declared.statement.Stmt.{Stmt}
+use Rattle.fixed_form.specs.Answers.{entry, entries}
+use Rattle.fixed_form.specs.Lines.{Entry}
+use Rattle.fixed_form.specs.declared.labelled.Labelled.{Labelled}
+use Rattle.syntax.specs.Statements.{IsStatement}
+use Rattle.profile_check.specs.Answers.{IsMemory, AreTrees, IsStatementCause, IsUnspelled}
+use Rattle.profile_check.specs.Reads.{Spelled}
+use Rattle.profile_check.specs.declared.refusal.Refusal.{Refusal}
+use Rattle.profile_check.specs.declared.refusal.Refusal.TheVariants.{Memory, Refused}
+
+pub spelled-snoc : (es : List Entry) (ss : List Statement) (e : Entry) (s : Statement)
+    → Spelled es ss → IsStatement e.line e.text s → Spelled (es ++ e ∷ []) (ss ++ s ∷ [])
+spelled-snoc [] [] e s h k = (k, tt)
+spelled-snoc [] (t ∷ ts) e s h k = absurd h
+spelled-snoc (d ∷ ds) [] e s h k = absurd h
+spelled-snoc (d ∷ ds) (t ∷ ts) e s h k = (h.0, spelled-snoc ds ts e s h.1 k)
+
+-- Whatever statements all entries are, the first are those read and the others those of the entries left.
+pub record Begins (all : List Entry) (read : List Statement) (left : List Entry) : Type 0 where
+  pub each : (ss : List Statement) → Spelled all ss → (rest : List Statement) × (ss ≡ read ++ rest) × Spelled left rest
+
+pub begins-all : (all : List Entry) → Begins all [] all
+begins-all all = record { each = λ ss h. (ss, refl, h) }
+
+next-rest : (read : List Statement) (e : Entry) (left : List Entry) (stmt : Statement) (ss rest : List Statement)
+    → ((s : Statement) → IsStatement e.line e.text s → stmt ≡ s) → ss ≡ read ++ rest → Spelled (e ∷ left) rest
+    → (more : List Statement) × (ss ≡ (read ++ stmt ∷ []) ++ more) × Spelled left more
+next-rest read e left stmt ss [] only same h = absurd h
+next-rest read e left stmt ss (s ∷ more) only same h =
+    (more, same ∙ ap (λ x. read ++ x ∷ more) (sym (only s h.0)) ∙ sym (append_assoc read (stmt ∷ []) more), h.1)
+
+pub begins-next : (all : List Entry) (read : List Statement) (e : Entry) (left : List Entry) (stmt : Statement)
+    → Begins all read (e ∷ left) → ((s : Statement) → IsStatement e.line e.text s → stmt ≡ s) → Begins all (read ++ stmt ∷ []) left
+begins-next all read e left stmt b only = record {
+  each = λ ss h. let r = b.each ss h in next-rest read e left stmt ss r.0 only r.1 r.2;
+}
+
+some-rest : (e : Entry) (left : List Entry) (rest : List Statement) → Spelled (e ∷ left) rest → (s : Statement) × IsStatement e.line e.text s
+some-rest e left [] h = absurd h
+some-rest e left (s ∷ ss) h = (s, h.0)
+
+-- the next entry is a statement where all are
+pub begins-some : (all : List Entry) (read : List Statement) (e : Entry) (left : List Entry) (ss : List Statement)
+    → Begins all read (e ∷ left) → Spelled all ss → (s : Statement) × IsStatement e.line e.text s
+begins-some all read e left ss b h = let r = b.each ss h in some-rest e left r.0 r.2
+
+ended-rest : (read ss rest : List Statement) → ss ≡ read ++ rest → Spelled [] rest → read ≡ ss
+ended-rest read ss [] same h = sym (same ∙ append-nil read)
+ended-rest read ss (s ∷ rest) same h = absurd h
+
+pub begins-ended : (all : List Entry) (read : List Statement) → Begins all read [] → (ss : List Statement) → Spelled all ss → read ≡ ss
+begins-ended all read b ss h = let r = b.each ss h in ended-rest read ss r.0 r.1 r.2
+
+-- the entry at an index, before those left
+pub entries-at : (labelled : List Labelled) (i : ℕ) (x : Labelled) → i < length labelled → x ≡ get_or labelled i x
+    → entries (drop i labelled) ≡ entry x ∷ entries (drop (i + 1) labelled)
+entries-at labelled i x h e = rw (add-one, drop-cons labelled i x, ← e) refl
+
+pub entries-taken : (labelled : List Labelled) (i : ℕ) (x : Labelled) → i < length labelled → x ≡ get_or labelled i x
+    → entries (take (i + 1) labelled) ≡ entries (take i labelled) ++ entry x ∷ []
+entries-taken labelled i x h e = rw (add-one, take-suc labelled i x h, ← e) (simp map-append)
+
+-- what `?` hands on
+pub handed-trees : (r : Result (Vec Stmt Global) Refusal) (e : Refusal) (ss : List Statement) → IsErrAnd r (λ y. y ≡ e) → IsMemory e → AreTrees r ss
+handed-trees (Ok x) e ss h m = absurd h
+handed-trees (Err y) e ss h m = subst IsMemory (sym h) m
+
+pub handed-cause : (r : Result (Vec Stmt Global) Refusal) (e : Refusal) (es : List Entry) → IsErrAnd r (λ y. y ≡ e) → IsUnspelled es e → IfErr r (IsUnspelled es)
+handed-cause (Ok x) e es h m = absurd h
+handed-cause (Err y) e es h m = subst (IsUnspelled es) (sym h) m
+
+pub unspelled-next : (front : List Entry) (x : Entry) (back : List Entry) (read : List Statement) (e : Refusal)
+    → Spelled front read → IsStatementCause x e → IsUnspelled (front ++ x ∷ back) e
+unspelled-next front x back read Memory h k = tt
+unspelled-next front x back read (Refused n l) h k = record {
+  front = front;
+  entry = x;
+  back = back;
+  cut = refl;
+  read = read;
+  spelled = h;
+  fault = k;
+}
+
+pub entries-cut : (labelled : List Labelled) (i : ℕ) (x : Labelled) → i < length labelled → x ≡ get_or labelled i x
+    → entries (take i labelled) ++ entry x ∷ entries (drop (i + 1) labelled) ≡ entries labelled
+entries-cut labelled i x h e =
+    ap (λ es. entries (take i labelled) ++ es) (sym (entries-at labelled i x h e))
+    ∙ sym (map-append entry (take i labelled) (drop i labelled)) ∙ ap entries (take-append-drop i labelled)
+
+-- the list of statements read after one more
+pub read-next : (body more : List Stmt) (x : Stmt) → more ≡ body ++ x ∷ [] → map statement more ≡ map statement body ++ statement x ∷ []
+read-next body more x e = ap (map statement) e ∙ map-append statement body (x ∷ [])

@@ -1,0 +1,53 @@
+//! The tree of a program whose statements keep the rules.
+
+ghost use Rattle.std.specs.Prelude.{◌≡◌, ◌<◌, ◌^◌, IfOk, map};
+ghost use Rattle.std.specs.List.{IsDistinct};
+ghost use Rattle.ast.specs.Numbering.{numbered};
+ghost use Rattle.ast.specs.Program.{program};
+ghost use Rattle.ast.specs.Store.{same_name};
+ghost use Rattle.ast.specs.View.{letters, statement};
+ghost use Rattle.profile_check.specs.Names.{all_named, table_of, references_in};
+ghost use Rattle.profile_check.specs.Tree.{tree_of};
+
+use crate::numbering::number_all;
+use crate::rules::add_all;
+use ast::{Name, Program, Stmt};
+use indexmap::IndexSet;
+use std::alloc::{AllocError, Global};
+
+/// The table of names: each once, in the order of first appearance.
+fn table(alloc: Global, named: &[Name]) -> Result<IndexSet<Name>, AllocError>
+    ensures { IfOk result (λ table. map letters table.keys ≡ table_of (map letters named.now)) }
+{
+    let mut table = IndexSet::new(alloc);
+    add_all(&mut table, named)?;
+    Ok(table)
+}
+
+/// The names of a table.
+fn names_of(alloc: Global, table: &IndexSet<Name>) -> Result<Vec<Name>, AllocError>
+    ensures names { IfOk result (λ names. map letters names.items ≡ map letters table.now.keys) }
+    ensures distinct { IfOk result (λ names. IsDistinct same_name (map letters names.items)) }
+{
+    Vec::from_slice(alloc, table.as_slice())
+}
+
+/// The statements with their references numbered.
+fn numbered(mut body: Vec<Stmt>, table: &IndexSet<Name>) -> Vec<Stmt>
+    requires { references_in (map statement body.items) < 2 ^ 64 }
+    ensures { map statement result.items ≡ numbered (map letters table.now.keys) 0 (map statement body.items) }
+{
+    number_all(&mut body, table);
+    body
+}
+
+/// The program of these statements, which name the names in `named`, in order.
+pub fn tree(alloc: Global, body: Vec<Stmt>, named: Vec<Name>) -> Result<Program, AllocError>
+    requires { map letters named.items ≡ all_named (map statement body.items) }
+    ensures { IfOk result (λ p. program p ≡ tree_of (map statement body.items)) }
+{
+    let table = table(alloc, &named)?;
+    let names = names_of(alloc, &table)?;
+    let body = numbered(body, &table);
+    Ok(Program { names, body })
+}

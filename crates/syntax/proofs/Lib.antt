@@ -1,0 +1,11 @@
+pub mod Calls
+pub mod Complete
+pub mod NoLater
+pub mod Numbered
+pub mod Public
+pub mod Sound
+pub mod Squeezing
+pub mod StatementSound
+pub mod StatementComplete
+pub mod Tools
+pub mod Values

@@ -1,0 +1,49 @@
+-- Steps of reading that did not fail, and runs at the front of a list.
+use Rattle.std.proofs.Common.{◌≡◌, ℕ, suc, ◌+◌, Bool, true, false, cond, List, [], ◌∷◌, ◌++◌, length, take, Result, Ok, Err, refl, sym, ap, ◌∙◌, ◌⊎◌, inl, inr, append_assoc, arith}
+use Rattle.std.specs.List.{prefix_len, list_all}
+use Rattle.std.proofs.lemmas.Bool.{and_parts}
+use Rattle.syntax.specs.Reading.{◌>>=◌}
+
+pub bind_ok : {A B : Type 0} (r : Result A ℕ) (f : A → Result B ℕ) (y : B) → (r >>= f) ≡ Ok y → (x : A) × (r ≡ Ok x) × (f x ≡ Ok y)
+bind_ok (Ok x) f y e = (x, refl, e)
+bind_ok (Err d) f y e = absurd cc
+
+abbrev pub done : {A : Type 0} → A → Result A ℕ
+done x = Ok x
+
+pub ok_is : {A : Type 0} (x y : A) → done x ≡ done y → x ≡ y
+ok_is x y e = cc
+
+-- which side of a choice gave an Ok
+pub data Chosen {A : Type 0} (b : Bool) (r s : Result A ℕ) (y : A) : Type 0 where
+  on_true : b ≡ true → r ≡ Ok y → Chosen b r s y
+  on_false : b ≡ false → s ≡ Ok y → Chosen b r s y
+
+pub chosen : {A : Type 0} (b : Bool) (r s : Result A ℕ) (y : A) → cond b r s ≡ Ok y → Chosen b r s y
+chosen true r s y e = on_true refl e
+chosen false r s y e = on_false refl e
+
+pub joined : (t u r v s : List ℕ) → t ≡ u ++ r → r ≡ v ++ s → t ≡ (u ++ v) ++ s
+joined t u r v s e f = e ∙ ap (λ (w : List ℕ). u ++ w) f ∙ sym (append_assoc u v s)
+
+-- what passes at the front
+pub front_passes : (p : ℕ → Bool) (t : List ℕ) → list_all p (take (prefix_len p t) t) ≡ true
+front_passes p [] = refl
+front_passes p (c ∷ cs) = go (p c) refl (front_passes p cs)
+  where
+    go : (b : Bool) → p c ≡ b → list_all p (take (prefix_len p cs) cs) ≡ true → list_all p (take (cond b (1 + prefix_len p cs) 0) (c ∷ cs)) ≡ true
+    go true e h = let k : 1 + prefix_len p cs ≡ suc (prefix_len p cs) = omega arith in rw (k, e) h
+    go false e h = refl
+
+-- text that passes, before text that doesn't begin with what passes
+pub front_is : (p : ℕ → Bool) (u rest : List ℕ) → list_all p u ≡ true → prefix_len p rest ≡ 0 → prefix_len p (u ++ rest) ≡ length u
+front_is p [] rest h stop = stop
+front_is p (c ∷ cs) rest h stop =
+    let parts = and_parts (p c) (list_all p cs) h in
+    let k : 1 + length cs ≡ suc (length cs) = omega arith in
+    rw (parts.0, front_is p cs rest parts.1 stop, k) refl
+
+-- which side of a choice was taken
+pub choice : {X : Type 0} (b : Bool) (r s y : X) → cond b r s ≡ y → ((b ≡ true) × (r ≡ y)) ⊎ ((b ≡ false) × (s ≡ y))
+choice true r s y e = inl (refl, e)
+choice false r s y e = inr (refl, e)

@@ -1,0 +1,10 @@
+pub mod Answers
+pub mod Characters
+pub mod Classes
+pub mod Grammar
+pub mod Pieces
+pub mod Reading
+pub mod ReadingStatements
+pub mod Real
+pub mod Squeezing
+pub mod Statements

@@ -1,0 +1,28 @@
+-- Going through a text once, byte by byte: an account of the code, which no public clause names.
+use Rattle.std.specs.Prelude.{ℕ, ◌==◌, if◌then◌else◌, List, [], ◌∷◌, ◌++◌, map, Result, Ok, Err}
+use Rattle.syntax.specs.declared.pieces.Place.{Place}
+use Rattle.syntax.specs.declared.pieces.Place.TheVariants.{Outside, Inside, Closing}
+use Rattle.syntax.specs.declared.pieces.Squeezing.{Squeezing}
+use Rattle.ast.specs.Tree.{Statement}
+use Rattle.syntax.specs.Pieces.{folded}
+use Rattle.syntax.specs.Reading.{◌>>=◌}
+use Rattle.syntax.specs.ReadingStatements.{statement_at}
+
+-- what the rest of a text makes of marks and constants so far, the text of the constant that is
+-- read, and the place
+abbrev pub run : Place → List ℕ → List (List ℕ) → List ℕ → List ℕ → Result (List ℕ × List (List ℕ)) ℕ
+run Outside ms ks read [] = Ok (ms, ks)
+run Outside ms ks read (c ∷ t) = if c == 39 then (run Inside (ms ++ c ∷ []) ks read t) else (run Outside (ms ++ folded c) ks read t)
+run Inside ms ks read [] = Err 21
+run Inside ms ks read (c ∷ t) = if c == 39 then (run Closing ms ks read t) else (run Inside ms ks (read ++ c ∷ []) t)
+run Closing ms ks read [] = Ok (ms, ks ++ read ∷ [])
+run Closing ms ks read (c ∷ t) = if c == 39 then (run Inside ms ks (read ++ c ∷ []) t) else (run Outside (ms ++ folded c) (ks ++ read ∷ []) [] t)
+
+abbrev pub left_of : Squeezing → List ℕ → Result (List ℕ × List (List ℕ)) ℕ
+left_of s t = run s.place s.marks.items (map (λ v. v.items) s.constants.items) s.open.items t
+
+abbrev pub squeezed : List ℕ → Result (List ℕ × List (List ℕ)) ℕ
+squeezed t = run Outside [] [] [] t
+
+abbrev pub text_at : ℕ → List ℕ → Result Statement ℕ
+text_at line t = squeezed t >>= λ x. statement_at line x.0 x.1
