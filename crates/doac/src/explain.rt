@@ -195,7 +195,7 @@ what is missing or stands twice.
 
 An expression has at most 128 levels. Each operator, each sign and each pair of
 parentheses is one level above the deepest thing inside of it, so a sum of 129 terms
-in one line is too deep as well.
+is too deep as well.
 
 What to do: compute it in two statements:
 
@@ -221,7 +221,7 @@ What to do: write PRINT *,K. There is no way around the others but another progr
         number: 28,
         text: "REFUSED 28: a form that doac doesn't know yet.
 
-Today's doac knows INTEGER with names alone, assignments to names, PRINT * and END.
+This doac knows INTEGER with names alone, assignments to names, PRINT * and END.
 Continuation lines, arrays, DO, IF, READ, logical values, functions such as MOD and
 the other statements of FORTRAN 77 come later:
 
