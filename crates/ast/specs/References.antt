@@ -1,6 +1,6 @@
 -- The references of a program in order of evaluation: operands from left to right, and the right
 -- side of an assignment before its target. A program's references are numbered in this order.
-use Rattle.std.specs.Prelude.{List, [], ◌∷◌, ◌++◌}
+use Rattle.std.specs.Prelude.{◌≡◌, ℕ, ◌+◌, ⊤, List, [], ◌∷◌, ◌++◌}
 use Rattle.ast.specs.Tree.{Ref, Term, constant, variable, parentheses, signed, binary, PrintItem, value_item, text_item, Statement, integer, assign, print, end, Block, no_statements, first_then}
 
 abbrev pub term_references : Term → List Ref
@@ -24,3 +24,8 @@ statement_references (end l) = []
 abbrev pub block_references : Block → List Ref
 block_references no_statements = []
 block_references (first_then s ss) = statement_references s ++ block_references ss
+
+-- references have the numbers from n on, in order
+abbrev pub AreNumbered : ℕ → List Ref → Type 0
+AreNumbered n [] = ⊤
+AreNumbered n (r ∷ rs) = (r.id ≡ n) × AreNumbered (n + 1) rs

@@ -10,5 +10,6 @@ pub struct Answer {
     pub output: Vec<u8>,
     /// The store at its end, also at a fault.
     pub store: Store,
+    /// How it ended.
     pub end: End,
 }

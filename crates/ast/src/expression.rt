@@ -49,7 +49,7 @@ impl Expr {
     ghost use Rattle.std.specs.Prelude.{◌≡◌, IfOk};
     ghost use Rattle.ast.specs.View.{term};
 
-    /// An equal expression.
+    /// An equal expression, or `AllocError` where memory is refused.
     pub fn try_copy(&self, alloc: Global) -> Result<Expr, AllocError>
         ensures { IfOk result (λ copy. term copy ≡ term self.now) }
     {

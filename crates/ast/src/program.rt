@@ -12,12 +12,12 @@ use crate::name::Name;
 use crate::statement::Stmt;
 use std::alloc::{AllocError, Global};
 
-/// A program: the table of its names, each once, and its statements in order, END last.
-///
-/// Each reference holds the place of its name in the table.
+/// A program. Each reference holds the place of its name in the table of names.
 #[derive(Drop)]
 pub struct Program {
+    /// The table of names, each once.
     pub names: Vec<Name>,
+    /// The statements in order.
     pub body: Vec<Stmt>,
     ghost distinct: { IsDistinct same_name (map letters names.items) } by { Prim.hlevel props },
     ghost placed: { PlacedBlock (map letters names.items) (block_of (map statement body.items)) } by { PlacedBlock-prop (map letters names.items) (block_of (map statement body.items)) },
@@ -26,7 +26,7 @@ pub struct Program {
 impl Program {
     ghost use Rattle.ast.specs.Program.{program};
 
-    /// An equal program.
+    /// An equal program, or `AllocError` where memory is refused.
     pub fn try_copy(&self) -> Result<Program, AllocError>
         ensures { IfOk result (λ copy. program copy ≡ program self.now) }
     {

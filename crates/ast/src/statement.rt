@@ -36,7 +36,7 @@ impl Item {
     ghost use Rattle.std.specs.Prelude.{◌≡◌, IfOk};
     ghost use Rattle.ast.specs.View.{item};
 
-    /// An equal item.
+    /// An equal item, or `AllocError` where memory is refused.
     pub fn try_copy(&self, alloc: Global) -> Result<Item, AllocError>
         ensures { IfOk result (λ copy. item copy ≡ item self.now) }
     {
@@ -64,7 +64,7 @@ impl Stmt {
         }
     }
 
-    /// An equal statement.
+    /// An equal statement, or `AllocError` where memory is refused.
     pub fn try_copy(&self, alloc: Global) -> Result<Stmt, AllocError>
         ensures { IfOk result (λ copy. statement copy ≡ statement self.now) }
     {

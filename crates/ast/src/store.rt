@@ -5,13 +5,16 @@ use crate::name::Name;
 /// A variable's cell.
 #[derive(Clone, Copy, Debug)]
 pub struct Cell {
+    /// The variable's name.
     pub name: Name,
+    /// Its value.
     pub value: i64,
 }
 
 /// The values of a program's variables: each name once.
 #[derive(Drop)]
 pub struct Store {
+    /// A cell for each name, in the order of the program's table of names.
     pub cells: Vec<Cell>,
 }
 

@@ -74,3 +74,73 @@ fn copies(rt: HostRuntime) -> Result<(), Fail> {
     }
     Ok(())
 }
+
+fn is_print_of_difference(statement: &Stmt) -> bool {
+    let Stmt::Print(3, items) = statement else {
+        return false;
+    };
+    match items.as_slice() {
+        [Item::Value(value), Item::Text(text)] => is_difference(value)
+            && text.as_slice() == b"OK".as_slice(),
+        _ => false,
+    }
+}
+
+#[test]
+fn want_of_memory_in_statements(rt: HostRuntime) -> Result<(), Fail> {
+    let alloc = rt.alloc();
+    let text = Item::Text(Vec::from_slice(alloc, b"OK")?);
+    let items = Vec::from_array(alloc, [Item::Value(difference(&rt)?), text])?;
+    let statement = Stmt::Print(3, items);
+    match statement.try_copy(alloc) {
+        Ok(copy) => assert!(rt; is_print_of_difference(&copy)),
+        Err(error) => {
+            assert!(rt; is_print_of_difference(&statement.try_copy(alloc)?));
+            return Err(error.into());
+        }
+    }
+    Ok(())
+}
+
+fn is_integer_of_two(statement: &Stmt) -> bool {
+    let Stmt::Integer(2, names) = statement else {
+        return false;
+    };
+    names.as_slice() == [name(b"K     "), name(b"K1    ")].as_slice()
+}
+
+#[test]
+fn want_of_memory_in_names(rt: HostRuntime) -> Result<(), Fail> {
+    let alloc = rt.alloc();
+    let names = Vec::from_array(alloc, [name(b"K     "), name(b"K1    ")])?;
+    let statement = Stmt::Integer(2, names);
+    match statement.try_copy(alloc) {
+        Ok(copy) => assert!(rt; is_integer_of_two(&copy)),
+        Err(error) => {
+            assert!(rt; is_integer_of_two(&statement.try_copy(alloc)?));
+            return Err(error.into());
+        }
+    }
+    Ok(())
+}
+
+fn is_end_with_one_name(program: &Program) -> bool {
+    program.names.as_slice() == [name(b"K     ")].as_slice()
+        && matches!(program.body.as_slice(), [Stmt::End(1)])
+}
+
+#[test]
+fn want_of_memory_in_programs(rt: HostRuntime) -> Result<(), Fail> {
+    let program = Program {
+        names: Vec::from_slice(rt.alloc(), &[name(b"K     ")])?,
+        body: Vec::from_array(rt.alloc(), [Stmt::End(1)])?,
+    };
+    match program.try_copy() {
+        Ok(copy) => assert!(rt; is_end_with_one_name(&copy)),
+        Err(error) => {
+            assert!(rt; is_end_with_one_name(&program.try_copy()?));
+            return Err(error.into());
+        }
+    }
+    Ok(())
+}
