@@ -25,10 +25,11 @@ field_of_start (c ∷ cs) = digits_from 0 (c ∷ cs)
 pub grows : (n d i : ℕ) → n < 10 ^ i → d ≤ 9 → 10 * n + d < 10 ^ (i + 1)
 grows n d i h k = rw add-one (omega (arith, pow-suc 10 i))
 
-pub few_digits : (i : ℕ) → i < 5 → 10 ^ i ≤ 10000
+pub few_digits : (i : ℕ) → i ≤ 5 → 10 ^ i ≤ 100000
 few_digits zero h = lit≤ tt
 few_digits (suc zero) h = lit≤ tt
 few_digits (suc (suc zero)) h = lit≤ tt
 few_digits (suc (suc (suc zero))) h = lit≤ tt
 few_digits (suc (suc (suc (suc zero)))) h = lit≤ tt
-few_digits (suc (suc (suc (suc (suc i))))) h = absurd (omega arith)
+few_digits (suc (suc (suc (suc (suc zero))))) h = lit≤ tt
+few_digits (suc (suc (suc (suc (suc (suc i)))))) h = absurd (omega arith)

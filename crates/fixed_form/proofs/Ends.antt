@@ -1,20 +1,12 @@
 -- What the statements of a text are like: the last one alone is END, and they stand on later and later lines.
 use Rattle.std.proofs.Common.{◌≡◌, ℕ, ◌+◌, ◌<◌, Bool, true, false, List, [], ◌∷◌, ◌++◌, length, Some, None, refl, sym, ap, subst, ◌∙◌, arith, append_assoc}
-use Rattle.std.specs.Prelude.{nat_eq, not, cond, ◌&&◌, ◌||◌, nat_le, map}
+use Rattle.std.specs.Prelude.{not, cond, ◌&&◌, ◌||◌, nat_le, map}
 use Rattle.std.specs.List.{filter, list_any, enumerate_from}
+use Rattle.std.proofs.lemmas.Bool.{or_parts}
 use Rattle.std.proofs.lemmas.List.Folds.{list_any-append}
-use Rattle.std.specs.Char.{to_ascii_uppercase}
-use Rattle.std.specs.Cmp.Lexicographic.{pointwise, same_text}
-use Rattle.fixed_form.specs.Line.{columns, is_comment, is_readable, is_continuation, is_mislabelled, without_blanks, is_end, is_end_line}
+use Rattle.fixed_form.specs.Line.{columns, is_comment, is_readable, is_continuation, is_mislabelled, is_end, is_end_line}
 use Rattle.fixed_form.specs.Lines.{Entry, AreUnbroken, statement_at, HaveStatements, AreEnded, AreRising, Lines, lines_in}
 use Rattle.fixed_form.proofs.Laws.{state_from, state_from-append, ended_after, verdict}
-
--- what the test of END tells
-pub is_end-true : (text : List ℕ) → is_end text ≡ true → map to_ascii_uppercase (without_blanks text) ≡ 69 ∷ 78 ∷ 68 ∷ []
-is_end-true text e = same_text (map to_ascii_uppercase (without_blanks text)) (69 ∷ 78 ∷ 68 ∷ []) (sym e)
-
-pub is_end-from : (text : List ℕ) → map to_ascii_uppercase (without_blanks text) ≡ 69 ∷ 78 ∷ 68 ∷ [] → is_end text ≡ true
-is_end-from text e = ap (λ (cs : List ℕ). pointwise nat_eq cs (69 ∷ 78 ∷ 68 ∷ [])) e
 
 -- the first element that passes a test
 record First {X : Type 0} (p : X → Bool) (xs : List X) : Type 0 where
@@ -74,14 +66,10 @@ no_end_in false true t p ps i h e more = absurd (let d : true ≡ false = h refl
 no_end_in false false true p ps i h e more = absurd (let d : true ≡ false = e in cc)
 no_end_in false false false p ps i h e more = ap (λ (b : Bool). b || has_end (map statement_at ps)) i ∙ more
 
-both_false : (a b : Bool) → (a || b) ≡ false → (a ≡ false) × (b ≡ false)
-both_false true b e = absurd (let d : true ≡ false = e in cc)
-both_false false b e = (refl, e)
-
 none_before : (front back : List (List ℕ)) (n : ℕ) → AreUnbroken (front ++ back) → list_any is_end_line back ≡ false → has_end (state_from n back) ≡ false
 none_before front [] n u e = refl
 none_before front (line ∷ back) n u e =
-    let s = both_false (is_end_line line) (list_any is_end_line back) e in
+    let s = or_parts (is_end_line line) (list_any is_end_line back) e in
     let k : is_comment line ≡ false → is_continuation line ≡ false = λ f. no_continuation (nat_le 65536 (length front + 1)) (is_comment line) (list_any is_end_line front) (is_readable line) (is_continuation line) (is_mislabelled line) f (u.each front line back refl) in
     let v : AreUnbroken ((front ++ line ∷ []) ++ back) = subst (λ (ls : List (List ℕ)). AreUnbroken ls) (sym (append_assoc front (line ∷ []) back)) u in
     no_end_in (is_comment line) (is_continuation line) (is_end (columns 7 72 line)) (n, line) (filter (λ p. not (is_comment p.1)) (enumerate_from (n + 1) back)) refl k s.0 (none_before (front ++ line ∷ []) back (n + 1) v s.1)

@@ -1,6 +1,6 @@
 -- The labelled statements of a source text, and the rules of its lines, by the standard (ANSI X3.9-1978, 3.2 to 3.5) and the profile.
 use Rattle.std.specs.Prelude.{◌≡◌, ◌⊎◌, ⊤, ℕ, ◌+◌, ◌<◌, ◌≤◌, Bool, true, false, not, ◌&&◌, nat_le, if◌then◌else◌, List, [], ◌∷◌, ◌++◌, Option, Some, None, IfSome, length, map}
-use Rattle.std.specs.List.{filter, list_any, enumerate_from}
+use Rattle.std.specs.List.{filter, list_any, enumerate_from, AllByRecursion}
 use Rattle.bstr.specs.Text.{lines_of, without_terminator}
 use Rattle.fixed_form.specs.Line.{columns, is_comment, is_readable, is_continuation, is_mislabelled, label_of, is_end, is_end_line}
 
@@ -108,7 +108,14 @@ abbrev pub AreRising : ℕ → List Entry → Type 0
 AreRising n [] = ⊤
 AreRising n (e ∷ es) = (n < e.line) × AreRising e.line es
 
--- A label is from 1 to 99999, and a text has 66 characters.
+-- A label is from 1 to 99999, a line from 1 to 65535, and a text has 66 characters.
 pub record IsInForm (e : Entry) : Type 0 where
   pub label : IfSome e.label (λ n. (0 < n) × (n ≤ 99999))
+  pub line : (0 < e.line) × (e.line ≤ 65535)
   pub text : length e.text ≡ 66
+
+-- What the statements of a text are like.
+pub record AreShaped (statements : List Entry) : Type 0 where
+  pub ended : AreEnded statements
+  pub rising : AreRising 0 statements
+  pub in_form : AllByRecursion IsInForm statements

@@ -8,7 +8,13 @@ ghost use Rattle.fixed_form.specs.Steps.{field_of, class_of};
 use crate::label::{LabelField, read_label};
 use std::alloc::{AllocError, Global};
 
-/// The columns that are read.
+/// The last column of a label.
+const LAST_LABEL_COLUMN: usize = 5;
+
+/// The column that tells a continuation line. The statement's text stands behind it.
+const CONTINUATION_COLUMN: usize = 6;
+
+/// The last column that is read.
 const LAST_COLUMN: usize = 72;
 
 /// What a line is, and the number of the rule that it breaks wherever it stands.
@@ -61,7 +67,7 @@ fn is_blank_to(line: &[u8], last: usize) -> bool
     are_blank(front(line, last))
 }
 
-/// Whether they hold characters of the profile alone.
+/// Whether the columns of a line hold characters of the profile alone, up to the last that counts.
 #[tactic(auto, using(crate::proofs::Columns::printable_columns))]
 fn is_printable_to(line: &[u8], last: usize) -> bool
     ensures { result ≡ list_all is_printable (columns 1 last line.now) }
@@ -79,11 +85,11 @@ fn is_comment(line: &[u8]) -> bool
 fn is_continuation(line: &[u8]) -> bool
     ensures { result ≡ is_continuation line.now }
 {
-    let mark = character_at(line, 5);
+    let mark = character_at(line, CONTINUATION_COLUMN - 1);
     !(mark == b' ' || mark == b'0')
 }
 
-/// What the columns up to the last of the label's say.
+/// What the label's columns say.
 #[tactic(auto, using(crate::proofs::Columns::label_columns))]
 fn label_field(line: &[u8], last: usize) -> LabelField
     requires { last < 6 }
@@ -105,7 +111,7 @@ pub fn classify(line: &[u8]) -> Class
     if is_continuation(line) {
         return Class::Refused(28);
     }
-    match label_field(line, 5) {
+    match label_field(line, LAST_LABEL_COLUMN) {
         LabelField::Blank => Class::Initial(None),
         LabelField::Label(label) => Class::Initial(Some(label)),
         LabelField::Malformed => Class::Refused(2),
@@ -139,7 +145,11 @@ fn rest(line: &[u8], index: usize) -> &[u8]
 pub fn statement_text(alloc: Global, line: &[u8]) -> Result<Vec<u8>, AllocError>
     ensures { IfOk result (λ v. v.items ≡ columns 7 72 line.now) }
 {
-    fill(alloc, rest(line, 6), 66)
+    fill(
+        alloc,
+        rest(line, CONTINUATION_COLUMN),
+        LAST_COLUMN - CONTINUATION_COLUMN,
+    )
 }
 
 /// Whether a text is END, blanks and case aside.

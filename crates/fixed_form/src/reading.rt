@@ -1,7 +1,7 @@
 //! From the lines of a text to its statements.
 
 ghost use Rattle.std.specs.Prelude.{◌≡◌, ◌+◌, ◌<◌, ℕ, List, IfOk, IfErr, Ok, [], false};
-ghost use Rattle.fixed_form.specs.Lines.{Entry, Lines, Broken, lines_in};
+ghost use Rattle.fixed_form.specs.Lines.{Entry, Lines, AreShaped, Broken, lines_in};
 ghost use Rattle.fixed_form.specs.declared.refusal.LineRefusal.TheVariants.{Refused};
 ghost use Rattle.fixed_form.specs.Answers.{entries, RefusesTruly, IsList, IsRefusal};
 ghost use Rattle.fixed_form.specs.Steps.{Gives, read_on, take_line};
@@ -70,7 +70,7 @@ fn read_all(alloc: Global, text: &[u8]) -> Result<Vec<Labelled>, LineRefusal>
 }
 
 /// The labelled statements of a source text, line by line: a comment gives none, an initial line
-/// gives one, and END is the last.
+/// gives one, and END is the last and stands nowhere else.
 ///
 /// The refusals, in the order in which they count on one line: 6 at line 65,536, 8 at a line after
 /// END that is no comment, 1 where columns 1 to 72 hold a byte outside 32 to 126, 28 at a
@@ -78,6 +78,7 @@ fn read_all(alloc: Global, text: &[u8]) -> Result<Vec<Labelled>, LineRefusal>
 /// lines, is that of a text with no END that breaks no other rule.
 pub fn statements(alloc: Global, text: &[u8]) -> Result<Vec<Labelled>, LineRefusal>
     ensures found { IfOk result (λ v. Lines text.now (entries v.items)) }
+    ensures shaped { IfOk result (λ v. AreShaped (entries v.items)) }
     ensures only { (es : List Entry) → Lines text.now es → IsList (λ v. entries v.items) result es }
     ensures refused { IfErr result (RefusesTruly text.now) }
     ensures exactly { (number at : ℕ) → Broken text.now number at → IsRefusal result number at }

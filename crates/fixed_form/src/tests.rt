@@ -157,3 +157,17 @@ fn greatest_number_of_lines(rt: HostRuntime) -> Result<(), Fail> {
     assert_eq!(rt; statements(rt.alloc(), &over).err(), Some(wanted));
     Ok(())
 }
+
+#[test]
+fn want_of_memory(rt: HostRuntime) -> Result<(), Fail> {
+    let text = b"   10 K=1\n      END\n";
+    let wanted: &[Wanted] = &[(Some(10), 1, b"K=1"), (None, 2, b"END")];
+    match statements(rt.alloc(), text) {
+        Err(LineRefusal::Memory) => {
+            gives(&rt, &statements(rt.alloc(), text)?, wanted);
+            Err(AllocError)?
+        }
+        given => gives(&rt, &given?, wanted),
+    }
+    Ok(())
+}
