@@ -251,14 +251,15 @@ variable_reads r u h = leaf_reads (variable r) u (some_spelled 0 (variable r) u 
         let low : 65 ≤ c = leb-true 65 c (and_parts (leb 65 c) (leb c 90) h).0 in
         ne_eqb c 40 (λ e. omega arith)
 
+-- a mark that is an operator of no level
+pub none_of : (sum product : Bool) → cond {A = Option (Operator × List ℕ)} sum None (cond product None None) ≡ None
+none_of true product = refl
+none_of false true = refl
+none_of false false = refl
+
 -- no operator is a closing parenthesis
 stops_at_closing : (rest : List ℕ) → Stops 2 (41 ∷ rest)
-stops_at_closing rest = record { follows = (omega arith, omega arith, λ e. omega arith); none = λ k le. none (eqb k 2) (eqb k 1) }
-  where
-    none : (b d : Bool) → cond {A = Option (Operator × List ℕ)} b None (cond d None None) ≡ None
-    none true d = refl
-    none false true = refl
-    none false false = refl
+stops_at_closing rest = record { follows = (omega arith, omega arith, λ e. omega arith); none = λ k le. none_of (eqb k 2) (eqb k 1) }
 
 parentheses_reads : (e : Term) (u v : List ℕ) → u ≡ 40 ∷ (v ++ 41 ∷ []) → Reads 2 e v → Reads 0 (parentheses e) u
 parentheses_reads e u v is inner zero rest big stops = absurd (omega (arith, ap length is))
@@ -296,16 +297,8 @@ level_some Divide = omega arith
 
 -- an operator ends the operand of a level below its own
 stops_at_operator : (o : Operator) (t : List ℕ) → Stops (level_of o - 1) (mark_of o ∷ t)
-stops_at_operator Add t = record { follows = (omega arith, omega arith, λ e. omega arith); none = λ k le. rw (ne_eqb k 2 (λ e. omega arith)) (none (eqb k 1)) }
-  where
-    none : (b : Bool) → cond {A = Option (Operator × List ℕ)} b None None ≡ None
-    none true = refl
-    none false = refl
-stops_at_operator Subtract t = record { follows = (omega arith, omega arith, λ e. omega arith); none = λ k le. rw (ne_eqb k 2 (λ e. omega arith)) (none (eqb k 1)) }
-  where
-    none : (b : Bool) → cond {A = Option (Operator × List ℕ)} b None None ≡ None
-    none true = refl
-    none false = refl
+stops_at_operator Add t = record { follows = (omega arith, omega arith, λ e. omega arith); none = λ k le. rw (ne_eqb k 2 (λ e. omega arith)) (none_of false (eqb k 1)) }
+stops_at_operator Subtract t = record { follows = (omega arith, omega arith, λ e. omega arith); none = λ k le. rw (ne_eqb k 2 (λ e. omega arith)) (none_of false (eqb k 1)) }
 stops_at_operator Multiply t = record { follows = (omega arith, omega arith, λ e. omega arith); none = λ k le. rw (ne_eqb k 2 (λ e. omega arith), ne_eqb k 1 (λ e. omega arith)) refl }
 stops_at_operator Divide t = record { follows = (omega arith, omega arith, λ e. omega arith); none = λ k le. rw (ne_eqb k 2 (λ e. omega arith), ne_eqb k 1 (λ e. omega arith)) refl }
 

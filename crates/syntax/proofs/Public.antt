@@ -21,17 +21,17 @@ use Rattle.syntax.proofs.Numbered.{text_numbered, expression_numbered}
 use Rattle.syntax.proofs.Squeezing.{squeezed_cut, cut_squeezed, unfinished}
 use Rattle.syntax.proofs.StatementComplete.{whole_again, statement_again}
 use Rattle.syntax.proofs.StatementSound.{whole_sound, statement_sound}
-use Rattle.syntax.proofs.Tools.{done, bind_ok, ok_is, on_true, on_false, chosen}
+use Rattle.syntax.proofs.Tools.{done, bind_ok, ok_is, on_true, on_false, choice}
 
 -- ---- expressions
 
 expression_sound : (t : List ℕ) (e : Term) → expression_at t ≡ Ok e → IsExpression t e
 expression_sound t e h =
-    elim (chosen (holds_later_form t) (Err 28) (whole_at t >>= shallow_expression) e h) [
+    elim (choice (holds_later_form t) (Err 28) (whole_at t >>= shallow_expression) (Ok e) h) [
       | on_true later is ↦ absurd cc
       | on_false now is ↦
           let b = bind_ok (whole_at t) shallow_expression e is in
-          elim (chosen (leb (depth b.0) 128) (Ok b.0) (Err 26) e b.2) [
+          elim (choice (leb (depth b.0) 128) (Ok b.0) (Err 26) (Ok e) b.2) [
             | on_true low f ↦ subst (λ (x : Term). IsExpression t x) (ok_is b.0 e f) (whole_sound t b.0 b.1, leb-true (depth b.0) 128 low)
             | on_false deep f ↦ absurd cc
           ]

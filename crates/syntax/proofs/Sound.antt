@@ -1,5 +1,5 @@
 -- What is read of an expression is spelled so.
-use Rattle.std.proofs.Common.{◌≡◌, ℕ, zero, suc, pos, ◌+◌, ◌-◌, ◌*◌, ◌^◌, ◌<◌, ◌≤◌, Bool, true, false, cond, eqb, ltb, leb, List, [], ◌∷◌, ◌++◌, length, take, drop, Option, Some, None, Result, Ok, Err, refl, sym, ap, subst, ◌∙◌, inl, inr, append_assoc, arith}
+use Rattle.std.proofs.Common.{◌≡◌, ℕ, zero, suc, pos, ◌+◌, ◌-◌, ◌*◌, ◌^◌, ◌<◌, ◌≤◌, Bool, true, false, cond, eqb, ltb, leb, List, [], ◌∷◌, ◌++◌, length, take, drop, Option, Some, None, Result, Ok, Err, refl, sym, ap, subst, ◌∙◌, append_assoc, arith}
 use Rattle.std.specs.List.{prefix_len}
 use Rattle.std.proofs.lemmas.Bool.{eqb-true, ltb-true, leb-true}
 use Rattle.std.proofs.lemmas.List.{append-nil, take-append-drop, length-take}
@@ -12,7 +12,7 @@ use Rattle.syntax.specs.Characters.{is_digit, is_letter, is_alphanumeric, begins
 use Rattle.syntax.specs.Real.{begins_real}
 use Rattle.syntax.specs.Grammar.{level_of, mark_of, sign_mark, IsName, reference_to, Spells}
 use Rattle.syntax.specs.Reading.{◌>>=◌, misplaced, constant_at, name_at, variable_at, leaf_at, operator_at, sign_at, with_sign, after_mark, closed_at, level_at, chain_at, primary_at, sum_at}
-use Rattle.syntax.proofs.Tools.{done, bind_ok, ok_is, on_true, on_false, chosen, choice, joined, front_passes}
+use Rattle.syntax.proofs.Tools.{done, bind_ok, ok_is, on_true, on_false, choice, joined, front_passes}
 
 -- the text that was read and what it spells
 abbrev pub ReadsAs : ℕ → List ℕ → Term → List ℕ → Type 0
@@ -29,7 +29,7 @@ digits_some (c ∷ cs) h = front_some is_digit c cs h
 constant_sound : (level : ℕ) (t : List ℕ) (x : Term × List ℕ) → begins_digit t ≡ true → constant_at t ≡ Ok x → ReadsAs level t x.0 x.1
 constant_sound level t x h e =
     let n = prefix_len is_digit t in
-    elim (chosen (ltb (value (take n t)) (2 ^ 63)) (Ok (constant (pos (value (take n t))), drop n t)) (Err 23) x e) [
+    elim (choice (ltb (value (take n t)) (2 ^ 63)) (Ok (constant (pos (value (take n t))), drop n t)) (Err 23) (Ok x) e) [
       | on_true small is ↦
           subst (λ (y : Term × List ℕ). ReadsAs level t y.0 y.1) (ok_is (constant (pos (value (take n t))), drop n t) x is)
           (take n t, sym (take-append-drop n t), (digits_some t h, front_passes is_digit t, ltb-true _ _ small, refl))
@@ -49,8 +49,8 @@ name_sound t x e = go t e
     go [] e = absurd cc
     go (c ∷ cs) e =
         let n = prefix_len is_alphanumeric (c ∷ cs) in
-        elim (chosen (is_letter c) (cond (leb n 6) (Ok (padded (take n (c ∷ cs)), drop n (c ∷ cs))) (Err 24)) (Err 25) x e) [
-          | on_true letter f ↦ elim (chosen (leb n 6) (Ok (padded (take n (c ∷ cs)), drop n (c ∷ cs))) (Err 24) x f) [
+        elim (choice (is_letter c) (cond (leb n 6) (Ok (padded (take n (c ∷ cs)), drop n (c ∷ cs))) (Err 24)) (Err 25) (Ok x) e) [
+          | on_true letter f ↦ elim (choice (leb n 6) (Ok (padded (take n (c ∷ cs)), drop n (c ∷ cs))) (Err 24) (Ok x) f) [
             | on_true short is ↦
                 subst (λ (y : List ℕ × List ℕ). (u : List ℕ) × (c ∷ cs ≡ u ++ y.1) × IsName y.0 u) (ok_is (padded (take n (c ∷ cs)), drop n (c ∷ cs)) x is)
                 (take n (c ∷ cs), sym (take-append-drop n (c ∷ cs)), (fits c cs n refl letter, front_passes is_alphanumeric (c ∷ cs), omega (arith, leb-true _ _ short, length-take n (c ∷ cs)), refl))
@@ -61,9 +61,9 @@ name_sound t x e = go t e
 
 leaf_sound : (level : ℕ) (t : List ℕ) (x : Term × List ℕ) → leaf_at t ≡ Ok x → ReadsAs level t x.0 x.1
 leaf_sound level t x e =
-    elim (chosen (begins_real t) (Err 22) (cond (begins_digit t) (constant_at t) (variable_at t)) x e) [
+    elim (choice (begins_real t) (Err 22) (cond (begins_digit t) (constant_at t) (variable_at t)) (Ok x) e) [
       | on_true real is ↦ absurd cc
-      | on_false other f ↦ elim (chosen (begins_digit t) (constant_at t) (variable_at t) x f) [
+      | on_false other f ↦ elim (choice (begins_digit t) (constant_at t) (variable_at t) (Ok x) f) [
         | on_true digit is ↦ constant_sound level t x digit is
         | on_false letter is ↦
             let b = bind_ok (name_at t) (λ y. Ok (variable (reference_to y.0), y.1)) x is in
@@ -90,22 +90,22 @@ pub operator_law : (level : ℕ) (t : List ℕ) (o : Operator × List ℕ) → o
 operator_law level [] o e = absurd cc
 operator_law level (c ∷ cs) o e =
     elim (choice (eqb level 2) (cond (eqb c 43) (Some (Add, cs)) (cond (eqb c 45) (Some (Subtract, cs)) None)) (cond (eqb level 1) (cond (eqb c 42) (Some (Multiply, cs)) (cond (eqb c 47) (Some (Divide, cs)) None)) None) (Some o) e) [
-      | inl at2 ↦ elim (choice (eqb c 43) (Some (Add, cs)) (cond (eqb c 45) (Some (Subtract, cs)) None) (Some o) at2.1) [
-        | inl plus ↦ stands level c 43 cs Add o (eqb-true _ _ at2.0) (eqb-true _ _ plus.0) plus.1
-        | inr other ↦ elim (choice (eqb c 45) (Some (Subtract, cs)) None (Some o) other.1) [
-          | inl minus ↦ stands level c 45 cs Subtract o (eqb-true _ _ at2.0) (eqb-true _ _ minus.0) minus.1
-          | inr none ↦ absurd cc
+      | on_true at2 at2_is ↦ elim (choice (eqb c 43) (Some (Add, cs)) (cond (eqb c 45) (Some (Subtract, cs)) None) (Some o) at2_is) [
+        | on_true plus plus_is ↦ stands level c 43 cs Add o (eqb-true _ _ at2) (eqb-true _ _ plus) plus_is
+        | on_false other is ↦ elim (choice (eqb c 45) (Some (Subtract, cs)) None (Some o) is) [
+          | on_true minus minus_is ↦ stands level c 45 cs Subtract o (eqb-true _ _ at2) (eqb-true _ _ minus) minus_is
+          | on_false none is ↦ absurd cc
         ]
       ]
-      | inr not2 ↦ elim (choice (eqb level 1) (cond (eqb c 42) (Some (Multiply, cs)) (cond (eqb c 47) (Some (Divide, cs)) None)) None (Some o) not2.1) [
-        | inl at1 ↦ elim (choice (eqb c 42) (Some (Multiply, cs)) (cond (eqb c 47) (Some (Divide, cs)) None) (Some o) at1.1) [
-          | inl times ↦ stands level c 42 cs Multiply o (eqb-true _ _ at1.0) (eqb-true _ _ times.0) times.1
-          | inr other ↦ elim (choice (eqb c 47) (Some (Divide, cs)) None (Some o) other.1) [
-            | inl over ↦ stands level c 47 cs Divide o (eqb-true _ _ at1.0) (eqb-true _ _ over.0) over.1
-            | inr none ↦ absurd cc
+      | on_false not2 not2_is ↦ elim (choice (eqb level 1) (cond (eqb c 42) (Some (Multiply, cs)) (cond (eqb c 47) (Some (Divide, cs)) None)) None (Some o) not2_is) [
+        | on_true at1 at1_is ↦ elim (choice (eqb c 42) (Some (Multiply, cs)) (cond (eqb c 47) (Some (Divide, cs)) None) (Some o) at1_is) [
+          | on_true times times_is ↦ stands level c 42 cs Multiply o (eqb-true _ _ at1) (eqb-true _ _ times) times_is
+          | on_false other is ↦ elim (choice (eqb c 47) (Some (Divide, cs)) None (Some o) is) [
+            | on_true over over_is ↦ stands level c 47 cs Divide o (eqb-true _ _ at1) (eqb-true _ _ over) over_is
+            | on_false none is ↦ absurd cc
           ]
         ]
-        | inr none ↦ absurd cc
+        | on_false none is ↦ absurd cc
       ]
     ]
 
@@ -129,8 +129,8 @@ pub after_law : (mark : ℕ) (t u : List ℕ) → after_mark mark t ≡ Some u �
 after_law mark [] u e = absurd cc
 after_law mark (c ∷ cs) u e =
     elim (choice (eqb c mark) (Some cs) None (Some u) e) [
-      | inl h ↦ rw (eqb-true c mark h.0, some_is cs u h.1) refl
-      | inr none ↦ absurd cc
+      | on_true stands is ↦ rw (eqb-true c mark stands, some_is cs u is) refl
+      | on_false other is ↦ absurd cc
     ]
 
 -- ---- the levels
@@ -183,7 +183,7 @@ mutual
   pub level_sound : (n level : ℕ) (t : List ℕ) (x : Term × List ℕ) → level ≤ 2 → level_at n level t ≡ Ok x → ReadsAs level t x.0 x.1
   level_sound zero level t x le e = absurd cc
   level_sound (suc n) level t x le e =
-      elim (chosen (eqb level 0) (primary_at n t) (level_at n (level - 1) (sign_at level t).1 >>= λ y. chain_at n level (with_sign (sign_at level t).0 y.0) y.1) x e) [
+      elim (choice (eqb level 0) (primary_at n t) (level_at n (level - 1) (sign_at level t).1 >>= λ y. chain_at n level (with_sign (sign_at level t).0 y.0) y.1) (Ok x) e) [
         | on_true at0 is ↦ primary_sound n level t x is
         | on_false above is ↦
             let a = bind_ok (level_at n (level - 1) (sign_at level t).1) (λ y. chain_at n level (with_sign (sign_at level t).0 y.0) y.1) x is in

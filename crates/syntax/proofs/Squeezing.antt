@@ -6,7 +6,7 @@ use Rattle.syntax.specs.declared.pieces.Place.{Place}
 use Rattle.syntax.specs.declared.pieces.Place.TheVariants.{Outside, Inside, Closing}
 use Rattle.syntax.specs.Pieces.{Piece, mark, quoted, doubled, NoApostrophe, Cut, folded, marks, constants}
 use Rattle.syntax.specs.Squeezing.{run, squeezed}
-use Rattle.syntax.proofs.Tools.{ok_is, on_true, on_false, chosen, choice}
+use Rattle.syntax.proofs.Tools.{ok_is, on_true, on_false, choice}
 
 -- ---- a text that is cut is gone through
 
@@ -107,7 +107,7 @@ mutual
   outside_cut : (t ms : List ℕ) (ks : List (List ℕ)) (x : List ℕ × List (List ℕ)) → run Outside ms ks [] t ≡ Ok x → Found ms ks t x
   outside_cut [] ms ks x e = ([], refl, sym e ∙ sym (rw (append-nil ms, append-nil ks) refl))
   outside_cut (c ∷ t) ms ks x e =
-      elim (chosen (eqb c 39) (run Inside (ms ++ c ∷ []) ks [] t) (run Outside (ms ++ folded c) ks [] t) x e) [
+      elim (choice (eqb c 39) (run Inside (ms ++ c ∷ []) ks [] t) (run Outside (ms ++ folded c) ks [] t) (Ok x) e) [
         | on_true quote is ↦ quoted_found c t ms ks x (eqb-true c 39 quote) (inside_cut t (ms ++ c ∷ []) ks [] x is)
         | on_false other is ↦ mark_found c t ms ks x other (outside_cut t (ms ++ folded c) ks x is)
       ]
@@ -115,7 +115,7 @@ mutual
   inside_cut : (t ms : List ℕ) (ks : List (List ℕ)) (read : List ℕ) (x : List ℕ × List (List ℕ)) → run Inside ms ks read t ≡ Ok x → Ended ms ks read t x
   inside_cut [] ms ks read x e = absurd cc
   inside_cut (c ∷ t) ms ks read x e =
-      elim (chosen (eqb c 39) (run Closing ms ks read t) (run Inside ms ks (read ++ c ∷ []) t) x e) [
+      elim (choice (eqb c 39) (run Closing ms ks read t) (run Inside ms ks (read ++ c ∷ []) t) (Ok x) e) [
         | on_true quote is ↦ ended_quote c t ms ks read x (eqb-true c 39 quote) (closing_cut t ms ks read x is)
         | on_false other is ↦ ended_more c t ms ks read x other (inside_cut t ms ks (read ++ c ∷ []) x is)
       ]
@@ -123,7 +123,7 @@ mutual
   closing_cut : (t ms : List ℕ) (ks : List (List ℕ)) (read : List ℕ) (x : List ℕ × List (List ℕ)) → run Closing ms ks read t ≡ Ok x → Closed ms ks read t x
   closing_cut [] ms ks read x e = inl (tt, ([], refl, sym e ∙ sym (rw (append-nil ms, append-nil (ks ++ read ∷ [])) refl)))
   closing_cut (c ∷ t) ms ks read x e =
-      elim (chosen (eqb c 39) (run Inside ms ks (read ++ c ∷ []) t) (run Outside (ms ++ folded c) (ks ++ read ∷ []) [] t) x e) [
+      elim (choice (eqb c 39) (run Inside ms ks (read ++ c ∷ []) t) (run Outside (ms ++ folded c) (ks ++ read ∷ []) [] t) (Ok x) e) [
         | on_true quote is ↦
             let q : c ≡ 39 = eqb-true c 39 quote in
             inr (t, ap (λ (d : ℕ). d ∷ t) q, subst (λ (d : ℕ). Ended ms ks (read ++ d ∷ []) t x) q (inside_cut t ms ks (read ++ c ∷ []) x is))
@@ -142,18 +142,18 @@ run_fails [] Inside ms ks read n e = cc
 run_fails [] Closing ms ks read n e = absurd cc
 run_fails (c ∷ t) Outside ms ks read n e =
     elim (choice (eqb c 39) (run Inside (ms ++ c ∷ []) ks read t) (run Outside (ms ++ folded c) ks read t) (Err n) e) [
-      | inl h ↦ run_fails t Inside (ms ++ c ∷ []) ks read n h.1
-      | inr h ↦ run_fails t Outside (ms ++ folded c) ks read n h.1
+      | on_true quote is ↦ run_fails t Inside (ms ++ c ∷ []) ks read n is
+      | on_false other is ↦ run_fails t Outside (ms ++ folded c) ks read n is
     ]
 run_fails (c ∷ t) Inside ms ks read n e =
     elim (choice (eqb c 39) (run Closing ms ks read t) (run Inside ms ks (read ++ c ∷ []) t) (Err n) e) [
-      | inl h ↦ run_fails t Closing ms ks read n h.1
-      | inr h ↦ run_fails t Inside ms ks (read ++ c ∷ []) n h.1
+      | on_true quote is ↦ run_fails t Closing ms ks read n is
+      | on_false other is ↦ run_fails t Inside ms ks (read ++ c ∷ []) n is
     ]
 run_fails (c ∷ t) Closing ms ks read n e =
     elim (choice (eqb c 39) (run Inside ms ks (read ++ c ∷ []) t) (run Outside (ms ++ folded c) (ks ++ read ∷ []) [] t) (Err n) e) [
-      | inl h ↦ run_fails t Inside ms ks (read ++ c ∷ []) n h.1
-      | inr h ↦ run_fails t Outside (ms ++ folded c) (ks ++ read ∷ []) [] n h.1
+      | on_true quote is ↦ run_fails t Inside ms ks (read ++ c ∷ []) n is
+      | on_false other is ↦ run_fails t Outside (ms ++ folded c) (ks ++ read ∷ []) [] n is
     ]
 
 pub unfinished : (t : List ℕ) (n : ℕ) → squeezed t ≡ Err n → n ≡ 21

@@ -4,7 +4,6 @@ use Rattle.std.specs.List.{prefix_len, list_all}
 use Rattle.std.proofs.lemmas.Bool.{ne_eqb, le-leb, leb-true, and_parts}
 use Rattle.std.proofs.lemmas.List.{append-nil, length-append}
 use Rattle.ast.specs.Tree.{Ref, Term, constant, variable, parentheses, signed, binary, PrintItem, value_item, text_item, Statement, integer, assign, print, end, line_of}
-use Rattle.ast.specs.declared.expression.Operator.{Operator}
 use Rattle.ast.specs.declared.expression.Sign.TheVariants.{Plus, Minus}
 use Rattle.syntax.specs.declared.class.Class.{Class}
 use Rattle.syntax.specs.Characters.{is_digit, is_alphanumeric, begins_with, begins_letter}
@@ -13,7 +12,7 @@ use Rattle.syntax.specs.Grammar.{mark_of, level_of, reference_to, Spells}
 use Rattle.syntax.specs.Reading.{◌>>=◌, name_at, after_mark, sum_at, whole_at}
 use Rattle.syntax.specs.Statements.{AreMoreNames, AreNames, IsItem, AreMoreItems, Derives, class_of_statement, deepest}
 use Rattle.syntax.specs.ReadingStatements.{names_from, names_at, next_constant, item_at, items_from, items_at, assigned_at, by_class, shallow, statement_at}
-use Rattle.syntax.proofs.Complete.{Stops, name_again, sum_again}
+use Rattle.syntax.proofs.Complete.{Stops, none_of, name_again, sum_again}
 
 -- ---- whole expressions
 
@@ -28,12 +27,7 @@ whole_again t e h =
 -- ---- lists
 
 stops_at_comma : (t : List ℕ) → Stops 2 (44 ∷ t)
-stops_at_comma t = record { follows = (omega arith, omega arith, λ e. omega arith); none = λ k le. none (eqb k 2) (eqb k 1) }
-  where
-    none : (b d : Bool) → cond {A = Option (Operator × List ℕ)} b None (cond d None None) ≡ None
-    none true d = refl
-    none false true = refl
-    none false false = refl
+stops_at_comma t = record { follows = (omega arith, omega arith, λ e. omega arith); none = λ k le. none_of (eqb k 2) (eqb k 1) }
 
 names_follow : (zs : List (List ℕ)) (t : List ℕ) → AreMoreNames zs t → prefix_len is_alphanumeric t ≡ 0
 names_follow [] t h = rw h refl

@@ -13,7 +13,7 @@ use Rattle.syntax.specs.Grammar.{reference_to, Spells}
 use Rattle.syntax.specs.Reading.{◌>>=◌, misplaced, name_at, after_mark, sum_at, ended, whole_at}
 use Rattle.syntax.specs.Statements.{AreMoreNames, AreNames, IsItem, AreMoreItems, Derives, class_of_statement, deepest}
 use Rattle.syntax.specs.ReadingStatements.{next_part, names_from, names_at, next_constant, item_at, items_from, items_at, assigned_at, by_class, shallow, statement_at}
-use Rattle.syntax.proofs.Tools.{done, bind_ok, ok_is, on_true, on_false, chosen}
+use Rattle.syntax.proofs.Tools.{done, bind_ok, ok_is, on_true, on_false, choice}
 use Rattle.syntax.proofs.Sound.{name_sound, after_law, sum_sound}
 
 -- ---- whole expressions
@@ -22,7 +22,7 @@ pub whole_sound : (t : List ℕ) (e : Term) → whole_at t ≡ Ok e → Spells 2
 whole_sound t e h =
     let b = bind_ok (sum_at t) ended e h in
     let s = sum_sound t b.0 b.1 in
-    elim (chosen (eqb (length b.0.1) 0) (Ok b.0.0) (Err (misplaced b.0.1)) e b.2) [
+    elim (choice (eqb (length b.0.1) 0) (Ok b.0.0) (Err (misplaced b.0.1)) (Ok e) b.2) [
       | on_true none is ↦
           let last : b.0.1 ≡ [] = nil_from_length b.0.1 (eqb-true _ _ none) in
           let all : t ≡ s.0 = s.1 ∙ ap (λ (w : List ℕ). s.0 ++ w) last ∙ append-nil s.0 in
@@ -39,7 +39,7 @@ Part t (Some u) = t ≡ 44 ∷ u
 pub part_law : (t : List ℕ) (o : Option (List ℕ)) → next_part t ≡ Ok o → Part t o
 part_law [] o e = subst (Part []) (ok_is None o e) refl
 part_law (c ∷ cs) o e =
-    elim (chosen (eqb c 44) (Ok (Some cs)) (Err (misplaced (c ∷ cs))) o e) [
+    elim (choice (eqb c 44) (Ok (Some cs)) (Err (misplaced (c ∷ cs))) (Ok o) e) [
       | on_true comma is ↦ subst (Part (c ∷ cs)) (ok_is (Some cs) o is) (ap (λ (d : ℕ). d ∷ cs) (eqb-true c 44 comma))
       | on_false other is ↦ absurd cc
     ]
@@ -77,7 +77,7 @@ Next cs y = (s : List ℕ) × (y.0 ≡ text_item s) × (cs ≡ s ∷ y.1) × (0 
 next_law : (cs : List (List ℕ)) (y : PrintItem × List (List ℕ)) → next_constant cs ≡ Ok y → Next cs y
 next_law [] y e = absurd cc
 next_law (s ∷ cs) y e =
-    elim (chosen (eqb (length s) 0) (Err 25) (Ok (text_item s, cs)) y e) [
+    elim (choice (eqb (length s) 0) (Err 25) (Ok (text_item s, cs)) (Ok y) e) [
       | on_true none is ↦ absurd cc
       | on_false some is ↦
           let long : 0 < length s = omega (arith, eqb-false (length s) 0 some) in
@@ -125,7 +125,7 @@ items_sound (suc n) is t cs js e =
 
 pub items_at_sound : (t : List ℕ) (cs : List (List ℕ)) (js : List PrintItem) → items_at t cs ≡ Ok js → AreMoreItems js t cs
 items_at_sound t cs js e =
-    elim (chosen (eqb (length t) 0 || begins_with 44 t) (items_from (length t + 1) [] t cs) (Err 25) js e) [
+    elim (choice (eqb (length t) 0 || begins_with 44 t) (items_from (length t + 1) [] t cs) (Err 25) (Ok js) e) [
       | on_true first is ↦ let m = items_sound (length t + 1) [] t cs js is in subst (λ (ks : List PrintItem). AreMoreItems ks t cs) (sym m.1) m.2
       | on_false other is ↦ absurd cc
     ]
@@ -195,7 +195,7 @@ by_class_sound line Print t cs s w e =
     let b = bind_ok (items_at (drop 6 t) cs) (λ items. Ok (print line items)) s e in
     stated line Print t cs (print line b.0) s b.2 (refl, (drop 6 t, word_split (codes "PRINT*") t w, items_at_sound (drop 6 t) cs b.0 b.1), refl)
 by_class_sound line End t cs s w e =
-    elim (chosen (eqb (length t) 3) (Ok (end line)) (Err 25) s e) [
+    elim (choice (eqb (length t) 3) (Ok (end line)) (Err 25) (Ok s) e) [
       | on_true three is ↦
           let split : t ≡ codes "END" ++ drop 3 t = word_split (codes "END") t w in
           let none : drop 3 t ≡ [] = nil_from_length (drop 3 t) (omega (arith, ap length split, eqb-true (length t) 3 three)) in
@@ -207,7 +207,7 @@ by_class_sound line Unknown t cs s w e = absurd cc
 pub statement_sound : (line : ℕ) (t : List ℕ) (cs : List (List ℕ)) (s : Statement) → statement_at line t cs ≡ Ok s → Stated line (class_of t) t cs s × (deepest s ≤ 128)
 statement_sound line t cs s e =
     let b = bind_ok (by_class line (class_of t) t cs) shallow s e in
-    elim (chosen (leb (deepest b.0) 128) (Ok b.0) (Err 26) s b.2) [
+    elim (choice (leb (deepest b.0) 128) (Ok b.0) (Err 26) (Ok s) b.2) [
       | on_true low is ↦ subst (λ (x : Statement). Stated line (class_of t) t cs x × (deepest x ≤ 128)) (ok_is b.0 s is) (by_class_sound line (class_of t) t cs b.0 (class_word t) b.1, leb-true (deepest b.0) 128 low)
       | on_false deep is ↦ absurd cc
     ]

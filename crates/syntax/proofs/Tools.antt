@@ -1,5 +1,5 @@
 -- Steps of reading that did not fail, and runs at the front of a list.
-use Rattle.std.proofs.Common.{◌≡◌, ℕ, suc, ◌+◌, Bool, true, false, cond, List, [], ◌∷◌, ◌++◌, length, take, Result, Ok, Err, refl, sym, ap, ◌∙◌, ◌⊎◌, inl, inr, append_assoc, arith}
+use Rattle.std.proofs.Common.{◌≡◌, ℕ, suc, ◌+◌, Bool, true, false, cond, List, [], ◌∷◌, ◌++◌, length, take, Result, Ok, Err, refl, sym, ap, ◌∙◌, append_assoc, arith}
 use Rattle.std.specs.List.{prefix_len, list_all}
 use Rattle.std.proofs.lemmas.Bool.{and_parts}
 use Rattle.syntax.specs.Reading.{◌>>=◌}
@@ -14,14 +14,14 @@ done x = Ok x
 pub ok_is : {A : Type 0} (x y : A) → done x ≡ done y → x ≡ y
 ok_is x y e = cc
 
--- which side of a choice gave an Ok
-pub data Chosen {A : Type 0} (b : Bool) (r s : Result A ℕ) (y : A) : Type 0 where
-  on_true : b ≡ true → r ≡ Ok y → Chosen b r s y
-  on_false : b ≡ false → s ≡ Ok y → Chosen b r s y
+-- which side of a choice was taken
+pub data Chosen {X : Type 0} (b : Bool) (r s y : X) : Type 0 where
+  on_true : b ≡ true → r ≡ y → Chosen b r s y
+  on_false : b ≡ false → s ≡ y → Chosen b r s y
 
-pub chosen : {A : Type 0} (b : Bool) (r s : Result A ℕ) (y : A) → cond b r s ≡ Ok y → Chosen b r s y
-chosen true r s y e = on_true refl e
-chosen false r s y e = on_false refl e
+pub choice : {X : Type 0} (b : Bool) (r s y : X) → cond b r s ≡ y → Chosen b r s y
+choice true r s y e = on_true refl e
+choice false r s y e = on_false refl e
 
 pub joined : (t u r v s : List ℕ) → t ≡ u ++ r → r ≡ v ++ s → t ≡ (u ++ v) ++ s
 joined t u r v s e f = e ∙ ap (λ (w : List ℕ). u ++ w) f ∙ sym (append_assoc u v s)
@@ -42,8 +42,3 @@ front_is p (c ∷ cs) rest h stop =
     let parts = and_parts (p c) (list_all p cs) h in
     let k : 1 + length cs ≡ suc (length cs) = omega arith in
     rw (parts.0, front_is p cs rest parts.1 stop, k) refl
-
--- which side of a choice was taken
-pub choice : {X : Type 0} (b : Bool) (r s y : X) → cond b r s ≡ y → ((b ≡ true) × (r ≡ y)) ⊎ ((b ≡ false) × (s ≡ y))
-choice true r s y e = inl (refl, e)
-choice false r s y e = inr (refl, e)

@@ -71,7 +71,7 @@ left_out_words =
     ∷ codes "FUNCTION" ∷ codes "BLOCKDATA" ∷ codes "ENTRY" ∷ codes "CALL" ∷ codes "RETURN"
     ∷ codes "GOTO" ∷ codes "ASSIGN" ∷ codes "PAUSE" ∷ codes "FORMAT" ∷ codes "OPEN"
     ∷ codes "CLOSE" ∷ codes "INQUIRE" ∷ codes "BACKSPACE" ∷ codes "ENDFILE" ∷ codes "REWIND"
-    ∷ codes "ENDDO" ∷ codes "DOWHILE" ∷ codes "WRITE" ∷ []
+    ∷ codes "ENDDO" ∷ codes "DOWHILE" ∷ []
 
 abbrev pub later_words : List (List ℕ)
 later_words =
@@ -84,13 +84,22 @@ begins_left_out_word t = begins_any left_out_words t
 unfoldable pub begins_later_word : List ℕ → Bool
 begins_later_word t = begins_any later_words t
 
--- a word that no `*` follows
-abbrev pub begins_unstarred : List ℕ → List ℕ → Bool
-begins_unstarred word t = begins_word word t && not (begins_word (word ++ codes "*") t)
+-- a word that certain marks do not follow
+abbrev pub begins_without : List ℕ → List ℕ → List ℕ → Bool
+begins_without marks word t = begins_word word t && not (begins_word (word ++ marks) t)
 
--- `PRINT` and `READ` are left out where no `*` follows
+abbrev pub is_left_out_print : List ℕ → Bool
+is_left_out_print t = begins_without (codes "*") (codes "PRINT") t
+
+abbrev pub is_left_out_write : List ℕ → Bool
+is_left_out_write t = begins_without (codes "(*,*)") (codes "WRITE") t
+
+abbrev pub is_left_out_read : List ℕ → Bool
+is_left_out_read t = begins_without (codes "*") (codes "READ") t && begins_without (codes "(*,*)") (codes "READ") t
+
+-- `PRINT` is left out where no `*` follows, `WRITE` where no `(*,*)` does, `READ` where neither does
 abbrev pub is_left_out : List ℕ → Bool
-is_left_out t = begins_left_out_word t || (begins_unstarred (codes "PRINT") t || begins_unstarred (codes "READ") t)
+is_left_out t = begins_left_out_word t || (is_left_out_print t || (is_left_out_write t || is_left_out_read t))
 
 abbrev pub class_by_word : List ℕ → Class
 class_by_word t =

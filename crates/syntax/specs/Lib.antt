@@ -2,6 +2,7 @@ pub mod Answers
 pub mod Characters
 pub mod Classes
 pub mod Grammar
+pub mod Levels
 pub mod Pieces
 pub mod Reading
 pub mod ReadingStatements

@@ -1,5 +1,8 @@
 -- Going through a text once, byte by byte: an account of the code, which no public clause names.
-use Rattle.std.specs.Prelude.{ℕ, ◌==◌, if◌then◌else◌, List, [], ◌∷◌, ◌++◌, map, Result, Ok, Err}
+use Rattle.std.specs.Prelude.{ℕ, ◌==◌, if◌then◌else◌, List, [], ◌∷◌, ◌++◌, map, Vec, Result, Ok, Err}
+use Rattle.std.specs.Global.{Global}
+use Rattle.std.specs.Vec.Iter.{into_iter_items}
+use Rattle.std.specs.declared.vec.IntoIter.{IntoIter}
 use Rattle.syntax.specs.declared.pieces.Place.{Place}
 use Rattle.syntax.specs.declared.pieces.Place.TheVariants.{Outside, Inside, Closing}
 use Rattle.syntax.specs.declared.pieces.Squeezing.{Squeezing}
@@ -20,6 +23,10 @@ run Closing ms ks read (c ∷ t) = if c == 39 then (run Inside ms ks (read ++ c 
 
 abbrev pub left_of : Squeezing → List ℕ → Result (List ℕ × List (List ℕ)) ℕ
 left_of s t = run s.place s.marks.items (map (λ v. v.items) s.constants.items) s.open.items t
+
+-- the texts of the character constants that are still to come
+abbrev pub texts_left : IntoIter (Vec ℕ Global) Global → List (List ℕ)
+texts_left constants = map (λ v. v.items) (into_iter_items constants)
 
 abbrev pub squeezed : List ℕ → Result (List ℕ × List (List ℕ)) ℕ
 squeezed t = run Outside [] [] [] t

@@ -1,8 +1,8 @@
 //! The class of a statement.
 
-ghost use Rattle.std.specs.Prelude.{◌≡◌, codes};
+ghost use Rattle.std.specs.Prelude.{◌≡◌};
 ghost use Rattle.std.specs.Option.{option_map};
-ghost use Rattle.syntax.specs.Classes.{anywhere, begins_call, begins_dotted, holds_later_form, level_after, stands_at_level_zero, begins_word, without_comma, is_do_value, is_do_variable, is_do_label, is_do, begins_left_out_word, begins_later_word, begins_unstarred, is_left_out, class_by_word, class_of};
+ghost use Rattle.syntax.specs.Classes.{anywhere, begins_call, begins_dotted, holds_later_form, level_after, stands_at_level_zero, begins_word, without_comma, is_do_value, is_do_variable, is_do_label, is_do, begins_left_out_word, begins_later_word, is_left_out_print, is_left_out_write, is_left_out_read, is_left_out, class_by_word, class_of};
 
 use crate::scan::{
     begins_any, begins_digit, begins_letter, begins_with, digits, is_alphanumeric, is_letter,
@@ -28,7 +28,7 @@ const DOTTED: [&[u8]; 13] = [
     b".EQ.", b".NE.", b".GT.", b".GE.",
 ];
 
-const LEFT_OUT: [&[u8]; 32] = [
+const LEFT_OUT: [&[u8]; 31] = [
     b"INTEGER*",
     b"REAL",
     b"DOUBLEPRECISION",
@@ -60,7 +60,6 @@ const LEFT_OUT: [&[u8]; 32] = [
     b"REWIND",
     b"ENDDO",
     b"DOWHILE",
-    b"WRITE",
 ];
 
 const LATER: [&[u8]; 8] = [
@@ -182,22 +181,31 @@ fn begins_later_word(text: &[u8]) -> bool
     begins_any(text, &LATER)
 }
 
-fn begins_unstarred_print(text: &[u8]) -> bool
-    ensures { result ≡ begins_unstarred (codes "PRINT") text.now }
+fn is_left_out_print(text: &[u8]) -> bool
+    ensures { result ≡ is_left_out_print text.now }
 {
     text.starts_with(b"PRINT") && !text.starts_with(b"PRINT*")
 }
 
-fn begins_unstarred_read(text: &[u8]) -> bool
-    ensures { result ≡ begins_unstarred (codes "READ") text.now }
+fn is_left_out_write(text: &[u8]) -> bool
+    ensures { result ≡ is_left_out_write text.now }
 {
-    text.starts_with(b"READ") && !text.starts_with(b"READ*")
+    text.starts_with(b"WRITE") && !text.starts_with(b"WRITE(*,*)")
+}
+
+fn is_left_out_read(text: &[u8]) -> bool
+    ensures { result ≡ is_left_out_read text.now }
+{
+    text.starts_with(b"READ") && !text.starts_with(b"READ*") && !text.starts_with(b"READ(*,*)")
 }
 
 fn is_left_out(text: &[u8]) -> bool
     ensures { result ≡ is_left_out text.now }
 {
-    begins_left_out_word(text) || begins_unstarred_print(text) || begins_unstarred_read(text)
+    begins_left_out_word(text)
+        || is_left_out_print(text)
+        || is_left_out_write(text)
+        || is_left_out_read(text)
 }
 
 fn class_by_word(text: &[u8]) -> Class

@@ -4,7 +4,7 @@ use ast::Line;
 use std::alloc::{AllocError, AllocFailed};
 
 /// Why a text is no statement.
-#[derive(Debug, Drop)]
+#[derive(Clone, Copy, Debug, PartialEq, Eq)]
 pub enum SyntaxRefusal {
     /// There was no memory.
     Memory,

@@ -7,18 +7,19 @@ ghost use Rattle.ast.specs.View.{term, letters, item, statement};
 ghost use Rattle.syntax.specs.Reading.{whole_at};
 ghost use Rattle.syntax.specs.Statements.{depth_of_items, deepest, IsStatement};
 ghost use Rattle.syntax.specs.Pieces.{Piece, Cut, marks, constants};
-ghost use Rattle.syntax.specs.Squeezing.{text_at};
+ghost use Rattle.syntax.specs.Squeezing.{texts_left, text_at};
 ghost use Rattle.syntax.specs.Answers.{Answers, Gives, Says};
 ghost use Rattle.syntax.specs.ReadingStatements.{next_part, names_from, names_at, next_constant, item_at, items_from, items_at, assigned_at, by_class, statement_at};
 
 use crate::class::{Class, class_of};
 use crate::expressions::{DEPTH, is_within, sum, whole};
-use crate::pieces::squeeze;
+use crate::pieces::{Squeezed, squeeze};
 use crate::refusal::{Failure, SyntaxRefusal};
 use crate::scan::{after_mark, begins_with, misplaced, name, reference_to};
 use ast::{Item, Line, Name, Stmt};
 use fixed_form::Labelled;
 use std::alloc::{AllocError, Global};
+use std::vec::IntoIter;
 
 /// The names of a list: a name, and each further one after a comma. Numbers 22, 24 and 25.
 fn names(alloc: Global, text: &[u8]) -> Result<Vec<Name>, Failure>
@@ -65,39 +66,30 @@ fn with_name(mut names: Vec<Name>, next: Name) -> Result<Vec<Name>, AllocError>
     Ok(names)
 }
 
-/// The item that the text begins with, what stands after it and the constants that are left. Numbers
-/// 22 to 25.
-fn item<'a, 'b>(
+/// The item that the text begins with, and what stands after it. Numbers 22 to 25.
+fn item<'a>(
     alloc: Global,
     text: &'a [u8],
-    constants: &'b [Vec<u8>],
-) -> Result<(Item, &'a [u8], &'b [Vec<u8>]), Failure>
-    ensures { Gives (λ x. (item x.0, x.1.now, map (λ v. v.items) x.2.now)) result (item_at text.now (map (λ v. v.items) constants.now)) }
+    constants: &mut IntoIter<Vec<u8>>,
+) -> Result<(Item, &'a [u8]), Failure>
+    ensures { Gives (λ x. (item x.0, x.1.now, texts_left constants.new)) result (item_at text.now (texts_left constants.old)) }
 {
     match after_mark(text, b'\'') {
-        Some(after) => {
-            let (item, left) = constant_text(alloc, constants)?;
-            Ok((item, after, left))
-        }
+        Some(after) => Ok((constant_text(constants)?, after)),
         None => {
             let (value, rest) = sum(alloc, text)?;
-            Ok((Item::Value(value), rest, constants))
+            Ok((Item::Value(value), rest))
         }
     }
 }
 
-/// The next character constant as an item, and the constants that are left.
-fn constant_text(alloc: Global, constants: &[Vec<u8>]) -> Result<(Item, &[Vec<u8>]), Failure>
-    ensures { Gives (λ x. (item x.0, map (λ v. v.items) x.1.now)) result (next_constant (map (λ v. v.items) constants.now)) }
+/// The next character constant as an item.
+fn constant_text(constants: &mut IntoIter<Vec<u8>>) -> Result<Item, Failure>
+    ensures { Gives (λ x. (item x, texts_left constants.new)) result (next_constant (texts_left constants.old)) }
 {
-    match constants {
-        [] => Err(Failure::Broken(25)),
-        [first, left @ ..] => {
-            if first.is_empty() {
-                return Err(Failure::Broken(25));
-            }
-            Ok((Item::Text(Vec::from_slice(alloc, first)?), left))
-        }
+    match constants.next() {
+        Some(text) if !text.is_empty() => Ok(Item::Text(text)),
+        _ => Err(Failure::Broken(25)),
     }
 }
 
@@ -106,10 +98,10 @@ fn items_from(
     alloc: Global,
     items: Vec<Item>,
     text: &[u8],
-    constants: &[Vec<u8>],
+    constants: &mut IntoIter<Vec<u8>>,
     room: u128,
 ) -> Result<Vec<Item>, Failure>
-    ensures { Gives (λ v. map item v.items) result (items_from room (map item items.items) text.now (map (λ v. v.items) constants.now)) }
+    ensures { Gives (λ v. map item v.items) result (items_from room (map item items.items) text.now (texts_left constants.old)) }
 {
     if room == 0 {
         return Err(Failure::Broken(0));
@@ -117,9 +109,9 @@ fn items_from(
     match next_part(text)? {
         None => Ok(items),
         Some(after) => {
-            let (next, rest, left) = item(alloc, after, constants)?;
+            let (next, rest) = item(alloc, after, constants)?;
             let longer = with_item(items, next)?;
-            items_from(alloc, longer, rest, left, room - 1)
+            items_from(alloc, longer, rest, constants, room - 1)
         }
     }
 }
@@ -132,15 +124,15 @@ fn with_item(mut items: Vec<Item>, next: Item) -> Result<Vec<Item>, AllocError>
 }
 
 /// The items of a PRINT, which stand after `PRINT*`. Numbers 22 to 25.
-fn items(alloc: Global, text: &[u8], constants: &[Vec<u8>]) -> Result<Vec<Item>, Failure>
-    ensures { Gives (λ v. map item v.items) result (items_at text.now (map (λ v. v.items) constants.now)) }
+fn items(alloc: Global, text: &[u8], constants: Vec<Vec<u8>>) -> Result<Vec<Item>, Failure>
+    ensures { Gives (λ v. map item v.items) result (items_at text.now (map (λ v. v.items) constants.items)) }
 {
     if text.is_empty() || begins_with(text, b',') {
         items_from(
             alloc,
             Vec::new(alloc),
             text,
-            constants,
+            &mut constants.into_iter(),
             text.len() as u128 + 1,
         )
     } else {
@@ -178,9 +170,9 @@ fn by_class(
     line: Line,
     class: Class,
     text: &[u8],
-    constants: &[Vec<u8>],
+    constants: Vec<Vec<u8>>,
 ) -> Result<Stmt, Failure>
-    ensures { Gives statement result (by_class line class text.now (map (λ v. v.items) constants.now)) }
+    ensures { Gives statement result (by_class line class text.now (map (λ v. v.items) constants.items)) }
 {
     match class {
         Class::Later => Err(Failure::Broken(28)),
@@ -224,9 +216,9 @@ pub fn statement_of(
     alloc: Global,
     line: Line,
     text: &[u8],
-    constants: &[Vec<u8>],
+    constants: Vec<Vec<u8>>,
 ) -> Result<Stmt, Failure>
-    ensures { Gives statement result (statement_at line text.now (map (λ v. v.items) constants.now)) }
+    ensures { Gives statement result (statement_at line text.now (map (λ v. v.items) constants.items)) }
 {
     let tree = by_class(alloc, line, class_of(text), text, constants)?;
     if is_shallow(&tree, DEPTH) {
@@ -239,8 +231,8 @@ pub fn statement_of(
 fn read(alloc: Global, line: Line, text: &[u8]) -> Result<Stmt, Failure>
     ensures { Gives statement result (text_at line text.now) }
 {
-    let squeezed = squeeze(alloc, text)?;
-    statement_of(alloc, line, &squeezed.marks, &squeezed.constants)
+    let Squeezed { marks, constants } = squeeze(alloc, text)?;
+    statement_of(alloc, line, &marks, constants)
 }
 
 fn answer(alloc: Global, labelled: &Labelled) -> Result<Stmt, SyntaxRefusal>

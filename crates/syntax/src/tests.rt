@@ -151,7 +151,7 @@ fn trees(rt: HostRuntime) -> Result<(), Fail> {
         (b"-(-1)", b"[-([-1])]"),
     ];
     for (text, shown) in wanted {
-        let tree = expr(rt.alloc(), text, 3).ok().ok_or("an expression")?;
+        let tree = expr(rt.alloc(), text, 3)?;
         let mut out = Vec::new(rt.alloc());
         show(&tree, &mut out)?;
         assert_eq!(rt; out.as_slice(), shown);
@@ -169,12 +169,9 @@ fn expressions_refused(rt: HostRuntime) {
         (b"A.EQ.B", 28),
         (b"a", 25),
     ];
-    for (text, wanted) in refused {
-        let answer = expr(rt.alloc(), text, 3);
-        assert!(rt;
-            matches!(answer, Err(SyntaxRefusal::Refused { number, line: 3 }) if number == wanted),
-            "{text:?}"
-        );
+    for (text, number) in refused {
+        let wanted = SyntaxRefusal::Refused { number, line: 3 };
+        assert_eq!(rt; expr(rt.alloc(), text, 3).err(), Some(wanted), "{text:?}");
     }
 }
 
@@ -184,17 +181,15 @@ fn statements_read(rt: HostRuntime) -> Result<(), Fail> {
     let total = Name {
         letters: *b"TOTAL ",
     };
-    let read_one = read(alloc, b"I N T E G E R to tal , K")
-        .ok()
-        .ok_or("INTEGER")?;
+    let read_one = read(alloc, b"I N T E G E R to tal , K")?;
     assert!(rt;
         matches!(&read_one, Stmt::Integer(7, names) if names.len() == 2 && names[0] == total)
     );
-    let assigned = read(alloc, b"to tal = 1").ok().ok_or("an assignment")?;
+    let assigned = read(alloc, b"to tal = 1")?;
     assert!(rt;
         matches!(&assigned, Stmt::Assign(7, target, Expr::Constant(1)) if target.name == total)
     );
-    let printed = read(alloc, b"print *, 'it''s  A', -7").ok().ok_or("PRINT")?;
+    let printed = read(alloc, b"print *, 'it''s  A', -7")?;
     match &printed {
         Stmt::Print(7, items) => match items.as_slice() {
             [Item::Text(text), Item::Value(Expr::Signed(Sign::Minus, _))] => {
@@ -205,5 +200,90 @@ fn statements_read(rt: HostRuntime) -> Result<(), Fail> {
         _ => return Err("PRINT".into()),
     }
     assert!(rt; matches!(read(alloc, b"end"), Ok(Stmt::End(7))));
+    Ok(())
+}
+
+fn is_assigned_sum(statement: &Stmt) -> bool {
+    let Stmt::Assign(7, target, Expr::Binary(Operator::Add, left, right)) = statement else {
+        return false;
+    };
+    target.name.letters == *b"K     "
+        && matches!(
+            (&**left, &**right),
+            (Expr::Parentheses(_), Expr::Constant(3))
+        )
+}
+
+fn is_integer_of_two(statement: &Stmt) -> bool {
+    let Stmt::Integer(7, names) = statement else {
+        return false;
+    };
+    match names.as_slice() {
+        [first, second] => first.letters == *b"A     " && second.letters == *b"B     ",
+        _ => false,
+    }
+}
+
+fn is_print_of_two(statement: &Stmt) -> bool {
+    let Stmt::Print(7, items) = statement else {
+        return false;
+    };
+    match items.as_slice() {
+        [Item::Text(text), Item::Value(Expr::Constant(1))] => text.as_slice() == b"A".as_slice(),
+        _ => false,
+    }
+}
+
+/// The statement of a text, read once more where memory was wanting, and that want.
+fn read_in_the_end(
+    alloc: Global,
+    text: &[u8],
+) -> Result<(Stmt, Result<(), AllocError>), SyntaxRefusal> {
+    match read(alloc, text) {
+        Err(SyntaxRefusal::Memory) => Ok((read(alloc, text)?, Err(AllocError))),
+        given => Ok((given?, Ok(()))),
+    }
+}
+
+#[test]
+fn want_of_memory_in_statements(rt: HostRuntime) -> Result<(), Fail> {
+    let (statement, memory) = read_in_the_end(rt.alloc(), b"K = (-1) + 3")?;
+    assert!(rt; is_assigned_sum(&statement));
+    Ok(memory?)
+}
+
+#[test]
+fn want_of_memory_in_names(rt: HostRuntime) -> Result<(), Fail> {
+    let (statement, memory) = read_in_the_end(rt.alloc(), b"INTEGER A,B")?;
+    assert!(rt; is_integer_of_two(&statement));
+    Ok(memory?)
+}
+
+#[test]
+fn want_of_memory_in_items(rt: HostRuntime) -> Result<(), Fail> {
+    let (statement, memory) = read_in_the_end(rt.alloc(), b"PRINT *,'A',1")?;
+    assert!(rt; is_print_of_two(&statement));
+    Ok(memory?)
+}
+
+fn is_negated_sum(expression: &Expr) -> bool {
+    let Expr::Signed(Sign::Minus, inner) = expression else {
+        return false;
+    };
+    let Expr::Parentheses(sum) = &**inner else {
+        return false;
+    };
+    matches!(&**sum, Expr::Binary(Operator::Add, _, _))
+}
+
+#[test]
+fn want_of_memory_in_expressions(rt: HostRuntime) -> Result<(), Fail> {
+    match expr(rt.alloc(), b"-(1+K)", 7) {
+        Err(SyntaxRefusal::Memory) => {
+            assert!(rt; is_negated_sum(&expr(rt.alloc(), b"-(1+K)", 7)?));
+            Err(AllocError)?
+        }
+        given => assert!(rt; is_negated_sum(&given?)),
+    }
     Ok(())
 }

@@ -4,6 +4,7 @@ ghost use Rattle.std.specs.Prelude.{◌≡◌, ◌≤◌};
 ghost use Rattle.std.specs.Option.{option_map};
 ghost use Rattle.ast.specs.View.{term};
 ghost use Rattle.syntax.specs.Answers.{Gives};
+ghost use Rattle.syntax.specs.Levels.{rank};
 ghost use Rattle.syntax.specs.Reading.{operator_at, sign_at, closed_at, level_at, chain_at, primary_at, sum_at, whole_at};
 
 use crate::expressions::build::{binary, parentheses, with_sign};
@@ -12,18 +13,37 @@ use crate::scan::{after_mark, leaf, misplaced};
 use ast::{Expr, Operator, Sign};
 use std::alloc::Global;
 
-/// The level of `+` and `-`, and of a sign.
-const SUM: u8 = 2;
-/// The level of `*` and `/`.
-const PRODUCT: u8 = 1;
-/// The level of constants, variables and parentheses.
-const PRIMARY: u8 = 0;
+/// A level of precedence.
+#[derive(Clone, Copy)]
+enum Level {
+    /// `+` and `-`, and a sign.
+    Sum,
+    /// `*` and `/`.
+    Product,
+    /// Constants, variables and parentheses.
+    Primary,
+}
+
+impl Level {
+    ghost use Rattle.std.specs.Prelude.{◌≡◌, ◌-◌};
+    ghost use Rattle.syntax.specs.Levels.{rank};
+
+    fn below(self) -> Level
+        ensures { rank result ≡ rank self - 1 }
+    {
+        match self {
+            Level::Sum => Level::Product,
+            Level::Product => Level::Primary,
+            Level::Primary => Level::Primary,
+        }
+    }
+}
 
 /// The sum that the text begins with, and what stands after it. Numbers 22 to 25.
 pub fn sum(alloc: Global, text: &[u8]) -> Result<(Expr, &[u8]), Failure>
     ensures { Gives (λ x. (term x.0, x.1.now)) result (sum_at text.now) }
 {
-    level(alloc, SUM, text, 4 * text.len() as u128 + 4)
+    expression(alloc, Level::Sum, text, 4 * text.len() as u128 + 4)
 }
 
 /// The sum that the whole text is. Numbers 22 to 25.
@@ -42,17 +62,22 @@ pub fn whole(alloc: Global, text: &[u8]) -> Result<Expr, Failure>
 /// may have a sign before its first operand. `room` bounds the depth of the calls, and `sum` gives
 /// more than any text uses up.
 #[cycle(parse)]
-fn level(alloc: Global, level: u8, text: &[u8], room: u128) -> Result<(Expr, &[u8]), Failure>
-    ensures { Gives (λ x. (term x.0, x.1.now)) result (level_at room level text.now) }
+fn expression(
+    alloc: Global,
+    level: Level,
+    text: &[u8],
+    room: u128,
+) -> Result<(Expr, &[u8]), Failure>
+    ensures { Gives (λ x. (term x.0, x.1.now)) result (level_at room (rank level) text.now) }
 {
     if room == 0 {
         return Err(Failure::Broken(0));
     }
-    if level == PRIMARY {
+    if let Level::Primary = level {
         return primary(alloc, text, room - 1);
     }
     let (sign, unsigned) = sign_at(level, text);
-    let (operand, rest) = self::level(alloc, level.saturating_sub(1), unsigned, room - 1)?;
+    let (operand, rest) = expression(alloc, level.below(), unsigned, room - 1)?;
     let first = with_sign(alloc, sign, operand)?;
     chain(alloc, level, first, rest, room - 1)
 }
@@ -61,19 +86,19 @@ fn level(alloc: Global, level: u8, text: &[u8], room: u128) -> Result<(Expr, &[u
 #[cycle(parse)]
 fn chain(
     alloc: Global,
-    level: u8,
+    level: Level,
     left: Expr,
     text: &[u8],
     room: u128,
 ) -> Result<(Expr, &[u8]), Failure>
-    ensures { Gives (λ x. (term x.0, x.1.now)) result (chain_at room level (term left) text.now) }
+    ensures { Gives (λ x. (term x.0, x.1.now)) result (chain_at room (rank level) (term left) text.now) }
 {
     if room == 0 {
         return Err(Failure::Broken(0));
     }
     match operator_at(level, text) {
         Some((operator, after)) => {
-            let (right, rest) = self::level(alloc, level.saturating_sub(1), after, room - 1)?;
+            let (right, rest) = expression(alloc, level.below(), after, room - 1)?;
             let both = binary(alloc, operator, left, right)?;
             chain(alloc, level, both, rest, room - 1)
         }
@@ -91,7 +116,7 @@ fn primary(alloc: Global, text: &[u8], room: u128) -> Result<(Expr, &[u8]), Fail
     }
     match after_mark(text, b'(') {
         Some(after) => {
-            let (inner, rest) = level(alloc, SUM, after, room - 1)?;
+            let (inner, rest) = expression(alloc, Level::Sum, after, room - 1)?;
             closed(alloc, inner, rest)
         }
         None => leaf(text),
@@ -109,25 +134,25 @@ fn closed(alloc: Global, inner: Expr, text: &[u8]) -> Result<(Expr, &[u8]), Fail
 }
 
 /// The operator of the level that the text begins with, and what stands after it.
-fn operator_at(level: u8, text: &[u8]) -> Option<(Operator, &[u8])>
-    ensures { option_map (λ x. (x.0, x.1.now)) result ≡ operator_at level text.now }
+fn operator_at(level: Level, text: &[u8]) -> Option<(Operator, &[u8])>
+    ensures { option_map (λ x. (x.0, x.1.now)) result ≡ operator_at (rank level) text.now }
 {
     match (level, text) {
-        (SUM, [b'+', rest @ ..]) => Some((Operator::Add, rest)),
-        (SUM, [b'-', rest @ ..]) => Some((Operator::Subtract, rest)),
-        (PRODUCT, [b'*', rest @ ..]) => Some((Operator::Multiply, rest)),
-        (PRODUCT, [b'/', rest @ ..]) => Some((Operator::Divide, rest)),
+        (Level::Sum, [b'+', rest @ ..]) => Some((Operator::Add, rest)),
+        (Level::Sum, [b'-', rest @ ..]) => Some((Operator::Subtract, rest)),
+        (Level::Product, [b'*', rest @ ..]) => Some((Operator::Multiply, rest)),
+        (Level::Product, [b'/', rest @ ..]) => Some((Operator::Divide, rest)),
         _ => None,
     }
 }
 
 /// The sign of a sum, if it has one, and what stands after it.
-fn sign_at(level: u8, text: &[u8]) -> (Option<Sign>, &[u8])
-    ensures { (result.0, result.1.now) ≡ sign_at level text.now }
+fn sign_at(level: Level, text: &[u8]) -> (Option<Sign>, &[u8])
+    ensures { (result.0, result.1.now) ≡ sign_at (rank level) text.now }
 {
     match (level, text) {
-        (SUM, [b'+', rest @ ..]) => (Some(Sign::Plus), rest),
-        (SUM, [b'-', rest @ ..]) => (Some(Sign::Minus), rest),
+        (Level::Sum, [b'+', rest @ ..]) => (Some(Sign::Plus), rest),
+        (Level::Sum, [b'-', rest @ ..]) => (Some(Sign::Minus), rest),
         _ => (None, text),
     }
 }

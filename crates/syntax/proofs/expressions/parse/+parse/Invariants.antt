@@ -1,7 +1,7 @@
 use Rattle.syntax.proofs.expressions.parse.+parse.Given as goal
 
-abbrev pub decreases-level : goal.decreases-level
-decreases-level l = l.room
+abbrev pub decreases-expression : goal.decreases-expression
+decreases-expression l = l.room
 
 abbrev pub decreases-chain : goal.decreases-chain
 decreases-chain l = l.room
