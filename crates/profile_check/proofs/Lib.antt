@@ -1,7 +1,10 @@
+pub mod Agreement
 pub mod Answered
 pub mod Laws
+pub mod Numbers
 pub mod Parsing
 pub mod Placing
 pub mod Steps
 pub mod Tables
+pub mod Unique
 pub mod Whole

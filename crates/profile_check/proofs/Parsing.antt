@@ -1,5 +1,5 @@
 -- Texts are read to statements one by one.
-use Rattle.std.proofs.Common.{◌≡◌, ℕ, ◌+◌, ◌<◌, List, [], ◌∷◌, ◌++◌, refl, ap, ◌∙◌, sym, subst, map, length, get_or, drop, take, add-one, drop-cons, append_assoc, append-nil, take-append-drop, Result, Ok, Err, IfErr, Vec, Global}
+use Rattle.std.proofs.Common.{◌≡◌, ℕ, ◌+◌, ◌<◌, List, [], ◌∷◌, ◌++◌, refl, ap, ◌∙◌, sym, subst, map, length, get_or, drop, take, add-one, drop-cons, append_assoc, take-append-drop, Result, Ok, Err, IfErr, Vec, Global}
 use Rattle.std.proofs.Math.Seq.{take-suc}
 use Rattle.std.proofs.lemmas.List.{map-append}
 use Rattle.std.specs.Result.{IsErrAnd}
@@ -26,9 +26,6 @@ spelled-snoc (d ∷ ds) (t ∷ ts) e s h k = (h.0, spelled-snoc ds ts e s h.1 k)
 pub record Begins (all : List Entry) (read : List Statement) (left : List Entry) : Type 0 where
   pub each : (ss : List Statement) → Spelled all ss → (rest : List Statement) × (ss ≡ read ++ rest) × Spelled left rest
 
-pub begins-all : (all : List Entry) → Begins all [] all
-begins-all all = record { each = λ ss h. (ss, refl, h) }
-
 next-rest : (read : List Statement) (e : Entry) (left : List Entry) (stmt : Statement) (ss rest : List Statement)
     → ((s : Statement) → IsStatement e.line e.text s → stmt ≡ s) → ss ≡ read ++ rest → Spelled (e ∷ left) rest
     → (more : List Statement) × (ss ≡ (read ++ stmt ∷ []) ++ more) × Spelled left more
@@ -50,13 +47,6 @@ some-rest e left (s ∷ ss) h = (s, h.0)
 pub begins-some : (all : List Entry) (read : List Statement) (e : Entry) (left : List Entry) (ss : List Statement)
     → Begins all read (e ∷ left) → Spelled all ss → (s : Statement) × IsStatement e.line e.text s
 begins-some all read e left ss b h = let r = b.each ss h in some-rest e left r.0 r.2
-
-ended-rest : (read ss rest : List Statement) → ss ≡ read ++ rest → Spelled [] rest → read ≡ ss
-ended-rest read ss [] same h = sym (same ∙ append-nil read)
-ended-rest read ss (s ∷ rest) same h = absurd h
-
-pub begins-ended : (all : List Entry) (read : List Statement) → Begins all read [] → (ss : List Statement) → Spelled all ss → read ≡ ss
-begins-ended all read b ss h = let r = b.each ss h in ended-rest read ss r.0 r.1 r.2
 
 -- the entry at an index, before those left
 pub entries-at : (labelled : List Labelled) (i : ℕ) (x : Labelled) → i < length labelled → x ≡ get_or labelled i x

@@ -1,5 +1,6 @@
 -- A numbered program is placed: the table has each name that its references name.
-use Rattle.std.proofs.Common.{◌≡◌, ℕ, ◌+◌, ◌<◌, List, [], ◌∷◌, ◌++◌, refl, ap, ◌∙◌, sym, subst, map, length, cond, not, ◌||◌, Bool, true, false, Some, slice_get, suc, arith, lt-ltb, eq-eqb, ◌≤◌, length-append}
+use Rattle.std.proofs.Common.{◌≡◌, ℕ, ◌+◌, ◌<◌, List, [], ◌∷◌, ◌++◌, refl, ap, ◌∙◌, sym, subst, map, length, cond, not, ◌||◌, Bool, true, false, Some, slice_get, suc, arith, lt-ltb, eq-eqb, ◌≤◌, ◌^◌, length-append, Result, Ok, Err, IfOk}
+use Rattle.std.specs.Prelude.{OnOk}
 use Rattle.std.proofs.lemmas.List.{map-append, length-map}
 use Rattle.std.proofs.lemmas.List.Folds.{list_any-append}
 use Rattle.std.specs.Cmp.Lexicographic.{same_text}
@@ -9,6 +10,8 @@ use Rattle.ast.specs.Numbering.{place_of, numbered_term, numbered_items, numbere
 use Rattle.ast.specs.Placed.{PlacedTerm, PlacedItems, PlacedStatement, PlacedBlock}
 use Rattle.ast.specs.References.{term_references, items_references, statement_references}
 use Rattle.ast.specs.Store.{same_name}
+use Rattle.ast.specs.View.{letters}
+use Rattle.ast.specs.declared.name.Name.{Name}
 use Rattle.ast.specs.Tree.{Ref, Term, constant, variable, parentheses, signed, binary, PrintItem, value_item, text_item, Statement, integer, assign, print, end, block_of}
 use Rattle.profile_check.specs.Names.{term_names, items_names, names_named, all_named, table_of, references_in}
 
@@ -16,7 +19,7 @@ use Rattle.profile_check.specs.Names.{term_names, items_names, names_named, all_
 abbrev pub Has : List (List ℕ) → List ℕ → Type 0
 Has names x = list_any (same_name x) names ≡ true
 
-same-name_itself : (x : List ℕ) → same_name x x ≡ true
+pub same-name_itself : (x : List ℕ) → same_name x x ≡ true
 same-name_itself [] = refl
 same-name_itself (c ∷ cs) = rw (eq-eqb c c refl, same-name_itself cs) refl
 
@@ -147,3 +150,11 @@ references-named (end l) = omega arith
 pub references-all_named : (ss : List Statement) → references_in ss ≤ length (all_named ss)
 references-all_named [] = omega arith
 references-all_named (s ∷ ss) = omega (arith, references-named s, references-all_named ss, length-append (names_named s) (all_named ss))
+
+-- where the names of statements stand in a list, their references are few enough to be numbered
+pub few-references : {X E : Type 0} (r : Result X E) (named : List Name) (ss : List Statement)
+    → length named < 2 ^ 64 → OnOk r (map letters named ≡ all_named ss) → IfOk r (λ x. references_in ss < 2 ^ 64)
+few-references (Ok x) named ss small names =
+    let same : length named ≡ length (all_named ss) = sym (length-map named letters) ∙ ap length names in
+    omega (arith, same, small, references-all_named ss)
+few-references (Err e) named ss small names = tt

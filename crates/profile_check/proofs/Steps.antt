@@ -13,8 +13,8 @@ use Rattle.fixed_form.specs.declared.labelled.Labelled.{Labelled}
 use Rattle.profile_check.specs.Answers.{IsRuleOf, IsBreak, IsFound, IsFirstBreak}
 use Rattle.profile_check.specs.Labels.{labelled_of}
 use Rattle.profile_check.specs.Names.{all_declared, table_of}
-use Rattle.profile_check.specs.Rules.{Before, before, statements_of, declared_in, rule_broken}
-use Rattle.profile_check.specs.Seen.{Break, after, found, first_broken}
+use Rattle.profile_check.specs.Rules.{statements_of, declared_in}
+use Rattle.profile_check.specs.Seen.{Tables, tables_of, Break, after, rule_by_tables, found, first_broken}
 use Rattle.profile_check.specs.declared.refusal.Refusal.{Refusal}
 use Rattle.profile_check.specs.declared.refusal.Refusal.TheVariants.{Memory, Refused}
 
@@ -37,10 +37,10 @@ cons_at xs i x h e = rw (add-one, drop-cons xs i x) (ap (λ y. y ∷ drop (suc i
 cons : {X : Type 0} (xs : List X) (i : ℕ) (d : X) → i < length xs → drop i xs ≡ get_or xs i d ∷ drop (i + 1) xs
 cons xs i d h = rw (add-one, drop-cons xs i d) refl
 
-pub next-statement : (declared : List (List ℕ)) (b : Before) (labelled : List Labelled) (body : List Stmt) (i : ℕ) (d : Labelled) (y : Stmt)
+pub next-statement : (declared : List (List ℕ)) (b : Tables) (labelled : List Labelled) (body : List Stmt) (i : ℕ) (d : Labelled) (y : Stmt)
     → i < length labelled → i < length body → y ≡ get_or body i y
     → first_broken declared b (labelled_of (entries (drop i labelled)) (map statement (drop i body)))
-    ≡ found (rule_broken declared b ((get_or labelled i d).label, statement y)) (statement y)
+    ≡ found (rule_by_tables declared b ((get_or labelled i d).label, statement y)) (statement y)
     (first_broken declared (after b ((get_or labelled i d).label, statement y)) (labelled_of (entries (drop (i + 1) labelled)) (map statement (drop (i + 1) body))))
 next-statement declared b labelled body i d y h k ey =
     ap (λ ls. first_broken declared b (labelled_of (entries ls) (map statement (drop i body)))) (cons labelled i d h)
@@ -52,13 +52,13 @@ statements-labelled [] (s ∷ ss) h = absurd (omega (arith, h))
 statements-labelled (e ∷ es) [] h = absurd (omega (arith, h))
 statements-labelled (e ∷ es) (s ∷ ss) h = ap (λ xs. s ∷ xs) (statements-labelled es ss (omega (arith, h)))
 
-pub first-break : {X : Type 0} (r : Result X Refusal) (es : List Entry) (ss : List Statement) (declared : List (List ℕ)) (b : Before)
-    → length es ≡ length ss → declared ≡ table_of (all_declared ss) → b ≡ before []
+pub first-break : {X : Type 0} (r : Result X Refusal) (es : List Entry) (ss : List Statement) (declared : List (List ℕ)) (b : Tables)
+    → length es ≡ length ss → declared ≡ table_of (all_declared ss) → b ≡ tables_of []
     → IsFound r (first_broken declared b (labelled_of es ss)) → IsFirstBreak r (labelled_of es ss)
 first-break r es ss declared b same d n h =
-    let all : declared ≡ declared_in (labelled_of es ss) = d ∙ ap (λ xs. table_of (all_declared xs)) (sym (statements-labelled es ss same)) in
-    let P : List (List ℕ) → Type 0 = λ ds. IsFound r (first_broken ds (before []) (labelled_of es ss)) in
-    let Q : Before → Type 0 = λ x. IsFound r (first_broken declared x (labelled_of es ss)) in
+    let all : declared ≡ table_of (declared_in (labelled_of es ss)) = d ∙ ap (λ xs. table_of (all_declared xs)) (sym (statements-labelled es ss same)) in
+    let P : List (List ℕ) → Type 0 = λ ds. IsFound r (first_broken ds (tables_of []) (labelled_of es ss)) in
+    let Q : Tables → Type 0 = λ x. IsFound r (first_broken declared x (labelled_of es ss)) in
     subst P all (subst Q n h)
 
 -- what `?` hands on

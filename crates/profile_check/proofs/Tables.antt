@@ -1,6 +1,6 @@
 -- Tables of names, as the crate keeps them and as definitions speak of them.
 use Rattle.std.proofs.Common.{subst, Result, Ok, Err, IfOk, Vec, Global, ◌≡◌, ℕ, List, [], ◌∷◌, refl, ◌∙◌, sym, map, Bool, not, true, false, cond, ◌++◌, ◌<◌, ◌+◌, length, drop, get_or, add-one, drop-cons}
-use Rattle.profile_check.specs.Rules.{repeats}
+use Rattle.profile_check.specs.Seen.{taken_before}
 use Rattle.std.proofs.lemmas.List.{length-map, map-append}
 use Rattle.indexmap.specs.IndexSet.{insert_key, insert_all}
 use Rattle.std.specs.List.{position, list_any, prefix_len, IsDistinct, AllByRecursion}
@@ -9,9 +9,6 @@ use Rattle.ast.specs.Store.{same_name}
 use Rattle.ast.specs.View.{letters}
 use Rattle.ast.specs.declared.name.Name.{Name}
 use Rattle.ast.specs.contracts.name.NamePartialEq.TheImpl.{eq-value}
-
-pub name_eq-is : (x y : Name) → eq-value.it x y ≡ same_name x.letters y.letters
-name_eq-is x y = refl
 
 pub prefix_len-letters : (p : List ℕ → Bool) (ks : List Name) → prefix_len p (map letters ks) ≡ prefix_len (λ k. p (letters k)) ks
 prefix_len-letters p [] = refl
@@ -43,15 +40,15 @@ pub insert_all-next : (keys more : List Name) (names : List Name) (i : ℕ) (d :
 insert_all-next keys more names i d h e = rw (next-name names i d h, e, insert_key-letters keys (get_or names i d)) refl
 
 -- The same where the name wasn't in the table.
-pub repeats-next : (keys more : List Name) (names : List Name) (i : ℕ) (d : Name) → i < length names
+pub taken_before-next : (keys more : List Name) (names : List Name) (i : ℕ) (d : Name) → i < length names
     → more ≡ insert_key eq-value.it keys (get_or names i d) → list_any (eq-value.it (get_or names i d)) keys ≡ false
-    → repeats (map letters more) (map letters (drop (i + 1) names)) ≡ repeats (map letters keys) (map letters (drop i names))
-repeats-next keys more names i d h e f = rw (next-name names i d h, e, insert_key-letters keys (get_or names i d), list_any-letters (same_name (letters (get_or names i d))) keys, f) refl
+    → taken_before (map letters more) (map letters (drop (i + 1) names)) ≡ taken_before (map letters keys) (map letters (drop i names))
+taken_before-next keys more names i d h e f = rw (next-name names i d h, e, insert_key-letters keys (get_or names i d), list_any-letters (same_name (letters (get_or names i d))) keys, f) refl
 
 -- The name was in the table.
-pub repeats-here : (keys names : List Name) (i : ℕ) (d : Name) → i < length names
-    → list_any (eq-value.it (get_or names i d)) keys ≡ true → repeats (map letters keys) (map letters (drop i names)) ≡ true
-repeats-here keys names i d h f = rw (next-name names i d h, list_any-letters (same_name (letters (get_or names i d))) keys, f) refl
+pub taken_before-here : (keys names : List Name) (i : ℕ) (d : Name) → i < length names
+    → list_any (eq-value.it (get_or names i d)) keys ≡ true → taken_before (map letters keys) (map letters (drop i names)) ≡ true
+taken_before-here keys names i d h f = rw (next-name names i d h, list_any-letters (same_name (letters (get_or names i d))) keys, f) refl
 
 pub was_there : (b a : Bool) → b ≡ not a → b ≡ false → a ≡ true
 was_there b true e f = refl

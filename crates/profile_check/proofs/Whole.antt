@@ -14,8 +14,8 @@ use Rattle.profile_check.proofs.Laws.{in_profile, none_broken, breaks_first}
 use Rattle.profile_check.specs.Answers.{IsMemory, IsProgram, IsBreak, RefusesTruly}
 use Rattle.profile_check.specs.Labels.{labelled_of}
 use Rattle.profile_check.specs.Reads.{Reads, Spelled}
-use Rattle.profile_check.specs.Rules.{LabelledStatement, before, declared_in, InProfile}
-use Rattle.profile_check.specs.Seen.{Break, first_broken}
+use Rattle.profile_check.specs.Rules.{LabelledStatement, InProfile}
+use Rattle.profile_check.specs.Seen.{Break, first_break}
 use Rattle.profile_check.specs.Tree.{tree_of}
 use Rattle.profile_check.specs.declared.refusal.Refusal.{Refusal}
 use Rattle.profile_check.specs.declared.refusal.Refusal.TheVariants.{Memory, Refused}
@@ -31,7 +31,7 @@ same-length labelled body h = sym (length-map labelled entry) ∙ spelled-length
 
 pub whole-found : (text : List ℕ) (labelled : List Labelled) (body : List Stmt) (tree : ProgramTree)
     → Lines text (entries labelled) → Spelled (entries labelled) (map statement body)
-    → first_broken (declared_in (labelled_of (entries labelled) (map statement body))) (before []) (labelled_of (entries labelled) (map statement body)) ≡ None
+    → first_break (labelled_of (entries labelled) (map statement body)) ≡ None
     → tree ≡ tree_of (map statement body) → Reads text tree
 whole-found text labelled body tree l s b t = record {
   entries = entries labelled;
@@ -53,7 +53,7 @@ none-memory (Refused m l) first h n = none-some first (record { number = m; line
 pub read-memory : (text : List ℕ) (labelled : List Labelled) (body : List Stmt) (tree : ProgramTree) (e : Refusal)
     → ((es : List Entry) → Lines text es → entries labelled ≡ es)
     → ((ss : List Statement) → Spelled (entries labelled) ss → map statement body ≡ ss)
-    → IsBreak e (first_broken (declared_in (labelled_of (entries labelled) (map statement body))) (before []) (labelled_of (entries labelled) (map statement body)))
+    → IsBreak e (first_break (labelled_of (entries labelled) (map statement body)))
     → Reads text tree → IsMemory e
 read-memory text labelled body tree e lines trees b r =
     let same = lines r.entries r.lines in
@@ -64,19 +64,9 @@ read-memory text labelled body tree e lines trees b r =
     subst P (ap (λ es. labelled_of es r.statements) (sym same) ∙ ap (λ ss. labelled_of (entries labelled) ss) (sym read)) r.profile in
     none-memory e _ b (none_broken (labelled_of (entries labelled) (map statement body)) profile)
 
--- the same for the tree
-pub read-tree : (text : List ℕ) (labelled : List Labelled) (body : List Stmt) (tree made : ProgramTree)
-    → ((es : List Entry) → Lines text es → entries labelled ≡ es)
-    → ((ss : List Statement) → Spelled (entries labelled) ss → map statement body ≡ ss)
-    → made ≡ tree_of (map statement body) → Reads text tree → made ≡ tree
-read-tree text labelled body tree made lines trees m r =
-    let same = lines r.entries r.lines in
-    let spelled = subst (λ (es : List Entry). Spelled es r.statements) (sym same) r.spelled in
-    m ∙ ap tree_of (trees r.statements spelled) ∙ sym r.whole
-
 pub cause : (text : List ℕ) (labelled : List Labelled) (body : List Stmt) (e : Refusal)
     → Lines text (entries labelled) → Spelled (entries labelled) (map statement body)
-    → IsBreak e (first_broken (declared_in (labelled_of (entries labelled) (map statement body))) (before []) (labelled_of (entries labelled) (map statement body)))
+    → IsBreak e (first_break (labelled_of (entries labelled) (map statement body)))
     → RefusesTruly text e
 cause text labelled body Memory l s b = tt
 cause text labelled body (Refused n k) l s b = inr (inr (record {

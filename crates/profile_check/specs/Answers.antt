@@ -1,5 +1,5 @@
 -- What the answers of the crate's calls say. Want of memory says nothing of the text.
-use Rattle.std.specs.Prelude.{◌≡◌, ◌⊎◌, ℕ, List, [], ◌∷◌, ◌++◌, map, Result, Ok, Err, Option, Some, None}
+use Rattle.std.specs.Prelude.{◌≡◌, ◌⊎◌, ℕ, List, ◌∷◌, ◌++◌, map, Result, Ok, Err, Option, Some, None}
 use Rattle.std.specs.Global.{Global}
 use Rattle.std.specs.Prelude.{Vec}
 use Rattle.ast.specs.Tree.{Statement, line_of}
@@ -10,13 +10,14 @@ use Rattle.ast.specs.declared.statement.Stmt.{Stmt}
 use Rattle.fixed_form.specs.Answers.{entries}
 use Rattle.fixed_form.specs.Lines.{Entry, Lines, Broken}
 use Rattle.fixed_form.specs.declared.labelled.Labelled.{Labelled}
+use Rattle.syntax.specs.Answers.{IsNumber}
 use Rattle.syntax.specs.Pieces.{Piece, Cut, marks, constants}
 use Rattle.syntax.specs.ReadingStatements.{statement_at}
 use Rattle.syntax.specs.Statements.{IsStatement}
 use Rattle.profile_check.specs.Labels.{labelled_of}
 use Rattle.profile_check.specs.Reads.{Spelled}
-use Rattle.profile_check.specs.Rules.{LabelledStatement, before, declared_in, BreaksFirst}
-use Rattle.profile_check.specs.Seen.{Break, first_broken}
+use Rattle.profile_check.specs.Rules.{LabelledStatement, BreaksFirst}
+use Rattle.profile_check.specs.Seen.{Break, first_break}
 use Rattle.profile_check.specs.declared.refusal.Refusal.{Refusal}
 use Rattle.profile_check.specs.declared.refusal.Refusal.TheVariants.{Memory, Refused}
 
@@ -40,7 +41,7 @@ IsFound (Err e) first = IsBreak e first
 
 -- the refusal is the first broken rule of a program's statements; without one they break none
 abbrev pub IsFirstBreak : {X : Type 0} → Result X Refusal → List LabelledStatement → Type 0
-IsFirstBreak r ps = IsFound r (first_broken (declared_in ps) (before []) ps)
+IsFirstBreak r ps = IsFound r (first_break ps)
 
 -- only want of memory is answered
 abbrev pub IsMemory : Refusal → Type 0
@@ -75,9 +76,10 @@ pub record IsFault (e : Entry) (number : ℕ) : Type 0 where
   pub read : (ps : List Piece) → Cut ps e.text → statement_at e.line (marks ps) (constants ps) ≡ Err number
   pub unfinished : ((ps : List Piece) → Cut ps e.text → ⊥) → number ≡ 21
 
--- the text of an entry is no statement, and its first fault has the number
+-- the text of an entry is no statement, and its first fault has the number, one of a statement's
 pub record IsNoStatement (e : Entry) (number line : ℕ) : Type 0 where
   pub place : line ≡ e.line
+  pub known : IsNumber number
   pub fault : IsFault e number
   pub none : (s : Statement) → IsStatement e.line e.text s → ⊥
 

@@ -1,11 +1,12 @@
 //! The rules of the profile over a whole program.
 
-ghost use Rattle.std.specs.Prelude.{◌≡◌, ◌≤◌, ◌++◌, map, length, drop, OnOk, IfOk};
+ghost use Rattle.std.specs.Prelude.{◌≡◌, ◌≤◌, ◌<◌, ◌^◌, ◌++◌, map, length, drop, OnOk, IfOk};
+ghost use Rattle.indexmap.specs.IndexSet.{insert_all};
+ghost use Rattle.ast.specs.Store.{same_name};
 ghost use Rattle.ast.specs.View.{letters, statement};
 ghost use Rattle.fixed_form.specs.Answers.{entries};
-ghost use Rattle.profile_check.specs.Names.{names_named, all_declared, all_named, table_of};
-ghost use Rattle.profile_check.specs.Rules.{rule_broken};
-ghost use Rattle.profile_check.specs.Seen.{standing, after, first_broken};
+ghost use Rattle.profile_check.specs.Names.{names_named, all_declared, all_named, table_of, references_in};
+ghost use Rattle.profile_check.specs.Seen.{standing, after, rule_by_tables, first_broken};
 ghost use Rattle.profile_check.specs.Answers.{Breaks, IsFound, IsFirstBreak};
 ghost use Rattle.profile_check.specs.Labels.{labelled_of};
 
@@ -47,7 +48,7 @@ fn check_statement(
 ) -> Result<(), Refusal>
     ensures named { OnOk result (map letters named.new.items ≡ map letters named.old.items ++ names_named (statement stmt.now)) }
     ensures seen { OnOk result (standing seen.new ≡ after (standing seen.old) (label, statement stmt.now)) }
-    ensures rule { Breaks result (statement stmt.now) (rule_broken (map letters declared.now.keys) (standing seen.old) (label, statement stmt.now)) }
+    ensures rule { Breaks result (statement stmt.now) (rule_by_tables (map letters declared.now.keys) (standing seen.old) (label, statement stmt.now)) }
 {
     let first = named.len();
     add_statement(named, stmt)?;
@@ -60,36 +61,35 @@ fn check_statement(
     }
 }
 
-/// Appends the names of the statements to `named`, and refuses the first that breaks a rule.
+/// The names that the statements name and those `seen` before, each once; appends all to `named`, and
+/// refuses the first statement that breaks a rule.
 fn check_all(
     declared: &IndexSet<Name>,
     mut seen: Seen,
     labelled: &[Labelled],
     body: &[Stmt],
     named: &mut Vec<Name>,
-) -> Result<(), Refusal>
+) -> Result<IndexSet<Name>, Refusal>
     requires { length labelled.now ≡ length body.now }
     ensures named { OnOk result (map letters named.new.items ≡ map letters named.old.items ++ all_named (map statement body.now)) }
+    ensures table { IfOk result (λ table. map letters table.keys ≡ insert_all same_name (standing seen).named (all_named (map statement body.now))) }
     ensures broken { IsFound result (first_broken (map letters declared.now.keys) (standing seen) (labelled_of (entries labelled.now) (map statement body.now))) }
 {
     for i in 0..body.len() {
         check_statement(declared, &mut seen, labelled[i].label, &body[i], named)?;
     }
-    Ok(())
+    Ok(seen.into_names())
 }
 
-/// Appends all names that the statements name to `named`, and refuses the first statement that breaks
-/// a rule, by the lowest rule that it breaks.
-pub fn check(
-    alloc: Global,
-    labelled: &[Labelled],
-    body: &[Stmt],
-    named: &mut Vec<Name>,
-) -> Result<(), Refusal>
+/// The table of the names that the statements name, of which there are few enough to be numbered.
+/// Refuses the first statement that breaks a rule, by the lowest rule that it breaks.
+pub fn check(alloc: Global, labelled: &[Labelled], body: &[Stmt]) -> Result<IndexSet<Name>, Refusal>
     requires { length labelled.now ≡ length body.now }
-    ensures named { OnOk result (map letters named.new.items ≡ map letters named.old.items ++ all_named (map statement body.now)) }
+    ensures names { IfOk result (λ names. map letters names.keys ≡ table_of (all_named (map statement body.now))) }
+    ensures few { IfOk result (λ names. references_in (map statement body.now) < 2 ^ 64) }
     ensures broken { IsFirstBreak result (labelled_of (entries labelled.now) (map statement body.now)) }
 {
     let declared = declared_anywhere(alloc, body)?;
-    check_all(&declared, Seen::new(alloc), labelled, body, named)
+    let mut named = Vec::new(alloc);
+    check_all(&declared, Seen::new(alloc), labelled, body, &mut named)
 }

@@ -2,6 +2,7 @@
 
 ghost use Rattle.std.specs.Prelude.{◌≡◌, List, [], IfOk, IfErr, map};
 ghost use Rattle.ast.specs.Program.{ProgramTree, program as program_tree};
+ghost use Rattle.ast.specs.References.{AreNumbered, block_references};
 ghost use Rattle.ast.specs.Tree.{Statement};
 ghost use Rattle.ast.specs.View.{statement as statement_tree};
 ghost use Rattle.fixed_form.specs.Answers.{entry, entries};
@@ -68,10 +69,11 @@ pub fn program(alloc: Global, text: &[u8]) -> Result<Program, Refusal>
     ensures found { IfOk result (λ p. Reads text.now (program_tree p)) }
     ensures only { (tree : ProgramTree) → Reads text.now tree → IsProgram result tree }
     ensures refused { IfErr result (RefusesTruly text.now) }
+    ensures numbered { IfOk result (λ p. AreNumbered 0 (block_references (program_tree p).block)) }
+    ensures one { (p q : ProgramTree) → Reads text.now p → Reads text.now q → p ≡ q }
 {
     let labelled = lines(alloc, text)?;
     let body = parse(alloc, &labelled)?;
-    let mut named = Vec::new(alloc);
-    check(alloc, &labelled, &body, &mut named)?;
-    Ok(tree(alloc, body, named)?)
+    let names = check(alloc, &labelled, &body)?;
+    Ok(tree(alloc, body, names)?)
 }

@@ -6,7 +6,8 @@ ghost use Rattle.indexmap.specs.IndexSet.{insert_all};
 ghost use Rattle.ast.specs.Store.{same_name};
 ghost use Rattle.ast.specs.View.{letters, statement};
 ghost use Rattle.profile_check.specs.Names.{is_integer, is_intrinsic, begins_i_to_n, names_declared, names_named};
-ghost use Rattle.profile_check.specs.Rules.{is_declaration, is_executable, repeats};
+ghost use Rattle.profile_check.specs.Rules.{is_declaration, is_executable};
+ghost use Rattle.profile_check.specs.Seen.{taken_before};
 
 use ast::{Name, Stmt};
 use indexmap::IndexSet;
@@ -75,7 +76,7 @@ pub fn add_all(table: &mut IndexSet<Name>, names: &[Name]) -> Result<(), AllocEr
 /// Takes names into a table, unless one of them was there: whether one was.
 #[tactic(auto, using(crate::proofs::Tables::table_laws))]
 pub fn add_new(table: &mut IndexSet<Name>, names: &[Name]) -> Result<bool, AllocError>
-    ensures again { IfOk result (λ again. again ≡ repeats (map letters table.old.keys) (map letters names.now)) }
+    ensures again { IfOk result (λ again. again ≡ taken_before (map letters table.old.keys) (map letters names.now)) }
     ensures added { IfOk result (λ again. again ≡ false → map letters table.new.keys ≡ insert_all same_name (map letters table.old.keys) (map letters names.now)) }
 {
     for name in names {

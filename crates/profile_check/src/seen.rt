@@ -6,7 +6,7 @@ ghost use Rattle.indexmap.specs.IndexSet.{insert_all};
 ghost use Rattle.ast.specs.Store.{same_name};
 ghost use Rattle.ast.specs.View.{letters, statement};
 ghost use Rattle.profile_check.specs.Names.{is_intrinsic, names_declared, names_named};
-ghost use Rattle.profile_check.specs.Rules.{repeats};
+ghost use Rattle.profile_check.specs.Seen.{taken_before};
 
 use crate::rules::{add_all, add_new, declared_names, is_declaration, names_intrinsic, names_real};
 use ast::{Name, Stmt};
@@ -46,7 +46,7 @@ fn declares_again(
     stmt: &Stmt,
     names: &[Name],
 ) -> Result<bool, AllocError>
-    ensures again { IfOk result (λ again. again ≡ (list_any is_intrinsic (map letters names.now) || repeats (map letters declared.old.keys) (names_declared (statement stmt.now)))) }
+    ensures again { IfOk result (λ again. again ≡ (list_any is_intrinsic (map letters names.now) || taken_before (map letters declared.old.keys) (names_declared (statement stmt.now)))) }
     ensures added { IfOk result (λ again. again ≡ false → map letters declared.new.keys ≡ insert_all same_name (map letters declared.old.keys) (names_declared (statement stmt.now))) }
 {
     if names_intrinsic(names) {
@@ -70,12 +70,12 @@ fn is_too_large(
 
 impl Seen {
     ghost use Rattle.std.specs.Prelude.{[]};
-    ghost use Rattle.profile_check.specs.Rules.{before, rule_broken, is_executable};
-    ghost use Rattle.profile_check.specs.Seen.{standing, after};
+    ghost use Rattle.profile_check.specs.Rules.{is_executable};
+    ghost use Rattle.profile_check.specs.Seen.{standing, tables_of, after, rule_by_tables};
 
     /// Nothing yet.
     pub fn new(alloc: Global) -> Self
-        ensures { standing result ≡ before [] }
+        ensures { standing result ≡ tables_of [] }
     {
         Seen {
             executable: false,
@@ -96,7 +96,7 @@ impl Seen {
         names: &[Name],
     ) -> Result<Option<u8>, AllocError>
         requires { map letters names.now ≡ names_named (statement stmt.now) }
-        ensures rule { IfOk result (λ rule. rule ≡ rule_broken (map letters declared.now.keys) (standing self.old) (label, statement stmt.now)) }
+        ensures rule { IfOk result (λ rule. rule ≡ rule_by_tables (map letters declared.now.keys) (standing self.old) (label, statement stmt.now)) }
         ensures kept { IfOk result (λ rule. rule ≡ None → standing self.new ≡ after (standing self.old) (label, statement stmt.now)) }
     {
         if is_declaration(stmt) && self.executable {
@@ -117,5 +117,12 @@ impl Seen {
         self.executable = self.executable || !is_declaration(stmt);
         self.statements += 1;
         Ok(None)
+    }
+
+    /// The names of the statements so far, each once.
+    pub fn into_names(self) -> IndexSet<Name>
+        ensures { result ≡ self.named }
+    {
+        self.named
     }
 }

@@ -111,3 +111,24 @@ fn names_and_numbers(rt: HostRuntime) -> Result<(), Fail> {
     }
     Ok(())
 }
+
+/// Two names, and the assignment's target numbered 1 with the first name's cell.
+fn is_numbered(read: &Program) -> bool {
+    names(read) == Some((*b"A     ", *b"M     "))
+        && matches!(read.body.get(1), Some(Stmt::Assign(2, target, _)) if (target.id.0, target.cell) == (1, 0))
+}
+
+#[test]
+fn want_of_memory(rt: HostRuntime) -> Result<(), Fail> {
+    let text = b"      INTEGER A\n   10 A = -M\n      PRINT *,'A'\n      END\n";
+    match program(rt.alloc(), text) {
+        Ok(read) => assert!(rt; is_numbered(&read)),
+        Err(Refusal::Memory) => {
+            let read = program(rt.alloc(), text)?;
+            assert!(rt; is_numbered(&read));
+            return Err(AllocError)?;
+        }
+        Err(refusal) => assert!(rt; false, "{refusal:?}"),
+    }
+    Ok(())
+}

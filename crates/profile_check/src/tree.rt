@@ -10,19 +10,9 @@ ghost use Rattle.profile_check.specs.Names.{all_named, table_of, references_in};
 ghost use Rattle.profile_check.specs.Tree.{tree_of};
 
 use crate::numbering::number_all;
-use crate::rules::add_all;
 use ast::{Name, Program, Stmt};
 use indexmap::IndexSet;
 use std::alloc::{AllocError, Global};
-
-/// The table of names: each once, in the order of first appearance.
-fn table(alloc: Global, named: &[Name]) -> Result<IndexSet<Name>, AllocError>
-    ensures { IfOk result (λ table. map letters table.keys ≡ table_of (map letters named.now)) }
-{
-    let mut table = IndexSet::new(alloc);
-    add_all(&mut table, named)?;
-    Ok(table)
-}
 
 /// The names of a table.
 fn names_of(alloc: Global, table: &IndexSet<Name>) -> Result<Vec<Name>, AllocError>
@@ -41,12 +31,12 @@ fn numbered(mut body: Vec<Stmt>, table: &IndexSet<Name>) -> Vec<Stmt>
     body
 }
 
-/// The program of these statements, which name the names in `named`, in order.
-pub fn tree(alloc: Global, body: Vec<Stmt>, named: Vec<Name>) -> Result<Program, AllocError>
-    requires { map letters named.items ≡ all_named (map statement body.items) }
+/// The program of these statements, whose names stand in `table`.
+pub fn tree(alloc: Global, body: Vec<Stmt>, table: IndexSet<Name>) -> Result<Program, AllocError>
+    requires names { map letters table.keys ≡ table_of (all_named (map statement body.items)) }
+    requires few { references_in (map statement body.items) < 2 ^ 64 }
     ensures { IfOk result (λ p. program p ≡ tree_of (map statement body.items)) }
 {
-    let table = table(alloc, &named)?;
     let names = names_of(alloc, &table)?;
     let body = numbered(body, &table);
     Ok(Program { names, body })
