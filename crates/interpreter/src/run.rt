@@ -26,7 +26,12 @@ fn zero_cells(alloc: Global, names: &[Name]) -> Result<Vec<Cell>, AllocError>
 /// Runs a program on an input, one statement after another, from a store of zeros.
 ///
 /// The answer has the records that it printed, its end, and the store at its end, also at a fault:
-/// a cell for each name, in the order of the program's table of names.
+/// a cell for each name, in the order of the program's table of names. No statement of today reads
+/// the input.
+///
+/// # Errors
+///
+/// `AllocError` where memory is refused.
 pub fn run_seq(alloc: Global, program: &Program, input: &[u8]) -> Result<Answer, AllocError>
     ensures { IfOk result (IsAnswer (program_of program.now) input.now) }
 {

@@ -71,13 +71,17 @@ fn is_body_placed(names: &[Name], body: &[Stmt]) -> bool
     }
 }
 
-/// The answer of a program over TOTAL, in cell 0, and K, in cell 1.
-fn answer_of(alloc: Global, body: Vec<Stmt>) -> Result<Answer, Fail> {
+/// A program over TOTAL, in cell 0, and K, in cell 1.
+fn program_of(alloc: Global, body: Vec<Stmt>) -> Result<Program, Fail> {
     let names = Vec::from_slice(alloc, &[TOTAL, K])?;
     if !is_body_placed(&names, &body) {
         return Err("a reference is not placed".into());
     }
-    let program = Program { names, body };
+    Ok(Program { names, body })
+}
+
+fn answer_of(alloc: Global, body: Vec<Stmt>) -> Result<Answer, Fail> {
+    let program = program_of(alloc, body)?;
     Ok(run_seq(alloc, &program, b"")?)
 }
 
@@ -306,4 +310,38 @@ fn values_of_operators(rt: HostRuntime) {
     assert_eq!(rt; sub(-2, 9223372036854775807), Err(Fault::Overflow));
     assert_eq!(rt; neg(9223372036854775807), Ok(-9223372036854775807));
     assert_eq!(rt; neg(i64::MIN), Err(Fault::Overflow));
+}
+
+fn is_cut_back(rt: &impl Abort, answer: &Answer) {
+    let end = End::Fault(Fault::ZeroDivisor, 3);
+    answers(rt, answer, b" 7\n", end, Some(7));
+}
+
+//       K=7
+//       PRINT *,K
+//       PRINT *,'A',1/0
+//       END
+#[test]
+fn want_of_memory(rt: HostRuntime) -> Result<(), Fail> {
+    let alloc = rt.alloc();
+    let quotient = binary(alloc, number(1), Operator::Divide, number(0))?;
+    let text = Item::Text(Vec::from_slice(alloc, b"A")?);
+    let body = Vec::from_array(
+        alloc,
+        [
+            Stmt::Assign(1, reference(K, 1), number(7)),
+            Stmt::Print(2, Vec::from_array(alloc, [Item::Value(variable(K, 1))])?),
+            Stmt::Print(3, Vec::from_array(alloc, [text, Item::Value(quotient)])?),
+            Stmt::End(4),
+        ],
+    )?;
+    let program = program_of(alloc, body)?;
+    match run_seq(alloc, &program, b"") {
+        Ok(answer) => is_cut_back(&rt, &answer),
+        Err(error) => {
+            is_cut_back(&rt, &run_seq(alloc, &program, b"")?);
+            return Err(error.into());
+        }
+    }
+    Ok(())
 }
