@@ -1,3 +1,4 @@
 pub mod Cells
+pub mod CommandLines
 pub mod Names
 pub mod Pages

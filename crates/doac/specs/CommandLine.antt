@@ -1,8 +1,10 @@
 -- The command lines of the program, as clap reads them.
-use Rattle.std.specs.Prelude.{◌≡◌, ℕ, Bool, true, false, codes, List, Option, Some, None, Ok, option_map}
-use Rattle.std.specs.Str.Parse.{ParsesUnsigned}
-use Rattle.std.specs.declared.num.ParseIntError.{ParseIntError}
-use Rattle.clap.specs.Words.{App, Row, Rule, Text, first_of, new_app, new_rule, one_of, subcommand_of, with_rule, with_subcommand}
+use Rattle.std.specs.Prelude.{◌≡◌, ◌≢◌, ⊤, ◌⊎◌, ◌==◌, ℕ, Bool, true, false, codes, List, [], ◌∷◌, Option, Some, None, option_map}
+use Rattle.std.specs.List.{list_any}
+use Rattle.std.specs.Str.Parse.{IsNumeral, digits_value, without_leading_plus}
+use Rattle.clap.specs.Words.{App, IsAmong, Row, Rule, Text, fault_of, first_of, kind_of, new_app, new_rule, one_of, subcommand_of, with_rule, with_subcommand}
+use Rattle.clap.specs.declared.error.Error.{Error}
+use Rattle.clap.specs.declared.error.kind.ErrorKind.TheVariants.{DisplayHelp, OutOfMemory}
 use Rattle.clap.specs.declared.builder.action.ArgAction.TheVariants.{Set, SetTrue}
 use Rattle.doac.specs.declared.command.Command.{Command}
 use Rattle.doac.specs.declared.command.Command.TheVariants.{Check, Seq, Explain}
@@ -45,9 +47,21 @@ doac = with_subcommand (with_subcommand (with_subcommand (wants_subcommand (new_
 abbrev pub IsFlag : Bool → Option Text → Type 0
 IsFlag flag given = (given ≡ Some (codes "true") → flag ≡ true) × (given ≡ Some (codes "false") → flag ≡ false) × (given ≡ None → flag ≡ false)
 
--- a text is a number's
+-- the numbers that are explained: of the rules for lines, for statements and for the profile, and
+-- of the faults
+abbrev pub explained : List ℕ
+explained =
+    1 ∷ 2 ∷ 3 ∷ 6 ∷ 7 ∷ 8
+    ∷ 20 ∷ 21 ∷ 22 ∷ 23 ∷ 24 ∷ 25 ∷ 26 ∷ 27 ∷ 28
+    ∷ 30 ∷ 31 ∷ 32 ∷ 40 ∷ 41 ∷ []
+
+abbrev pub is_explained : ℕ → Bool
+is_explained n = list_any (λ m. m == n) explained
+
+-- a text writes an explained number, where a plus sign may stand first
 abbrev pub IsNumber : ℕ → Text → Type 0
-IsNumber n text = ParsesUnsigned {E = ParseIntError} 8 10 text (Ok n)
+IsNumber n text =
+    IsNumeral 10 (without_leading_plus text) × (digits_value 10 (without_leading_plus text) ≡ n) × (is_explained n ≡ true)
 
 -- the subcommand's name and the values of its arguments are a command's
 abbrev pub Holds : Text → List Row → Command → Type 0
@@ -63,9 +77,49 @@ abbrev pub HeldIn : Option (Text × List Row) → Command → Type 0
 HeldIn None command = ⊥
 HeldIn (Some found) command = Holds found.0 found.1 command
 
--- clap finds the command in the words
+-- clap finds nothing wrong with the words, and the command in them
 abbrev pub Names : List Text → Command → Type 0
-Names words command = HeldIn (subcommand_of doac words) command
+Names words command = (fault_of doac words ≡ []) × HeldIn (subcommand_of doac words) command
+
+-- the subcommand is none of the program's, or lacks the value that it can't do without
+abbrev pub Lacks : Text → List Row → Type 0
+Lacks name values =
+    (((name ≡ codes "check") ⊎ (name ≡ codes "seq")) → first_of (codes "F") values ≡ None)
+    × (name ≡ codes "explain" → first_of (codes "N") values ≡ None)
+
+-- the subcommand asks to explain what is no explained number
+abbrev pub AsksInVain : Text → List Row → Type 0
+AsksInVain name values =
+    (name ≡ codes "explain")
+    × ((text : Text) × (first_of (codes "N") values ≡ Some text) × ((n : ℕ) → IsNumber n text → ⊥))
+
+-- why what clap found is no command
+abbrev pub HoldsNone : Text → List Row → LineFault → Type 0
+HoldsNone name values (Help e) = ⊥
+HoldsNone name values (Mistake e) = ⊥
+HoldsNone name values NoCommand = Lacks name values
+HoldsNone name values NoSuchNumber = AsksInVain name values
+HoldsNone name values Memory = ⊥
+
+abbrev pub HeldInNone : Option (Text × List Row) → LineFault → Type 0
+HeldInNone None fault = fault ≡ NoCommand
+HeldInNone (Some found) fault = HoldsNone found.0 found.1 fault
+
+-- what is made of an error of clap's
+abbrev pub MadeOf : Error → LineFault → Type 0
+MadeOf error (Help e) = (e ≡ error) × (kind_of error ≡ DisplayHelp)
+MadeOf error (Mistake e) = (e ≡ error) × (kind_of error ≢ DisplayHelp) × (kind_of error ≢ OutOfMemory)
+MadeOf error NoCommand = ⊥
+MadeOf error NoSuchNumber = ⊥
+MadeOf error Memory = kind_of error ≡ OutOfMemory
+
+-- why words name no command; want of memory is always allowed
+abbrev pub NamesNone : List Text → LineFault → Type 0
+NamesNone words (Help e) = (kind_of e ≡ DisplayHelp) × IsAmong DisplayHelp (fault_of doac words)
+NamesNone words (Mistake e) = (kind_of e ≢ DisplayHelp) × IsAmong (kind_of e) (fault_of doac words)
+NamesNone words NoCommand = (fault_of doac words ≡ []) × HeldInNone (subcommand_of doac words) NoCommand
+NamesNone words NoSuchNumber = (fault_of doac words ≡ []) × HeldInNone (subcommand_of doac words) NoSuchNumber
+NamesNone words Memory = ⊤
 
 -- the exit status of words that name no command
 abbrev pub line_status : LineFault → ℕ

@@ -1,5 +1,8 @@
 -- What the engines do: which bytes they may write of a source text, and with which outcome.
-use Rattle.std.specs.Prelude.{◌≡◌, ℕ, ◌<◌, Bool, List, length, take, Option, Result, Ok, Err}
+use Rattle.std.specs.Prelude.{◌≡◌, ◌≢◌, ℕ, ◌<◌, Bool, IfSome, List, length, take, Option, Result, Ok, Err}
+use Rattle.std.specs.IoError.{error_kind}
+use Rattle.std.specs.declared.io.Error.{Error}
+use Rattle.std.specs.declared.io.ErrorKind.TheVariants.{OutOfMemory}
 use Rattle.std.specs.Io.KnownBytes.{Appends, Keeps}
 use Rattle.ast.specs.Meaning.{seq}
 use Rattle.ast.specs.Program.{ProgramTree}
@@ -10,7 +13,7 @@ use Rattle.profile_check.specs.Reads.{Reads}
 use Rattle.profile_check.specs.declared.refusal.Refusal.TheVariants.{Refused as RefusedAt}
 use Rattle.doac.specs.Shown.{accepted, refused, Shown}
 use Rattle.doac.specs.declared.fault.EngineFault.{EngineFault}
-use Rattle.doac.specs.declared.fault.EngineFault.TheVariants.{Reading, Writing, Memory}
+use Rattle.doac.specs.declared.fault.EngineFault.TheVariants.{Source, Input, Writing, Memory}
 use Rattle.doac.specs.declared.outcome.Outcome.{Outcome}
 use Rattle.doac.specs.declared.outcome.Outcome.TheVariants.{Completed, Refused, Faulted}
 
@@ -22,7 +25,8 @@ status_of (Faulted fault) = 2
 
 -- the exit status of an engine's fault
 abbrev pub fault_status : EngineFault → ℕ
-fault_status (Reading e) = 4
+fault_status (Source e) = 4
+fault_status (Input e) = 4
 fault_status (Writing e) = 4
 fault_status Memory = 5
 
@@ -73,6 +77,14 @@ Runs store source input Completed text = IsRun store source input Completed text
 Runs store source input (Refused number) text = IsRefused source number text
 Runs store source input (Faulted fault) text = IsRun store source input (Faulted fault) text
 
+-- a reader gives a text: all that it has left, where that is known
+abbrev pub Gives : Option (List ℕ) → List ℕ → Type 0
+Gives known text = IfSome known (λ bytes. text ≡ bytes)
+
+-- this holds of some text that a reader gives
+abbrev pub OfText : Option (List ℕ) → (List ℕ → Type 0) → Type 0
+OfText known P = (text : List ℕ) × Gives known text × P text
+
 -- known bytes stay at the front and grow by a beginning of a text, of which something is missing
 abbrev pub AppendsPart : Option (List ℕ) → Option (List ℕ) → List ℕ → Type 0
 AppendsPart old new text = (n : ℕ) × (n < length text) × Appends old new (take n text)
@@ -99,17 +111,34 @@ pub record WrotePart (allows : Outcome → List ℕ → Type 0) (old new : Optio
 -- what a fault leaves: part of an allowed text where writing failed, and nothing where reading
 -- failed or memory was refused
 abbrev pub Leaves : EngineFault → Option (List ℕ) → Option (List ℕ) → Type 0 → Type 0
-Leaves (Reading e) old new part = Keeps old new
+Leaves (Source e) old new part = Keeps old new
+Leaves (Input e) old new part = Keeps old new
 Leaves (Writing e) old new part = part
 Leaves Memory old new part = Keeps old new
 
--- a fault from before anything is written
-abbrev pub IsEarly : EngineFault → Type 0
-IsEarly (Reading e) = Unit {0}
-IsEarly (Writing e) = ⊥
-IsEarly Memory = Unit {0}
+-- the same of an engine that reads no input
+abbrev pub LeavesOfSource : EngineFault → Option (List ℕ) → Option (List ℕ) → Type 0 → Type 0
+LeavesOfSource (Source e) old new part = Keeps old new
+LeavesOfSource (Input e) old new part = ⊥
+LeavesOfSource (Writing e) old new part = part
+LeavesOfSource Memory old new part = Keeps old new
+
+-- what an error of the source's reader comes to
+abbrev pub OfSource : Error → EngineFault → Type 0
+OfSource error (Source e) = (e ≡ error) × (error_kind error ≢ OutOfMemory)
+OfSource error (Input e) = ⊥
+OfSource error (Writing e) = ⊥
+OfSource error Memory = error_kind error ≡ OutOfMemory
+
+-- what an error of the input's reader comes to
+abbrev pub OfInput : Error → EngineFault → Type 0
+OfInput error (Source e) = ⊥
+OfInput error (Input e) = (e ≡ error) × (error_kind error ≢ OutOfMemory)
+OfInput error (Writing e) = ⊥
+OfInput error Memory = error_kind error ≡ OutOfMemory
 
 abbrev pub IsWriting : EngineFault → Type 0
-IsWriting (Reading e) = ⊥
+IsWriting (Source e) = ⊥
+IsWriting (Input e) = ⊥
 IsWriting (Writing e) = Unit {0}
 IsWriting Memory = ⊥

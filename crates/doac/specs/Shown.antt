@@ -8,23 +8,40 @@ use Rattle.std.specs.Ordering.{nat_cmp}
 use Rattle.std.specs.declared.cmp.Ordering.{Ordering}
 use Rattle.ast.specs.Meaning.{Run}
 use Rattle.ast.specs.Store.{cells_of}
-use Rattle.ast.specs.Tree.{Block, no_statements, first_then}
+use Rattle.ast.specs.Tree.{Block, no_statements, first_then, Statement, integer, assign, print, end}
 use Rattle.ast.specs.declared.fault.End.{End}
 use Rattle.ast.specs.declared.fault.End.TheVariants.{Done, Fault as Faulted}
 use Rattle.ast.specs.declared.fault.Fault.{Fault}
 use Rattle.ast.specs.declared.fault.Fault.TheVariants.{Overflow, ZeroDivisor}
 
--- how many statements a block has, END counted
+-- how many statements a statement is, those inside of it counted, and how many of them are loops
+abbrev pub statement_count : Statement → ℕ
+statement_count (integer l declared) = 1
+statement_count (assign l target e) = 1
+statement_count (print l items) = 1
+statement_count (end l) = 1
+
+abbrev pub loop_count : Statement → ℕ
+loop_count (integer l declared) = 0
+loop_count (assign l target e) = 0
+loop_count (print l items) = 0
+loop_count (end l) = 0
+
+-- the same of a block, END counted
 abbrev pub statements : Block → ℕ
 statements no_statements = 0
-statements (first_then s ss) = statements ss + 1
+statements (first_then s ss) = statement_count s + statements ss
 
--- the line of a source that is accepted with so many statements
-abbrev pub accepted_with : ℕ → List ℕ
-accepted_with count = codes "ACCEPTED STATEMENTS " ++ decimal count ++ codes " LOOPS 0" ++ 10 ∷ []
+abbrev pub loops : Block → ℕ
+loops no_statements = 0
+loops (first_then s ss) = loop_count s + loops ss
+
+-- the line of a source that is accepted with so many statements and loops
+abbrev pub accepted_with : ℕ → ℕ → List ℕ
+accepted_with count nested = codes "ACCEPTED STATEMENTS " ++ decimal count ++ codes " LOOPS " ++ decimal nested ++ 10 ∷ []
 
 abbrev pub accepted : Block → List ℕ
-accepted block = accepted_with (statements block)
+accepted block = accepted_with (statements block) (loops block)
 
 -- the line of a source that is refused
 abbrev pub refused : ℕ → ℕ → List ℕ

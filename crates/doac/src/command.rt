@@ -1,8 +1,9 @@
 //! What a command line asks for.
 
-ghost use Rattle.std.specs.Prelude.{◌≡◌, IfOk, codes, option_map};
+ghost use Rattle.std.specs.Prelude.{◌≡◌, IfErr, IfOk, codes, option_map, ℕ};
 ghost use Rattle.clap.specs.Words.{first_of, found_of, one_of, rows_of, subcommand_rows_of};
-ghost use Rattle.doac.specs.CommandLine.{HeldIn, Holds, IsFlag, IsNumber};
+ghost use Rattle.doac.specs.CommandLine.{HeldIn, HeldInNone, HoldsNone, Holds, IsFlag, IsNumber, MadeOf};
+ghost use Rattle.doac.specs.declared.command.LineFault.TheVariants.{Memory, NoSuchNumber};
 
 use crate::explain::is_explained;
 use clap::ArgMatches;
@@ -17,7 +18,11 @@ pub enum Command<'a> {
     Check(&'a str),
     /// `seq F [INPUT] [--store]`: the run of the source of a file, on the input of another one, if
     /// there is one; and whether the store is wanted.
-    Seq(&'a str, Option<&'a str>, bool),
+    Seq {
+        source: &'a str,
+        input: Option<&'a str>,
+        store: bool,
+    },
     /// `explain N`: what this refusal or fault means.
     Explain(u8),
 }
@@ -32,7 +37,7 @@ pub enum LineFault {
     #[error("{0}")]
     Mistake(clap::Error),
     /// They hold no command.
-    #[error("error: no command was given\n")]
+    #[error("error: no command was given\n\nUsage: doac <COMMAND>\n\nFor more information, try '--help'.\n")]
     NoCommand,
     /// They ask to explain a number that is no refusal's and no fault's.
     #[error("error: no refusal and no fault has this number\n\nUsage: doac explain <N>\n\nFor more information, try '--help'.\n")]
@@ -61,12 +66,16 @@ impl LineFault {
 }
 
 impl From<AllocError> for LineFault {
+    ghost from_gives = { λ _ fault. fault ≡ Memory };
+
     fn from(_: AllocError) -> Self {
         LineFault::Memory
     }
 }
 
 impl From<clap::Error> for LineFault {
+    ghost from_gives = { MadeOf };
+
     fn from(error: clap::Error) -> Self {
         match error.kind() {
             ErrorKind::DisplayHelp => LineFault::Help(error),
@@ -78,7 +87,8 @@ impl From<clap::Error> for LineFault {
 
 /// The command that the matches of a command line hold.
 pub fn held<'a>(matches: &ArgMatches<'a>) -> Result<Command<'a>, LineFault>
-    ensures { IfOk result (λ command. HeldIn (subcommand_rows_of matches.now) command) }
+    ensures found { IfOk result (HeldIn (subcommand_rows_of matches.now)) }
+    ensures refused { IfErr result (HeldInNone (subcommand_rows_of matches.now)) }
 {
     match matches.subcommand() {
         Some((name, given)) => named(name, given),
@@ -87,7 +97,8 @@ pub fn held<'a>(matches: &ArgMatches<'a>) -> Result<Command<'a>, LineFault>
 }
 
 fn named<'a>(name: &str, given: &ArgMatches<'a>) -> Result<Command<'a>, LineFault>
-    ensures { IfOk result (λ command. Holds name.now (rows_of (found_of given.now)) command) }
+    ensures found { IfOk result (Holds name.now (rows_of (found_of given.now))) }
+    ensures refused { IfErr result (HoldsNone name.now (rows_of (found_of given.now))) }
 {
     match name {
         "check" => checking(given),
@@ -110,7 +121,8 @@ fn flag(given: &ArgMatches<'_>, id: &str) -> bool
 }
 
 fn checking<'a>(given: &ArgMatches<'a>) -> Result<Command<'a>, LineFault>
-    ensures { IfOk result (λ command. Holds (codes "check") (rows_of (found_of given.now)) command) }
+    ensures found { IfOk result (Holds (codes "check") (rows_of (found_of given.now))) }
+    ensures refused { IfErr result (HoldsNone (codes "check") (rows_of (found_of given.now))) }
 {
     match text(given, "F") {
         Some(source) => Ok(Command::Check(source)),
@@ -119,16 +131,22 @@ fn checking<'a>(given: &ArgMatches<'a>) -> Result<Command<'a>, LineFault>
 }
 
 fn running<'a>(given: &ArgMatches<'a>) -> Result<Command<'a>, LineFault>
-    ensures { IfOk result (λ command. Holds (codes "seq") (rows_of (found_of given.now)) command) }
+    ensures found { IfOk result (Holds (codes "seq") (rows_of (found_of given.now))) }
+    ensures refused { IfErr result (HoldsNone (codes "seq") (rows_of (found_of given.now))) }
 {
     match text(given, "F") {
-        Some(source) => Ok(Command::Seq(source, text(given, "INPUT"), flag(given, "store"))),
+        Some(source) => Ok(Command::Seq {
+            source,
+            input: text(given, "INPUT"),
+            store: flag(given, "store"),
+        }),
         None => Err(LineFault::NoCommand),
     }
 }
 
 fn explaining<'a>(given: &ArgMatches<'a>) -> Result<Command<'a>, LineFault>
-    ensures { IfOk result (λ command. Holds (codes "explain") (rows_of (found_of given.now)) command) }
+    ensures found { IfOk result (Holds (codes "explain") (rows_of (found_of given.now))) }
+    ensures refused { IfErr result (HoldsNone (codes "explain") (rows_of (found_of given.now))) }
 {
     match text(given, "N") {
         Some(number) => Ok(Command::Explain(explained(number)?)),
@@ -138,7 +156,8 @@ fn explaining<'a>(given: &ArgMatches<'a>) -> Result<Command<'a>, LineFault>
 
 /// The number of a text, if it is that of a refusal or a fault.
 fn explained(text: &str) -> Result<u8, LineFault>
-    ensures { IfOk result (λ number. IsNumber number text.now) }
+    ensures found { IfOk result (λ number. IsNumber number text.now) }
+    ensures refused { IfErr result (λ fault. (fault ≡ NoSuchNumber) × ((n : ℕ) → IsNumber n text.now → ⊥)) }
 {
     match text.parse::<u8>() {
         Ok(number) if is_explained(number) => Ok(number),

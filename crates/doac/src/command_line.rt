@@ -1,8 +1,8 @@
 //! The command line, read by clap.
 
-ghost use Rattle.std.specs.Prelude.{◌≡◌, IfOk, false, map};
+ghost use Rattle.std.specs.Prelude.{◌≡◌, IfErr, IfOk, false, map};
 ghost use Rattle.clap.specs.Words.{app_of, rule_of};
-ghost use Rattle.doac.specs.CommandLine.{Names, doac, input, number, source, store};
+ghost use Rattle.doac.specs.CommandLine.{Names, NamesNone, doac, input, number, source, store};
 
 use crate::command::{LineFault, held};
 use clap::{Arg, ArgAction};
@@ -77,7 +77,8 @@ pub fn command<'a, S: AsStr>(
     alloc: Global,
     words: &'a [S],
 ) -> Result<crate::command::Command<'a>, LineFault>
-    ensures { IfOk result (Names (map S.text words.entry.now)) }
+    ensures found { IfOk result (Names (map S.text words.entry.now)) }
+    ensures refused { IfErr result (NamesNone (map S.text words.entry.now)) }
 {
     let matches = parser(alloc)?.try_get_matches_from(words)?;
     held(&matches)

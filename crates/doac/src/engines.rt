@@ -1,8 +1,8 @@
 //! The engines, over any readers and writers: they read to the end, work over values, and write
 //! what came of it.
 
-ghost use Rattle.std.specs.Prelude.{◌≡◌, IfOk, IfErr, IfSome};
-ghost use Rattle.doac.specs.Engines.{Checks, Leaves, Runs, Wrote, WroteAs, WrotePart};
+ghost use Rattle.std.specs.Prelude.{IfOk, IfErr};
+ghost use Rattle.doac.specs.Engines.{Checks, Leaves, LeavesOfSource, OfText, Runs, Wrote, WroteAs, WrotePart};
 
 use crate::fault::EngineFault;
 use crate::outcome::Outcome;
@@ -12,23 +12,33 @@ use std::alloc::Global;
 use std::io::{Read, Write};
 
 /// Checks a source and writes its line.
+///
+/// # Errors
+///
+/// A fault of the source's reader, with nothing written; of the writer, with a beginning of the line
+/// written; or of memory, with nothing written.
 pub fn check_outcome<R: Read, W: Write>(
     alloc: Global,
     source: &mut R,
     out: &mut W,
 ) -> Result<Outcome, EngineFault>
-    ensures ok { IfOk result (λ outcome. IfSome (R.remaining source.old) (λ text.
+    ensures ok { IfOk result (λ outcome. OfText (R.remaining source.old) (λ text.
         Wrote (Checks text) (W.contents out.old) (W.contents out.new) outcome)) }
-    ensures err { IfErr result (λ fault. Leaves fault (W.contents out.old) (W.contents out.new)
-        (IfSome (R.remaining source.old) (λ text. WrotePart (Checks text) (W.contents out.old) (W.contents out.new)))) }
+    ensures err { IfErr result (λ fault. LeavesOfSource fault (W.contents out.old) (W.contents out.new)
+        (OfText (R.remaining source.old) (λ text. WrotePart (Checks text) (W.contents out.old) (W.contents out.new)))) }
 {
-    let source = read_all(alloc, source)?;
+    let source = read_all(alloc, source).map_err(EngineFault::of_source)?;
     let page = checked(alloc, &source)?;
     page.write(out)
 }
 
 /// Runs a source on an input, and writes its records and what follows them: at a fault its line,
 /// and without one, where `store` says so, the store.
+///
+/// # Errors
+///
+/// A fault of one of the readers, with nothing written; of the writer, with a beginning of the text
+/// written; or of memory, with nothing written.
 pub fn seq_outcome<R: Read, I: Read, W: Write>(
     alloc: Global,
     source: &mut R,
@@ -36,34 +46,36 @@ pub fn seq_outcome<R: Read, I: Read, W: Write>(
     store: bool,
     out: &mut W,
 ) -> Result<Outcome, EngineFault>
-    ensures ok { IfOk result (λ outcome. IfSome (R.remaining source.old) (λ text. IfSome (I.remaining input.old) (λ given.
+    ensures ok { IfOk result (λ outcome. OfText (R.remaining source.old) (λ text. OfText (I.remaining input.old) (λ given.
         Wrote (Runs store text given) (W.contents out.old) (W.contents out.new) outcome))) }
     ensures err { IfErr result (λ fault. Leaves fault (W.contents out.old) (W.contents out.new)
-        (IfSome (R.remaining source.old) (λ text. IfSome (I.remaining input.old) (λ given.
+        (OfText (R.remaining source.old) (λ text. OfText (I.remaining input.old) (λ given.
         WrotePart (Runs store text given) (W.contents out.old) (W.contents out.new))))) }
 {
-    let source = read_all(alloc, source)?;
-    let input = read_all(alloc, input)?;
+    let source = read_all(alloc, source).map_err(EngineFault::of_source)?;
+    let input = read_all(alloc, input).map_err(EngineFault::of_input)?;
     let page = run(alloc, &source, &input, store)?;
     page.write(out)
 }
 
-/// Checks a source, writes its line and gives the exit status.
+/// Checks a source, writes its line and gives the exit status: 0, or 1 for a source that is refused.
+/// The errors are those of [`check_outcome`].
 pub fn check<R: Read, W: Write>(
     alloc: Global,
     source: &mut R,
     out: &mut W,
 ) -> Result<u8, EngineFault>
-    ensures ok { IfOk result (λ status. IfSome (R.remaining source.old) (λ text.
+    ensures ok { IfOk result (λ status. OfText (R.remaining source.old) (λ text.
         WroteAs (Checks text) (W.contents out.old) (W.contents out.new) status)) }
-    ensures err { IfErr result (λ fault. Leaves fault (W.contents out.old) (W.contents out.new)
-        (IfSome (R.remaining source.old) (λ text. WrotePart (Checks text) (W.contents out.old) (W.contents out.new)))) }
+    ensures err { IfErr result (λ fault. LeavesOfSource fault (W.contents out.old) (W.contents out.new)
+        (OfText (R.remaining source.old) (λ text. WrotePart (Checks text) (W.contents out.old) (W.contents out.new)))) }
 {
     let outcome = check_outcome(alloc, source, out)?;
     Ok(outcome.status())
 }
 
-/// Runs a source on an input, writes its records and what follows them, and gives the exit status.
+/// Runs a source on an input, writes its records and what follows them, and gives the exit status:
+/// 0, 1 for a source that is refused, 2 for a fault. The errors are those of [`seq_outcome`].
 pub fn seq<R: Read, I: Read, W: Write>(
     alloc: Global,
     source: &mut R,
@@ -71,10 +83,10 @@ pub fn seq<R: Read, I: Read, W: Write>(
     store: bool,
     out: &mut W,
 ) -> Result<u8, EngineFault>
-    ensures ok { IfOk result (λ status. IfSome (R.remaining source.old) (λ text. IfSome (I.remaining input.old) (λ given.
+    ensures ok { IfOk result (λ status. OfText (R.remaining source.old) (λ text. OfText (I.remaining input.old) (λ given.
         WroteAs (Runs store text given) (W.contents out.old) (W.contents out.new) status))) }
     ensures err { IfErr result (λ fault. Leaves fault (W.contents out.old) (W.contents out.new)
-        (IfSome (R.remaining source.old) (λ text. IfSome (I.remaining input.old) (λ given.
+        (OfText (R.remaining source.old) (λ text. OfText (I.remaining input.old) (λ given.
         WrotePart (Runs store text given) (W.contents out.old) (W.contents out.new))))) }
 {
     let outcome = seq_outcome(alloc, source, input, store, out)?;

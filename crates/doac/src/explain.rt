@@ -1,5 +1,9 @@
 //! What the numbers of refusals and faults mean, in plain words.
 
+ghost use Rattle.std.specs.List.{list_any};
+ghost use Rattle.std.specs.Prelude.{◌≡◌, ◌==◌};
+ghost use Rattle.doac.specs.CommandLine as line;
+
 use std::io;
 
 /// What a number means, with an example.
@@ -76,7 +80,11 @@ in two ways.
         text: "REFUSED 6: the source is too long.
 
 A source has at most 65,535 lines, comments counted. The line of the refusal is the
-first one too many.
+first one too many. Here it is the line of END:
+
+      K=1
+(65,534 more lines)
+      END
 
 What to do: take out comment lines, or cut the program into two.
 ",
@@ -92,7 +100,7 @@ refusal is the number of lines that the source has, 0 for an empty file.
       END
 
 What to do: write END as the last line, with six blanks before it. If it is there,
-see that it doesn't begin left of column 7 and that nothing stands behind it.
+see that nothing stands behind it up to column 72: END PROGRAM doesn't end a program.
 ",
     },
     Explanation {
@@ -287,7 +295,11 @@ What to do: take one of the two declarations out, or choose another name.
         text: "REFUSED 40: the program is too large.
 
 A program has at most 4,096 statements, END counted, and 512 names. The line of the
-refusal is that of the first statement that goes past a limit.
+refusal is that of the first statement that goes past a limit. Here it is END:
+
+      K=1
+(4,095 more statements)
+      END
 
 What to do: use a name again where its value isn't needed any more, and put several
 items into one PRINT.
@@ -310,8 +322,21 @@ What to do: change one of the two.
 ];
 
 /// Whether a number is a refusal's or a fault's.
-pub fn is_explained(number: u8) -> bool {
-    EXPLANATIONS.iter().any(|entry| entry.number == number)
+pub fn is_explained(number: u8) -> bool
+    ensures { result ≡ line.is_explained number }
+{
+    has_number(&EXPLANATIONS, number)
+}
+
+fn has_number(entries: &[Explanation], number: u8) -> bool
+    ensures { result ≡ list_any (λ e. e.number == number) entries.now }
+{
+    for entry in entries {
+        if entry.number == number {
+            return true;
+        }
+    }
+    false
 }
 
 /// Prints what a number means, as a refusal and as a fault.

@@ -40,7 +40,7 @@ pub fn run(alloc: Global, source: &[u8], input: &[u8], store: bool) -> Result<Pa
     ensures { IfOk result (λ page. Runs store source.now input.now page.outcome page.text.items) }
 {
     match program(alloc, source) {
-        Ok(program) => completed(alloc, &program, input, store),
+        Ok(program) => ran(alloc, &program, input, store),
         Err(Refusal::Refused { number, line }) => refused(alloc, number, line),
         Err(Refusal::Memory) => Err(AllocError),
     }
@@ -58,7 +58,8 @@ fn accepted(alloc: Global, program: &Program) -> Result<Page, AllocError>
         × (page.text.items ≡ accepted (program_of program.now).block)) }
 {
     let mut text = Vec::new(alloc);
-    append_accepted(&mut text, statement_count(program))?;
+    // No statement of today is a loop.
+    append_accepted(&mut text, statement_count(program), 0)?;
     Ok(Page {
         text,
         outcome: Outcome::Completed,
@@ -77,12 +78,7 @@ fn refused(alloc: Global, number: u8, line: Line) -> Result<Page, AllocError>
     })
 }
 
-fn completed(
-    alloc: Global,
-    program: &Program,
-    input: &[u8],
-    store: bool,
-) -> Result<Page, AllocError>
+fn ran(alloc: Global, program: &Program, input: &[u8], store: bool) -> Result<Page, AllocError>
     ensures { IfOk result (λ page. ShowsRun store (program_of program.now) input.now page.outcome page.text.items) }
 {
     let answer = run_seq(alloc, program, input)?;

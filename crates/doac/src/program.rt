@@ -10,8 +10,9 @@ use crate::explain::explain;
 use crate::fault::EngineFault;
 use crate::outcome::Outcome;
 use crate::shown::fault_number;
+use std::io::{self, Read};
 use std::rt::{Env, Files};
-use std::{env, fs, io};
+use std::{env, fs};
 
 /// Does what the words of the command line ask for, and gives the exit status.
 pub fn run<R: Env + Files + Print + Eprint + AllocGlobal>(rt: &R) -> u8 {
@@ -63,8 +64,11 @@ fn status_of_print<R: Eprint>(rt: &R, printed: io::Result<()>) -> u8 {
 fn obey<R: Files + Print + Eprint + AllocGlobal>(rt: &R, command: Command<'_>) -> u8 {
     match command {
         Command::Check(source) => check_file(rt, source),
-        Command::Seq(source, Some(input), store) => seq_files(rt, source, input, store),
-        Command::Seq(source, None, store) => seq_file(rt, source, store),
+        Command::Seq {
+            source,
+            input,
+            store,
+        } => seq_file(rt, source, input, store),
         Command::Explain(number) => status_of_print(rt, explain(rt, number)),
     }
 }
@@ -78,43 +82,33 @@ fn check_file<R: Files + Print + Eprint + AllocGlobal>(rt: &R, source: &str) -> 
     tell(rt, outcome)
 }
 
-fn seq_file<R: Files + Print + Eprint + AllocGlobal>(rt: &R, source: &str, store: bool) -> u8 {
-    let mut text = match fs::open(rt, source) {
-        Ok(file) => file,
-        Err(error) => return refuse_file(rt, source, &error),
-    };
-    let mut nothing: &[u8] = &[];
-    let outcome = seq_outcome(
-        rt.alloc(),
-        &mut text,
-        &mut nothing,
-        store,
-        &mut io::writer(rt),
-    );
-    tell(rt, outcome)
-}
-
-fn seq_files<R: Files + Print + Eprint + AllocGlobal>(
+fn seq_file<R: Files + Print + Eprint + AllocGlobal>(
     rt: &R,
     source: &str,
-    input: &str,
+    input: Option<&str>,
     store: bool,
 ) -> u8 {
     let mut text = match fs::open(rt, source) {
         Ok(file) => file,
         Err(error) => return refuse_file(rt, source, &error),
     };
-    let mut given = match fs::open(rt, input) {
-        Ok(file) => file,
-        Err(error) => return refuse_file(rt, input, &error),
+    let Some(input) = input else {
+        let mut nothing: &[u8] = &[];
+        return seq_readers(rt, &mut text, &mut nothing, store);
     };
-    let outcome = seq_outcome(
-        rt.alloc(),
-        &mut text,
-        &mut given,
-        store,
-        &mut io::writer(rt),
-    );
+    match fs::open(rt, input) {
+        Ok(mut given) => seq_readers(rt, &mut text, &mut given, store),
+        Err(error) => refuse_file(rt, input, &error),
+    }
+}
+
+fn seq_readers<R: Print + Eprint + AllocGlobal, S: Read, I: Read>(
+    rt: &R,
+    source: &mut S,
+    input: &mut I,
+    store: bool,
+) -> u8 {
+    let outcome = seq_outcome(rt.alloc(), source, input, store, &mut io::writer(rt));
     tell(rt, outcome)
 }
 

@@ -16,12 +16,14 @@ pub fn append_number<I: Integer>(out: &mut Vec<u8>, number: I) -> Result<(), All
 }
 
 /// Appends the line of a source that is accepted; `statements` counts END.
-pub fn append_accepted(out: &mut Vec<u8>, statements: usize) -> Result<(), AllocError>
-    ensures { OnOk result (out.new.items ≡ out.old.items ++ accepted_with statements) }
+pub fn append_accepted(out: &mut Vec<u8>, statements: usize, loops: usize) -> Result<(), AllocError>
+    ensures { OnOk result (out.new.items ≡ out.old.items ++ accepted_with statements loops) }
 {
     out.extend_from_slice(b"ACCEPTED STATEMENTS ")?;
     append_number(out, statements)?;
-    out.extend_from_slice(b" LOOPS 0\n")
+    out.extend_from_slice(b" LOOPS ")?;
+    append_number(out, loops)?;
+    out.extend_from_slice(b"\n")
 }
 
 /// Appends the line of a source that is refused.

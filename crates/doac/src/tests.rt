@@ -1,8 +1,8 @@
-use crate::command::Command;
+use crate::command::{Command, LineFault};
 use crate::command_line::command;
 use crate::engines::{check, seq};
-use crate::explain::is_explained;
 use crate::fault::EngineFault;
+use std::alloc::{AllocError, Global};
 use std::io::{self, Error, ErrorKind, Read, Write};
 use std::process::Abort;
 use std::test::Fail;
@@ -16,6 +16,25 @@ struct Unreadable;
 impl Read for Unreadable {
     fn read(&mut self, _buf: &mut [u8]) -> io::Result<usize> {
         Err(Error::from(ErrorKind::PermissionDenied))
+    }
+}
+
+/// A reader that gives its bytes, one a call, and then fails.
+#[derive(Drop)]
+struct Interrupted<'a> {
+    bytes: &'a [u8],
+}
+
+impl<'a> Read for Interrupted<'a> {
+    fn read(&mut self, buf: &mut [u8]) -> io::Result<usize> {
+        match (self.bytes, buf) {
+            ([first, rest @ ..], [place, ..]) => {
+                *place = *first;
+                self.bytes = rest;
+                Ok(1)
+            }
+            _ => Err(Error::from(ErrorKind::ConnectionReset)),
+        }
     }
 }
 
@@ -50,18 +69,39 @@ impl Write for Narrow {
     }
 }
 
+/// A writer that takes `room` bytes without asking for memory, and then fails.
+fn with_room(alloc: Global, room: usize) -> Result<Narrow, AllocError> {
+    Ok(Narrow {
+        taken: Vec::with_capacity(alloc, room)?,
+        room,
+        fails: true,
+    })
+}
+
 #[test]
 fn sequential_runs(rt: HostRuntime) -> Result<(), Fail> {
     let total: &[u8] =
         b"      INTEGER TOTAL\n      TOTAL = 2\n      K = TOTAL*(3+4)/5 - 1\n      PRINT *, TOTAL, K, 'OK', -K\n      END\n";
     let overflow: &[u8] = b"      I=3\n      I=I*9223372036854775807\n      END\n";
-    let rows: [(&[u8], bool, &[u8], u8); 7] = [
+    let rows: [(&[u8], bool, &[u8], u8); 9] = [
         (total, false, b" 2 1OK -1\n", 0),
         (total, true, b" 2 1OK -1\nK = 1\nTOTAL = 2\n", 0),
         (FAULTS, false, b" 1\nFAULT 3 ZERO DIVISOR LINE 2\n", 2),
         (FAULTS, true, b" 1\nFAULT 3 ZERO DIVISOR LINE 2\n", 2),
         (overflow, true, b"FAULT 1 OVERFLOW LINE 2\n", 2),
         (b"      END\n", true, b"", 0),
+        (
+            b"      K=1/0\n      END\n",
+            false,
+            b"FAULT 3 ZERO DIVISOR LINE 1\n",
+            2,
+        ),
+        (
+            b"      DO 10 I = 1.3\n      END\n",
+            false,
+            b"REFUSED 22 LINE 1\n",
+            1,
+        ),
         (
             b"      PRINT *,1E5\n      END\n",
             false,
@@ -103,7 +143,7 @@ fn checks(rt: HostRuntime) -> Result<(), Fail> {
 }
 
 #[test]
-fn readers_and_writers_that_fail(rt: HostRuntime) -> Result<(), Fail> {
+fn writers_that_fail(rt: HostRuntime) -> Result<(), Fail> {
     let whole: &[u8] = b" 1\nFAULT 3 ZERO DIVISOR LINE 2\n";
     let rows = [
         (31, true, 2),
@@ -125,15 +165,32 @@ fn readers_and_writers_that_fail(rt: HostRuntime) -> Result<(), Fail> {
         assert_eq!(rt; status_of(given), status);
         assert_eq!(rt; out.taken.as_slice(), &whole[..room]);
     }
-    let mut out = Vec::new(rt.alloc());
-    assert_eq!(rt; status_of(check(rt.alloc(), &mut Unreadable, &mut out)), 4);
     let mut source = FAULTS;
-    assert_eq!(rt;
-        status_of(seq(rt.alloc(), &mut source, &mut Unreadable, false, &mut out)),
-        4
-    );
+    let mut out = with_room(rt.alloc(), 5)?;
+    assert_eq!(rt; status_of(check(rt.alloc(), &mut source, &mut out)), 4);
+    assert_eq!(rt; out.taken.as_slice(), b"ACCEP".as_slice());
+    Ok(())
+}
+
+#[test]
+fn readers_that_fail(rt: HostRuntime) -> Result<(), Fail> {
+    let mut out = Vec::new(rt.alloc());
+    let unread = check(rt.alloc(), &mut Unreadable, &mut out);
+    assert!(rt; matches!(&unread, Err(EngineFault::Source(_))));
+    assert_eq!(rt; status_of(unread), 4);
+    // What was read before is a program of its own.
+    let mut cut = Interrupted {
+        bytes: b"      PRINT *,1\n      END\n",
+    };
+    let mut input: &[u8] = b"";
+    let unread = seq(rt.alloc(), &mut cut, &mut input, false, &mut out);
+    assert!(rt; matches!(&unread, Err(EngineFault::Source(_))));
+    let mut source = FAULTS;
+    let mut cut = Interrupted { bytes: b"5\n" };
+    let unread = seq(rt.alloc(), &mut source, &mut cut, false, &mut out);
+    assert!(rt; matches!(&unread, Err(EngineFault::Input(_))));
+    assert_eq!(rt; status_of(unread), 4);
     assert!(rt; out.is_empty());
-    assert_eq!(rt; EngineFault::Memory.status(), 5);
     Ok(())
 }
 
@@ -152,31 +209,36 @@ fn command_lines(rt: HostRuntime) -> Result<(), Fail> {
     );
     assert_eq!(rt;
         command(rt.alloc(), &["doac", "seq", "F", "--store", "I"])?,
-        Command::Seq("F", Some("I"), true)
+        Command::Seq {
+            source: "F",
+            input: Some("I"),
+            store: true
+        }
     );
     assert_eq!(rt;
         command(rt.alloc(), &["doac", "seq", "F"])?,
-        Command::Seq("F", None, false)
+        Command::Seq {
+            source: "F",
+            input: None,
+            store: false
+        }
     );
     assert_eq!(rt;
         command(rt.alloc(), &["doac", "explain", "22"])?,
         Command::Explain(22)
     );
+    refused(&rt, &["doac", "--help"], 0);
     refused(&rt, &["doac", "seq", "--help"], 0);
+    refused(&rt, &["doac"], 3);
+    refused(&rt, &["doac", "list", "F"], 3);
+    refused(&rt, &["doac", "replay", "F", "I", "S"], 3);
+    refused(&rt, &["doac", "check", "F", "G"], 3);
+    refused(&rt, &["doac", "check", "F", "--fast"], 3);
+    refused(&rt, &["doac", "explain", "x"], 3);
     refused(&rt, &["doac", "seq"], 3);
     refused(&rt, &["doac", "run", "F"], 3);
     refused(&rt, &["doac", "check", "F", "--store"], 3);
     refused(&rt, &["doac", "explain", "99"], 3);
-    let known = [
-        1, 2, 3, 6, 7, 8, 20, 21, 22, 23, 24, 25, 26, 27, 28, 30, 31, 32, 40, 41,
-    ];
-    for number in 0..=255 {
-        assert_eq!(rt;
-            is_explained(number),
-            known.contains(&number),
-            "at {number}"
-        );
-    }
     Ok(())
 }
 
@@ -185,4 +247,60 @@ fn refused(rt: &(impl Abort + AllocGlobal), words: &[&str], status: u8) {
         Ok(_) => panic!(rt; "a command was found"),
         Err(fault) => assert_eq!(rt; fault.status(), status),
     }
+}
+
+/// What a run writes into 64 bytes, and how it ends.
+fn run_into(alloc: Global, out: &mut Narrow) -> Result<u8, EngineFault> {
+    let mut source: &[u8] = b"      K=-7\n      PRINT *,K,'A'\n      END\n";
+    let mut input: &[u8] = b"5\n";
+    seq(alloc, &mut source, &mut input, true, out)
+}
+
+#[test]
+fn want_of_memory_in_runs(rt: HostRuntime) -> Result<(), Fail> {
+    let mut out = with_room(rt.alloc(), 64)?;
+    let first = run_into(rt.alloc(), &mut out);
+    if let Err(EngineFault::Memory) = &first {
+        assert!(rt; out.taken.is_empty());
+        assert_eq!(rt; run_into(rt.alloc(), &mut out)?, 0);
+    }
+    assert_eq!(rt; out.taken.as_slice(), b" -7A\nK = -7\n".as_slice());
+    assert_eq!(rt; first?, 0);
+    Ok(())
+}
+
+fn check_into(alloc: Global, out: &mut Narrow) -> Result<u8, EngineFault> {
+    let mut source: &[u8] = b"      K=(1\n      END\n";
+    check(alloc, &mut source, out)
+}
+
+#[test]
+fn want_of_memory_in_checks(rt: HostRuntime) -> Result<(), Fail> {
+    let mut out = with_room(rt.alloc(), 64)?;
+    let first = check_into(rt.alloc(), &mut out);
+    if let Err(EngineFault::Memory) = &first {
+        assert!(rt; out.taken.is_empty());
+        assert_eq!(rt; check_into(rt.alloc(), &mut out)?, 1);
+    }
+    assert_eq!(rt; out.taken.as_slice(), b"REFUSED 25 LINE 1\n".as_slice());
+    assert_eq!(rt; first?, 1);
+    Ok(())
+}
+
+#[test]
+fn want_of_memory_in_command_lines(rt: HostRuntime) -> Result<(), Fail> {
+    let words = ["doac", "seq", "F", "--store", "I"];
+    let wanted = Command::Seq {
+        source: "F",
+        input: Some("I"),
+        store: true,
+    };
+    match command(rt.alloc(), &words) {
+        Err(LineFault::Memory) => {
+            assert_eq!(rt; command(rt.alloc(), &words)?, wanted);
+            return Err(AllocError)?;
+        }
+        given => assert_eq!(rt; given?, wanted),
+    }
+    Ok(())
 }

@@ -1,0 +1,47 @@
+-- What clap's matches of the words say of the words themselves.
+use Rattle.std.proofs.Common.{◌≡◌, IfErr, IfOk, List, Option, Some, None, Ok, Err, Result, [], true, refl, subst}
+use Rattle.clap.specs.declared.parser.matches.ArgMatches.{ArgMatches}
+use Rattle.clap.specs.Words.{App, HasMatchesOf, Row, Text, fault_of, is_simple_and_free, subcommand_of, subcommand_rows_of}
+use Rattle.doac.specs.declared.command.Command.{Command}
+use Rattle.doac.specs.declared.command.LineFault.{LineFault}
+use Rattle.doac.specs.declared.command.LineFault.TheVariants.{Help, Mistake, NoCommand, NoSuchNumber, Memory}
+use Rattle.doac.specs.CommandLine.{HeldIn, HeldInNone, Names, NamesNone, doac}
+
+-- a parse that clap takes
+abbrev pub Taken : App → List Text → ArgMatches → Type 0
+Taken app words m = HasMatchesOf app words m × (is_simple_and_free app ≡ true → fault_of app words ≡ [])
+
+sound : (words : List Text) (m : ArgMatches) → Taken doac words m → fault_of doac words ≡ []
+sound words m taken = taken.1 refl
+
+same : (words : List Text) (m : ArgMatches) → Taken doac words m → subcommand_rows_of m ≡ subcommand_of doac words
+same words m taken = (taken.0 refl).1
+
+no_error_of_claps : (found : Option (Text × List Row)) (fault : LineFault) → HeldInNone found fault → (fault ≡ NoCommand → ⊥) → (fault ≡ NoSuchNumber → ⊥) → ⊥
+no_error_of_claps None fault held a b = a held
+no_error_of_claps (Some found) NoCommand held a b = a refl
+no_error_of_claps (Some found) NoSuchNumber held a b = b refl
+no_error_of_claps (Some found) (Help e) held a b = held
+no_error_of_claps (Some found) (Mistake e) held a b = held
+no_error_of_claps (Some found) Memory held a b = held
+
+none : (words : List Text) (fault : LineFault) → fault_of doac words ≡ [] → HeldInNone (subcommand_of doac words) fault → NamesNone words fault
+none words NoCommand s held = (s, held)
+none words NoSuchNumber s held = (s, held)
+none words Memory s held = tt
+none words (Help e) s held = absurd (no_error_of_claps (subcommand_of doac words) (Help e) held (λ h. cc) (λ h. cc))
+none words (Mistake e) s held = absurd (no_error_of_claps (subcommand_of doac words) (Mistake e) held (λ h. cc) (λ h. cc))
+
+pub names : (app : App) (words : List Text) (m : ArgMatches) (r : Result Command LineFault) → app ≡ doac → Taken app words m
+    → IfOk r (HeldIn (subcommand_rows_of m)) → IfOk r (Names words)
+names app words m (Ok command) e t held =
+    let taken = subst (λ a. Taken a words m) e t in
+    (sound words m taken, subst (λ found. HeldIn found command) (same words m taken) held)
+names app words m (Err fault) e t held = held
+
+pub names_none : (app : App) (words : List Text) (m : ArgMatches) (r : Result Command LineFault) → app ≡ doac → Taken app words m
+    → IfErr r (HeldInNone (subcommand_rows_of m)) → IfErr r (NamesNone words)
+names_none app words m (Ok command) e t held = held
+names_none app words m (Err fault) e t held =
+    let taken = subst (λ a. Taken a words m) e t in
+    none words fault (sound words m taken) (subst (λ found. HeldInNone found fault) (same words m taken) held)
