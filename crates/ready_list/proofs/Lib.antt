@@ -1,0 +1,10 @@
+pub mod Counts
+pub mod Paths
+pub mod Linked
+pub mod Orders
+pub mod Changes
+pub mod Seen
+pub mod Searching
+pub mod Calls
+pub mod Closing
+pub mod Fresh

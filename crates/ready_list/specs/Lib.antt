@@ -1,0 +1,4 @@
+pub mod Empty
+pub mod Lists
+pub mod Places
+pub mod Table
