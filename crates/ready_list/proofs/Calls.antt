@@ -8,7 +8,7 @@ use Rattle.ready_list.specs.Lists.{times_in, places_in, without, inserted, InOrd
 use Rattle.ready_list.specs.Places.{last_of, NoneAbove, AllAbove}
 use Rattle.ready_list.specs.Table.{node, lists_of, Path, Holds, joined, parted}
 use Rattle.ready_list.specs.declared.table.Node.{Node}
-use Rattle.ready_list.proofs.Counts.{times-here, times-there, times-mid, times-le-places, list-of-place}
+use Rattle.ready_list.proofs.Counts.{without-absent, times-here, times-there, times-mid, times-le-places, list-of-place}
 use Rattle.ready_list.proofs.Orders.{order-insert}
 use Rattle.ready_list.proofs.Linked.{has-joined, has-parted}
 use Rattle.ready_list.proofs.Paths.{owner-last}
@@ -50,13 +50,6 @@ pub is_inserted : (xs : List (ℕ × ℕ)) (y : ℕ × ℕ) (ys : List (ℕ × �
 is_inserted [] y [] a b = refl
 is_inserted [] y (z ∷ ys) a b = let e : nat_le z.1 y.1 ≡ false = lt-leb z.1 y.1 b.0 in rw e refl
 is_inserted (x ∷ xs) y ys a b = let e : nat_le x.1 y.1 ≡ true = le-leb x.1 y.1 a.0 in rw (e, is_inserted xs y ys a.1 b) refl
-
-without-absent : (s : ℕ) (xs : List (ℕ × ℕ)) → times_in s xs ≡ 0 → without s xs ≡ xs
-without-absent s [] z = refl
-without-absent s (x ∷ xs) z = elim (cases_eq s x.0) [
-  | inl e ↦ absurd (let k : times_in s (x ∷ xs) ≡ times_in x.0 (x ∷ xs) = ap (λ a. times_in a (x ∷ xs)) e in omega (arith, times-here x xs))
-  | inr d ↦ (let r : without s xs ≡ xs = without-absent s xs (omega arith) in grind (arith, nat_tests))
-]
 
 without-mid : (xs : List (ℕ × ℕ)) (s v : ℕ) (ys : List (ℕ × ℕ)) → times_in s (xs ++ ys) ≡ 0 → without s (xs ++ (s, v) ∷ ys) ≡ xs ++ ys
 without-mid [] s v ys z = let r : without s ys ≡ ys = without-absent s ys z in grind (arith, nat_tests)

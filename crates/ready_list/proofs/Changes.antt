@@ -66,6 +66,7 @@ holds-joined t t' n ls l y v p q new xs ys h ll split yn free lp qp new_next new
       | inr b ↦ omega arith
     ] in
     record {
+      countable = h.countable;
       size = omega (arith, j.size);
       head = λ m hm. (let k = h.head m (omega arith) in (j.owner_other (n + m) (heads_out m) ∙ k.0, j.value_other (n + m) (heads_out m) ∙ k.1));
       path = λ m hm. at_list (λ a b. Path t' n a (n + a) b) ls l zs m ll
@@ -205,6 +206,7 @@ holds-parted t t' n ls l y v xs ys h ll split j =
       | inr i ↦ omega arith
     ] in
     record {
+      countable = h.countable;
       size = omega (arith, j.size);
       head = λ m hm. (let k = h.head m (omega arith) in (j.owner_other (n + m) (heads_out m) ∙ k.0, j.value_same (n + m) ∙ k.1));
       path = λ m hm. at_list (λ b c. Path t' n b (n + b) c) ls l (xs ++ ys) m ll

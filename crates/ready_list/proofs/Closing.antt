@@ -16,6 +16,7 @@ use Rattle.ready_list.proofs.Calls.{IsRead, put, all_low, is_inserted, taken_out
 
 pub linked : (t : List Node) (n : ℕ) → Holds t n (lists_of t n) → IsLinked (seen_as t n)
 linked t n h = record {
+  countable = h.countable;
   in_range = λ s a. (let r = list-of-place s (lists_of t n) a in (owner-in t n r.0 (n + r.0) s (get_or (lists_of t n) r.0 []) (h.path r.0 r.1) r.2).0);
   once = h.once;
   ordered = h.ordered;

@@ -23,12 +23,13 @@ kinds P t n m h a b u hu = elim (cases_lt u n) [
       subst (λ w. P w (node t w)) (sym e) (subst (λ x. P (n + (u - n)) x) (sym (h.heads (u - n) (omega (arith, h.size)))) (b (u - n) (omega (arith, h.size))))
 ]
 
-pub holds-empty : (t : List Node) (n m : ℕ) → IsEmptyTable t n m → Holds t n (replicate m [])
-holds-empty t n m h =
+pub holds-empty : (t : List Node) (n m : ℕ) → n < 2 ^ 64 → IsEmptyTable t n m → Holds t n (replicate m [])
+holds-empty t n m c h =
     let lists : List (List (ℕ × ℕ)) = replicate m [] in
     let none : (l : ℕ) → l < m → get_or lists l [] ≡ [] = λ l hl. get_or-replicate m l [] [] hl in
     let len : length lists ≡ m = length-replicate m [] in
     record {
+      countable = c;
       size = omega (arith, h.size);
       head = λ l hl. (let e = h.heads l (omega arith) in (ap (λ a. a.owner) e, ap (λ a. a.value) e));
       path = λ l hl. subst (λ a. Path t n l (n + l) a) (sym (none l (omega arith))) (ap (λ a. a.next) (h.heads l (omega arith)));
@@ -45,11 +46,11 @@ holds-empty t n m h =
     }
 
 -- a new table
-pub fresh : (t : List Node) (n m : ℕ) → IsEmptyTable t n m → IsLeft t n (record { slots = n; lists = replicate m [] })
-fresh t n m h =
-    let r : IsRead t n (replicate m []) = read t n (replicate m []) (holds-empty t n m h) in
+pub fresh : (t : List Node) (n m : ℕ) → n < 2 ^ 64 → IsEmptyTable t n m → IsLeft t n (record { slots = n; lists = replicate m [] })
+fresh t n m c h =
+    let r : IsRead t n (replicate m []) = read t n (replicate m []) (holds-empty t n m c h) in
     record { holds = r.holds; is = ap (λ a. record { slots = n; lists = a }) r.is; linked = linked t n r.holds }
 
 -- after the slots, the heads
-pub fresh_after : (s t : List Node) (n m : ℕ) → IsEmptyTable s n 0 → IsEmptyTable t (length s) m → IsLeft t n (record { slots = n; lists = replicate m [] })
-fresh_after s t n m a b = fresh t n m (subst (λ k. IsEmptyTable t k m) (omega (arith, a.size)) b)
+pub fresh_after : (s t : List Node) (n m : ℕ) → n < 2 ^ 64 → IsEmptyTable s n 0 → IsEmptyTable t (length s) m → IsLeft t n (record { slots = n; lists = replicate m [] })
+fresh_after s t n m c a b = fresh t n m c (subst (λ k. IsEmptyTable t k m) (omega (arith, a.size)) b)

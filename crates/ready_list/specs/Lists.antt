@@ -1,5 +1,5 @@
 -- Lists of slots with values: what callers of `Links` see.
-use Rattle.std.specs.Prelude.{ℕ, Option, Some, None, length, ◌+◌, ◌<◌, ◌≤◌, ◌==◌, if◌then◌else◌, nat_le, List, [], ◌∷◌, get_or, set}
+use Rattle.std.specs.Prelude.{ℕ, Option, Some, None, length, ◌+◌, ◌<◌, ◌≤◌, ◌^◌, ◌==◌, if◌then◌else◌, nat_le, List, [], ◌∷◌, get_or, set}
 
 -- the slots have the numbers below `slots`; the lists have the numbers 0, 1, 2, .. in order
 pub record Lists : Type 0 where
@@ -52,6 +52,7 @@ front_of (x ∷ xs) = Some x
 
 -- no slot stands in two places, slots are in range, and each list is in order of value
 pub record IsLinked (x : Lists) : Type 0 where
+  pub countable : x.slots < 2 ^ 64
   pub in_range : (s : ℕ) → 0 < places_in s x.lists → s < x.slots
   pub once : (s : ℕ) → places_in s x.lists ≤ 1
   pub ordered : (l : ℕ) → l < length x.lists → InOrder (get_or x.lists l [])

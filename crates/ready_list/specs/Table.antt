@@ -32,6 +32,7 @@ Path t n l u (x ∷ xs) =
 
 -- a table of n slots holds these lists
 pub record Holds (t : List Node) (n : ℕ) (ls : List (List (ℕ × ℕ))) : Type 0 where
+  pub countable : n < 2 ^ 64
   pub size : length t ≡ n + length ls
   pub head : (l : ℕ) → l < length ls → ((node t (n + l)).owner ≡ Some l) × ((node t (n + l)).value ≡ 0)
   pub path : (l : ℕ) → l < length ls → Path t n l (n + l) (get_or ls l [])

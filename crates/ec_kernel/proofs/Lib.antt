@@ -1,0 +1,4 @@
+pub mod Beginning
+pub mod Lists
+pub mod Steps
+pub mod Waking

@@ -1,0 +1,6 @@
+use Rattle.ec_kernel.proofs.Steps.{take_slot}
+use Rattle.ec_kernel.proofs.kernel.Kernel.take_slot.Goals as goal
+
+pub returns-clause-kept : goal.returns-clause-kept
+returns-clause-kept c =
+    (take_slot c.self.inside.links c.pop_front.new.self c.self.inside.counts.items c.self.inside.next _ c.self.invariant c.self.view_is c.pop_front.ensures.linked c.pop_front.ensures.lists).kernel

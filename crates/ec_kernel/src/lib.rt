@@ -1,0 +1,6 @@
+//! Eventcounts and a sequencer.
+#![tactic(auto)]
+
+mod kernel;
+
+pub use kernel::Kernel;
