@@ -75,10 +75,7 @@ made x y counts slots events xe ce linked ye =
       linked = subst (λ a. IsLinked a) yf linked;
       above = λ e el. subst (λ a. ValuesAbove (get_or counts e 0) a) (sym (sym (get_or-drop 2 end.lists e []) ∙ get_or-replicate events e [] [] (omega arith))) tt;
     } in
-    let is : seen end counts 0 ≡ new_kernel slots events =
-    ap (λ a. record { slots = slots; counts = a; ticket = 0; waiters = map (λ xs. map waiter xs) none; ready = []; free = slots_of (in_turn slots) }) ce
-    ∙ (ap (λ a. record { slots = slots; counts = replicate events 0; ticket = 0; waiters = a; ready = []; free = slots_of (in_turn slots) }) (waiters-none events)
-    ∙ ap (λ a. record { slots = slots; counts = replicate events 0; ticket = 0; waiters = replicate events []; ready = []; free = a }) (slots-turn 0 slots)) in
+    let is : seen end counts 0 ≡ new_kernel slots events = rw (ce, waiters-none events, slots-turn 0 slots) refl in
     subst (λ a. IsLeft a counts 0 (new_kernel slots events)) (sym yf) (left end counts 0 (new_kernel slots events) kept is)
   where
     length-none : (m : ℕ) → length (replicate {A = List (ℕ × ℕ)} m []) ≡ m

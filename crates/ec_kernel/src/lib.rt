@@ -4,3 +4,6 @@
 mod kernel;
 
 pub use kernel::Kernel;
+
+#[cfg(test)]
+mod tests;
