@@ -135,7 +135,7 @@ impl Kernel {
         requires { event < length self.now.counts }
         ensures { IsTrue result ↔ value ≤ count_at self.now event }
     {
-        self.counts[event] >= value
+        self.read(event) >= value
     }
 
     /// Lets a slot wait until the count of an event is at least `value`, behind all waiters of the

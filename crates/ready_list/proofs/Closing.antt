@@ -1,6 +1,6 @@
 -- What each call leaves, in the words of its contract.
-use Rattle.std.proofs.Common.{◌≡◌, ◌∙◌, ℕ, ◌+◌, ◌-◌, ◌<◌, ◌≤◌, ◌^◌, List, [], ◌∷◌, ◌++◌, length, get_or, drop, Option, Some, None, refl, sym, ap, subst, arith, rules}
-use Rattle.std.specs.Prelude.{map, option_map, IsTrue, is_some, Bool, Vec}
+use Rattle.std.proofs.Common.{◌≡◌, ◌∙◌, ℕ, ◌+◌, ◌-◌, ◌<◌, ◌≤◌, ◌^◌, List, [], ◌∷◌, ◌++◌, length, get_or, drop, Option, Some, None, sym, ap, subst, arith, rules}
+use Rattle.std.specs.Prelude.{MatchOption, map, option_map, IsTrue, is_some, Bool, Vec}
 use Rattle.std.specs.Vec.{with_items}
 use Rattle.std.proofs.Math.ListN.{set}
 use Rattle.std.proofs.lemmas.List.{append-nil, length-set, get_or_default, with_items_is}
@@ -150,17 +150,7 @@ slot_within t n y x h e here =
     let a : y < x.slots = (linked_still t n x h e).in_range y here in
     omega (arith, h.size, ap (λ a. a.slots) e)
 
-by_owner : (o : Option ℕ) (k : ℕ) → (o ≡ None → k ≡ 0) → ((l : ℕ) → o ≡ Some l → 0 < k) → (IsTrue (is_some o) → 0 < k) × (0 < k → IsTrue (is_some o))
-by_owner None k free held = (λ a. absurd (search rules), λ a. absurd (omega (arith, free refl)))
-by_owner (Some l) k free held = (λ _. held l refl, λ _. search rules)
-
--- whether a slot has an owner says whether it stands in a list
-pub owned_or_not : (t : List Node) (n y : ℕ) (x : Lists) (s : Node) (b : Bool) → Holds t n (lists_of t n) → seen_as t n ≡ x → y < x.slots → s ≡ get_or t y s → b ≡ is_some s.owner → (IsTrue b → 0 < places_in y x.lists) × (0 < places_in y x.lists → IsTrue b)
-owned_or_not t n y x s b h e below se be =
-    let yn : y < n = omega (arith, ap (λ a. a.slots) e) in
-    let same : s ≡ node t y = read_node t y s (omega (arith, h.size)) se in
-    let lists : places_in y (lists_of t n) ≡ places_in y x.lists = ap (λ a. places_in y a.lists) e in
-    subst (λ a. (IsTrue a → 0 < places_in y x.lists) × (0 < places_in y x.lists → IsTrue a)) (ap (λ a. is_some a.owner) (sym same) ∙ sym be)
-    (by_owner (node t y).owner (places_in y x.lists)
-    (λ o. sym lists ∙ (h.free y yn o).0)
-    (λ l o. omega (arith, lists, (h.held y l yn o).1, times-le-places y (lists_of t n) l)))
+-- a slot stands in a list exactly where the list that holds it is known
+pub known_place : (o : Option ℕ) (b : Bool) (s : ℕ) (ls : List (List (ℕ × ℕ))) → MatchOption o (places_in s ls ≡ 0) (λ l. (l < length ls) × (0 < times_in s (get_or ls l []))) → b ≡ is_some o → (IsTrue b → 0 < places_in s ls) × (0 < places_in s ls → IsTrue b)
+known_place None b s ls h e = (λ a. absurd (let f : IsTrue (is_some {T = ℕ} None) = subst IsTrue e a in search rules), λ a. absurd (omega arith))
+known_place (Some l) b s ls h e = (λ _. omega (arith, h.1, times-le-places s ls l), λ _. subst IsTrue (sym e) (search rules))

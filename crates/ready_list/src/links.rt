@@ -120,6 +120,6 @@ impl Links {
         requires { slot < self.now.slots }
         ensures { IsTrue result ↔ 0 < places_in slot self.now.lists }
     {
-        self.table[slot].owner.is_some()
+        self.place_of(slot).is_some()
     }
 }

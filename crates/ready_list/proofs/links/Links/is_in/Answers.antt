@@ -1,6 +1,6 @@
-use Rattle.ready_list.proofs.Closing.{owned_or_not}
+use Rattle.ready_list.proofs.Closing.{known_place}
 use Rattle.ready_list.proofs.links.Links.is_in.Goals as goal
 
 pub returns : goal.returns
 returns c =
-    owned_or_not c.self.inside.table.items c.self.inside.slots c.args.slot _ c.index.result.now _ c.self.invariant c.self.view_is c.requires c.index.ensures c.is_some.ensures
+    known_place c.place_of.result c.is_some.result c.args.slot c.args.self.now.lists c.place_of.ensures c.is_some.ensures
