@@ -1,14 +1,15 @@
 -- What each call leaves, as it is seen.
-use Rattle.std.proofs.Common.{inl, inr, ◌≡◌, ◌∙◌, ℕ, ◌+◌, ◌<◌, ◌≤◌, List, [], ◌∷◌, ◌++◌, length, get_or, take, drop, refl, sym, ap, subst, arith}
-use Rattle.std.specs.Prelude.{map}
+use Rattle.std.proofs.Common.{Option, Some, None, inl, inr, ◌≡◌, ◌∙◌, ℕ, ◌+◌, ◌<◌, ◌≤◌, List, [], ◌∷◌, ◌++◌, length, get_or, take, drop, refl, sym, ap, subst, arith}
+use Rattle.std.specs.Prelude.{option_map, IfSome, map}
 use Rattle.std.specs.List.{prefix_len}
 use Rattle.std.proofs.Math.ListN.{set}
+use Rattle.std.proofs.lemmas.Bool.Decides.{nat_tests}
 use Rattle.std.proofs.lemmas.Bool.{cases_eq}
 use Rattle.std.proofs.lemmas.List.{length-map, length-drop, length-set, get_or_default, get_or-set_same, get_or-set_other, map-set, drop-set-add, drop-set-lt}
 use Rattle.ready_list.specs.Lists as lists
 use Rattle.ready_list.specs.Lists.{Lists, IsLinked, list_at, with_list, times_in, places_in, inserted}
 use Rattle.ready_list.proofs.Counts.{times-le-places, without-absent}
-use Rattle.ec_kernel.specs.View.{View, reached_by, IsKernel, count_at, waiters_at, places, times, queued, parked, advanced, wakes, without, AllAbove, InOrder}
+use Rattle.ec_kernel.specs.View.{View, StandsNowhere, first_of, reached_by, IsKernel, count_at, waiters_at, places, times, queued, parked, advanced, wakes, without, AllAbove, InOrder}
 use Rattle.ec_kernel.specs.Kept.{waiter, slots_of, seen, ValuesAbove, IsKept, at_end, reached_part, woken}
 use Rattle.ec_kernel.proofs.Lists.{times-slots, places-seen, waiters-seen, queued-waiter, slots-without, above-waiters, order-waiters, above-inserted, above-rest, reached-waiters, drop-waiters, slots-append, woken-slots}
 
@@ -202,3 +203,43 @@ wakes_read x counts ticket k e q r ke el qe re =
     let w : wakes (seen x counts ticket) e ≡ reached_part (get_or counts e 0 + 1) (list_at x (2 + e)) =
     ap (λ a. prefix_len (reached_by (get_or counts e 0 + 1)) a) (waiters-seen x.lists e) ∙ reached-waiters (get_or counts e 0 + 1) (list_at x (2 + e)) in
     re ∙ (ap (λ a. reached_part (a + 1) (list_at x (2 + e))) is ∙ (sym w ∙ ap (λ a. wakes a e) ke))
+
+times-first : (s : ℕ) (xs : List ℕ) → Some s ≡ first_of xs → times s xs ≡ 1 + times s (drop 1 xs)
+times-first s [] e = cc
+times-first s (x ∷ xs) e = (let i : s ≡ x = cc in grind (arith, nat_tests))
+
+-- the first slot of a list stands nowhere once it is taken out
+first-slots : (xs : List (ℕ × ℕ)) → option_map (λ (x : ℕ × ℕ). x.0) (lists.front_of xs) ≡ first_of (slots_of xs)
+first-slots [] = refl
+first-slots (x ∷ xs) = refl
+
+gone : (o : Option ℕ) (k k' : View) (xs : List ℕ) → IsKernel k → o ≡ first_of xs → k'.slots ≡ k.slots → ((s : ℕ) → places s k' + times s xs ≡ places s k + times s (drop 1 xs)) → ((s : ℕ) → times s xs ≤ places s k) → IfSome o (StandsNowhere k')
+gone None k k' xs h e same moved here = tt
+gone (Some s) k k' xs h e same moved here =
+    let f : times s xs ≡ 1 + times s (drop 1 xs) = times-first s xs e in
+    (omega (arith, same, h.in_range s (omega (arith, here s))), omega (arith, moved s, h.once s, here s))
+
+pub ready_gone : (x y : Lists) (counts : List ℕ) (ticket : ℕ) (o : Option ℕ) → IsKept x counts → o ≡ option_map (λ (a : ℕ × ℕ). a.0) (lists.front_of (list_at x 0)) → IsLinked y → y ≡ with_list x 0 (drop 1 (list_at x 0)) → IfSome o (StandsNowhere (seen y counts ticket))
+ready_gone x y counts ticket o h oe linked ye =
+    let k : View = seen x counts ticket in
+    let is : seen y counts ticket ≡ record k { ready = drop 1 k.ready } = (next_ready x y counts ticket k h refl linked ye).is in
+    subst (λ a. IfSome o (StandsNowhere a)) (sym is)
+    (gone o k (record k { ready = drop 1 k.ready }) k.ready (kernel x counts ticket h) (oe ∙ first-slots (list_at x 0)) refl (λ s. omega arith) (λ s. omega arith))
+
+pub free_gone : (x y : Lists) (counts : List ℕ) (ticket : ℕ) (o : Option ℕ) → IsKept x counts → o ≡ option_map (λ (a : ℕ × ℕ). a.0) (lists.front_of (list_at x 1)) → IsLinked y → y ≡ with_list x 1 (drop 1 (list_at x 1)) → IfSome o (StandsNowhere (seen y counts ticket))
+free_gone x y counts ticket o h oe linked ye =
+    let k : View = seen x counts ticket in
+    let is : seen y counts ticket ≡ record k { free = drop 1 k.free } = (take_slot x y counts ticket k h refl linked ye).is in
+    subst (λ a. IfSome o (StandsNowhere a)) (sym is)
+    (gone o k (record k { free = drop 1 k.free }) k.free (kernel x counts ticket h) (oe ∙ first-slots (list_at x 1)) refl (λ s. omega arith) (λ s. omega arith))
+
+times-without : (s : ℕ) (xs : List ℕ) → times s (without s xs) ≡ 0
+times-without s [] = refl
+times-without s (x ∷ xs) = let r = times-without s xs in grind (arith, nat_tests)
+
+-- so does a ready slot that is taken out
+pub taken_gone : (x y : Lists) (counts : List ℕ) (ticket : ℕ) (k : View) (s : ℕ) → IsKept x counts → seen x counts ticket ≡ k → 0 < times s k.ready → IsLinked y → y ≡ record x { lists = map (lists.without s) x.lists } → StandsNowhere (seen y counts ticket) s
+taken_gone x y counts ticket k s h ke here linked ye =
+    let is : seen y counts ticket ≡ record k { ready = without s k.ready } = (take_ready x y counts ticket k s h ke here linked ye).is in
+    let good : IsKernel k = subst (λ a. IsKernel a) ke (kernel x counts ticket h) in
+    subst (λ a. StandsNowhere a s) (sym is) (good.in_range s (omega arith), omega (arith, times-without s k.ready, good.once s))

@@ -37,6 +37,10 @@ times_waiting s (ws ∷ rest) = times s (map (λ w. w.1) ws) + times_waiting s r
 abbrev pub places : ℕ → View → ℕ
 places s k = times_waiting s k.waiters + (times s k.ready + times s k.free)
 
+-- a slot that has been taken: it is in no place, and may be parked or given back
+abbrev pub StandsNowhere : View → ℕ → Type 0
+StandsNowhere k s = (s < k.slots) × (places s k ≡ 0)
+
 -- nobody waits
 abbrev pub NoWaiter : List (List (ℕ × ℕ)) → Type 0
 NoWaiter [] = Unit {0}

@@ -1,8 +1,8 @@
 //! The kernel.
 
-ghost use Rattle.std.specs.Prelude.{ℕ, ◌≡◌, ◌<◌, ◌≤◌, ◌+◌, ◌-◌, ◌^◌, ◌++◌, ◌∷◌, [], length, drop, set, map, IfOk, IsTrue, ◌↔◌};
+ghost use Rattle.std.specs.Prelude.{ℕ, ◌≡◌, ◌<◌, ◌≤◌, ◌+◌, ◌-◌, ◌^◌, ◌++◌, ◌∷◌, [], length, drop, set, map, IfOk, IfSome, IsTrue, ◌↔◌};
 ghost use Rattle.ready_list.specs.Lists.{IsLinked, list_at, with_list, places_in};
-ghost use Rattle.ec_kernel.specs.View.{View, IsKernel, NoWaiter, count_at, waiters_at, places, times, new_kernel, parked, wakes, advanced, restarted, first_of, without};
+ghost use Rattle.ec_kernel.specs.View.{View, IsKernel, NoWaiter, count_at, waiters_at, places, times, new_kernel, parked, wakes, advanced, restarted, first_of, without, StandsNowhere};
 ghost use Rattle.ec_kernel.specs.Kept.{reached_part, woken, due_of, in_turn};
 
 use ready_list::Links;
@@ -169,6 +169,7 @@ impl Kernel {
     pub fn next_ready(&mut self) -> Option<usize>
         ensures slot { result ≡ first_of self.old.ready }
         ensures kernel { self.new ≡ record self.old { ready = drop 1 self.old.ready } }
+        ensures nowhere { IfSome result (StandsNowhere self.new) }
         ensures kept { IsKernel self.new }
     {
         self.links.pop_front(READY)
@@ -178,6 +179,7 @@ impl Kernel {
     pub fn take_slot(&mut self) -> Option<usize>
         ensures slot { result ≡ first_of self.old.free }
         ensures kernel { self.new ≡ record self.old { free = drop 1 self.old.free } }
+        ensures nowhere { IfSome result (StandsNowhere self.new) }
         ensures kept { IsKernel self.new }
     {
         self.links.pop_front(FREE)
@@ -197,6 +199,7 @@ impl Kernel {
     pub fn take_ready(&mut self, slot: usize)
         requires { 0 < times slot self.old.ready }
         ensures kernel { self.new ≡ record self.old { ready = without slot self.old.ready } }
+        ensures nowhere { StandsNowhere self.new slot }
         ensures kept { IsKernel self.new }
     {
         self.links.remove(slot);
