@@ -3,7 +3,7 @@
 ghost use Rattle.std.specs.Prelude.{◌≡◌, ◌<◌, ◌++◌, ◌∷◌, [], length, drop, map, replicate, option_map, IfOk, MatchOption, IsTrue, ◌↔◌};
 ghost use Rattle.ready_list.specs.Lists.{Lists, IsLinked, list_at, with_list, times_in, places_in, inserted, without, front_of};
 
-use crate::table::{Node, add_heads, free_slots, place_for, put_behind, take_out};
+use crate::table::{Node, add_heads, free_slots, place_for, put_between, take_from_between};
 use std::alloc::{AllocError, Global};
 use std::marker::Model;
 
@@ -50,8 +50,9 @@ impl Links {
         ensures lists { self.new ≡ with_list self.old list (list_at self.old list ++ (slot, LAST) ∷ []) }
         ensures linked { IsLinked self.new }
     {
-        let last = self.table[self.slots + list].previous;
-        put_behind(&mut self.table, last, list, slot, LAST);
+        let head = self.slots + list;
+        let last = self.table[head].previous;
+        put_between(&mut self.table, last, head, list, slot, LAST);
     }
 
     /// Puts a slot into a list, behind all slots of the same or a lower value.
@@ -63,7 +64,8 @@ impl Links {
         ensures linked { IsLinked self.new }
     {
         let place = place_for(&self.table, self.slots, list, value);
-        put_behind(&mut self.table, place, list, slot, value);
+        let after = self.table[place].next;
+        put_between(&mut self.table, place, after, list, slot, value);
     }
 
     /// The first slot of a list, and its value.
@@ -86,9 +88,11 @@ impl Links {
         ensures lists { self.new ≡ with_list self.old list (drop 1 (list_at self.old list)) }
         ensures linked { IsLinked self.new }
     {
-        let first = self.table[self.slots + list].next;
+        let head = self.slots + list;
+        let first = self.table[head].next;
         if first < self.slots {
-            take_out(&mut self.table, first);
+            let after = self.table[first].next;
+            take_from_between(&mut self.table, head, after, first);
             Some(first)
         } else {
             None
@@ -101,7 +105,8 @@ impl Links {
         ensures lists { self.new ≡ record self.old { lists = map (without slot) self.old.lists } }
         ensures linked { IsLinked self.new }
     {
-        take_out(&mut self.table, slot);
+        let Node { previous, next, .. } = self.table[slot];
+        take_from_between(&mut self.table, previous, next, slot);
     }
 
     /// The list that holds a slot.

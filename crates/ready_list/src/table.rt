@@ -53,19 +53,20 @@ pub(crate) fn add_heads(table: &mut Vec<Node>, lists: usize) -> Result<(), Alloc
     Ok(())
 }
 
-/// Puts a slot behind `before`, a slot or the head of the list.
-pub(crate) fn put_behind(table: &mut [Node], before: usize, list: usize, slot: usize, value: u128)
+/// Puts a slot of a list between two neighbours.
+pub(crate) fn put_between(
+    table: &mut [Node],
+    before: usize,
+    after: usize,
+    list: usize,
+    slot: usize,
+    value: u128,
+)
     requires before_in_range { before < length table.old }
-    requires next_in_range { (node table.old before).next < length table.old }
+    requires after_in_range { after < length table.old }
     requires slot_in_range { slot < length table.old }
-    ensures { table.new ≡ joined table.old before (node table.old before).next slot (record {
-      next = (node table.old before).next;
-      previous = before;
-      owner = Some list;
-      value = value;
-    }) }
+    ensures { table.new ≡ joined table.old before after slot (record { next = after; previous = before; owner = Some list; value = value }) }
 {
-    let after = table[before].next;
     table[slot] = Node {
         next: after,
         previous: before,
@@ -77,14 +78,12 @@ pub(crate) fn put_behind(table: &mut [Node], before: usize, list: usize, slot: u
 }
 
 /// Links the neighbours of a slot past it; the slot then stands alone.
-pub(crate) fn take_out(table: &mut [Node], slot: usize)
-    requires previous_in_range { (node table.old slot).previous < length table.old }
-    requires next_in_range { (node table.old slot).next < length table.old }
+pub(crate) fn take_from_between(table: &mut [Node], before: usize, after: usize, slot: usize)
+    requires before_in_range { before < length table.old }
+    requires after_in_range { after < length table.old }
     requires slot_in_range { slot < length table.old }
-    ensures { table.new ≡ parted table.old (node table.old slot).previous (node table.old slot).next slot }
+    ensures { table.new ≡ parted table.old before after slot }
 {
-    let before = table[slot].previous;
-    let after = table[slot].next;
     table[before].next = after;
     table[after].previous = before;
     let value = table[slot].value;
