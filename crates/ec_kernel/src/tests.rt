@@ -6,8 +6,7 @@ use std::test::Fail;
 #[test]
 fn example(rt: HostRuntime) -> Result<(), Fail> {
     let mut kernel = Kernel::new(rt.alloc(), 2, 1)?;
-    let slot = kernel.take_slot();
-    assert_eq!(rt; slot, Some(0));
+    assert_eq!(rt; kernel.take_slot(), Some(0));
     kernel.park(0, 2, 0);
     assert_eq!(rt; kernel.advance(0), 0);
     assert!(rt; !kernel.reached(0, 2));

@@ -8,8 +8,11 @@ use std::io;
 use std::time::Instant;
 
 const EVENTS: usize = 64;
+
 const SLOTS: usize = 256;
+
 const ROUNDS: u32 = 20_000;
+
 const ADVANCES: u32 = 20_000;
 
 /// Lets so many slots wait for the next count of the events, in turn.
