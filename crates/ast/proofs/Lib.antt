@@ -1,1 +1,3 @@
-pub mod Views
+pub mod Cells
+mod Names
+pub mod Sizes

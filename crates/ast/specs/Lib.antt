@@ -1,10 +1,14 @@
+pub mod Answers
 pub mod Exact
+pub mod Input
 pub mod Meaning
-pub mod Numbering
-pub mod Placed
+pub mod Name
 pub mod Program
+pub mod ProgramView
 pub mod Record
 pub mod References
+pub mod Results
 pub mod Store
+pub mod Symbols
 pub mod Tree
 pub mod View

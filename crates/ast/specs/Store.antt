@@ -1,5 +1,5 @@
 -- Stores: the value of each element of each name, elements numbered from 0 in storage order.
-use Rattle.std.specs.Prelude.{ℕ, ℤ, pos, Bool, nat_eq, ◌==◌, ◌&&◌, List, [], ◌∷◌, if◌then◌else◌, Option, Some, None, map}
+use Rattle.std.specs.Prelude.{ℕ, ℤ, zero, suc, ◌+◌, pos, Bool, nat_eq, ◌==◌, ◌&&◌, List, [], ◌∷◌, if◌then◌else◌, Option, Some, None, unwrap_or, slice_get, get_or}
 use Rattle.std.specs.Cmp.Lexicographic.{pointwise}
 
 -- whether two names are the same
@@ -17,12 +17,20 @@ zeros name place = pos 0
 unfoldable pub put : StoreOf → List ℕ → ℕ → ℤ → StoreOf
 put store name place value = λ x i. if same_name name x && (place == i) then value else store x i
 
--- the cells of a table of names in a store
-abbrev pub cells_of : List (List ℕ) → StoreOf → List (List ℕ × ℤ)
-cells_of names store = map (λ x. (x, store x 0)) names
+-- the values at the places from n on, so many of them
+abbrev pub values_from : (ℕ → ℤ) → ℕ → ℕ → List ℤ
+values_from value n zero = []
+values_from value n (suc count) = value n ∷ values_from value (n + 1) count
 
--- the value that a list of cells has for a name: a scalar has the place 0 alone
-abbrev pub value_at : List (List ℕ × ℤ) → List ℕ → ℕ → Option ℤ
+-- the value that a list of names, each with its values, has for a name at a place
+abbrev pub value_at : List (List ℕ × List ℤ) → List ℕ → ℕ → Option ℤ
 value_at [] name place = None
-value_at (c ∷ cs) name place =
-    if same_name c.0 name then (if place == 0 then Some c.1 else None) else value_at cs name place
+value_at (c ∷ cs) name place = if same_name c.0 name then slice_get c.1 place else value_at cs name place
+
+-- the store that such a list stands for
+unfoldable pub store_of : List (List ℕ × List ℤ) → StoreOf
+store_of cs = λ name place. unwrap_or (value_at cs name place) (pos 0)
+
+-- the values of a list of cells at a place of that list
+abbrev pub values_in : List (List ℕ × List ℤ) → ℕ → List ℤ
+values_in cs i = (get_or cs i ([], [])).1

@@ -1,56 +1,142 @@
--- The trees of a program as definitions speak of them. A name is the list of its six codes, blanks
--- filling it on the right.
-use Rattle.std.specs.Prelude.{ℕ, ℤ, List, [], ◌∷◌, ◌+◌, max}
+-- The trees that definitions speak of. A name is the list of its six codes, blanks filling it on the
+-- right.
+use Rattle.std.specs.Prelude.{ℕ, ℤ, Bool, List, [], ◌∷◌, ◌+◌, max, Option}
 use Rattle.ast.specs.declared.expression.Operator.{Operator}
-use Rattle.ast.specs.declared.expression.Sign.{Sign}
+use Rattle.ast.specs.declared.expression.Prefix.{Prefix}
+use Rattle.ast.specs.declared.expression.Intrinsic.{Intrinsic}
 
--- a reference: its name, its number among the program's references, and the place of its name in
--- the program's table of names
+-- a reference: its name, its number among the program's references, and the place of its name among
+-- the program's symbols
 pub record Ref : Type 0 where
   pub name : List ℕ
   pub id : ℕ
   pub cell : ℕ
 
--- an expression
-pub data Term : Type 0 where
-  constant : ℤ → Term
-  variable : Ref → Term
-  parentheses : Term → Term
-  signed : Sign → Term → Term
-  binary : Operator → Term → Term → Term
+mutual
+  -- An expression. An element is a variable too, with no subscripts; in the text of a statement it
+  -- is any name with what follows it in parentheses.
+  pub data Term : Type 0 where
+    constant : ℤ → Term
+    truth : Bool → Term
+    parameter : List ℕ → ℤ → Term
+    element : Ref → Terms → Term
+    call : Intrinsic → Terms → Term
+    parentheses : Term → Term
+    unary : Prefix → Term → Term
+    binary : Operator → Term → Term → Term
+
+  pub data Terms : Type 0 where
+    no_terms : Terms
+    then_term : Term → Terms → Terms
+
+abbrev pub terms : List Term → Terms
+terms [] = no_terms
+terms (e ∷ es) = then_term e (terms es)
+
+-- a reference with its subscripts
+pub record Access : Type 0 where
+  pub ref : Ref
+  pub subscripts : Terms
+
+abbrev pub accessed : Access → Term
+accessed a = element a.ref a.subscripts
 
 -- an item of a PRINT
 pub data PrintItem : Type 0 where
   value_item : Term → PrintItem
   text_item : List ℕ → PrintItem
 
--- a statement, with the number of its initial line
-pub data Statement : Type 0 where
-  integer : ℕ → List (List ℕ) → Statement
-  assign : ℕ → Ref → Term → Statement
-  print : ℕ → List PrintItem → Statement
-  end : ℕ → Statement
+-- the bounds of a dimension, the lower one 1 where it is absent
+pub record Bounds : Type 0 where
+  pub lower : Option Term
+  pub upper : Term
 
--- statements in order; loops and IF blocks will hold blocks of their own
-pub data Block : Type 0 where
-  no_statements : Block
-  first_then : Statement → Block → Block
+-- a name that a statement declares, with the bounds that it gives
+pub record Declarator : Type 0 where
+  pub name : List ℕ
+  pub bounds : List Bounds
 
-abbrev pub block_of : List Statement → Block
-block_of [] = no_statements
-block_of (s ∷ ss) = first_then s (block_of ss)
+-- a name that a PARAMETER statement gives a value
+pub record Definition : Type 0 where
+  pub name : List ℕ
+  pub value : Term
 
-abbrev pub line_of : Statement → ℕ
-line_of (integer l names) = l
-line_of (assign l target e) = l
-line_of (print l items) = l
-line_of (end l) = l
+-- a DO statement: the label of its terminal statement, its variable, and its three parameters, the
+-- last 1 where it is absent
+pub record DoHead : Type 0 where
+  pub terminal : ℕ
+  pub variable : Ref
+  pub first : Term
+  pub last : Term
+  pub step : Option Term
 
--- how deep an expression is: a leaf has depth 1, a sign, an operator or a parenthesis one more
--- than its deepest part
-abbrev pub depth : Term → ℕ
-depth (constant n) = 1
-depth (variable r) = 1
-depth (parentheses e) = depth e + 1
-depth (signed s e) = depth e + 1
-depth (binary o a b) = max (depth a) (depth b) + 1
+-- what a statement of the text does
+pub data Kind : Type 0 where
+  program : List ℕ → Kind
+  integer : List Declarator → Kind
+  dimension : List Declarator → Kind
+  parameters : List Definition → Kind
+  assign : Access → Term → Kind
+  do_loop : DoHead → Kind
+  go_on : Kind
+  block_if : Term → Kind
+  else_if : Term → Kind
+  else_arm : Kind
+  end_if : Kind
+  logical_if : Term → Kind → Kind
+  print : List PrintItem → Kind
+  read : List Access → Kind
+  stop : Kind
+  end : Kind
+
+-- a statement of the text: the number of its initial line, its label, and what it does
+pub record Statement : Type 0 where
+  pub line : ℕ
+  pub label : Option ℕ
+  pub kind : Kind
+
+mutual
+  -- A program's statements, nested: a loop holds its range, an IF its arms. An arm has the line of
+  -- its IF, ELSE IF or ELSE, and a condition unless it is an ELSE. A logical IF has one arm.
+  pub data Node : Type 0 where
+    plain : Statement → Node
+    loop : ℕ → DoHead → Block → Node
+    choose : Arms → Node
+
+  pub data Block : Type 0 where
+    no_nodes : Block
+    then_node : Node → Block → Block
+
+  pub data Arms : Type 0 where
+    no_arms : Arms
+    then_arm : ℕ → Option Term → Block → Arms → Arms
+
+abbrev pub block : List Node → Block
+block [] = no_nodes
+block (n ∷ ns) = then_node n (block ns)
+
+-- an arm by itself
+pub record Arm : Type 0 where
+  pub line : ℕ
+  pub condition : Option Term
+  pub body : Block
+
+abbrev pub arms : List Arm → Arms
+arms [] = no_arms
+arms (a ∷ more) = then_arm a.line a.condition a.body (arms more)
+
+-- how deep an expression is: a leaf has depth 1; a sign, an operator, a call, a list of subscripts
+-- or a parenthesis one more than its deepest part
+abbrev mutual
+  pub depth : Term → ℕ
+  depth (element r no_terms) = 1
+  depth (element r (then_term e es)) = max (depth e) (deepest es) + 1
+  depth (call f es) = deepest es + 1
+  depth (parentheses e) = depth e + 1
+  depth (unary p e) = depth e + 1
+  depth (binary o a b) = max (depth a) (depth b) + 1
+  depth _ = 1
+
+  pub deepest : Terms → ℕ
+  deepest no_terms = 0
+  deepest (then_term e es) = max (depth e) (deepest es)

@@ -1,16 +1,32 @@
 -- The tree that each value of the program's types stands for.
-use Rattle.std.specs.Prelude.{ℕ, ℤ, List, map}
-use Rattle.ast.specs.Tree.{Ref, Term, constant, variable, parentheses, signed, binary, PrintItem, value_item, text_item, Statement, integer, assign, print, end}
+use Rattle.std.specs.Prelude.{ℕ, ℤ, List, map, Option, option_map}
+use Rattle.ast.specs.Symbols as symbols
+use Rattle.ast.specs.Symbols.{Extent, Sort}
+use Rattle.ast.specs.Tree as tree
+use Rattle.ast.specs.Tree.{Ref, Term, Terms, terms, PrintItem, value_item, text_item, Statement, Block, block, arms}
 use Rattle.ast.specs.declared.name.Name.{Name}
 use Rattle.ast.specs.declared.expression.Expr.{Expr, fold-Expr}
-use Rattle.ast.specs.declared.expression.Expr.TheOpen.{Expr-F}
+use Rattle.ast.specs.declared.expression.Expr.TheOpen.{Expr-F, Access-F}
+use Rattle.ast.specs.declared.expression.Access.{Access, fold-Access}
 use Rattle.ast.specs.declared.expression.Reference.{Reference}
+use Rattle.ast.specs.declared.program.Dimension.{Dimension}
+use Rattle.ast.specs.declared.program.Symbol.{Symbol}
+use Rattle.ast.specs.declared.program.SymbolKind.{SymbolKind}
+use Rattle.ast.specs.declared.program.SymbolKind.TheVariants as sorts
+use Rattle.ast.specs.declared.statement.Bounds.{Bounds}
+use Rattle.ast.specs.declared.statement.Declarator.{Declarator}
+use Rattle.ast.specs.declared.statement.Definition.{Definition}
+use Rattle.ast.specs.declared.statement.DoHead.{DoHead}
 use Rattle.ast.specs.declared.statement.Item.{Item}
 use Rattle.ast.specs.declared.statement.Item.TheVariants.{Value, Text}
+use Rattle.ast.specs.declared.statement.Kind.{Kind, fold-Kind}
+use Rattle.ast.specs.declared.statement.Kind.TheOpen.{Kind-F}
 use Rattle.ast.specs.declared.statement.Stmt.{Stmt}
-use Rattle.ast.specs.declared.statement.Stmt.TheVariants.{Integer, Assign, Print, End}
-use Rattle.ast.specs.declared.store.Cell.{Cell}
 use Rattle.ast.specs.declared.store.Store.{Store}
+use Rattle.ast.specs.declared.store.Variable.{Variable}
+use Rattle.ast.specs.declared.tree.Node.{Node, fold-Node}
+use Rattle.ast.specs.declared.tree.Node.TheOpen.{Node-F, Arm-F}
+use Rattle.ast.specs.declared.tree.Arm.{Arm, fold-Arm}
 
 abbrev pub letters : Name → List ℕ
 letters n = n.letters
@@ -18,30 +34,109 @@ letters n = n.letters
 abbrev pub ref : Reference → Ref
 ref r = record { name = r.name.letters; id = r.id.0; cell = r.cell }
 
-abbrev pub term_step : Expr-F Term → Term
-term_step (Expr-F.Constant n) = constant n
-term_step (Expr-F.Variable r) = variable (ref r)
-term_step (Expr-F.Parentheses e) = parentheses e.value
-term_step (Expr-F.Signed s e) = signed s e.value
-term_step (Expr-F.Binary o a b) = binary o a.value b.value
+-- ---- expressions
+
+abbrev pub term_step : Expr-F Term tree.Access → Term
+term_step (Expr-F.Constant n) = tree.constant n
+term_step (Expr-F.Truth b) = tree.truth b
+term_step (Expr-F.Parameter x n) = tree.parameter x.letters n
+term_step (Expr-F.Element a) = tree.accessed a
+term_step (Expr-F.Call f es) = tree.call f (terms es.items)
+term_step (Expr-F.Parentheses e) = tree.parentheses e.value
+term_step (Expr-F.Unary p e) = tree.unary p e.value
+term_step (Expr-F.Binary o a b) = tree.binary o a.value b.value
+
+abbrev pub access_step : Access-F Term tree.Access → tree.Access
+access_step a = record { ref = ref a.reference; subscripts = terms a.subscripts.items }
 
 abbrev pub term : Expr → Term
-term = fold-Expr Term term_step
+term = fold-Expr Term tree.Access term_step access_step
+
+abbrev pub access : Access → tree.Access
+access = fold-Access Term tree.Access term_step access_step
+
+abbrev pub optional_term : Option Expr → Option Term
+optional_term e = option_map term e
+
+-- ---- statements of the text
 
 abbrev pub item : Item → PrintItem
 item (Value e) = value_item (term e)
 item (Text t) = text_item t.items
 
+abbrev pub bounds : Bounds → tree.Bounds
+bounds b = record { lower = optional_term b.lower; upper = term b.upper }
+
+abbrev pub declarator : Declarator → tree.Declarator
+declarator d = record { name = d.name.letters; bounds = map bounds d.bounds.items }
+
+abbrev pub definition : Definition → tree.Definition
+definition d = record { name = d.name.letters; value = term d.value }
+
+abbrev pub head : DoHead → tree.DoHead
+head h = record { terminal = h.terminal; variable = ref h.variable; first = term h.first; last = term h.last; step = optional_term h.step }
+
+abbrev pub kind_step : Kind-F tree.Kind → tree.Kind
+kind_step (Kind-F.Program x) = tree.program x.letters
+kind_step (Kind-F.Integer ds) = tree.integer (map declarator ds.items)
+kind_step (Kind-F.Dimension ds) = tree.dimension (map declarator ds.items)
+kind_step (Kind-F.Parameter ds) = tree.parameters (map definition ds.items)
+kind_step (Kind-F.Assign a e) = tree.assign (access a) (term e)
+kind_step (Kind-F.Do h) = tree.do_loop (head h)
+kind_step Kind-F.Continue = tree.go_on
+kind_step (Kind-F.If e) = tree.block_if (term e)
+kind_step (Kind-F.ElseIf e) = tree.else_if (term e)
+kind_step Kind-F.Else = tree.else_arm
+kind_step Kind-F.EndIf = tree.end_if
+kind_step (Kind-F.LogicalIf e k) = tree.logical_if (term e) k.value
+kind_step (Kind-F.Print items) = tree.print (map item items.items)
+kind_step (Kind-F.Read elements) = tree.read (map access elements.items)
+kind_step Kind-F.Stop = tree.stop
+kind_step Kind-F.End = tree.end
+
+abbrev pub kind : Kind → tree.Kind
+kind = fold-Kind tree.Kind kind_step
+
 abbrev pub statement : Stmt → Statement
-statement (Integer l names) = integer l (map letters names.items)
-statement (Assign l target e) = assign l (ref target) (term e)
-statement (Print l items) = print l (map item items.items)
-statement (End l) = end l
+statement s = record { line = s.line; label = s.label; kind = kind s.kind }
 
--- the name and the value of each cell
-abbrev pub cells_in : List Cell → List (List ℕ × ℤ)
-cells_in cs = map (λ c. (c.name.letters, c.value)) cs
+-- ---- programs
 
--- the cells of a store
-abbrev pub cells : Store → List (List ℕ × ℤ)
-cells s = cells_in s.cells.items
+abbrev pub node_step : Node-F tree.Node tree.Arm → tree.Node
+node_step (Node-F.Plain s) = tree.plain (statement s)
+node_step (Node-F.Loop l h b) = tree.loop l (head h) (block b.items)
+node_step (Node-F.Choice a) = tree.choose (arms a.items)
+
+abbrev pub arm_step : Arm-F tree.Node tree.Arm → tree.Arm
+arm_step a = record { line = a.line; condition = optional_term a.condition; body = block a.body.items }
+
+abbrev pub node : Node → tree.Node
+node = fold-Node tree.Node tree.Arm node_step arm_step
+
+abbrev pub arm : Arm → tree.Arm
+arm = fold-Arm tree.Node tree.Arm node_step arm_step
+
+abbrev pub block_view : List Node → Block
+block_view ns = block (map node ns)
+
+abbrev pub extent : Dimension → Extent
+extent d = record { lower = d.lower; upper = d.upper }
+
+abbrev pub sort : SymbolKind → Sort
+sort (sorts.Variable ds) = symbols.variable (map extent ds.items)
+sort (sorts.Constant n) = symbols.fixed n
+
+abbrev pub symbol : Symbol → symbols.Symbol
+symbol s = record { name = s.name.letters; sort = sort s.kind }
+
+-- ---- stores
+
+abbrev pub cell : Variable → List ℕ × List ℤ
+cell v = (v.name.letters, v.values.items)
+
+abbrev pub cells_in : List Variable → List (List ℕ × List ℤ)
+cells_in vs = map (λ v. cell v) vs
+
+-- each name of a store with its values
+abbrev pub cells : Store → List (List ℕ × List ℤ)
+cells s = cells_in s.variables.items

@@ -1,5 +1,8 @@
 //! Expressions.
 
+ghost use Rattle.std.specs.Prelude.{◌≡◌, IfOk, map};
+ghost use Rattle.ast.specs.View.{term};
+
 use crate::name::Name;
 use std::alloc::{AllocError, Global};
 
@@ -8,21 +11,22 @@ use std::alloc::{AllocError, Global};
 pub struct RefId(pub usize);
 
 /// A place of a program where a variable is read or assigned.
-#[derive(Clone, Copy, Debug)]
+#[derive(Clone, Copy, Debug, PartialEq, Eq)]
 pub struct Reference {
     /// The variable's name.
     pub name: Name,
     /// The reference's number in its program; 0 while its statement is of no program.
     pub id: RefId,
-    /// The place of the name among its program's names; 0 while its statement is of no program.
+    /// The place of the name among its program's symbols; 0 while its statement is of no program.
     pub cell: usize,
 }
 
-/// A sign before a term.
+/// What stands before one operand.
 #[derive(Clone, Copy, Debug, PartialEq, Eq)]
-pub enum Sign {
+pub enum Prefix {
     Plus,
     Minus,
+    Not,
 }
 
 /// An operator between two operands.
@@ -32,17 +36,84 @@ pub enum Operator {
     Subtract,
     Multiply,
     Divide,
+    Less,
+    LessOrEqual,
+    Equal,
+    NotEqual,
+    Greater,
+    GreaterOrEqual,
+    And,
+    Or,
+    Equivalent,
+    NotEquivalent,
 }
 
-/// An integer expression.
+/// An intrinsic function, by its name.
+#[derive(Clone, Copy, Debug, PartialEq, Eq)]
+pub enum Intrinsic {
+    Abs,
+    Iabs,
+    Max,
+    Max0,
+    Min,
+    Min0,
+    Mod,
+}
+
+/// An expression, integer or logical.
 #[derive(Drop)]
+#[cycle(expression)]
 pub enum Expr {
     /// A constant, from 0 to 9223372036854775807.
     Constant(i64),
-    Variable(Reference),
+    /// `.TRUE.` or `.FALSE.`
+    Truth(bool),
+    /// A name that a PARAMETER statement gives a value, and that value.
+    Parameter(Name, i64),
+    /// A variable or an element of an array. While its statement is of no program, any name stands
+    /// so, with what follows it in parentheses.
+    Element(Access),
+    Call(Intrinsic, Vec<Expr>),
     Parentheses(Box<Expr>),
-    Signed(Sign, Box<Expr>),
+    Unary(Prefix, Box<Expr>),
     Binary(Operator, Box<Expr>, Box<Expr>),
+}
+
+/// A reference with its subscripts.
+#[derive(Drop)]
+#[cycle(expression)]
+pub struct Access {
+    pub reference: Reference,
+    /// The subscripts, none of a scalar.
+    pub subscripts: Vec<Expr>,
+}
+
+#[cycle(copies)]
+fn copies_of(alloc: Global, expressions: &[Expr]) -> Result<Vec<Expr>, AllocError>
+    ensures { IfOk result (λ copies. map term copies.items ≡ map term expressions.now) }
+{
+    let mut copies = Vec::with_capacity(alloc, expressions.len())?;
+    for expression in expressions {
+        copies.push(expression.try_copy(alloc)?)?;
+    }
+    Ok(copies)
+}
+
+impl Access {
+    ghost use Rattle.std.specs.Prelude.{◌≡◌, IfOk};
+    ghost use Rattle.ast.specs.View.{access};
+
+    /// An equal access, or `AllocError` where memory is refused.
+    #[cycle(copies)]
+    pub fn try_copy(&self, alloc: Global) -> Result<Access, AllocError>
+        ensures { IfOk result (λ copy. access copy ≡ access self.now) }
+    {
+        let subscripts = copies_of(alloc, &self.subscripts)?;
+        Ok(Access {
+            reference: self.reference,
+            subscripts,
+        })
+    }
 }
 
 impl Expr {
@@ -50,19 +121,25 @@ impl Expr {
     ghost use Rattle.ast.specs.View.{term};
 
     /// An equal expression, or `AllocError` where memory is refused.
+    #[cycle(copies)]
     pub fn try_copy(&self, alloc: Global) -> Result<Expr, AllocError>
         ensures { IfOk result (λ copy. term copy ≡ term self.now) }
     {
         match self {
             Expr::Constant(value) => Ok(Expr::Constant(*value)),
-            Expr::Variable(reference) => Ok(Expr::Variable(*reference)),
+            Expr::Truth(truth) => Ok(Expr::Truth(*truth)),
+            Expr::Parameter(name, value) => Ok(Expr::Parameter(*name, *value)),
+            Expr::Element(access) => Ok(Expr::Element(access.try_copy(alloc)?)),
+            Expr::Call(intrinsic, arguments) => {
+                Ok(Expr::Call(*intrinsic, copies_of(alloc, arguments)?))
+            }
             Expr::Parentheses(inner) => {
                 let copy = inner.try_copy(alloc)?;
                 Ok(Expr::Parentheses(Box::new(alloc, copy)?))
             }
-            Expr::Signed(sign, term) => {
-                let copy = term.try_copy(alloc)?;
-                Ok(Expr::Signed(*sign, Box::new(alloc, copy)?))
+            Expr::Unary(prefix, operand) => {
+                let copy = operand.try_copy(alloc)?;
+                Ok(Expr::Unary(*prefix, Box::new(alloc, copy)?))
             }
             Expr::Binary(operator, left, right) => {
                 let left = left.try_copy(alloc)?;

@@ -7,8 +7,16 @@ use crate::statement::Line;
 pub enum Fault {
     /// A result outside the 64-bit integers.
     Overflow,
+    /// A subscript outside its bounds.
+    Index,
     /// A divisor that is zero.
     ZeroDivisor,
+    /// The step of a DO that is zero.
+    ZeroStep,
+    /// A READ without a record left.
+    EndOfInput,
+    /// A record of the input that isn't well formed.
+    BadInput,
 }
 
 /// How a run ended.
@@ -18,4 +26,6 @@ pub enum End {
     Done,
     /// Its first fault, and the line of the statement that faulted.
     Fault(Fault, Line),
+    /// A STOP before END, and its line.
+    Stopped(Line),
 }

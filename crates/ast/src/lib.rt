@@ -7,16 +7,17 @@ pub mod expression;
 pub mod fault;
 pub mod name;
 pub mod program;
+pub mod refusal;
 pub mod statement;
 pub mod store;
+pub mod tree;
 
 pub use answer::Answer;
-pub use expression::{Expr, Operator, RefId, Reference, Sign};
+pub use expression::{Access, Expr, Intrinsic, Operator, Prefix, RefId, Reference};
 pub use fault::{End, Fault};
 pub use name::Name;
-pub use program::Program;
-pub use statement::{Item, Line, Stmt};
-pub use store::{Cell, Store};
-
-#[cfg(test)]
-mod tests;
+pub use program::{Dimension, Program, Symbol, SymbolKind};
+pub use refusal::Refusal;
+pub use statement::{Bounds, Declarator, Definition, DoHead, Item, Kind, Label, Line, Stmt};
+pub use store::Store;
+pub use tree::{Arm, Node};

@@ -1,4 +1,6 @@
-pub mod Cells
 pub mod CommandLines
-pub mod Names
+pub mod Counts
 pub mod Pages
+pub mod StoreRows
+pub mod Statuses
+pub mod Subscripts

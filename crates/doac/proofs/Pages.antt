@@ -1,45 +1,54 @@
 -- Pages.
-use Rattle.std.proofs.Common.{◌≡◌, ℕ, List, [], ◌∷◌, length, map, refl, sym, ap, ◌∙◌, arith}
+use Rattle.std.proofs.Common.{◌≡◌, ℕ, Bool, List, Ok, length, map, ap, subst, ◌++◌, ◌∙◌}
+use Rattle.std.proofs.lemmas.List.{length-map}
+use Rattle.ast.specs.Answers.{Fails}
+use Rattle.ast.specs.Meaning.{seq}
 use Rattle.ast.specs.Program.{ProgramTree}
-use Rattle.ast.specs.Tree.{Statement, assign, block_of, end, integer, print}
-use Rattle.ast.specs.View.{statement}
-use Rattle.ast.specs.declared.statement.Stmt.{Stmt}
-use Rattle.profile_check.specs.Answers.{RefusesTruly}
+use Rattle.ast.specs.Symbols.{cell_of}
+use Rattle.ast.specs.View.{cells}
+use Rattle.ast.specs.declared.answer.Answer.{Answer}
+use Rattle.ast.specs.declared.fault.End.{End}
+use Rattle.ast.specs.declared.refusal.Refusal.TheVariants.{Refused as RefusedAt}
+use Rattle.interpreter.specs.Answers.{IsAnswer}
+use Rattle.profile_check.specs.Causes.{Refuses}
 use Rattle.profile_check.specs.Reads.{Reads}
-use Rattle.profile_check.specs.declared.refusal.Refusal.TheVariants.{Refused as RefusedAt}
-use Rattle.doac.specs.Engines.{IsRefused}
-use Rattle.doac.specs.Shown.{accepted, accepted_with, loop_count, loops, refused, statement_count, statements}
+use Rattle.doac.specs.Engines.{IsRefused, ShowsRun, outcome_of}
+use Rattle.doac.specs.Shown.{EndShown, Extends, Row, refused, row_of}
+use Rattle.doac.specs.View.{rows_from}
+use Rattle.doac.specs.declared.outcome.Outcome.{Outcome}
+use Rattle.doac.proofs.StoreRows.{rows_whole}
 
-one : (s : Statement) → statement_count s ≡ 1
-one (integer l declared) = refl
-one (assign l target e) = refl
-one (print l items) = refl
-one (end l) = refl
+-- an answer's store has a cell for each symbol
+pub cells_fit : (program : ProgramTree) (input : List ℕ) (answer : Answer) → IsAnswer program input answer → length (cells answer.store) ≡ length program.symbols
+cells_fit program input answer tells = ap length tells.store ∙ length-map program.symbols (cell_of (seq program input).store)
 
-none : (s : Statement) → loop_count s ≡ 0
-none (integer l declared) = refl
-none (assign l target e) = refl
-none (print l items) = refl
-none (end l) = refl
+-- what is shown of an answer is shown of its run
+pub shown_of_run : (wanted : Bool) (program : ProgramTree) (input : List ℕ) (answer : Answer) (outcome : Outcome) (text : List ℕ) → IsAnswer program input answer
+    → outcome ≡ outcome_of answer.end
+    → Extends (EndShown wanted (rows_from (cells answer.store) 0 program.symbols) answer.end) answer.output.items text
+    → ShowsRun wanted program input outcome text
+shown_of_run wanted program input answer outcome text tells ended more =
+    let rows : rows_from (cells answer.store) 0 program.symbols ≡ map (row_of (seq program input).store) program.symbols =
+    ap (λ cs. rows_from cs 0 program.symbols) tells.store ∙ rows_whole (seq program input).store program.symbols in
+    let fits = subst (λ (rs : List Row). EndShown wanted rs answer.end more.last) rows more.fits in
+    record {
+      ended = ended ∙ ap outcome_of tells.end;
+      shown = record {
+        last = more.last;
+        ends = subst (λ (e : End). EndShown wanted (map (row_of (seq program input).store) program.symbols) e more.last) tells.end fits;
+        whole = more.grown ∙ ap (λ out. out ++ more.last) tells.output;
+      };
+    }
 
--- a block has as many statements as a body
-pub statements_body : (ss : List Stmt) → statements (block_of (map statement ss)) ≡ length ss
-statements_body [] = refl
-statements_body (s ∷ ss) = let h = statements_body ss in let k = one (statement s) in omega (arith, h, k)
-
--- and no loop
-pub loops_body : (ss : List Stmt) → loops (block_of (map statement ss)) ≡ 0
-loops_body [] = refl
-loops_body (s ∷ ss) = let h = loops_body ss in let k = none (statement s) in omega (arith, h, k)
-
--- the line of a source that is accepted
-pub accepted_line : (ss : List Stmt) (count : ℕ) (text : List ℕ) → count ≡ statements (block_of (map statement ss))
-    → text ≡ accepted_with count 0 → text ≡ accepted (block_of (map statement ss))
-accepted_line ss count text counted is =
-    is ∙ ap (λ n. accepted_with n 0) counted ∙ ap (accepted_with (statements (block_of (map statement ss)))) (sym (loops_body ss))
+-- a tree is what a refusal says
+abbrev pub Answers : ℕ → ℕ → ProgramTree → Type 0
+Answers number line tree = Fails (RefusedAt number line) (Ok tree)
 
 -- the text of a source that is refused
 pub refused_text : (source : List ℕ) (number line : ℕ) (text : List ℕ)
-    → ((tree : ProgramTree) → Reads source tree → ⊥) → RefusesTruly source (RefusedAt number line)
+    → ((tree : ProgramTree) → Reads source tree → Answers number line tree) → Refuses source number line
     → text ≡ refused number line → IsRefused source number text
-refused_text source number line text unread truly shown = record { at = line; unread = unread; true_of = truly; line = shown }
+refused_text source number line text unread truly shown = record { at = line; unread = λ tree reads. none (unread tree reads); cause = truly; line = shown }
+  where
+    none : {tree : ProgramTree} → Answers number line tree → ⊥
+    none h = cc

@@ -51,9 +51,9 @@ IsFlag flag given = (given ≡ Some (codes "true") → flag ≡ true) × (given 
 -- of the faults
 abbrev pub explained : List ℕ
 explained =
-    1 ∷ 2 ∷ 3 ∷ 6 ∷ 7 ∷ 8
-    ∷ 20 ∷ 21 ∷ 22 ∷ 23 ∷ 24 ∷ 25 ∷ 26 ∷ 27 ∷ 28
-    ∷ 30 ∷ 31 ∷ 32 ∷ 40 ∷ 41 ∷ []
+    1 ∷ 2 ∷ 3 ∷ 4 ∷ 5 ∷ 6 ∷ 7 ∷ 8
+    ∷ 20 ∷ 21 ∷ 22 ∷ 23 ∷ 24 ∷ 25 ∷ 26 ∷ 27
+    ∷ 30 ∷ 31 ∷ 32 ∷ 33 ∷ 34 ∷ 35 ∷ 36 ∷ 37 ∷ 38 ∷ 39 ∷ 40 ∷ 41 ∷ 42 ∷ 43 ∷ []
 
 abbrev pub is_explained : ℕ → Bool
 is_explained n = list_any (λ m. m == n) explained

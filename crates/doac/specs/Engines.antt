@@ -1,19 +1,17 @@
 -- What the engines do: which bytes they may write of a source text, and with which outcome.
-use Rattle.std.specs.Prelude.{◌≡◌, ◌≢◌, ℕ, ◌<◌, Bool, IfSome, List, length, take, Option, Result, Ok, Err}
-use Rattle.std.specs.IoError.{error_kind}
-use Rattle.std.specs.declared.io.Error.{Error}
-use Rattle.std.specs.declared.io.ErrorKind.TheVariants.{OutOfMemory}
-use Rattle.std.specs.Io.KnownBytes.{Appends, Keeps}
+use Rattle.std.specs.Prelude.{◌≡◌, ◌⊎◌, ℕ, ◌<◌, Bool, IfSome, List, length, take, ⊤, Option, Result, Ok, Err}
+use Rattle.std.specs.Io.KnownBytes.{Appends, IsAtEnd, Keeps}
 use Rattle.ast.specs.Meaning.{seq}
 use Rattle.ast.specs.Program.{ProgramTree}
 use Rattle.ast.specs.declared.fault.End.{End}
-use Rattle.ast.specs.declared.fault.End.TheVariants.{Done, Fault as FaultedAt}
-use Rattle.profile_check.specs.Answers.{RefusesTruly}
+use Rattle.ast.specs.declared.fault.End.TheVariants.{Done, Stopped, Fault as FaultedAt}
+use Rattle.profile_check.specs.Causes.{Refuses}
 use Rattle.profile_check.specs.Reads.{Reads}
-use Rattle.profile_check.specs.declared.refusal.Refusal.TheVariants.{Refused as RefusedAt}
 use Rattle.doac.specs.Shown.{accepted, refused, Shown}
 use Rattle.doac.specs.declared.fault.EngineFault.{EngineFault}
 use Rattle.doac.specs.declared.fault.EngineFault.TheVariants.{Source, Input, Writing, Memory}
+use Rattle.doac.specs.declared.fault.ReadFault.{ReadFault}
+use Rattle.doac.specs.declared.fault.ReadFault.TheVariants as reading
 use Rattle.doac.specs.declared.outcome.Outcome.{Outcome}
 use Rattle.doac.specs.declared.outcome.Outcome.TheVariants.{Completed, Refused, Faulted}
 
@@ -39,14 +37,13 @@ exit_of (Err fault) = fault_status fault
 pub record IsAccepted (source text : List ℕ) : Type 0 where
   pub tree : ProgramTree
   pub reads : Reads source tree
-  pub line : text ≡ accepted tree.block
+  pub line : text ≡ accepted tree
 
--- the source reads as no program, it is refused by this number, which is true of it, and this is its
--- line
+-- the source reads as no program, the number has its cause, and this is its line
 pub record IsRefused (source : List ℕ) (number : ℕ) (text : List ℕ) : Type 0 where
   pub at : ℕ
   pub unread : (tree : ProgramTree) → Reads source tree → ⊥
-  pub true_of : RefusesTruly source (RefusedAt number at)
+  pub cause : Refuses source number at
   pub line : text ≡ refused number at
 
 -- what `check` may write of a source text
@@ -58,12 +55,13 @@ Checks source (Faulted fault) text = ⊥
 -- the outcome of a run that ended so
 abbrev pub outcome_of : End → Outcome
 outcome_of Done = Completed
+outcome_of (Stopped line) = Completed
 outcome_of (FaultedAt fault line) = Faulted fault
 
 -- the program's run on the input has this outcome, and this is shown of it
 pub record ShowsRun (store : Bool) (tree : ProgramTree) (input : List ℕ) (outcome : Outcome) (text : List ℕ) : Type 0 where
   pub ended : outcome ≡ outcome_of (seq tree input).end
-  pub shown : Shown store tree.names (seq tree input) text
+  pub shown : Shown store tree.symbols (seq tree input).output (seq tree input).end (seq tree input).store text
 
 -- the source reads as a program whose run on the input has this outcome, and this is shown of it
 pub record IsRun (store : Bool) (source input : List ℕ) (outcome : Outcome) (text : List ℕ) : Type 0 where
@@ -123,22 +121,39 @@ LeavesOfSource (Input e) old new part = ⊥
 LeavesOfSource (Writing e) old new part = part
 LeavesOfSource Memory old new part = Keeps old new
 
--- what an error of the source's reader comes to
-abbrev pub OfSource : Error → EngineFault → Type 0
-OfSource error (Source e) = (e ≡ error) × (error_kind error ≢ OutOfMemory)
-OfSource error (Input e) = ⊥
-OfSource error (Writing e) = ⊥
-OfSource error Memory = error_kind error ≡ OutOfMemory
+-- where a fault leaves the readers: that of the source has left the input alone, and any other but
+-- want of memory comes when the readers before it have given all
+abbrev pub LeavesReaders : EngineFault → Option (List ℕ) → Option (List ℕ) → Option (List ℕ) → Type 0
+LeavesReaders (Source e) source old new = new ≡ old
+LeavesReaders (Input e) source old new = IsAtEnd source
+LeavesReaders (Writing e) source old new = IsAtEnd source × IsAtEnd new
+LeavesReaders Memory source old new = ⊤
 
--- what an error of the input's reader comes to
-abbrev pub OfInput : Error → EngineFault → Type 0
-OfInput error (Source e) = ⊥
-OfInput error (Input e) = (e ≡ error) × (error_kind error ≢ OutOfMemory)
-OfInput error (Writing e) = ⊥
-OfInput error Memory = error_kind error ≡ OutOfMemory
+-- the same of an engine that reads no input
+abbrev pub LeavesReader : EngineFault → Option (List ℕ) → Type 0
+LeavesReader (Writing e) source = IsAtEnd source
+LeavesReader fault source = ⊤
+
+-- what a failed read of the source comes to, and of the input
+abbrev pub of_source : ReadFault → EngineFault
+of_source (reading.Reader e) = Source e
+of_source reading.Memory = Memory
+
+abbrev pub of_input : ReadFault → EngineFault
+of_input (reading.Reader e) = Input e
+of_input reading.Memory = Memory
 
 abbrev pub IsWriting : EngineFault → Type 0
-IsWriting (Source e) = ⊥
-IsWriting (Input e) = ⊥
-IsWriting (Writing e) = Unit {0}
-IsWriting Memory = ⊥
+IsWriting (Writing e) = ⊤
+IsWriting fault = ⊥
+
+-- the status is that of an outcome that is allowed with some text
+pub record HasStatus (allows : Outcome → List ℕ → Type 0) (status : ℕ) : Type 0 where
+  pub outcome : Outcome
+  pub text : List ℕ
+  pub allowed : allows outcome text
+  pub is : status ≡ status_of outcome
+
+-- the status of a file or of writing, of memory, or one that is allowed
+abbrev pub EndsAs : ℕ → Type 0 → Type 0
+EndsAs status allowed = (status ≡ 4) ⊎ ((status ≡ 5) ⊎ allowed)

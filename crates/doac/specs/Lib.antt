@@ -1,3 +1,4 @@
 pub mod CommandLine
 pub mod Engines
 pub mod Shown
+pub mod View

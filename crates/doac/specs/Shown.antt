@@ -1,107 +1,128 @@
 -- What the program writes. Each line ends in LF, numbers are in shortest decimal, and the words are
 -- the profile's.
-use Rattle.std.specs.Prelude.{◌≡◌, ℕ, ℤ, ◌+◌, Bool, true, false, nat_eq, codes, decimal, List, [], ◌∷◌, ◌++◌, if◌then◌else◌}
+use Rattle.std.specs.Prelude.{◌≡◌, ℕ, ℤ, pos, ◌+◌, ◌/◌, ◌%◌, ◌+ℤ◌, Bool, true, false, codes, decimal, List, [], ◌∷◌, ◌++◌, map}
 use Rattle.std.specs.Cmp.Lexicographic.{slice_cmp}
 use Rattle.std.specs.Fmt.{signed_decimal}
 use Rattle.std.specs.List.Sorted.{IsPermutation, IsSortedByKey}
 use Rattle.std.specs.Ordering.{nat_cmp}
 use Rattle.std.specs.declared.cmp.Ordering.{Ordering}
-use Rattle.ast.specs.Meaning.{Run}
-use Rattle.ast.specs.Store.{cells_of}
-use Rattle.ast.specs.Tree.{Block, no_statements, first_then, Statement, integer, assign, print, end}
+use Rattle.ast.specs.Name.{trimmed}
+use Rattle.ast.specs.Program.{ProgramTree, loops_in}
+use Rattle.ast.specs.Store.{StoreOf, values_from}
+use Rattle.ast.specs.Symbols.{Extent, Symbol, width, dimensions_of, size}
 use Rattle.ast.specs.declared.fault.End.{End}
-use Rattle.ast.specs.declared.fault.End.TheVariants.{Done, Fault as Faulted}
+use Rattle.ast.specs.declared.fault.End.TheVariants.{Done, Stopped, Fault as Faulted}
 use Rattle.ast.specs.declared.fault.Fault.{Fault}
-use Rattle.ast.specs.declared.fault.Fault.TheVariants.{Overflow, ZeroDivisor}
+use Rattle.ast.specs.declared.fault.Fault.TheVariants.{Overflow, Index, ZeroDivisor, ZeroStep, EndOfInput, BadInput}
 
--- how many statements a statement is, those inside of it counted, and how many of them are loops
-abbrev pub statement_count : Statement → ℕ
-statement_count (integer l declared) = 1
-statement_count (assign l target e) = 1
-statement_count (print l items) = 1
-statement_count (end l) = 1
+-- the number of a line, and the LF
+abbrev pub at_line : ℕ → List ℕ
+at_line line = codes " LINE " ++ decimal line ++ 10 ∷ []
 
-abbrev pub loop_count : Statement → ℕ
-loop_count (integer l declared) = 0
-loop_count (assign l target e) = 0
-loop_count (print l items) = 0
-loop_count (end l) = 0
-
--- the same of a block, END counted
-abbrev pub statements : Block → ℕ
-statements no_statements = 0
-statements (first_then s ss) = statement_count s + statements ss
-
-abbrev pub loops : Block → ℕ
-loops no_statements = 0
-loops (first_then s ss) = loop_count s + loops ss
+-- ---- sources
 
 -- the line of a source that is accepted with so many statements and loops
 abbrev pub accepted_with : ℕ → ℕ → List ℕ
-accepted_with count nested = codes "ACCEPTED STATEMENTS " ++ decimal count ++ codes " LOOPS " ++ decimal nested ++ 10 ∷ []
+accepted_with statements loops = codes "ACCEPTED STATEMENTS " ++ decimal statements ++ codes " LOOPS " ++ decimal loops ++ 10 ∷ []
 
-abbrev pub accepted : Block → List ℕ
-accepted block = accepted_with (statements block) (loops block)
+abbrev pub accepted : ProgramTree → List ℕ
+accepted program = accepted_with program.count (loops_in program.block)
 
 -- the line of a source that is refused
 abbrev pub refused : ℕ → ℕ → List ℕ
-refused number line = codes "REFUSED " ++ decimal number ++ codes " LINE " ++ decimal line ++ 10 ∷ []
+refused number line = codes "REFUSED " ++ decimal number ++ at_line line
+
+-- ---- ends of a run
 
 abbrev pub fault_number : Fault → ℕ
 fault_number Overflow = 1
+fault_number Index = 2
 fault_number ZeroDivisor = 3
+fault_number ZeroStep = 4
+fault_number EndOfInput = 5
+fault_number BadInput = 6
 
 abbrev pub fault_name : Fault → List ℕ
 fault_name Overflow = codes "OVERFLOW"
+fault_name Index = codes "INDEX"
 fault_name ZeroDivisor = codes "ZERO DIVISOR"
+fault_name ZeroStep = codes "ZERO STEP"
+fault_name EndOfInput = codes "END OF INPUT"
+fault_name BadInput = codes "BAD INPUT"
 
 -- the line of a fault
 abbrev pub faulted : Fault → ℕ → List ℕ
-faulted fault line = codes "FAULT " ++ decimal (fault_number fault) ++ 32 ∷ [] ++ fault_name fault ++ codes " LINE " ++ decimal line ++ 10 ∷ []
+faulted fault line = codes "FAULT " ++ decimal (fault_number fault) ++ 32 ∷ [] ++ fault_name fault ++ at_line line
 
--- a name without the blanks that fill it on the right
-abbrev pub before_blanks : ℕ → List ℕ → List ℕ
-before_blanks c [] = if nat_eq c 32 then [] else c ∷ []
-before_blanks c (d ∷ ds) = c ∷ d ∷ ds
+-- the line of a STOP
+abbrev pub stopped : ℕ → List ℕ
+stopped line = codes "STOPPED" ++ at_line line
 
-abbrev pub trimmed : List ℕ → List ℕ
-trimmed [] = []
-trimmed (c ∷ cs) = before_blanks c (trimmed cs)
+-- ---- stores
 
--- a cell: its name and its value
-abbrev pub CellOf : Type 0
-CellOf = List ℕ × ℤ
+-- the subscripts of the element at a place in storage order, the first varying fastest
+abbrev pub subscripts_at : List Extent → ℕ → List ℤ
+subscripts_at [] place = []
+subscripts_at (d ∷ ds) place = (d.lower +ℤ pos (place % width d)) ∷ subscripts_at ds (place / width d)
 
--- the line of a cell
-abbrev pub cell_line : CellOf → List ℕ
-cell_line cell = trimmed cell.0 ++ codes " = " ++ signed_decimal cell.1 ++ 10 ∷ []
+-- subscripts in parentheses, with commas between them; a scalar has none
+abbrev pub further : List ℤ → List ℕ
+further [] = 41 ∷ []
+further (x ∷ xs) = 44 ∷ signed_decimal x ++ further xs
 
-abbrev pub cell_lines : List CellOf → List ℕ
-cell_lines [] = []
-cell_lines (cell ∷ cells) = cell_line cell ++ cell_lines cells
+abbrev pub in_parentheses : List ℤ → List ℕ
+in_parentheses [] = []
+in_parentheses (x ∷ xs) = 40 ∷ signed_decimal x ++ further xs
+
+-- the line of an element: its name, its subscripts, its value
+abbrev pub element_line : List ℕ → List ℤ → ℤ → List ℕ
+element_line name subscripts value = trimmed name ++ in_parentheses subscripts ++ codes " = " ++ signed_decimal value ++ 10 ∷ []
+
+-- the lines of a name's elements from a place on
+abbrev pub lines_from : List ℕ → List Extent → ℕ → List ℤ → List ℕ
+lines_from name ds place [] = []
+lines_from name ds place (x ∷ xs) = element_line name (subscripts_at ds place) x ++ lines_from name ds (place + 1) xs
+
+-- a symbol with its values in storage order: one for a scalar, none for a constant
+pub record Row : Type 0 where
+  pub symbol : Symbol
+  pub values : List ℤ
+
+abbrev pub row_of : StoreOf → Symbol → Row
+row_of store s = record { symbol = s; values = values_from (store s.name) 0 (size s.sort) }
+
+abbrev pub row_lines : Row → List ℕ
+row_lines r = lines_from r.symbol.name (dimensions_of r.symbol.sort) 0 r.values
+
+abbrev pub rows_lines : List Row → List ℕ
+rows_lines [] = []
+rows_lines (r ∷ rs) = row_lines r ++ rows_lines rs
 
 -- names in byte order
 abbrev pub byte_order : List ℕ → List ℕ → Ordering
 byte_order = slice_cmp nat_cmp
 
--- a line for each of the cells, these in byte order of their names
-pub record StoreShown (cells : List CellOf) (text : List ℕ) : Type 0 where
-  pub sorted : List CellOf
-  pub same : IsPermutation cells sorted
-  pub order : IsSortedByKey (λ c. c.0) byte_order sorted
-  pub lines : text ≡ cell_lines sorted
+-- the lines of the rows, these in byte order of their names
+pub record StoreShown (rows : List Row) (text : List ℕ) : Type 0 where
+  pub sorted : List Row
+  pub same : IsPermutation rows sorted
+  pub order : IsSortedByKey (λ r. r.symbol.name) byte_order sorted
+  pub lines : text ≡ rows_lines sorted
 
--- what follows the records: the fault's line; without a fault, where the store is wanted, its lines
-abbrev pub EndShown : Bool → List CellOf → End → List ℕ → Type 0
-EndShown store cells (Faulted fault line) text = text ≡ faulted fault line
-EndShown false cells Done text = text ≡ []
-EndShown true cells Done text = StoreShown cells text
+-- what follows the records: the line of a fault or of a STOP; without either, where the store is
+-- wanted, its lines
+abbrev pub EndShown : Bool → List Row → End → List ℕ → Type 0
+EndShown store rows (Faulted fault line) text = text ≡ faulted fault line
+EndShown store rows (Stopped line) text = text ≡ stopped line
+EndShown false rows Done text = text ≡ []
+EndShown true rows Done text = StoreShown rows text
 
--- what is written of a run: its records and what follows them
-pub record Shown (store : Bool) (names : List (List ℕ)) (run : Run) (text : List ℕ) : Type 0 where
+-- what is written of an answer, by its output, its end and its store, and the program's symbols: the
+-- records and what follows them
+pub record Shown (wanted : Bool) (symbols : List Symbol) (output : List ℕ) (end : End) (store : StoreOf) (text : List ℕ) : Type 0 where
   pub last : List ℕ
-  pub ends : EndShown store (cells_of names run.store) run.end last
-  pub whole : text ≡ run.output ++ last
+  pub ends : EndShown wanted (map (row_of store) symbols) end last
+  pub whole : text ≡ output ++ last
 
 -- a text grew by one of this kind
 pub record Extends (kind : List ℕ → Type 0) (old new : List ℕ) : Type 0 where

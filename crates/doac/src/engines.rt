@@ -2,7 +2,7 @@
 //! what came of it.
 
 ghost use Rattle.std.specs.Prelude.{IfOk, IfErr};
-ghost use Rattle.doac.specs.Engines.{Checks, Leaves, LeavesOfSource, OfText, Runs, Wrote, WroteAs, WrotePart};
+ghost use Rattle.doac.specs.Engines.{Checks, Leaves, LeavesOfSource, LeavesReader, LeavesReaders, OfText, Runs, Wrote, WroteAs, WrotePart};
 
 use crate::fault::EngineFault;
 use crate::outcome::Outcome;
@@ -26,14 +26,15 @@ pub fn check_outcome<R: Read, W: Write>(
         Wrote (Checks text) (W.contents out.old) (W.contents out.new) outcome)) }
     ensures err { IfErr result (λ fault. LeavesOfSource fault (W.contents out.old) (W.contents out.new)
         (OfText (R.remaining source.old) (λ text. WrotePart (Checks text) (W.contents out.old) (W.contents out.new)))) }
+    ensures readers { IfErr result (λ fault. LeavesReader fault (R.remaining source.new)) }
 {
     let source = read_all(alloc, source).map_err(EngineFault::of_source)?;
     let page = checked(alloc, &source)?;
     page.write(out)
 }
 
-/// Runs a source on an input, and writes its records and what follows them: at a fault its line,
-/// and without one, where `store` says so, the store.
+/// Runs a source on an input, and writes its records and what follows them: at a fault or a STOP its
+/// line, and without either, where `store` says so, the store.
 ///
 /// # Errors
 ///
@@ -51,6 +52,7 @@ pub fn seq_outcome<R: Read, I: Read, W: Write>(
     ensures err { IfErr result (λ fault. Leaves fault (W.contents out.old) (W.contents out.new)
         (OfText (R.remaining source.old) (λ text. OfText (I.remaining input.old) (λ given.
         WrotePart (Runs store text given) (W.contents out.old) (W.contents out.new))))) }
+    ensures readers { IfErr result (λ fault. LeavesReaders fault (R.remaining source.new) (I.remaining input.old) (I.remaining input.new)) }
 {
     let source = read_all(alloc, source).map_err(EngineFault::of_source)?;
     let input = read_all(alloc, input).map_err(EngineFault::of_input)?;
@@ -69,6 +71,7 @@ pub fn check<R: Read, W: Write>(
         WroteAs (Checks text) (W.contents out.old) (W.contents out.new) status)) }
     ensures err { IfErr result (λ fault. LeavesOfSource fault (W.contents out.old) (W.contents out.new)
         (OfText (R.remaining source.old) (λ text. WrotePart (Checks text) (W.contents out.old) (W.contents out.new)))) }
+    ensures readers { IfErr result (λ fault. LeavesReader fault (R.remaining source.new)) }
 {
     let outcome = check_outcome(alloc, source, out)?;
     Ok(outcome.status())
@@ -88,6 +91,7 @@ pub fn seq<R: Read, I: Read, W: Write>(
     ensures err { IfErr result (λ fault. Leaves fault (W.contents out.old) (W.contents out.new)
         (OfText (R.remaining source.old) (λ text. OfText (I.remaining input.old) (λ given.
         WrotePart (Runs store text given) (W.contents out.old) (W.contents out.new))))) }
+    ensures readers { IfErr result (λ fault. LeavesReaders fault (R.remaining source.new) (I.remaining input.old) (I.remaining input.new)) }
 {
     let outcome = seq_outcome(alloc, source, input, store, out)?;
     Ok(outcome.status())

@@ -1,7 +1,7 @@
 //! Faults of an engine.
 
 use std::alloc::AllocError;
-use std::io::{self, ErrorKind};
+use std::io;
 use thiserror::Error;
 
 /// Why an engine gave no outcome.
@@ -21,27 +21,47 @@ pub enum EngineFault {
     Memory,
 }
 
+/// Why the bytes of a reader weren't all read.
+#[derive(Debug, Drop)]
+pub enum ReadFault {
+    /// The reader failed, also for want of memory of its own.
+    Reader(io::Error),
+    /// Memory for the bytes was refused.
+    Memory,
+}
+
+impl From<AllocError> for ReadFault {
+    ghost use Rattle.std.specs.Prelude.{◌≡◌};
+    ghost use Rattle.doac.specs.declared.fault.ReadFault.TheVariants.{Memory};
+
+    ghost from_gives = { λ _ e. e ≡ Memory };
+
+    fn from(_: AllocError) -> Self {
+        ReadFault::Memory
+    }
+}
+
 impl EngineFault {
     ghost use Rattle.std.specs.Prelude.{◌≡◌};
-    ghost use Rattle.doac.specs.Engines.{OfInput, OfSource, fault_status};
+    ghost use Rattle.doac.specs.Engines.{fault_status, of_input, of_source};
 
-    /// What a failed read of the source comes to; want of memory is no fault of the reader.
-    pub fn of_source(error: io::Error) -> Self
-        ensures { OfSource error result }
+    /// What a failed read of the source comes to.
+    pub fn of_source(fault: ReadFault) -> Self
+        ensures { result ≡ of_source fault }
     {
-        match error.kind() {
-            ErrorKind::OutOfMemory => EngineFault::Memory,
-            _ => EngineFault::Source(error),
+        match fault {
+            ReadFault::Reader(error) => EngineFault::Source(error),
+            ReadFault::Memory => EngineFault::Memory,
         }
     }
 
     /// The same of the input.
-    pub fn of_input(error: io::Error) -> Self
-        ensures { OfInput error result }
+    pub fn of_input(fault: ReadFault) -> Self
+        ensures { result ≡ of_input fault }
     {
-        match error.kind() {
-            ErrorKind::OutOfMemory => EngineFault::Memory,
-            _ => EngineFault::Input(error),
+        match fault {
+            ReadFault::Reader(error) => EngineFault::Input(error),
+            ReadFault::Memory => EngineFault::Memory,
         }
     }
 

@@ -8,7 +8,7 @@ use ast::Fault;
 /// How an engine's work on a source ended.
 #[derive(Clone, Copy, Debug, PartialEq, Eq)]
 pub enum Outcome {
-    /// The source was accepted, and its run, if it was wanted, came to END.
+    /// The source was accepted, and its run, if it was wanted, came to END or to a STOP.
     Completed,
     /// The source was refused by this number.
     Refused(u8),

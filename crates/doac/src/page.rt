@@ -1,19 +1,24 @@
 //! What the engines write.
 
-ghost use Rattle.std.specs.Prelude.{◌≡◌, ◌++◌, IfOk, OnOk};
-ghost use Rattle.ast.specs.Program.{program as program_of};
-ghost use Rattle.ast.specs.View.{cells, cells_in};
+ghost use Rattle.std.specs.Prelude.{◌≡◌, ◌++◌, ◌≤◌, IfOk, OnOk, length, map};
+ghost use Rattle.ast.specs.Program.{loops_in};
+ghost use Rattle.ast.specs.ProgramView.{program as program_of};
+ghost use Rattle.ast.specs.View.{cells, symbol as symbol_of};
 ghost use Rattle.doac.specs.Engines.{Checks, Runs, ShowsRun, outcome_of};
-ghost use Rattle.doac.specs.Shown.{EndShown, Extends, accepted, refused, statements};
+ghost use Rattle.doac.specs.Shown.{EndShown, Extends, accepted, refused};
+ghost use Rattle.doac.specs.View.{row_view, rows_from};
 
 use crate::fault::EngineFault;
+use crate::loops::loops_in;
 use crate::outcome::Outcome;
-use crate::shown::{append_accepted, append_fault, append_refused};
+use crate::row::Row;
+use crate::rows::rows;
+use crate::shown::{append_accepted, append_fault, append_refused, append_stopped};
 use crate::store::append_store;
 use crate::streams::write_all;
-use ast::{Answer, Cell, End, Line, Program};
+use ast::{Answer, End, Line, Program, Refusal};
 use interpreter::run_seq;
-use profile_check::{Refusal, program};
+use profile_check::read_program;
 use std::alloc::{AllocError, Global};
 use std::io::Write;
 
@@ -28,38 +33,31 @@ pub struct Page {
 pub fn checked(alloc: Global, source: &[u8]) -> Result<Page, AllocError>
     ensures { IfOk result (λ page. Checks source.now page.outcome page.text.items) }
 {
-    match program(alloc, source) {
+    match read_program(alloc, source) {
         Ok(program) => accepted(alloc, &program),
         Err(Refusal::Refused { number, line }) => refused(alloc, number, line),
         Err(Refusal::Memory) => Err(AllocError),
     }
 }
 
-/// What `seq` writes of a source and an input; at Completed with the store where it is wanted.
+/// What `seq` writes of a source and an input; at END with the store where it is wanted.
 pub fn run(alloc: Global, source: &[u8], input: &[u8], store: bool) -> Result<Page, AllocError>
     ensures { IfOk result (λ page. Runs store source.now input.now page.outcome page.text.items) }
 {
-    match program(alloc, source) {
+    match read_program(alloc, source) {
         Ok(program) => ran(alloc, &program, input, store),
         Err(Refusal::Refused { number, line }) => refused(alloc, number, line),
         Err(Refusal::Memory) => Err(AllocError),
     }
 }
 
-/// How many statements a program has, END counted.
-fn statement_count(program: &Program) -> usize
-    ensures { result ≡ statements (program_of program.now).block }
-{
-    program.body.len()
-}
-
 fn accepted(alloc: Global, program: &Program) -> Result<Page, AllocError>
+    requires { loops_in (program_of program.now).block ≤ (program_of program.now).count }
     ensures { IfOk result (λ page. (page.outcome ≡ Outcome.Completed)
-        × (page.text.items ≡ accepted (program_of program.now).block)) }
+        × (page.text.items ≡ accepted (program_of program.now))) }
 {
     let mut text = Vec::new(alloc);
-    // No statement of today is a loop.
-    append_accepted(&mut text, statement_count(program), 0)?;
+    append_accepted(&mut text, program.statements, loops_in(&program.body))?;
     Ok(Page {
         text,
         outcome: Outcome::Completed,
@@ -82,18 +80,21 @@ fn ran(alloc: Global, program: &Program, input: &[u8], store: bool) -> Result<Pa
     ensures { IfOk result (λ page. ShowsRun store (program_of program.now) input.now page.outcome page.text.items) }
 {
     let answer = run_seq(alloc, program, input)?;
-    shown(answer, store)
+    shown(alloc, program, answer, store)
 }
 
-fn shown(answer: Answer, store: bool) -> Result<Page, AllocError>
+fn shown(alloc: Global, program: &Program, answer: Answer, store: bool) -> Result<Page, AllocError>
+    requires { length (cells answer.store) ≡ length program.now.symbols.items }
     ensures { IfOk result (λ page. (page.outcome ≡ outcome_of answer.end)
-        × Extends (EndShown store (cells answer.store) answer.end) answer.output.items page.text.items) }
+        × Extends (EndShown store (rows_from (cells answer.store) 0 (map symbol_of program.now.symbols.items)) answer.end) answer.output.items page.text.items) }
 {
-    let outcome = outcome(answer.end);
     let mut text = answer.output;
-    let mut cells = answer.store.cells;
-    append_end(&mut text, answer.end, &mut cells, store)?;
-    Ok(Page { text, outcome })
+    let mut rows = rows(alloc, &program.symbols, &answer.store)?;
+    append_end(&mut text, answer.end, &mut rows, store)?;
+    Ok(Page {
+        text,
+        outcome: outcome(answer.end),
+    })
 }
 
 fn outcome(end: End) -> Outcome
@@ -101,6 +102,7 @@ fn outcome(end: End) -> Outcome
 {
     match end {
         End::Done => Outcome::Completed,
+        End::Stopped(_) => Outcome::Completed,
         End::Fault(fault, _) => Outcome::Faulted(fault),
     }
 }
@@ -108,22 +110,23 @@ fn outcome(end: End) -> Outcome
 fn append_end(
     text: &mut Vec<u8>,
     end: End,
-    cells: &mut [Cell],
+    rows: &mut [Row<'_>],
     store: bool,
 ) -> Result<(), AllocError>
-    ensures { OnOk result (Extends (EndShown store (cells_in cells.old) end) text.old.items text.new.items) }
+    ensures { OnOk result (Extends (EndShown store (map row_view rows.old) end) text.old.items text.new.items) }
 {
     match end {
         End::Fault(fault, line) => append_fault(text, fault, line),
-        End::Done => append_wanted(text, cells, store),
+        End::Stopped(line) => append_stopped(text, line),
+        End::Done => append_wanted(text, rows, store),
     }
 }
 
-fn append_wanted(text: &mut Vec<u8>, cells: &mut [Cell], store: bool) -> Result<(), AllocError>
-    ensures { OnOk result (Extends (EndShown store (cells_in cells.old) End.Done) text.old.items text.new.items) }
+fn append_wanted(text: &mut Vec<u8>, rows: &mut [Row<'_>], store: bool) -> Result<(), AllocError>
+    ensures { OnOk result (Extends (EndShown store (map row_view rows.old) End.Done) text.old.items text.new.items) }
 {
     if store {
-        append_store(text, cells)
+        append_store(text, rows)
     } else {
         Ok(())
     }

@@ -1,7 +1,7 @@
 //! The program: its words, its files, and what it says on standard error.
 
 ghost use Rattle.std.specs.Prelude.{◌≡◌};
-ghost use Rattle.doac.specs.Engines.{exit_of};
+ghost use Rattle.doac.specs.Engines.{EndsAs, HasStatus, OfText, Runs, exit_of};
 
 use crate::command::{Command, LineFault};
 use crate::command_line::command;
@@ -107,17 +107,19 @@ fn seq_readers<R: Print + Eprint + AllocGlobal, S: Read, I: Read>(
     source: &mut S,
     input: &mut I,
     store: bool,
-) -> u8 {
+) -> u8
+    ensures { EndsAs result (OfText (S.remaining source.old) (λ text. OfText (I.remaining input.old) (λ given. HasStatus (Runs store text given) result))) }
+{
     let outcome = seq_outcome(rt.alloc(), source, input, store, &mut io::writer(rt));
     tell(rt, outcome)
 }
 
-fn refuse_file<R: Eprint>(rt: &R, name: &str, error: &io::Error) -> u8 {
+/// Says on standard error why a file can't be opened; the exit status is 4, whatever the reason.
+fn refuse_file<R: Eprint>(rt: &R, name: &str, error: &io::Error) -> u8
+    ensures { result ≡ 4 }
+{
     let _ = eprintln!(rt; "doac: {name}: {error}");
-    match error.kind() {
-        io::ErrorKind::OutOfMemory => 5,
-        _ => 4,
-    }
+    4
 }
 
 /// Says on standard error what failed, or where a number is explained, and gives the exit status.

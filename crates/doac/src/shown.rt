@@ -1,7 +1,7 @@
 //! Lines of standard output.
 
 ghost use Rattle.std.specs.Prelude.{◌≡◌, ◌++◌, OnOk, decimal};
-ghost use Rattle.doac.specs.Shown.{accepted_with, refused, faulted, fault_name, fault_number};
+ghost use Rattle.doac.specs.Shown.{accepted_with, at_line, refused, faulted, stopped, fault_name, fault_number};
 
 use ast::{Fault, Line};
 use itoa::{Buffer, Integer};
@@ -13,6 +13,15 @@ pub fn append_number<I: Integer>(out: &mut Vec<u8>, number: I) -> Result<(), All
 {
     let mut buffer = Buffer::new();
     out.extend_from_slice(buffer.format(number).as_bytes())
+}
+
+/// Appends the number of a source line, and ends the line of output.
+fn append_line(out: &mut Vec<u8>, line: Line) -> Result<(), AllocError>
+    ensures { OnOk result (out.new.items ≡ out.old.items ++ at_line line) }
+{
+    out.extend_from_slice(b" LINE ")?;
+    append_number(out, line)?;
+    out.extend_from_slice(b"\n")
 }
 
 /// Appends the line of a source that is accepted; `statements` counts END.
@@ -32,9 +41,7 @@ pub fn append_refused(out: &mut Vec<u8>, number: u8, line: Line) -> Result<(), A
 {
     out.extend_from_slice(b"REFUSED ")?;
     append_number(out, number)?;
-    out.extend_from_slice(b" LINE ")?;
-    append_number(out, line)?;
-    out.extend_from_slice(b"\n")
+    append_line(out, line)
 }
 
 /// The number of a fault.
@@ -43,7 +50,11 @@ pub fn fault_number(fault: Fault) -> u8
 {
     match fault {
         Fault::Overflow => 1,
+        Fault::Index => 2,
         Fault::ZeroDivisor => 3,
+        Fault::ZeroStep => 4,
+        Fault::EndOfInput => 5,
+        Fault::BadInput => 6,
     }
 }
 
@@ -53,7 +64,11 @@ pub fn fault_name(fault: Fault) -> &'static [u8]
 {
     match fault {
         Fault::Overflow => b"OVERFLOW",
+        Fault::Index => b"INDEX",
         Fault::ZeroDivisor => b"ZERO DIVISOR",
+        Fault::ZeroStep => b"ZERO STEP",
+        Fault::EndOfInput => b"END OF INPUT",
+        Fault::BadInput => b"BAD INPUT",
     }
 }
 
@@ -65,7 +80,13 @@ pub fn append_fault(out: &mut Vec<u8>, fault: Fault, line: Line) -> Result<(), A
     append_number(out, fault_number(fault))?;
     out.extend_from_slice(b" ")?;
     out.extend_from_slice(fault_name(fault))?;
-    out.extend_from_slice(b" LINE ")?;
-    append_number(out, line)?;
-    out.extend_from_slice(b"\n")
+    append_line(out, line)
+}
+
+/// Appends the line of a STOP.
+pub fn append_stopped(out: &mut Vec<u8>, line: Line) -> Result<(), AllocError>
+    ensures { OnOk result (out.new.items ≡ out.old.items ++ stopped line) }
+{
+    out.extend_from_slice(b"STOPPED")?;
+    append_line(out, line)
 }

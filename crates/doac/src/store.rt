@@ -1,55 +1,138 @@
 //! The lines of a store.
 
-ghost use Rattle.std.specs.Prelude.{◌≡◌, ◌++◌, ◌<◌, ◌≤◌, OnOk, IfOk};
-ghost use Rattle.ast.specs.View.{cells_in};
-ghost use Rattle.doac.specs.Shown.{Extends, StoreShown, cell_line, cell_lines, trimmed};
-ghost use Rattle.std.specs.List.Sorted.{IsPermutation, IsSortedByKey};
-ghost use Rattle.doac.specs.Shown.{byte_order};
+ghost use Rattle.std.specs.Prelude.{◌≡◌, ◌++◌, ◌<◌, ◌≤◌, ◌+ℤ◌, pos, int_lt, false, true, not, map, OnOk};
+ghost use Rattle.std.specs.Fmt.{signed_decimal};
+ghost use Rattle.std.specs.List.{list_all};
+ghost use Rattle.ast.specs.Symbols.{dimensions_of, elements, is_sized_sort, most_elements, width};
+ghost use Rattle.ast.specs.View.{extent, sort};
+ghost use Rattle.doac.specs.Shown.{Extends, StoreShown, element_line, further, in_parentheses, lines_from, row_lines, rows_lines, subscripts_at};
+ghost use Rattle.doac.specs.View.{row_view};
 
+use crate::row::Row;
+use crate::rows::sort_by_name;
 use crate::shown::append_number;
-use ast::{Cell, Name};
+use ast::{Dimension, Name, SymbolKind};
 use std::alloc::AllocError;
 
-/// A name's characters without the blanks that fill it on the right.
-fn trimmed(name: &Name) -> &[u8]
-    ensures { result.now ≡ trimmed name.now.letters }
+/// The subscript that is so far above the lower one of two bounds.
+fn subscript(lower: i64, upper: i64, distance: usize) -> i64
+    requires open { int_lt upper lower ≡ false }
+    requires few { width (record { lower = lower; upper = upper }) ≤ most_elements }
+    requires near { distance < width (record { lower = lower; upper = upper }) }
+    ensures { result ≡ lower +ℤ pos distance }
 {
-    let mut length = name.letters.len();
-    while length > 0 && name.letters[length - 1] == b' ' {
-        length -= 1;
-    }
-    &name.letters[..length]
+    lower + distance as i64
 }
 
-fn append_cell(out: &mut Vec<u8>, cell: &Cell) -> Result<(), AllocError>
-    ensures { OnOk result (out.new.items ≡ out.old.items ++ cell_line (cell.now.name.letters, cell.now.value)) }
+/// Appends the subscripts of a place behind the first, and the parenthesis that closes them.
+#[tactic(auto, using(ast::proofs::Sizes::fewer, ast::proofs::Sizes::narrow_first))]
+fn append_further(
+    out: &mut Vec<u8>,
+    dimensions: &[Dimension],
+    place: usize,
+) -> Result<(), AllocError>
+    requires open { list_all (λ d. not (int_lt d.upper d.lower)) (map extent dimensions.now) ≡ true }
+    requires few { elements (map extent dimensions.now) ≤ most_elements }
+    ensures { OnOk result (out.new.items ≡ out.old.items ++ further (subscripts_at (map extent dimensions.now) place)) }
 {
-    out.extend_from_slice(trimmed(&cell.name))?;
+    match dimensions {
+        [] => Ok(out.push(b')')?),
+        [dimension, others @ ..] => {
+            let width = dimension.width();
+            out.push(b',')?;
+            append_number(
+                out,
+                subscript(dimension.lower, dimension.upper, place % width),
+            )?;
+            append_further(out, others, place / width)
+        }
+    }
+}
+
+/// Appends the subscripts of a place in parentheses, and nothing for a scalar.
+#[tactic(auto, using(ast::proofs::Sizes::fewer, ast::proofs::Sizes::narrow_first))]
+fn append_subscripts(
+    out: &mut Vec<u8>,
+    dimensions: &[Dimension],
+    place: usize,
+) -> Result<(), AllocError>
+    requires open { list_all (λ d. not (int_lt d.upper d.lower)) (map extent dimensions.now) ≡ true }
+    requires few { elements (map extent dimensions.now) ≤ most_elements }
+    ensures { OnOk result (out.new.items ≡ out.old.items ++ in_parentheses (subscripts_at (map extent dimensions.now) place)) }
+{
+    match dimensions {
+        [] => Ok(()),
+        [dimension, others @ ..] => {
+            let width = dimension.width();
+            out.push(b'(')?;
+            append_number(
+                out,
+                subscript(dimension.lower, dimension.upper, place % width),
+            )?;
+            append_further(out, others, place / width)
+        }
+    }
+}
+
+fn append_element(
+    out: &mut Vec<u8>,
+    name: &Name,
+    dimensions: &[Dimension],
+    place: usize,
+    value: i64,
+) -> Result<(), AllocError>
+    requires open { list_all (λ d. not (int_lt d.upper d.lower)) (map extent dimensions.now) ≡ true }
+    requires few { elements (map extent dimensions.now) ≤ most_elements }
+    ensures { OnOk result (out.new.items ≡ out.old.items ++ element_line name.now.letters (subscripts_at (map extent dimensions.now) place) value) }
+{
+    out.extend_from_slice(name.trimmed())?;
+    append_subscripts(out, dimensions, place)?;
     out.extend_from_slice(b" = ")?;
-    append_number(out, cell.value)?;
+    append_number(out, value)?;
     out.extend_from_slice(b"\n")
 }
 
-fn append_cells(out: &mut Vec<u8>, cells: &[Cell]) -> Result<(), AllocError>
-    ensures { OnOk result (out.new.items ≡ out.old.items ++ cell_lines (cells_in cells.now)) }
+fn append_elements(
+    out: &mut Vec<u8>,
+    name: &Name,
+    dimensions: &[Dimension],
+    values: &[i64],
+) -> Result<(), AllocError>
+    requires open { list_all (λ d. not (int_lt d.upper d.lower)) (map extent dimensions.now) ≡ true }
+    requires few { elements (map extent dimensions.now) ≤ most_elements }
+    ensures { OnOk result (out.new.items ≡ out.old.items ++ lines_from name.now.letters (map extent dimensions.now) 0 values.now) }
 {
-    for cell in cells {
-        append_cell(out, cell)?;
+    for (place, value) in values.iter().enumerate() {
+        append_element(out, name, dimensions, place, *value)?;
     }
     Ok(())
 }
 
-fn sort_by_name(cells: &mut [Cell])
-    ensures same { IsPermutation (cells_in cells.old) (cells_in cells.new) }
-    ensures order { IsSortedByKey (λ c. c.0) byte_order (cells_in cells.new) }
+fn append_row(out: &mut Vec<u8>, row: &Row<'_>) -> Result<(), AllocError>
+    ensures { OnOk result (out.new.items ≡ out.old.items ++ row_lines (row_view row.now)) }
 {
-    cells.sort_unstable_by_key(|cell| cell.name);
+    append_elements(
+        out,
+        &row.symbol.name,
+        row.symbol.kind.dimensions(),
+        row.values,
+    )
 }
 
-/// Appends a line for each cell, names in byte order, and leaves the cells in that order.
-pub fn append_store(out: &mut Vec<u8>, cells: &mut [Cell]) -> Result<(), AllocError>
-    ensures { OnOk result (Extends (StoreShown (cells_in cells.old)) out.old.items out.new.items) }
+fn append_rows(out: &mut Vec<u8>, rows: &[Row<'_>]) -> Result<(), AllocError>
+    ensures { OnOk result (out.new.items ≡ out.old.items ++ rows_lines (map row_view rows.now)) }
 {
-    sort_by_name(cells);
-    append_cells(out, cells)
+    for row in rows {
+        append_row(out, row)?;
+    }
+    Ok(())
+}
+
+/// Appends a line for each element of each variable, names in byte order, elements in storage order,
+/// and leaves the rows in that order.
+pub fn append_store(out: &mut Vec<u8>, rows: &mut [Row<'_>]) -> Result<(), AllocError>
+    ensures { OnOk result (Extends (StoreShown (map row_view rows.old)) out.old.items out.new.items) }
+{
+    sort_by_name(rows);
+    append_rows(out, rows)
 }

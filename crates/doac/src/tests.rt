@@ -19,6 +19,16 @@ impl Read for Unreadable {
     }
 }
 
+/// A reader that fails at once for want of memory of its own.
+#[derive(Drop)]
+struct Full;
+
+impl Read for Full {
+    fn read(&mut self, _buf: &mut [u8]) -> io::Result<usize> {
+        Err(Error::from(ErrorKind::OutOfMemory))
+    }
+}
+
 /// A reader that gives its bytes, one a call, and then fails.
 #[derive(Drop)]
 struct Interrupted<'a> {
@@ -78,53 +88,86 @@ fn with_room(alloc: Global, room: usize) -> Result<Narrow, AllocError> {
     })
 }
 
+/// Runs a source on an input, the store wanted; its output and its status.
+fn runs(
+    rt: &(impl Abort + AllocGlobal),
+    source: &[u8],
+    input: &[u8],
+    output: &[u8],
+    status: u8,
+) -> Result<(), Fail> {
+    let mut source = source;
+    let mut input = input;
+    let mut out = Vec::new(rt.alloc());
+    let given = seq(rt.alloc(), &mut source, &mut input, true, &mut out)?;
+    assert_eq!(rt; out.as_slice(), output);
+    assert_eq!(rt; given, status);
+    Ok(())
+}
+
 #[test]
-fn sequential_runs(rt: HostRuntime) -> Result<(), Fail> {
-    let total: &[u8] =
-        b"      INTEGER TOTAL\n      TOTAL = 2\n      K = TOTAL*(3+4)/5 - 1\n      PRINT *, TOTAL, K, 'OK', -K\n      END\n";
-    let overflow: &[u8] = b"      I=3\n      I=I*9223372036854775807\n      END\n";
-    let rows: [(&[u8], bool, &[u8], u8); 9] = [
-        (total, false, b" 2 1OK -1\n", 0),
-        (total, true, b" 2 1OK -1\nK = 1\nTOTAL = 2\n", 0),
-        (FAULTS, false, b" 1\nFAULT 3 ZERO DIVISOR LINE 2\n", 2),
-        (FAULTS, true, b" 1\nFAULT 3 ZERO DIVISOR LINE 2\n", 2),
-        (overflow, true, b"FAULT 1 OVERFLOW LINE 2\n", 2),
-        (b"      END\n", true, b"", 0),
+fn stores(rt: HostRuntime) -> Result<(), Fail> {
+    runs(
+        &rt,
+        b"      INTEGER B(0:1,-1:0),A(3),Z\n      PARAMETER (N=2)\n      B(0,0)=5\n      A(N)=-4\n      END\n",
+        b"",
+        b"A(1) = 0\nA(2) = -4\nA(3) = 0\nB(0,-1) = 0\nB(1,-1) = 0\nB(0,0) = 5\nB(1,0) = 0\nZ = 0\n",
+        0,
+    )?;
+    runs(
+        &rt,
+        b"      READ *,I\n      DO 10 J=1,I\n   10 K=K+J\n      PRINT *,'SUM',K\n      STOP\n      END\n",
+        b"4\n",
+        b" SUM 10\nI = 4\nJ = 5\nK = 10\n",
+        0,
+    )
+}
+
+#[test]
+fn ends(rt: HostRuntime) -> Result<(), Fail> {
+    let stops: &[u8] = b"      PRINT *,1\n      IF (K.EQ.0) STOP\n      PRINT *,2\n      END\n";
+    runs(&rt, stops, b"", b" 1\nSTOPPED LINE 2\n", 0)?;
+    runs(&rt, FAULTS, b"", b" 1\nFAULT 3 ZERO DIVISOR LINE 2\n", 2)?;
+    let rows: [(&[u8], &[u8], &[u8]); 5] = [
         (
-            b"      K=1/0\n      END\n",
-            false,
-            b"FAULT 3 ZERO DIVISOR LINE 1\n",
-            2,
+            b"      K=-9223372036854775807-2\n      END\n",
+            b"",
+            b"FAULT 1 OVERFLOW LINE 1\n",
         ),
         (
-            b"      DO 10 I = 1.3\n      END\n",
-            false,
-            b"REFUSED 22 LINE 1\n",
-            1,
+            b"      INTEGER A(2)\n      A(3)=1\n      END\n",
+            b"",
+            b"FAULT 2 INDEX LINE 2\n",
         ),
         (
-            b"      PRINT *,1E5\n      END\n",
-            false,
-            b"REFUSED 22 LINE 1\n",
-            1,
+            b"      DO 1 I=1,2,K\n    1 CONTINUE\n      END\n",
+            b"",
+            b"FAULT 4 ZERO STEP LINE 1\n",
+        ),
+        (
+            b"      READ *\n      READ *,K\n      END\n",
+            b"7\n",
+            b"FAULT 5 END OF INPUT LINE 2\n",
+        ),
+        (
+            b"      READ *\n      READ *,K\n      END\n",
+            b"7\n7.5\n",
+            b"FAULT 6 BAD INPUT LINE 2\n",
         ),
     ];
-    for (source, store, output, status) in rows {
-        let mut source = source;
-        let mut input: &[u8] = b"";
-        let mut out = Vec::new(rt.alloc());
-        let given = seq(rt.alloc(), &mut source, &mut input, store, &mut out)?;
-        assert_eq!(rt; out.as_slice(), output);
-        assert_eq!(rt; given, status);
+    for (source, input, output) in rows {
+        runs(&rt, source, input, output, 2)?;
     }
     Ok(())
 }
 
 #[test]
 fn checks(rt: HostRuntime) -> Result<(), Fail> {
+    let nested: &[u8] =
+        b"      DO 10 I=1,2\n      IF (I.EQ.1) THEN\n      DO 20 J=1,2\n   20 PRINT *,J\n      ELSE\n      K=1\n      END IF\n   10 CONTINUE\n      END\n";
     let rows: [(&[u8], &[u8], u8); 4] = [
         (FAULTS, b"ACCEPTED STATEMENTS 3 LOOPS 0\n", 0),
-        (b"      END", b"ACCEPTED STATEMENTS 1 LOOPS 0\n", 0),
+        (nested, b"ACCEPTED STATEMENTS 9 LOOPS 2\n", 0),
         (b"", b"REFUSED 7 LINE 0\n", 1),
         (
             b"      K=1\n      TOTAL=1\n      END\n",
@@ -178,6 +221,9 @@ fn readers_that_fail(rt: HostRuntime) -> Result<(), Fail> {
     let unread = check(rt.alloc(), &mut Unreadable, &mut out);
     assert!(rt; matches!(&unread, Err(EngineFault::Source(_))));
     assert_eq!(rt; status_of(unread), 4);
+    // Want of memory of a reader's own is a fault of reading, not one of the engine's memory.
+    let unread = check(rt.alloc(), &mut Full, &mut out);
+    assert!(rt; matches!(&unread, Err(EngineFault::Source(_))));
     // What was read before is a program of its own.
     let mut cut = Interrupted {
         bytes: b"      PRINT *,1\n      END\n",
@@ -238,7 +284,7 @@ fn command_lines(rt: HostRuntime) -> Result<(), Fail> {
     refused(&rt, &["doac", "seq"], 3);
     refused(&rt, &["doac", "run", "F"], 3);
     refused(&rt, &["doac", "check", "F", "--store"], 3);
-    refused(&rt, &["doac", "explain", "99"], 3);
+    refused(&rt, &["doac", "explain", "28"], 3);
     Ok(())
 }
 

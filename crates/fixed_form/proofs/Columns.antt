@@ -1,5 +1,5 @@
 -- Columns filled with blanks, and the characters that are there.
-use Rattle.std.proofs.Common.{◌≡◌, ℕ, zero, suc, ◌-◌, Bool, true, List, [], ◌∷◌, ◌++◌, length, take, refl, ap, ◌∙◌, arith}
+use Rattle.std.proofs.Common.{◌≡◌, ℕ, zero, suc, ◌+◌, ◌-◌, Bool, true, List, [], ◌∷◌, ◌++◌, length, take, refl, ap, ◌∙◌, arith}
 use Rattle.std.specs.Prelude.{◌&&◌, cond, not, replicate}
 use Rattle.std.specs.List.{list_all}
 use Rattle.fixed_form.specs.Line.{filled, columns, is_blank, is_printable, without_blanks}
@@ -50,8 +50,16 @@ all_left n = omega arith
 one_less : (n k : ℕ) → n - k ≡ suc n - suc k
 one_less n k = omega arith
 
-pub filled_parts : (n : ℕ) (cs : List ℕ) → filled n cs ≡ take n (take n cs) ++ replicate (n - length (take n cs)) 32
+filled_parts : (n : ℕ) (cs : List ℕ) → filled n cs ≡ take n (take n cs) ++ replicate (n - length (take n cs)) 32
 unfolding filled
 filled_parts zero cs = refl
 filled_parts (suc n) [] = filled-none (suc n) ∙ ap (λ (k : ℕ). replicate k 32) (all_left (suc n))
 filled_parts (suc n) (c ∷ cs) = ap (λ (r : List ℕ). c ∷ r) (filled_parts n cs) ∙ ap (λ (k : ℕ). c ∷ (take n (take n cs) ++ replicate k 32)) (one_less n (length (take n cs)))
+
+filled_to : (n m : ℕ) (old cs : List ℕ) → m ≡ length old + n → old ++ filled n cs ≡ take m (old ++ take n cs) ++ replicate (m - length (old ++ take n cs)) 32
+filled_to n m [] cs e = filled_parts n cs ∙ ap (λ (k : ℕ). take k (take n cs) ++ replicate (k - length (take n cs)) 32) (omega (arith, e))
+filled_to n zero (c ∷ old) cs e = absurd (omega (arith, e))
+filled_to n (suc m) (c ∷ old) cs e = ap (λ (r : List ℕ). c ∷ r) (filled_to n m old cs (omega (arith, e))) ∙ ap (λ (k : ℕ). c ∷ (take m (old ++ take n cs) ++ replicate k 32)) (one_less m (length (old ++ take n cs)))
+
+pub filled_onto : (n : ℕ) (old cs : List ℕ) → old ++ filled n cs ≡ take (length old + n) (old ++ take n cs) ++ replicate ((length old + n) - length (old ++ take n cs)) 32
+filled_onto n old cs = filled_to n (length old + n) old cs refl

@@ -1,6 +1,9 @@
 pub mod Columns
 pub mod Digits
-pub mod Splits
+pub mod Facts
+pub mod Snoc
+pub mod Groups
 pub mod Laws
 pub mod Ends
-pub mod Shape
+pub mod Longer
+pub mod Splits

@@ -1,55 +1,68 @@
 -- Reading line by line: what the private functions answer. The laws of proofs/ join it to the relations of `Lines`.
-use Rattle.std.specs.Prelude.{◌≡◌, ℕ, ◌+◌, Bool, not, nat_le, if◌then◌else◌, List, [], ◌∷◌, ◌++◌, Some, None, Result, Ok, Err}
-use Rattle.fixed_form.specs.declared.refusal.LineRefusal.{LineRefusal}
-use Rattle.fixed_form.specs.declared.refusal.LineRefusal.TheVariants.{Memory, Refused}
+use Rattle.std.specs.Prelude.{ℕ, ◌+◌, Bool, false, not, nat_lt, nat_le, if◌then◌else◌, List, [], ◌∷◌, ◌++◌, Option, Some, None, length, Result, Ok, Err}
+use Rattle.std.specs.Str.Parse.{digits_value}
+use Rattle.ast.specs.Answers.{Break}
 use Rattle.fixed_form.specs.declared.label.LabelField.{LabelField}
 use Rattle.fixed_form.specs.declared.label.LabelField.TheVariants.{Blank, Label, Malformed}
 use Rattle.fixed_form.specs.declared.line.Class.{Class}
 use Rattle.fixed_form.specs.declared.line.Class.TheVariants as class
-use Rattle.fixed_form.specs.Line.{columns, is_comment, is_readable, is_continuation, label_field, is_empty, number_of, is_label, is_end}
+use Rattle.fixed_form.specs.Limits.{longest_text, greatest_line}
+use Rattle.fixed_form.specs.Line.{part_of, is_comment, is_readable, is_continuation, label_field, is_empty, is_label, is_end}
 use Rattle.fixed_form.specs.Lines.{Entry}
-
--- a broken rule and its line
-pub record Break : Type 0 where
-  pub number : ℕ
-  pub at : ℕ
-
-abbrev pub Fails : {Y : Type 0} → LineRefusal → Result Y Break → Type 0
-Fails Memory read = Unit {0}
-Fails (Refused number line) read = read ≡ Err (record { number = number; at = line })
-
--- What a function answered, seen by view, is what reading gives, unless memory ran out.
-abbrev pub Gives : {X Y : Type 0} → (X → Y) → Result X LineRefusal → Result Y Break → Type 0
-Gives view (Ok x) read = read ≡ Ok (view x)
-Gives view (Err e) read = Fails e read
 
 -- what a label field without blanks is
 abbrev pub field_of : List ℕ → LabelField
-field_of field = if is_empty field then Blank else if is_label field then Label (number_of field) else Malformed
+field_of field = if is_empty field then Blank else if is_label field then Label (digits_value 10 field) else Malformed
 
-abbrev pub class_by : LabelField → Class
-class_by Blank = class.Initial None
-class_by (Label n) = class.Initial (Some n)
-class_by Malformed = class.Refused 2
+abbrev pub initial_class : LabelField → Class
+initial_class Blank = class.Initial None
+initial_class (Label n) = class.Initial (Some n)
+initial_class Malformed = class.Refused 2
+
+abbrev pub continuation_class : LabelField → Class
+continuation_class Blank = class.Continuation
+continuation_class (Label n) = class.Refused 5
+continuation_class Malformed = class.Refused 5
+
+abbrev pub class_by : Bool → LabelField → Class
+class_by continuation field = if continuation then continuation_class field else initial_class field
 
 abbrev pub class_of : List ℕ → Class
-class_of line = if is_comment line then class.Comment else if not (is_readable line) then class.Refused 1 else if is_continuation line then class.Refused 28 else class_by (field_of (label_field line))
-
--- One more line, by its class: the statements by then, and whether END stands.
-abbrev pub take_class : Class → List Entry → Bool → ℕ → List ℕ → Result (List Entry × Bool) Break
-take_class class.Comment es ended n line = Ok (es, ended)
-take_class (class.Refused rule) es ended n line = Err (record { number = if ended then 8 else rule; at = n })
-take_class (class.Initial label) es ended n line = if ended then Err (record { number = 8; at = n }) else Ok (es ++ record { label = label; line = n; text = columns 7 72 line } ∷ [], is_end (columns 7 72 line))
-
-abbrev pub take_line : List Entry → Bool → ℕ → List ℕ → Result (List Entry × Bool) Break
-take_line es ended n line = take_class (class_of line) es ended n line
+class_of line = if is_comment line then class.Comment else if not (is_readable line) then class.Refused 1 else class_by (is_continuation line) (field_of (label_field line))
 
 infixl 10 ◌>>=◌
 abbrev pub ◌>>=◌ : {A B : Type 0} → Result A Break → (A → Result B Break) → Result B Break
 (Ok x) >>= f = f x
 (Err e) >>= f = Err e
 
+abbrev pub broken : {A : Type 0} → ℕ → ℕ → Result A Break
+broken number line = Err (record { number = number; line = line })
+
+-- a statement, longer by a line, where it hasn't its last line yet
+abbrev pub longer : Entry → ℕ → List ℕ → Result Entry Break
+longer e n line = if nat_le longest_text (length e.text) then broken 4 n else Ok (record e { text = e.text ++ part_of line })
+
+-- statements of which the last one goes on
+abbrev pub continued : List Entry → ℕ → List ℕ → Result (List Entry) Break
+continued [] n line = broken 3 n
+continued (e ∷ []) n line = longer e n line >>= λ f. Ok (f ∷ [])
+continued (e ∷ d ∷ es) n line = continued (d ∷ es) n line >>= λ fs. Ok (e ∷ fs)
+
+-- statements with one more, and whether it is END
+abbrev pub begun : List Entry → Option ℕ → ℕ → List ℕ → Result (List Entry × Bool) Break
+begun es label n line = Ok (es ++ record { label = label; line = n; text = part_of line } ∷ [], is_end (part_of line))
+
+-- One more line, by its class: the statements by then, and whether END stands.
+abbrev pub take_class : Class → List Entry → Bool → ℕ → List ℕ → Result (List Entry × Bool) Break
+take_class class.Comment es ended n line = Ok (es, ended)
+take_class (class.Refused rule) es ended n line = broken (if ended then 8 else rule) n
+take_class class.Continuation es ended n line = if ended then broken 8 n else continued es n line >>= λ fs. Ok (fs, false)
+take_class (class.Initial label) es ended n line = if ended then broken 8 n else begun es label n line
+
+abbrev pub take_line : List Entry → Bool → ℕ → List ℕ → Result (List Entry × Bool) Break
+take_line es ended n line = take_class (class_of line) es ended n line
+
 -- The lines after n others, which gave the statements es.
 abbrev pub read_on : List Entry → ℕ → Bool → List (List ℕ) → Result (List Entry) Break
-read_on es n ended [] = if ended then Ok es else Err (record { number = 7; at = n })
-read_on es n ended (line ∷ lines) = (if nat_le 65536 (n + 1) then Err (record { number = 6; at = n + 1 }) else take_line es ended (n + 1) line) >>= λ s. read_on s.0 (n + 1) s.1 lines
+read_on es n ended [] = if ended then Ok es else broken 7 n
+read_on es n ended (line ∷ lines) = (if nat_lt greatest_line (n + 1) then broken 6 (n + 1) else take_line es ended (n + 1) line) >>= λ s. read_on s.0 (n + 1) s.1 lines

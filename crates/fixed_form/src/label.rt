@@ -1,6 +1,7 @@
 //! Columns 1 to 5 of an initial line.
 
 ghost use Rattle.std.specs.Prelude.{◌≡◌, ◌≤◌, length};
+ghost use Rattle.fixed_form.specs.Limits.{last_label_column};
 ghost use Rattle.fixed_form.specs.Line.{without_blanks};
 ghost use Rattle.fixed_form.specs.Steps.{field_of};
 
@@ -15,7 +16,7 @@ pub enum LabelField {
 /// What the first columns of a line, five at most, say of its label.
 #[tactic(auto, using(crate::proofs::Digits::grows, crate::proofs::Digits::few_digits, crate::proofs::Digits::field_of_start))]
 pub fn read_label(field: &[u8]) -> LabelField
-    requires { length field.now ≤ 5 }
+    requires { length field.now ≤ last_label_column }
     ensures { result ≡ field_of (without_blanks field.now) }
 {
     let mut label: u32 = 0;

@@ -5,11 +5,10 @@ mod label;
 mod labelled;
 mod line;
 mod reading;
-mod refusal;
 
+pub use ast::Refusal as LineRefusal;
 pub use labelled::Labelled;
 pub use reading::statements;
-pub use refusal::LineRefusal;
 
 #[cfg(test)]
 mod tests;

@@ -1,12 +1,13 @@
 //! One line: its columns, and what they make of it.
 
-ghost use Rattle.std.specs.Prelude.{◌≡◌, ◌+◌, ◌-◌, ◌<◌, take, drop, slice_index_or, IfOk};
+ghost use Rattle.std.specs.Prelude.{◌≡◌, ◌≤◌, ◌++◌, take, drop, slice_index_or, OnOk, OnErr};
 ghost use Rattle.std.specs.List.{list_all};
-ghost use Rattle.fixed_form.specs.Line.{filled, columns, is_blank, is_printable, is_comment, is_readable, is_continuation, is_end, without_blanks};
+ghost use Rattle.fixed_form.specs.Limits.{last_label_column, last_column};
+ghost use Rattle.fixed_form.specs.Line as spec;
 ghost use Rattle.fixed_form.specs.Steps.{field_of, class_of};
 
 use crate::label::{LabelField, read_label};
-use std::alloc::{AllocError, Global};
+use std::alloc::AllocError;
 
 /// The last column of a label.
 const LAST_LABEL_COLUMN: usize = 5;
@@ -17,11 +18,15 @@ const CONTINUATION_COLUMN: usize = 6;
 /// The last column that is read.
 const LAST_COLUMN: usize = 72;
 
+/// The columns of a statement's text on one line.
+pub const TEXT_WIDTH: usize = LAST_COLUMN - CONTINUATION_COLUMN;
+
 /// What a line is, and the number of the rule that it breaks wherever it stands.
 #[derive(Clone, Copy)]
 pub enum Class {
     Comment,
     Refused(u8),
+    Continuation,
     Initial(Option<u32>),
 }
 
@@ -38,7 +43,7 @@ fn front(line: &[u8], count: usize) -> &[u8]
 
 /// The character at an index, a blank behind the line's end.
 fn character_at(line: &[u8], index: usize) -> u8
-    ensures { result ≡ slice_index_or line.now index 32 }
+    ensures { result ≡ slice_index_or line.now index spec.blank }
 {
     if index < line.len() {
         line[index]
@@ -48,13 +53,13 @@ fn character_at(line: &[u8], index: usize) -> u8
 }
 
 fn are_blank(characters: &[u8]) -> bool
-    ensures { result ≡ list_all is_blank characters.now }
+    ensures { result ≡ list_all spec.is_blank characters.now }
 {
     characters.iter().all(|c| *c == b' ')
 }
 
 fn are_printable(characters: &[u8]) -> bool
-    ensures { result ≡ list_all is_printable characters.now }
+    ensures { result ≡ list_all spec.is_printable characters.now }
 {
     characters.iter().all(|c| 32 <= *c && *c <= 126)
 }
@@ -62,7 +67,7 @@ fn are_printable(characters: &[u8]) -> bool
 /// Whether the columns of a line are blank, up to the last that counts.
 #[tactic(auto, using(crate::proofs::Columns::blank_columns))]
 fn is_blank_to(line: &[u8], last: usize) -> bool
-    ensures { result ≡ list_all is_blank (columns 1 last line.now) }
+    ensures { result ≡ list_all spec.is_blank (spec.columns 1 last line.now) }
 {
     are_blank(front(line, last))
 }
@@ -70,20 +75,20 @@ fn is_blank_to(line: &[u8], last: usize) -> bool
 /// Whether the columns of a line hold characters of the profile alone, up to the last that counts.
 #[tactic(auto, using(crate::proofs::Columns::printable_columns))]
 fn is_printable_to(line: &[u8], last: usize) -> bool
-    ensures { result ≡ list_all is_printable (columns 1 last line.now) }
+    ensures { result ≡ list_all spec.is_printable (spec.columns 1 last line.now) }
 {
     are_printable(front(line, last))
 }
 
 fn is_comment(line: &[u8]) -> bool
-    ensures { result ≡ is_comment line.now }
+    ensures { result ≡ spec.is_comment line.now }
 {
     let mark = character_at(line, 0);
     mark == b'C' || mark == b'c' || mark == b'*' || is_blank_to(line, LAST_COLUMN)
 }
 
 fn is_continuation(line: &[u8]) -> bool
-    ensures { result ≡ is_continuation line.now }
+    ensures { result ≡ spec.is_continuation line.now }
 {
     let mark = character_at(line, CONTINUATION_COLUMN - 1);
     !(mark == b' ' || mark == b'0')
@@ -92,8 +97,8 @@ fn is_continuation(line: &[u8]) -> bool
 /// What the label's columns say.
 #[tactic(auto, using(crate::proofs::Columns::label_columns))]
 fn label_field(line: &[u8], last: usize) -> LabelField
-    requires { last < 6 }
-    ensures { result ≡ field_of (without_blanks (columns 1 last line.now)) }
+    requires { last ≤ last_label_column }
+    ensures { result ≡ field_of (spec.without_blanks (spec.columns 1 last line.now)) }
 {
     read_label(front(line, last))
 }
@@ -108,25 +113,13 @@ pub fn classify(line: &[u8]) -> Class
     if !is_printable_to(line, LAST_COLUMN) {
         return Class::Refused(1);
     }
-    if is_continuation(line) {
-        return Class::Refused(28);
+    match (is_continuation(line), label_field(line, LAST_LABEL_COLUMN)) {
+        (true, LabelField::Blank) => Class::Continuation,
+        (true, _) => Class::Refused(5),
+        (false, LabelField::Blank) => Class::Initial(None),
+        (false, LabelField::Label(label)) => Class::Initial(Some(label)),
+        (false, LabelField::Malformed) => Class::Refused(2),
     }
-    match label_field(line, LAST_LABEL_COLUMN) {
-        LabelField::Blank => Class::Initial(None),
-        LabelField::Label(label) => Class::Initial(Some(label)),
-        LabelField::Malformed => Class::Refused(2),
-    }
-}
-
-/// Some characters, filled with blanks or cut to a number of them.
-#[tactic(auto, using(crate::proofs::Columns::filled_parts))]
-fn fill(alloc: Global, characters: &[u8], count: usize) -> Result<Vec<u8>, AllocError>
-    ensures { IfOk result (λ v. v.items ≡ filled count characters.now) }
-{
-    let mut text = Vec::with_capacity(alloc, count)?;
-    text.extend_from_slice(front(characters, count))?;
-    text.resize(count, b' ')?;
-    Ok(text)
 }
 
 /// The characters from an index on.
@@ -140,21 +133,32 @@ fn rest(line: &[u8], index: usize) -> &[u8]
     }
 }
 
-/// Columns 7 to 72 of a line.
-#[tactic(auto, unfolding(crate::specs::Line::columns))]
-pub fn statement_text(alloc: Global, line: &[u8]) -> Result<Vec<u8>, AllocError>
-    ensures { IfOk result (λ v. v.items ≡ columns 7 72 line.now) }
+/// Adds some characters to a text, filled with blanks or cut to a number of them. The text stays as
+/// it was where memory is refused.
+#[tactic(auto, using(crate::proofs::Columns::filled_onto))]
+fn append_filled(text: &mut Vec<u8>, characters: &[u8], count: usize) -> Result<(), AllocError>
+    requires { count ≤ last_column }
+    ensures ok { OnOk result (text.new.items ≡ text.old.items ++ spec.filled count characters.now) }
+    ensures err { OnErr result (text.new.items ≡ text.old.items) }
 {
-    fill(
-        alloc,
-        rest(line, CONTINUATION_COLUMN),
-        LAST_COLUMN - CONTINUATION_COLUMN,
-    )
+    text.reserve(count)?;
+    let width = text.len() + count;
+    text.extend_from_slice(front(characters, count))?;
+    text.resize(width, b' ')
+}
+
+/// Adds columns 7 to 72 of a line to a text, which stays as it was where memory is refused.
+#[tactic(auto, unfolding(crate::specs::Line::columns))]
+pub fn append_part(text: &mut Vec<u8>, line: &[u8]) -> Result<(), AllocError>
+    ensures ok { OnOk result (text.new.items ≡ text.old.items ++ spec.part_of line.now) }
+    ensures err { OnErr result (text.new.items ≡ text.old.items) }
+{
+    append_filled(text, rest(line, CONTINUATION_COLUMN), TEXT_WIDTH)
 }
 
 /// Whether a text is END, blanks and case aside.
 pub fn is_end(text: &[u8]) -> bool
-    ensures { result ≡ is_end text.now }
+    ensures { result ≡ spec.is_end text.now }
 {
     let mut left: &[u8] = b"END";
     for character in text {

@@ -1,59 +1,105 @@
 //! From the lines of a text to its statements.
 
-ghost use Rattle.std.specs.Prelude.{◌≡◌, ◌+◌, ◌<◌, ℕ, List, IfOk, IfErr, Ok, [], false};
+ghost use Rattle.std.specs.Prelude.{◌≡◌, ◌≤◌, ℕ, List, IfOk, IfErr, Ok, Err, [], true, false};
+ghost use Rattle.ast.specs.Answers.{Break, Gives, Says};
+ghost use Rattle.ast.specs.declared.refusal.Refusal.TheVariants.{Refused};
+ghost use Rattle.fixed_form.specs.Limits.{greatest_line, is_label_or_none};
 ghost use Rattle.fixed_form.specs.Lines.{Entry, Lines, AreShaped, Broken, lines_in};
-ghost use Rattle.fixed_form.specs.declared.refusal.LineRefusal.TheVariants.{Refused};
-ghost use Rattle.fixed_form.specs.Answers.{entries, RefusesTruly, IsList, IsRefusal};
-ghost use Rattle.fixed_form.specs.Steps.{Gives, read_on, take_line};
+ghost use Rattle.fixed_form.specs.Answers.{entries};
+ghost use Rattle.fixed_form.specs.Steps.{read_on, take_line, begun, continued};
 
 use crate::labelled::Labelled;
-use crate::line::{Class, classify, is_end, statement_text};
-use crate::refusal::LineRefusal;
+use crate::line::{Class, TEXT_WIDTH, append_part, classify, is_end};
+use ast::{Line, Refusal};
 use bstr::ByteSlice;
 use std::alloc::Global;
 
 /// The greatest number of a line.
-const LAST_LINE: u32 = 65_535;
+const LAST_LINE: Line = 65_535;
 
-fn refused(number: u8, line: u32) -> LineRefusal
+/// The greatest number of continuation lines of a statement.
+const MOST_CONTINUATIONS: usize = 19;
+
+/// The characters of the longest text.
+const LONGEST_TEXT: usize = TEXT_WIDTH * (1 + MOST_CONTINUATIONS);
+
+fn refused(number: u8, line: Line) -> Refusal
     ensures { result ≡ Refused number line }
 {
-    LineRefusal::Refused { number, line }
+    Refusal::Refused { number, line }
 }
 
-/// Adds the statement of a line, if it has one, and answers whether END stands by now.
+/// Adds the statement that an initial line begins, and answers whether that line is END.
+#[tactic(auto, using(crate::proofs::Facts::width_of_part))]
+fn begin_statement(
+    alloc: Global,
+    list: &mut Vec<Labelled>,
+    label: Option<u32>,
+    number: Line,
+    line: &[u8],
+) -> Result<bool, Refusal>
+    requires label { is_label_or_none label ≡ true }
+    requires from_one { 1 ≤ number }
+    requires in_range { number ≤ greatest_line }
+    ensures { Gives (λ ended. (entries list.new.items, ended)) result (begun (entries list.old.items) label number line.now) }
+{
+    let mut text = Vec::with_capacity(alloc, TEXT_WIDTH)?;
+    append_part(&mut text, line)?;
+    let ended = is_end(&text);
+    list.push(Labelled {
+        label,
+        line: number,
+        text,
+    })?;
+    Ok(ended)
+}
+
+/// Adds a continuation line to the last statement.
+#[tactic(auto, using(crate::proofs::Facts::one_line_more))]
+fn continue_statement(list: &mut Vec<Labelled>, number: Line, line: &[u8]) -> Result<(), Refusal>
+    ensures { Gives (λ _. entries list.new.items) result (continued (entries list.old.items) number line.now) }
+{
+    let Some(statement) = list.last_mut() else {
+        return Err(refused(3, number));
+    };
+    if statement.text.len() >= LONGEST_TEXT {
+        return Err(refused(4, number));
+    }
+    append_part(&mut statement.text, line)?;
+    Ok(())
+}
+
+/// Adds what a line holds of a statement, and answers whether END stands by now.
+#[tactic(auto, using(crate::proofs::Facts::label_given))]
 fn add_line(
     alloc: Global,
     list: &mut Vec<Labelled>,
     ended: bool,
-    number: u32,
+    number: Line,
     line: &[u8],
-) -> Result<bool, LineRefusal>
+) -> Result<bool, Refusal>
+    requires from_one { 1 ≤ number }
+    requires in_range { number ≤ greatest_line }
     ensures { Gives (λ now_ended. (entries list.new.items, now_ended)) result (take_line (entries list.old.items) ended number line.now) }
 {
     match classify(line) {
         Class::Comment => Ok(ended),
         _ if ended => Err(refused(8, number)),
         Class::Refused(rule) => Err(refused(rule, number)),
-        Class::Initial(label) => {
-            let text = statement_text(alloc, line)?;
-            let ends = is_end(&text);
-            list.push(Labelled {
-                label,
-                line: number,
-                text,
-            })?;
-            Ok(ends)
+        Class::Continuation => {
+            continue_statement(list, number, line)?;
+            Ok(false)
         }
+        Class::Initial(label) => begin_statement(alloc, list, label, number, line),
     }
 }
 
 /// The statements of lines, read one by one.
-fn read_all(alloc: Global, text: &[u8]) -> Result<Vec<Labelled>, LineRefusal>
+fn read_all(alloc: Global, text: &[u8]) -> Result<Vec<Labelled>, Refusal>
     ensures { Gives (λ v. entries v.items) result (read_on [] 0 false (lines_in text.now)) }
 {
     let mut list = Vec::new(alloc);
-    let mut number: u32 = 0;
+    let mut number: Line = 0;
     let mut ended = false;
     for line in text.lines() {
         if number >= LAST_LINE {
@@ -70,18 +116,20 @@ fn read_all(alloc: Global, text: &[u8]) -> Result<Vec<Labelled>, LineRefusal>
 }
 
 /// The labelled statements of a source text, line by line: a comment gives none, an initial line
-/// gives one, and END is the last and stands nowhere else.
+/// begins one, continuation lines make it longer, and END is the last and stands nowhere else.
 ///
 /// The refusals, in the order in which they count on one line: 6 at line 65,536, 8 at a line after
-/// END that is no comment, 1 where columns 1 to 72 hold a byte outside 32 to 126, 28 at a
-/// continuation line, 2 where columns 1 to 5 are neither blank nor a label. 7, at the number of
-/// lines, is that of a text with no END that breaks no other rule.
-pub fn statements(alloc: Global, text: &[u8]) -> Result<Vec<Labelled>, LineRefusal>
+/// END that is no comment, 1 where columns 1 to 72 hold a byte outside 32 to 126, 5 at a
+/// continuation line with something in columns 1 to 5, 3 at one with no initial line before it, 4
+/// at the twentieth of a statement, 2 where columns 1 to 5 of an initial line are neither blank nor
+/// a label. 7, at the number of lines, is that of a text with no END that breaks no other rule.
+/// `Memory` says that memory was refused, and nothing of the text.
+pub fn statements(alloc: Global, text: &[u8]) -> Result<Vec<Labelled>, Refusal>
     ensures found { IfOk result (λ v. Lines text.now (entries v.items)) }
     ensures shaped { IfOk result (λ v. AreShaped (entries v.items)) }
-    ensures only { (es : List Entry) → Lines text.now es → IsList (λ v. entries v.items) result es }
-    ensures refused { IfErr result (RefusesTruly text.now) }
-    ensures exactly { (number at : ℕ) → Broken text.now number at → IsRefusal result number at }
+    ensures only { (es : List Entry) → Lines text.now es → Gives (λ v. entries v.items) result (Ok es) }
+    ensures refused { IfErr result (Says (Broken text.now)) }
+    ensures exactly { (number line : ℕ) → Broken text.now number line → Gives (λ v. entries v.items) result (Err (record { number = number; line = line })) }
 {
     read_all(alloc, text)
 }

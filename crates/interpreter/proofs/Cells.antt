@@ -1,124 +1,183 @@
--- Laws of cells and of the store that they stand for.
-use Rattle.std.proofs.Common.{◌≡◌, ◌∙◌, ℕ, zero, suc, Bool, true, false, List, [], ◌∷◌, get_or, Option, Some, None, refl, sym, ap, subst}
-use Rattle.std.specs.Prelude.{ℤ, pos, map, ◌==◌, ◌&&◌, if◌then◌else◌, slice_get}
+-- Laws of a list of names with values, and of the store that it stands for.
+use Rattle.std.proofs.Common.{◌≡◌, ◌∙◌, ℕ, zero, suc, ◌+◌, ◌<◌, Bool, true, false, List, [], ◌∷◌, get_or, Option, Some, length, refl, sym, ap, subst, arith}
+use Rattle.std.specs.Prelude.{ℤ, pos, map, ◌==◌, ◌&&◌, if◌then◌else◌, slice_get, slice_index_or, unwrap_or}
 use Rattle.std.specs.List.{AllByRecursion, IsDistinct}
-use Rattle.std.specs.Cmp.Lexicographic.{same_text}
+use Rattle.std.proofs.lemmas.Bool.{ne_eqb}
 use Rattle.std.proofs.lemmas.Cmp.{nat_list_eq_equiv}
-use Rattle.std.proofs.Math.Dec.{eqb-suc-zero, eqb-zero-suc}
+use Rattle.std.proofs.Math.Dec.{eqb-suc-suc}
 use Rattle.std.proofs.Math.ListN.{set}
-use Rattle.std.proofs.Math.Seq.{map-set_same}
-use Rattle.ast.specs.Store.{StoreOf, same_name, put, zeros, value_at, cells_of}
-use Rattle.ast.specs.View.{cells_in, letters}
-use Rattle.ast.specs.declared.name.Name.{Name}
-use Rattle.ast.specs.declared.store.Cell.{Cell}
-use Rattle.interpreter.specs.Cells.{AreDistinct, name_in, names_in, or_zero, store_of, zero_cell}
+use Rattle.ast.specs.Store.{StoreOf, same_name, put, zeros, value_at, values_in, values_from, store_of}
+use Rattle.ast.specs.Symbols.{Symbol, names_of, size, cells_of}
+use Rattle.interpreter.specs.Shapes.{shapes_in, shapes_of}
+use Rattle.interpreter.proofs.Finding.{same_itself, same}
 
-same_itself : (x : List ℕ) → same_name x x ≡ true
-same_itself x = nat_list_eq_equiv.refl x
+abbrev Cell : Type 0
+Cell = List ℕ × List ℤ
 
-same : (x y : List ℕ) → same_name x y ≡ true → x ≡ y
-same x y h = same_text x y (sym h)
+abbrev cell_names : List Cell → List (List ℕ)
+cell_names cs = map (λ c. c.0) cs
 
--- a name at a place isn't one from which all names differ
-differs : (x : List ℕ) (ns : List (List ℕ)) (i : ℕ) (y : List ℕ) → AllByRecursion (λ n. same_name x n ≡ false) ns → slice_get ns i ≡ Some y → same_name x y ≡ false
-differs x [] i y h e = cc
-differs x (n ∷ ns) zero y h e = let d : n ≡ y = cc in subst (λ (z : List ℕ). same_name x z ≡ false) d h.0
-differs x (n ∷ ns) (suc i) y h e = differs x ns i y h.1 e
+-- ---- what the shapes say
 
--- the value of a cell by its name
-pub looked_up : (cs : List Cell) (i : ℕ) (x : List ℕ) (d : Cell) → AreDistinct cs → slice_get (names_in cs) i ≡ Some x → store_of (cells_in cs) x 0 ≡ (get_or cs i d).value
-unfolding store_of IsDistinct
-looked_up [] i x d h e = cc
-looked_up (c ∷ cs) zero x d h e =
-    let n : c.name.letters ≡ x = cc in
-    let t : same_name c.name.letters x ≡ true = subst (λ (z : List ℕ). same_name c.name.letters z ≡ true) n (same_itself c.name.letters) in
-    rw t refl
-looked_up (c ∷ cs) (suc i) x d h e =
-    let t : same_name c.name.letters x ≡ false = differs c.name.letters (names_in cs) i x h.0 e in
-    rw t (looked_up cs i x d h.1 e)
+pub names_fit : (cs : List Cell) (ss : List Symbol) → shapes_in cs ≡ shapes_of ss → cell_names cs ≡ names_of ss
+names_fit [] [] h = refl
+names_fit [] (s ∷ ss) h = cc
+names_fit (c ∷ cs) [] h = cc
+names_fit (c ∷ cs) (s ∷ ss) h =
+    let first : ◌≡◌ {A = List ℕ × ℕ} (c.0, length c.1) (s.name, size s.sort) = cc in
+    let rest : shapes_in cs ≡ shapes_of ss = cc in
+    let name : c.0 ≡ s.name = ap (λ (p : List ℕ × ℕ). p.0) first in
+    ap (λ (n : List ℕ). n ∷ cell_names cs) name ∙ ap (λ (ns : List (List ℕ)). s.name ∷ ns) (names_fit cs ss rest)
 
--- a scalar has no second element
-no_element : (cs : List Cell) (y : List ℕ) (q : ℕ) → value_at (cells_in cs) y (suc q) ≡ None
-no_element [] y q = refl
-no_element (c ∷ cs) y q = rw (eqb-suc-zero q) (elim (same_name c.name.letters y) as (λ b. (if b then None else value_at (cells_in cs) y (suc q)) ≡ None) [ true ↦ refl | false ↦ no_element cs y q ])
+pub values_fit : (cs : List Cell) (ss : List Symbol) (i : ℕ) (s : Symbol) → shapes_in cs ≡ shapes_of ss → slice_get ss i ≡ Some s → (length (values_in cs i) ≡ size s.sort) × ((get_or cs i ([], [])).0 ≡ s.name) × (i < length cs)
+values_fit cs [] i s h e = cc
+values_fit [] (t ∷ ss) i s h e = cc
+values_fit (c ∷ cs) (t ∷ ss) zero s h e =
+    let first : ◌≡◌ {A = List ℕ × ℕ} (c.0, length c.1) (t.name, size t.sort) = cc in
+    let d : t ≡ s = cc in
+    (ap (λ (p : List ℕ × ℕ). p.1) first ∙ ap (λ (z : Symbol). size z.sort) d, ap (λ (p : List ℕ × ℕ). p.0) first ∙ ap (λ (z : Symbol). z.name) d, omega arith)
+values_fit (c ∷ cs) (t ∷ ss) (suc i) s h e =
+    let rest : shapes_in cs ≡ shapes_of ss = cc in
+    let k = values_fit cs ss i s rest e in
+    (k.0, k.1, omega (arith, k.2))
 
-passed : (b s : Bool) (v w : ℤ) (new old : Option ℤ) → (b ≡ true → s ≡ false) → or_zero new ≡ (if s && true then v else or_zero old) → or_zero (if b then Some w else new) ≡ (if s && true then v else or_zero (if b then Some w else old))
-passed true s v w new old k e = let f : s ≡ false = k refl in rw f refl
-passed false s v w new old k e = e
+-- ---- reading
+
+abbrev Differ : List ℕ → List Cell → Type 0
+Differ x cs = AllByRecursion (λ n. same_name x n ≡ false) (cell_names cs)
+
+differ_at : (x : List ℕ) (cs : List Cell) (i : ℕ) → Differ x cs → i < length cs → same_name x (get_or cs i ([], [])).0 ≡ false
+differ_at x [] i h l = absurd (omega (arith, l))
+differ_at x (c ∷ cs) zero h l = h.0
+differ_at x (c ∷ cs) (suc i) h l = differ_at x cs i h.1 (omega (arith, l))
+
+value_found : (cs : List Cell) (i p : ℕ) → IsDistinct same_name (cell_names cs) → i < length cs → value_at cs (get_or cs i ([], [])).0 p ≡ slice_get (values_in cs i) p
+unfolding IsDistinct
+value_found [] i p h l = absurd (omega (arith, l))
+value_found (c ∷ cs) zero p h l = rw (same_itself c.0) refl
+value_found (c ∷ cs) (suc i) p h l =
+    let k = differ_at c.0 cs i h.0 (omega (arith, l)) in
+    rw k (value_found cs i p h.1 (omega (arith, l)))
+
+element_found : (xs : List ℤ) (p : ℕ) → unwrap_or (slice_get xs p) (pos 0) ≡ slice_index_or xs p (pos 0)
+element_found [] p = refl
+element_found (x ∷ xs) zero = refl
+element_found (x ∷ xs) (suc p) = element_found xs p
+
+pub loaded : (cs : List Cell) (i p : ℕ) (x : List ℕ) → IsDistinct same_name (cell_names cs) → i < length cs → (get_or cs i ([], [])).0 ≡ x → store_of cs x p ≡ slice_index_or (values_in cs i) p (pos 0)
+unfolding store_of
+loaded cs i p x h l n = ap (λ (y : List ℕ). unwrap_or (value_at cs y p) (pos 0)) (sym n) ∙ ap (λ (o : Option ℤ). unwrap_or o (pos 0)) (value_found cs i p h l) ∙ element_found (values_in cs i) p
+
+-- ---- writing
+
+set_found : (xs : List ℤ) (p q : ℕ) (v : ℤ) → p < length xs → unwrap_or (slice_get (set xs p v) q) (pos 0) ≡ (if (p == q) then v else unwrap_or (slice_get xs q) (pos 0))
+set_found [] p q v h = absurd (omega (arith, h))
+set_found (x ∷ xs) zero zero v h = refl
+set_found (x ∷ xs) zero (suc q) v h = rw (ne_eqb 0 (suc q) (λ e. omega arith)) refl
+set_found (x ∷ xs) (suc p) zero v h = rw (ne_eqb (suc p) 0 (λ e. omega arith)) refl
+set_found (x ∷ xs) (suc p) (suc q) v h = rw (eqb-suc-suc p q) (set_found xs p q v (omega (arith, h)))
 
 -- a name that is another's isn't a third one
 other : (x y z : List ℕ) → same_name x z ≡ false → same_name x y ≡ true → same_name z y ≡ false
 other x y z h k = nat_list_eq_equiv.symm z y ∙ (subst (λ (w : List ℕ). same_name w z ≡ false) (same x y k) h)
 
-written_scalar : (cs : List Cell) (i : ℕ) (c : Cell) (x : List ℕ) → AreDistinct cs → slice_get (names_in cs) i ≡ Some x → name_in c ≡ x → (y : List ℕ) → store_of (cells_in (set cs i c)) y 0 ≡ put (store_of (cells_in cs)) x 0 c.value y 0
+passed : (b s : Bool) (e : Bool) (v : ℤ) (w new old : Option ℤ) → (b ≡ true → s ≡ false) → unwrap_or new (pos 0) ≡ (if s && e then v else unwrap_or old (pos 0)) → unwrap_or (if b then w else new) (pos 0) ≡ (if s && e then v else unwrap_or (if b then w else old) (pos 0))
+passed true s e v w new old k h = let f : s ≡ false = k refl in rw f refl
+passed false s e v w new old k h = h
+
+chosen : (b e : Bool) (v w : ℤ) → (if e then v else w) ≡ (if true && e then v else w)
+chosen b true v w = refl
+chosen b false v w = refl
+
+put_at : (cs : List Cell) (i p : ℕ) (v : ℤ) (x : List ℕ) → IsDistinct same_name (cell_names cs) → i < length cs → (get_or cs i ([], [])).0 ≡ x → p < length (values_in cs i) → (y : List ℕ) (q : ℕ) → store_of (set cs i (x, set (values_in cs i) p v)) y q ≡ put (store_of cs) x p v y q
 unfolding store_of put IsDistinct
-written_scalar [] i c x h e n y = cc
-written_scalar (d ∷ cs) zero c x h e n y =
-    let m : d.name.letters ≡ x = cc in
-    rw (n, m) (elim (same_name x y) as (λ b. or_zero (if b then Some c.value else value_at (cells_in cs) y 0) ≡ (if b && true then c.value else or_zero (if b then Some d.value else value_at (cells_in cs) y 0))) [ true ↦ refl | false ↦ refl ])
-written_scalar (d ∷ cs) (suc i) c x h e n y =
-    passed (same_name d.name.letters y) (same_name x y) c.value d.value _ _ (other d.name.letters y x (differs d.name.letters (names_in cs) i x h.0 e)) (written_scalar cs i c x h.1 e n y)
+put_at [] i p v x h l n w y q = absurd (omega (arith, l))
+put_at (c ∷ cs) zero p v x h l n w y q = rw n (by (same_name x y) refl)
+  where
+    by : (b : Bool) → same_name x y ≡ b → unwrap_or (if same_name x y then slice_get (set c.1 p v) q else value_at cs y q) (pos 0) ≡ (if same_name x y && (p == q) then v else unwrap_or (if same_name x y then slice_get c.1 q else value_at cs y q) (pos 0))
+    by true e = rw e (set_found c.1 p q v w)
+    by false e = rw e refl
+put_at (c ∷ cs) (suc i) p v x h l n w y q =
+    passed (same_name c.0 y) (same_name x y) (p == q) v (slice_get c.1 q) _ _ (other c.0 y x (subst (λ (z : List ℕ). same_name c.0 z ≡ false) n (differ_at c.0 cs i h.0 (omega (arith, l))))) (put_at cs i p v x h.1 (omega (arith, l)) n w y q)
 
-written_element : (cs : List Cell) (i : ℕ) (c : Cell) (x : List ℕ) (y : List ℕ) (q : ℕ) → store_of (cells_in (set cs i c)) y (suc q) ≡ put (store_of (cells_in cs)) x 0 c.value y (suc q)
-unfolding store_of put
-written_element cs i c x y q = rw (no_element (set cs i c) y q, no_element cs y q, eqb-zero-suc q) (elim (same_name x y) as (λ b. pos 0 ≡ (if b && false then c.value else pos 0)) [ true ↦ refl | false ↦ refl ])
+pub written : (cs : List Cell) (i p : ℕ) (v : ℤ) (x : List ℕ) → IsDistinct same_name (cell_names cs) → i < length cs → (get_or cs i ([], [])).0 ≡ x → p < length (values_in cs i) → store_of (set cs i ((get_or cs i ([], [])).0, set (values_in cs i) p v)) ≡ put (store_of cs) x p v
+written cs i p v x h l n w = ap (λ (y : List ℕ). store_of (set cs i (y, set (values_in cs i) p v))) n ∙ (λ k y q. put_at cs i p v x h l n w y q k)
 
-written_at : (cs : List Cell) (i : ℕ) (c : Cell) (x : List ℕ) → AreDistinct cs → slice_get (names_in cs) i ≡ Some x → name_in c ≡ x → (y : List ℕ) (p : ℕ) → store_of (cells_in (set cs i c)) y p ≡ put (store_of (cells_in cs)) x 0 c.value y p
-written_at cs i c x h e n y zero = written_scalar cs i c x h e n y
-written_at cs i c x h e n y (suc q) = written_element cs i c x y q
+length_set : (xs : List ℤ) (p : ℕ) (v : ℤ) → length (set xs p v) ≡ length xs
+length_set [] p v = refl
+length_set (x ∷ xs) zero v = refl
+length_set (x ∷ xs) (suc p) v = ap suc (length_set xs p v)
 
--- a cell that is given another value
-written : (cs : List Cell) (i : ℕ) (c : Cell) (x : List ℕ) → AreDistinct cs → slice_get (names_in cs) i ≡ Some x → name_in c ≡ x → store_of (cells_in (set cs i c)) ≡ put (store_of (cells_in cs)) x 0 c.value
-written cs i c x h e n = λ k y p. written_at cs i c x h e n y p k
+pub shapes_kept : (cs : List Cell) (i p : ℕ) (v : ℤ) → shapes_in (set cs i ((get_or cs i ([], [])).0, set (values_in cs i) p v)) ≡ shapes_in cs
+shapes_kept [] i p v = refl
+shapes_kept (c ∷ cs) zero p v = ap (λ (n : ℕ). (c.0, n) ∷ shapes_in cs) (length_set c.1 p v)
+shapes_kept (c ∷ cs) (suc i) p v = ap (λ (ns : List (List ℕ × ℕ)). (c.0, length c.1) ∷ ns) (shapes_kept cs i p v)
 
-zero_at : (ns : List Name) (y : List ℕ) (p : ℕ) → or_zero (value_at (cells_in (map zero_cell ns)) y p) ≡ pos 0
-zero_at [] y p = refl
-zero_at (n ∷ ns) y p = elim (same_name n.letters y) as (λ b. or_zero (if b then (if p == 0 then Some (pos 0) else None) else value_at (cells_in (map zero_cell ns)) y p) ≡ pos 0) [
-  | true ↦ elim (p == 0) as (λ b. or_zero (if b then Some (pos 0) else None) ≡ pos 0) [ true ↦ refl | false ↦ refl ]
-  | false ↦ zero_at ns y p
-]
+-- ---- the cells of symbols
 
--- cells of zeros stand for a store of zeros
-pub start : (ns : List Name) → store_of (cells_in (map zero_cell ns)) ≡ zeros
+length_values : (f : ℕ → ℤ) (k n : ℕ) → length (values_from f k n) ≡ n
+length_values f k zero = refl
+length_values f k (suc n) = ap suc (length_values f (k + 1) n)
+
+pub shapes_made : (ss : List Symbol) (store : StoreOf) → shapes_in (cells_of ss store) ≡ shapes_of ss
+shapes_made [] store = refl
+shapes_made (s ∷ ss) store =
+    ap (λ (n : ℕ). (s.name, n) ∷ shapes_in (cells_of ss store)) (length_values (store s.name) 0 (size s.sort))
+    ∙ ap (λ (ns : List (List ℕ × ℕ)). (s.name, size s.sort) ∷ ns) (shapes_made ss store)
+
+zero_value : (k n p : ℕ) → unwrap_or (slice_get (values_from (λ q. pos 0) k n) p) (pos 0) ≡ pos 0
+zero_value k zero p = refl
+zero_value k (suc n) zero = refl
+zero_value k (suc n) (suc p) = zero_value (k + 1) n p
+
+zero_cells : (ss : List Symbol) (y : List ℕ) (p : ℕ) → unwrap_or (value_at (cells_of ss zeros) y p) (pos 0) ≡ pos 0
+zero_cells [] y p = refl
+zero_cells (s ∷ ss) y p = by (same_name s.name y) (zero_cells ss y p)
+  where
+    by : (b : Bool) → unwrap_or (value_at (cells_of ss zeros) y p) (pos 0) ≡ pos 0 → unwrap_or (if b then slice_get (values_from (zeros s.name) 0 (size s.sort)) p else value_at (cells_of ss zeros) y p) (pos 0) ≡ pos 0
+    by true h = zero_value 0 (size s.sort) p
+    by false h = h
+
+pub started : (ss : List Symbol) → store_of (cells_of ss zeros) ≡ zeros
 unfolding store_of
-start ns = λ k y p. zero_at ns y p k
+started ss = λ k y p. zero_cells ss y p k
 
-pub start_names : (ns : List Name) → names_in (map zero_cell ns) ≡ map letters ns
-start_names [] = refl
-start_names (n ∷ ns) = ap (λ (rest : List (List ℕ)). n.letters ∷ rest) (start_names ns)
+-- ---- a list of cells tells its store
 
--- the cells have the values of a store
-abbrev Hold : StoreOf → List Cell → Type 0
-Hold store cs = AllByRecursion (λ c. store c.name.letters 0 ≡ c.value) cs
+values_told : (f : ℕ → ℤ) (xs : List ℤ) (k : ℕ) → ((p : ℕ) → p < length xs → f (k + p) ≡ slice_index_or xs p (pos 0)) → values_from f k (length xs) ≡ xs
+values_told f [] k h = refl
+values_told f (x ∷ xs) k h =
+    ap (λ (v : ℤ). v ∷ values_from f (k + 1) (length xs)) (ap f (omega arith) ∙ h 0 (omega arith))
+    ∙ ap (λ (vs : List ℤ). x ∷ vs) (values_told f xs (k + 1) (λ p l. ap f (omega arith) ∙ h (suc p) (omega (arith, l))))
 
-told_by : (cs : List Cell) (store : StoreOf) → Hold store cs → cells_in cs ≡ cells_of (names_in cs) store
-told_by [] store h = refl
-told_by (c ∷ cs) store h =
-    ap (λ (v : ℤ). (c.name.letters, v) ∷ cells_in cs) (sym h.0) ∙ ap (λ (rest : List (List ℕ × ℤ)). (c.name.letters, store c.name.letters 0) ∷ rest) (told_by cs store h.1)
+-- a store has the values of cells
+abbrev Has : StoreOf → Cell → Type 0
+Has store c = (p : ℕ) → p < length c.1 → store c.0 p ≡ slice_index_or c.1 p (pos 0)
 
-held_later : (c : Cell) (cs ds : List Cell) → AllByRecursion (λ n. same_name c.name.letters n ≡ false) (names_in ds) → Hold (store_of (cells_in cs)) ds → Hold (store_of (cells_in (c ∷ cs))) ds
+told_by : (cs : List Cell) (ss : List Symbol) (store : StoreOf) → shapes_in cs ≡ shapes_of ss → AllByRecursion (Has store) cs → cs ≡ cells_of ss store
+told_by [] [] store f h = refl
+told_by [] (s ∷ ss) store f h = cc
+told_by (c ∷ cs) [] store f h = cc
+told_by (c ∷ cs) (s ∷ ss) store f h =
+    let first : ◌≡◌ {A = List ℕ × ℕ} (c.0, length c.1) (s.name, size s.sort) = cc in
+    let rest : shapes_in cs ≡ shapes_of ss = cc in
+    let name : c.0 ≡ s.name = ap (λ (q : List ℕ × ℕ). q.0) first in
+    let count : length c.1 ≡ size s.sort = ap (λ (q : List ℕ × ℕ). q.1) first in
+    let told : values_from (store c.0) 0 (length c.1) ≡ c.1 = values_told (store c.0) c.1 0 (λ p l. ap (store c.0) (omega arith) ∙ h.0 p l) in
+    let values : c.1 ≡ values_from (store s.name) 0 (size s.sort) = sym told ∙ ap (λ (n : List ℕ). values_from (store n) 0 (length c.1)) name ∙ ap (λ (k : ℕ). values_from (store s.name) 0 k) count in
+    ap (λ (ds : List Cell). c ∷ ds) (told_by cs ss store rest h.1)
+    ∙ ap (λ (n : List ℕ). (n, c.1) ∷ cells_of ss store) name
+    ∙ ap (λ (vs : List ℤ). (s.name, vs) ∷ cells_of ss store) values
+
+held_later : (c : Cell) (cs ds : List Cell) → Differ c.0 ds → AllByRecursion (Has (store_of cs)) ds → AllByRecursion (Has (store_of (c ∷ cs))) ds
 unfolding store_of
 held_later c cs [] h a = tt
-held_later c cs (d ∷ ds) h a = (let t : same_name c.name.letters d.name.letters ≡ false = h.0 in rw t a.0, held_later c cs ds h.1 a.1)
+held_later c cs (d ∷ ds) h a = (λ p l. (let t : same_name c.0 d.0 ≡ false = h.0 in rw t (a.0 p l)), held_later c cs ds h.1 a.1)
 
-held : (cs : List Cell) → AreDistinct cs → Hold (store_of (cells_in cs)) cs
+held : (cs : List Cell) → IsDistinct same_name (cell_names cs) → AllByRecursion (Has (store_of cs)) cs
 unfolding store_of IsDistinct
 held [] h = tt
-held (c ∷ cs) h = (rw (same_itself c.name.letters) refl, held_later c cs cs h.0 (held cs h.1))
+held (c ∷ cs) h = (λ p l. (rw (same_itself c.0) (element_found c.1 p)), held_later c cs cs h.0 (held cs h.1))
 
--- a list of cells tells its store
-pub told : (cs : List Cell) → AreDistinct cs → cells_in cs ≡ cells_of (names_in cs) (store_of (cells_in cs))
-told cs h = told_by cs (store_of (cells_in cs)) (held cs h)
-
-name_at : (cs : List Cell) (i : ℕ) (d : Cell) (x : List ℕ) → slice_get (names_in cs) i ≡ Some x → name_in (get_or cs i d) ≡ x
-name_at [] i d x e = cc
-name_at (c ∷ cs) zero d x e = cc
-name_at (c ∷ cs) (suc i) d x e = name_at cs i d x e
-
--- a cell that is given another value keeps its name
-pub renamed : (cs : List Cell) (i : ℕ) (v : ℤ) (d : Cell) → names_in (set cs i (record { name = (get_or cs i d).name; value = v })) ≡ names_in cs
-renamed cs i v d = map-set_same name_in cs i _ d refl
-
--- a cell that is given another value stands for the store with that value put into it
-pub assigned : (cs : List Cell) (i : ℕ) (v : ℤ) (x : List ℕ) (d : Cell) → AreDistinct cs → slice_get (names_in cs) i ≡ Some x → store_of (cells_in (set cs i (record { name = (get_or cs i d).name; value = v }))) ≡ put (store_of (cells_in cs)) x 0 v
-assigned cs i v x d h e = written cs i _ x h e (name_at cs i d x e)
+pub told : (cs : List Cell) (ss : List Symbol) → shapes_in cs ≡ shapes_of ss → IsDistinct same_name (names_of ss) → cs ≡ cells_of ss (store_of cs)
+told cs ss f h = told_by cs ss (store_of cs) f (held cs (subst (λ (ns : List (List ℕ)). IsDistinct same_name ns) (sym (names_fit cs ss f)) h))

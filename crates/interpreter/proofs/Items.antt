@@ -1,28 +1,28 @@
 -- Laws of the items of a PRINT.
-use Rattle.std.proofs.Common.{◌≡◌, ◌∙◌, ℕ, Bool, true, false, List, [], ◌∷◌, ◌++◌, Result, Ok, Err, refl, sym, ap, append_assoc}
+use Rattle.std.proofs.Common.{◌≡◌, ◌∙◌, ℕ, Bool, true, false, List, [], ◌∷◌, ◌++◌, Result, Ok, Err, refl, sym, ap, append_assoc, is_err}
 use Rattle.std.proofs.lemmas.List.{append-nil}
-use Rattle.std.specs.Prelude.{ℤ, is_err}
-use Rattle.ast.specs.Meaning.{Run, and_then, exec, given, printed, value}
-use Rattle.ast.specs.Placed.{PlacedItems}
+use Rattle.std.specs.Prelude.{ℤ}
+use Rattle.ast.specs.Meaning.{LookUp, Run, exec_plain, given, looked_up, printed, value}
 use Rattle.ast.specs.Record.{Printed, number, text, items_printed, rest_printed, record_of}
-use Rattle.ast.specs.Store.{StoreOf}
+use Rattle.ast.specs.Results.{◌>>=◌}
+use Rattle.ast.specs.Symbols.{Symbol}
 use Rattle.ast.specs.Tree.{PrintItem, value_item, text_item, print}
-use Rattle.ast.specs.View.{cells_in}
+use Rattle.ast.specs.declared.fault.End.{End}
 use Rattle.ast.specs.declared.fault.End.TheVariants.{Done, Fault as Faulted}
 use Rattle.ast.specs.declared.fault.Fault.{Fault}
-use Rattle.ast.specs.declared.store.Cell.{Cell}
-use Rattle.interpreter.specs.Cells.{store_of}
-use Rattle.interpreter.specs.Steps.{Gives, Reaches, run_of, shown, items_onto, record_onto}
+use Rattle.interpreter.specs.Placed.{PlacedItems}
+use Rattle.interpreter.specs.Printing.{shown, items_onto, record_onto}
+use Rattle.interpreter.specs.Runs.{Gives, Reaches, closed}
 use Rattle.interpreter.specs.declared.stop.Stop.{Stop}
-use Rattle.interpreter.specs.declared.stop.Stop.TheVariants.{Memory, Fault as Fails}
+use Rattle.interpreter.specs.declared.stop.Stop.TheVariants.{Memory, Fault as Fails, Stopped as Stops}
 
-pub placed_first : (names : List (List ℕ)) (i : PrintItem) (is : List PrintItem) → PlacedItems names (i ∷ is) → PlacedItems names (i ∷ [])
-placed_first names (value_item e) is h = (h.0, tt)
-placed_first names (text_item t) is h = tt
+pub placed_first : (ss : List Symbol) (i : PrintItem) (is : List PrintItem) → PlacedItems ss (i ∷ is) → PlacedItems ss (i ∷ [])
+placed_first ss (value_item e) is h = (h.0, tt)
+placed_first ss (text_item t) is h = tt
 
-pub placed_rest : (names : List (List ℕ)) (i : PrintItem) (is : List PrintItem) → PlacedItems names (i ∷ is) → PlacedItems names is
-placed_rest names (value_item e) is h = h.1
-placed_rest names (text_item t) is h = h
+pub placed_rest : (ss : List Symbol) (i : PrintItem) (is : List PrintItem) → PlacedItems ss (i ∷ is) → PlacedItems ss is
+placed_rest ss (value_item e) is h = h.1
+placed_rest ss (text_item t) is h = h
 
 -- the bytes of what items printed, from the first item on or from a later one
 abbrev all_shown : Bool → List Printed → List ℕ
@@ -38,43 +38,43 @@ nothing_shown true = refl
 nothing_shown false = refl
 
 -- one item, and then the others
-then_more : (r : Result (List Printed) Fault) (output : List ℕ) (first : Bool) (p : Printed) → and_then r (λ ps. Ok ((output ++ shown first p) ++ rest_printed ps)) ≡ and_then (and_then r (λ ps. Ok (p ∷ ps))) (λ ps. Ok (output ++ all_shown first ps))
+then_more : (r : Result (List Printed) Fault) (output : List ℕ) (first : Bool) (p : Printed) → (r >>= λ ps. Ok ((output ++ shown first p) ++ rest_printed ps)) ≡ ((r >>= λ ps. Ok (p ∷ ps)) >>= λ ps. Ok (output ++ all_shown first ps))
 then_more (Ok ps) output first p = ap Ok (append_assoc output (shown first p) (rest_printed ps) ∙ ap (λ (bytes : List ℕ). output ++ bytes) (sym (shown_on first p ps)))
 then_more (Err f) output first p = refl
 
-valued : (v : Result ℤ Fault) (r : Result (List Printed) Fault) (output : List ℕ) (first : Bool) (on : List ℕ → Result (List ℕ) Fault) → ((longer : List ℕ) → on longer ≡ and_then r (λ ps. Ok (longer ++ rest_printed ps))) → and_then (and_then v (λ n. Ok (output ++ shown first (number n)))) on ≡ and_then (and_then v (λ n. and_then r (λ ps. Ok (number n ∷ ps)))) (λ ps. Ok (output ++ all_shown first ps))
+valued : (v : Result ℤ Fault) (r : Result (List Printed) Fault) (output : List ℕ) (first : Bool) (on : List ℕ → Result (List ℕ) Fault) → ((longer : List ℕ) → on longer ≡ (r >>= λ ps. Ok (longer ++ rest_printed ps))) → ((v >>= λ n. Ok (output ++ shown first (number n))) >>= on) ≡ ((v >>= λ n. r >>= λ ps. Ok (number n ∷ ps)) >>= λ ps. Ok (output ++ all_shown first ps))
 valued (Ok n) r output first on h = h (output ++ shown first (number n)) ∙ then_more r output first (number n)
 valued (Err f) r output first on h = refl
 
-items_on : (output : List ℕ) (first : Bool) (items : List PrintItem) (store : StoreOf) → items_onto output first items store ≡ and_then (printed items store) (λ ps. Ok (output ++ all_shown first ps))
-items_on output first [] store = ap Ok (sym (append-nil output) ∙ ap (λ (bytes : List ℕ). output ++ bytes) (sym (nothing_shown first)))
-items_on output first (value_item e ∷ items) store = valued (value e store) (printed items store) output first (λ longer. items_onto longer false items store) (λ longer. items_on longer false items store)
-items_on output first (text_item t ∷ items) store = items_on (output ++ shown first (text t)) false items store ∙ then_more (printed items store) output first (text t)
+items_on : (output : List ℕ) (first : Bool) (items : List PrintItem) (look : LookUp) → items_onto output first items look ≡ (printed look items >>= λ ps. Ok (output ++ all_shown first ps))
+items_on output first [] look = ap Ok (sym (append-nil output) ∙ ap (λ (bytes : List ℕ). output ++ bytes) (sym (nothing_shown first)))
+items_on output first (value_item e ∷ items) look = valued (value look e) (printed look items) output first (λ longer. items_onto longer false items look) (λ longer. items_on longer false items look)
+items_on output first (text_item t ∷ items) look = items_on (output ++ shown first (text t)) false items look ∙ then_more (printed look items) output first (text t)
 
-recorded : (r : Result (List Printed) Fault) (output : List ℕ) → and_then (and_then r (λ ps. Ok ((output ++ 32 ∷ []) ++ items_printed ps))) (λ longer. Ok (longer ++ 10 ∷ [])) ≡ and_then r (λ ps. Ok (output ++ record_of ps))
+recorded : (r : Result (List Printed) Fault) (output : List ℕ) → ((r >>= λ ps. Ok ((output ++ 32 ∷ []) ++ items_printed ps)) >>= λ longer. Ok (longer ++ 10 ∷ [])) ≡ (r >>= λ ps. Ok (output ++ record_of ps))
 recorded (Ok ps) output = ap Ok (append_assoc (output ++ 32 ∷ []) (items_printed ps) (10 ∷ []) ∙ append_assoc output (32 ∷ []) (items_printed ps ++ 10 ∷ []))
 recorded (Err f) output = refl
 
 -- an output with a record is the output and the record of what the items print
-record_on : (output : List ℕ) (items : List PrintItem) (store : StoreOf) → record_onto output items store ≡ and_then (printed items store) (λ ps. Ok (output ++ record_of ps))
-record_on output items store = ap (λ (r : Result (List ℕ) Fault). and_then r (λ longer. Ok (longer ++ 10 ∷ []))) (items_on (output ++ 32 ∷ []) true items store) ∙ recorded (printed items store) output
+record_on : (output : List ℕ) (items : List PrintItem) (look : LookUp) → record_onto output items look ≡ (printed look items >>= λ ps. Ok (output ++ record_of ps))
+record_on output items look = ap (λ (r : Result (List ℕ) Fault). r >>= λ longer. Ok (longer ++ 10 ∷ [])) (items_on (output ++ 32 ∷ []) true items look) ∙ recorded (printed look items) output
 
-goes_out : (r : Result (List Printed) Fault) (line : ℕ) (run : Run) (longer : List ℕ) → and_then r (λ ps. Ok (run.output ++ record_of ps)) ≡ Ok longer → record run { output = longer } ≡ given r line run (λ ps. record run { output = run.output ++ record_of ps })
+goes_out : (r : Result (List Printed) Fault) (line : ℕ) (run : Run) (longer : List ℕ) → (r >>= λ ps. Ok (run.output ++ record_of ps)) ≡ Ok longer → record run { output = longer } ≡ given r line run (λ ps. record run { output = run.output ++ record_of ps })
 goes_out (Ok ps) line run longer e = let h : longer ≡ run.output ++ record_of ps = cc in ap (λ (o : List ℕ). record run { output = o }) h
 goes_out (Err f) line run longer e = cc
 
-stops : (r : Result (List Printed) Fault) (line : ℕ) (run : Run) (f : Fault) → and_then r (λ ps. Ok (run.output ++ record_of ps)) ≡ Err f → record run { end = Faulted f line } ≡ given r line run (λ ps. record run { output = run.output ++ record_of ps })
+stops : (r : Result (List Printed) Fault) (line : ℕ) (run : Run) (f : Fault) → (r >>= λ ps. Ok (run.output ++ record_of ps)) ≡ Err f → record run { end = Faulted f line } ≡ given r line run (λ ps. record run { output = run.output ++ record_of ps })
 stops (Ok ps) line run f e = cc
 stops (Err g) line run f e = let h : f ≡ g = cc in ap (λ (x : Fault). record run { end = Faulted x line }) h
 
-print_reaches : (items : List PrintItem) (line : ℕ) (run : Run) (longer : List ℕ) → record_onto run.output items run.store ≡ Ok longer → record run { output = longer } ≡ given (printed items run.store) line run (λ ps. record run { output = run.output ++ record_of ps })
-print_reaches items line run longer e = goes_out (printed items run.store) line run longer (sym (record_on run.output items run.store) ∙ e)
-
-print_faults : (items : List PrintItem) (line : ℕ) (run : Run) (f : Fault) → record_onto run.output items run.store ≡ Err f → record run { end = Faulted f line } ≡ given (printed items run.store) line run (λ ps. record run { output = run.output ++ record_of ps })
-print_faults items line run f e = stops (printed items run.store) line run f (sym (record_on run.output items run.store) ∙ e)
-
 -- What a PRINT leaves, by what its record left: the record, or the old output at a fault.
-pub settled : (r : Result (Unit {0}) Stop) (cs : List Cell) (input old new left : List ℕ) (items : List PrintItem) (line : ℕ) → Gives r line new (record_onto old items (store_of (cells_in cs))) → (is_err r ≡ true → left ≡ old) → (is_err r ≡ false → left ≡ new) → Reaches r (run_of cs input left) (exec (print line items) (run_of cs input old Done))
-settled (Ok done) cs input old new left items line h a b = rw (b refl) (print_reaches items line (run_of cs input old Done) new h)
-settled (Err (Memory e)) cs input old new left items line h a b = tt
-settled (Err (Fails f l)) cs input old new left items line h a b = rw (a refl, h.1) (print_faults items line (run_of cs input old Done) f h.0)
+pub settled : (ss : List Symbol) (r : Result (Unit {0}) Stop) (run : Run) (new left : List ℕ) (items : List PrintItem) (line : ℕ) → run.end ≡ Done → Gives r line new (record_onto run.output items (looked_up ss run.store)) → (is_err r ≡ true → left ≡ run.output) → (is_err r ≡ false → left ≡ new) → Reaches r (λ e. record run { output = left; end = e }) (exec_plain ss line (print items) run)
+settled ss (Ok done) run new left items line d h a b =
+    ap (λ (e : End). record run { output = left; end = e }) (sym d) ∙ ap (λ (o : List ℕ). record run { output = o }) (b refl)
+    ∙ goes_out (printed (looked_up ss run.store) items) line run new (sym (record_on run.output items (looked_up ss run.store)) ∙ h)
+settled ss (Err (Memory e)) run new left items line d h a b = tt
+settled ss (Err (Fails f l)) run new left items line d h a b =
+    ap (λ (o : List ℕ). closed (record run { output = o; end = Faulted f l })) (a refl)
+    ∙ ap (λ (n : ℕ). closed (record run { end = Faulted f n })) h.1
+    ∙ ap closed (stops (printed (looked_up ss run.store) items) line run f (sym (record_on run.output items (looked_up ss run.store)) ∙ h.0))
+settled ss (Err (Stops l)) run new left items line d h a b = absurd h

@@ -1,3 +1,10 @@
+pub mod Accesses
+pub mod Blocks
 pub mod Cells
+pub mod Finding
 pub mod Items
-pub mod Runs
+pub mod Offsets
+pub mod Placing
+pub mod Scanning
+pub mod Seats
+pub mod Values

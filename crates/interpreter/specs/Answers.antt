@@ -1,17 +1,29 @@
 -- Answers of a run.
-use Rattle.std.specs.Prelude.{◌≡◌, ℕ, List}
+use Rattle.std.specs.Prelude.{◌≡◌, ℕ, List, Result, Ok, Err}
 use Rattle.ast.specs.Meaning.{Run, seq}
 use Rattle.ast.specs.Program.{ProgramTree}
-use Rattle.ast.specs.Store.{cells_of}
+use Rattle.ast.specs.Symbols.{Symbol, cells_of}
 use Rattle.ast.specs.View.{cells}
 use Rattle.ast.specs.declared.answer.Answer.{Answer}
+use Rattle.ast.specs.declared.fault.End.{End}
+use Rattle.ast.specs.declared.fault.End.TheVariants.{Done, Stopped, Fault as Faulted}
+use Rattle.std.specs.declared.alloc.AllocError.{AllocError}
+use Rattle.interpreter.specs.declared.stop.Stop.{Stop}
+use Rattle.interpreter.specs.declared.stop.Stop.TheVariants.{Memory, Fault as Fails, Stopped as Stops}
 
--- The answer tells of a run: its output, its end, and its store at the names of a table.
-pub record Tells (names : List (List ℕ)) (run : Run) (answer : Answer) : Type 0 where
+-- The answer tells of a run: its output, its end, and its store, by a program's symbols.
+pub record Tells (symbols : List Symbol) (run : Run) (answer : Answer) : Type 0 where
   pub output : answer.output.items ≡ run.output
   pub end : answer.end ≡ run.end
-  pub store : cells answer.store ≡ cells_of names run.store
+  pub store : cells answer.store ≡ cells_of symbols run.store
 
--- The answer is that of the program's meaning on an input.
+-- The answer is that of the program's meaning on an input, the store at a fault or a STOP included.
 abbrev pub IsAnswer : ProgramTree → List ℕ → Answer → Type 0
-IsAnswer program input answer = Tells program.names (seq program input) answer
+IsAnswer program input answer = Tells program.symbols (seq program input) answer
+
+-- how a run ended whose statements answered so
+abbrev pub ended : Result (Unit {0}) Stop → Result End AllocError
+ended (Ok done) = Ok Done
+ended (Err (Memory e)) = Err e
+ended (Err (Fails f l)) = Ok (Faulted f l)
+ended (Err (Stops l)) = Ok (Stopped l)

@@ -1,3 +1,9 @@
 pub mod Answers
-pub mod Cells
+pub mod Executing
+pub mod Placed
+pub mod Printing
+pub mod Runs
+pub mod Scanning
+pub mod Shapes
 pub mod Steps
+pub mod View

@@ -2,11 +2,15 @@
 #![tactic(auto)]
 
 mod expressions;
+mod input;
+mod machine;
+mod memory;
+mod places;
 mod print;
 mod run;
+mod scanner;
 mod statements;
 mod stop;
-pub mod values;
 
 pub use run::run_seq;
 

@@ -1,18 +1,21 @@
 //! PRINT.
 
-ghost use Rattle.std.specs.Prelude.{◌≡◌, ◌++◌, ◌∷◌, [], ℕ, List, OnOk, map};
-ghost use Rattle.ast.specs.Meaning.{exec};
-ghost use Rattle.ast.specs.Placed.{PlacedItems};
+ghost use Rattle.std.specs.Prelude.{◌≡◌, ◌++◌, ◌∷◌, [], OnOk, map};
+ghost use Rattle.ast.specs.Meaning.{exec_plain};
 ghost use Rattle.ast.specs.Record.{number};
 ghost use Rattle.ast.specs.Tree.{print};
+ghost use Rattle.ast.specs.View.{item as item_of};
 ghost use Rattle.ast.specs.declared.fault.End.TheVariants.{Done};
-ghost use Rattle.ast.specs.View.{cells_in, item as item_of};
-ghost use Rattle.interpreter.specs.Cells.{AreDistinct, names_in, store_of};
-ghost use Rattle.interpreter.specs.Steps.{Gives, Keeps, Reaches, item_onto, record_onto, run_of, shown};
+ghost use Rattle.interpreter.specs.Placed.{PlacedItems};
+ghost use Rattle.interpreter.specs.Printing.{Keeps, item_onto, record_onto, shown};
+ghost use Rattle.interpreter.specs.Runs.{Gives, Reaches, run_of, symbols_of};
+ghost use Rattle.interpreter.specs.View.{look, symbols_in};
 
-use crate::expressions::value;
+use crate::expressions::value_at;
+use crate::machine::Machine;
+use crate::memory::Memory;
 use crate::stop::Stop;
-use ast::{Cell, Item, Line};
+use ast::{Item, Line};
 use itoa::Buffer;
 use std::alloc::AllocError;
 
@@ -30,20 +33,19 @@ fn append_number(output: &mut Vec<u8>, is_first: bool, n: i64) -> Result<(), All
 
 /// Appends what an item prints.
 fn append_item(
+    memory: &Memory<'_>,
     line: Line,
     item: &Item,
     is_first: bool,
-    cells: &[Cell],
     output: &mut Vec<u8>,
 ) -> Result<(), Stop>
-    requires distinct { AreDistinct cells.now }
-    requires placed { PlacedItems (names_in cells.now) (item_of item.now ∷ []) }
-    ensures appended { Gives result line output.new.items (item_onto output.old.items is_first (item_of item.now) (store_of (cells_in cells.now))) }
+    requires placed { PlacedItems (symbols_in memory.now) (item_of item.now ∷ []) }
+    ensures appended { Gives result line output.new.items (item_onto output.old.items is_first (item_of item.now) (look memory.now)) }
     ensures kept { Keeps output.old.items output.new.items }
 {
     match item {
         Item::Value(expression) => {
-            let n = value(expression, cells).map_err(|fault| Stop::Fault(fault, line))?;
+            let n = value_at(memory, line, expression)?;
             append_number(output, is_first, n)?;
         }
         Item::Text(text) => output.extend_from_slice(text)?,
@@ -54,20 +56,19 @@ fn append_item(
 /// Appends the record of a PRINT; where an item faults, a beginning of it.
 #[tactic(auto, using(crate::proofs::Items::placed_first, crate::proofs::Items::placed_rest))]
 fn append_record(
+    memory: &Memory<'_>,
     line: Line,
     items: &[Item],
-    cells: &[Cell],
     output: &mut Vec<u8>,
 ) -> Result<(), Stop>
-    requires distinct { AreDistinct cells.now }
-    requires placed { PlacedItems (names_in cells.now) (map item_of items.now) }
-    ensures appended { Gives result line output.new.items (record_onto output.old.items (map item_of items.now) (store_of (cells_in cells.now))) }
+    requires placed { PlacedItems (symbols_in memory.now) (map item_of items.now) }
+    ensures appended { Gives result line output.new.items (record_onto output.old.items (map item_of items.now) (look memory.now)) }
     ensures kept { Keeps output.old.items output.new.items }
 {
     output.push(b' ')?;
     let mut is_first = true;
     for item in items {
-        append_item(line, item, is_first, cells, output)?;
+        append_item(memory, line, item, is_first, output)?;
         is_first = false;
     }
     output.push(b'\n')?;
@@ -75,15 +76,15 @@ fn append_record(
 }
 
 /// Prints a record, nothing of it where an item faults.
-pub fn print(line: Line, items: &[Item], cells: &[Cell], output: &mut Vec<u8>) -> Result<(), Stop>
-    requires distinct { AreDistinct cells.now }
-    requires placed { PlacedItems (names_in cells.now) (map item_of items.now) }
-    ensures { (input : List ℕ) → Reaches result (run_of cells.now input output.new.items) (exec (print line (map item_of items.now)) (run_of cells.now input output.old.items Done)) }
+pub fn print(machine: &mut Machine<'_>, line: Line, items: &[Item]) -> Result<(), Stop>
+    requires placed { PlacedItems (symbols_of machine.old) (map item_of items.now) }
+    ensures reached { Reaches result (run_of machine.new) (exec_plain (symbols_of machine.old) line (print (map item_of items.now)) (run_of machine.old Done)) }
+    ensures symbols { symbols_of machine.new ≡ symbols_of machine.old }
 {
-    let before = output.len();
-    let printed = append_record(line, items, cells, output);
+    let before = machine.output.len();
+    let printed = append_record(&machine.memory, line, items, &mut machine.output);
     if printed.is_err() {
-        output.truncate(before);
+        machine.output.truncate(before);
     }
     printed
 }

@@ -9,10 +9,12 @@ use std::alloc::{AllocError, AllocFailed};
 /// Why a run goes no further.
 #[derive(Drop)]
 pub enum Stop {
-    /// There was no memory for the output.
+    /// There was no memory.
     Memory(AllocError),
-    /// A fault, and the line of the statement that faulted.
+    /// The first fault, and the line of the statement that faulted.
     Fault(Fault, Line),
+    /// A STOP before END, and its line.
+    Stopped(Line),
 }
 
 impl From<AllocError> for Stop {

@@ -1,67 +1,60 @@
--- One statement more, as the loops over statements meet it.
-use Rattle.std.proofs.Common.{◌≡◌, ℕ, ◌+◌, ◌<◌, List, [], ◌∷◌, ◌++◌, refl, ap, ◌∙◌, sym, subst, map, length, get_or, drop, add-one, drop-cons, Option, Some, arith, Result, Ok, Err, suc}
+-- One statement more, as the check's loop meets it; and what its answer says of a whole program.
+use Rattle.std.proofs.Common.{◌≡◌, ℕ, ◌+◌, ◌<◌, List, [], ◌∷◌, ap, ◌∙◌, sym, subst, map, length, get_or, drop, add-one, drop-cons, Option, Result, Ok, Err, IfOk, IfErr, suc}
 use Rattle.std.specs.Result.{IsErrAnd}
-use Rattle.std.proofs.lemmas.List.{length-map, drop-map}
-use Rattle.std.proofs.Math.Seq.{drop-append_seam}
+use Rattle.ast.specs.Answers.{Break, Gives, Fails, Says}
 use Rattle.ast.specs.Tree.{Statement}
-use Rattle.ast.specs.View.{letters, statement}
-use Rattle.ast.specs.declared.name.Name.{Name}
+use Rattle.ast.specs.View.{statement}
+use Rattle.ast.specs.declared.refusal.Refusal.{Refusal}
+use Rattle.ast.specs.declared.refusal.Refusal.TheVariants.{Memory, Refused}
 use Rattle.ast.specs.declared.statement.Stmt.{Stmt}
-use Rattle.fixed_form.specs.Answers.{entries}
-use Rattle.fixed_form.specs.Lines.{Entry}
-use Rattle.fixed_form.specs.declared.labelled.Labelled.{Labelled}
-use Rattle.profile_check.specs.Answers.{IsRuleOf, IsBreak, IsFound, IsFirstBreak}
-use Rattle.profile_check.specs.Labels.{labelled_of}
-use Rattle.profile_check.specs.Names.{all_declared, table_of}
-use Rattle.profile_check.specs.Rules.{statements_of, declared_in}
-use Rattle.profile_check.specs.Seen.{Tables, tables_of, Break, after, rule_by_tables, found, first_broken}
-use Rattle.profile_check.specs.declared.refusal.Refusal.{Refusal}
-use Rattle.profile_check.specs.declared.refusal.Refusal.TheVariants.{Memory, Refused}
-
--- what stands behind the old names is what was appended
-pub names_after : (old new back : List Name) (xs : List (List ℕ)) (n : ℕ)
-    → map letters new ≡ map letters old ++ xs → n ≡ length old → back ≡ drop n new → map letters back ≡ xs
-names_after old new back xs n more first rest =
-    ap (map letters) rest ∙ sym (drop-map letters n new) ∙ ap (drop n) more
-    ∙ ap (λ k. drop k (map letters old ++ xs)) (first ∙ sym (length-map old letters))
-    ∙ drop-append_seam (map letters old) xs
-
-pub rule-found : (e : Refusal) (s : Statement) (rule : Option ℕ) (later : Option Break) → IsRuleOf e s rule → IsBreak e (found rule s later)
-rule-found Memory s rule later h = tt
-rule-found (Refused n l) s rule later h =
-    ap (λ r. found r s later) h.0 ∙ ap (λ k. Some (record { number = n; line = k })) (sym h.1)
+use Rattle.profile_check.proofs.Laws.{ok-whole, err-breaks}
+use Rattle.profile_check.specs.Checking.{Before, before_of, and_one, rule_by, going_on, checked, table_of, IsRuleOf}
+use Rattle.profile_check.specs.Declarations.{Declared, declared_in}
+use Rattle.profile_check.specs.DeclarationsView.{declared}
+use Rattle.profile_check.specs.Rules.{InProfile, BreaksFirst, typed_in_whole}
+use Rattle.profile_check.specs.declared.declarations.Declarations.{Declarations}
 
 cons_at : {X : Type 0} (xs : List X) (i : ℕ) (x : X) → i < length xs → x ≡ get_or xs i x → drop i xs ≡ x ∷ drop (i + 1) xs
 cons_at xs i x h e = rw (add-one, drop-cons xs i x) (ap (λ y. y ∷ drop (suc i) xs) (sym e))
 
-cons : {X : Type 0} (xs : List X) (i : ℕ) (d : X) → i < length xs → drop i xs ≡ get_or xs i d ∷ drop (i + 1) xs
-cons xs i d h = rw (add-one, drop-cons xs i d) refl
+pub next-statement : (typed : List (List ℕ)) (b : Before) (stmts : List Stmt) (i : ℕ) (y : Stmt) → i < length stmts → y ≡ get_or stmts i y
+    → checked typed b (map statement (drop i stmts))
+    ≡ going_on (rule_by typed b (statement y)) (statement y) (checked typed (and_one b (statement y)) (map statement (drop (i + 1) stmts)))
+next-statement typed b stmts i y h e = ap (λ ss. checked typed b (map statement ss)) (cons_at stmts i y h e)
 
-pub next-statement : (declared : List (List ℕ)) (b : Tables) (labelled : List Labelled) (body : List Stmt) (i : ℕ) (d : Labelled) (y : Stmt)
-    → i < length labelled → i < length body → y ≡ get_or body i y
-    → first_broken declared b (labelled_of (entries (drop i labelled)) (map statement (drop i body)))
-    ≡ found (rule_by_tables declared b ((get_or labelled i d).label, statement y)) (statement y)
-    (first_broken declared (after b ((get_or labelled i d).label, statement y)) (labelled_of (entries (drop (i + 1) labelled)) (map statement (drop (i + 1) body))))
-next-statement declared b labelled body i d y h k ey =
-    ap (λ ls. first_broken declared b (labelled_of (entries ls) (map statement (drop i body)))) (cons labelled i d h)
-    ∙ ap (λ bs. first_broken declared b (labelled_of (entries (get_or labelled i d ∷ drop (i + 1) labelled)) (map statement bs))) (cons_at body i y k ey)
-
-statements-labelled : (es : List Entry) (ss : List Statement) → length es ≡ length ss → statements_of (labelled_of es ss) ≡ ss
-statements-labelled [] [] h = refl
-statements-labelled [] (s ∷ ss) h = absurd (omega (arith, h))
-statements-labelled (e ∷ es) [] h = absurd (omega (arith, h))
-statements-labelled (e ∷ es) (s ∷ ss) h = ap (λ xs. s ∷ xs) (statements-labelled es ss (omega (arith, h)))
-
-pub first-break : {X : Type 0} (r : Result X Refusal) (es : List Entry) (ss : List Statement) (declared : List (List ℕ)) (b : Tables)
-    → length es ≡ length ss → declared ≡ table_of (all_declared ss) → b ≡ tables_of []
-    → IsFound r (first_broken declared b (labelled_of es ss)) → IsFirstBreak r (labelled_of es ss)
-first-break r es ss declared b same d n h =
-    let all : declared ≡ table_of (declared_in (labelled_of es ss)) = d ∙ ap (λ xs. table_of (all_declared xs)) (sym (statements-labelled es ss same)) in
-    let P : List (List ℕ) → Type 0 = λ ds. IsFound r (first_broken ds (tables_of []) (labelled_of es ss)) in
-    let Q : Tables → Type 0 = λ x. IsFound r (first_broken declared x (labelled_of es ss)) in
-    subst P all (subst Q n h)
+rule-found : (e : Refusal) (s : Statement) (rule : Option ℕ) (later : Result Declared Break) → IsRuleOf e s rule → Fails e (going_on rule s later)
+rule-found Memory s rule later h = tt
+rule-found (Refused n l) s rule later h =
+    ap (λ r. going_on r s later) h.0 ∙ ap (λ k. Err (record { number = n; line = k })) (sym h.1)
 
 -- what `?` hands on
-pub refused-found : {X : Type 0} (r : Result X Refusal) (e : Refusal) (first : Option Break) → IsErrAnd r (λ y. y ≡ e) → IsBreak e first → IsFound r first
-refused-found (Ok x) e first h b = absurd h
-refused-found (Err y) e first h b = let P : Refusal → Type 0 = λ z. IsBreak z first in subst P (sym h) b
+pub refused : (r : Result Declarations Refusal) (e : Refusal) (s : Statement) (rule : Option ℕ) (later meant : Result Declared Break)
+    → IsErrAnd r (λ y. y ≡ e) → IsRuleOf e s rule → going_on rule s later ≡ meant → Gives declared r meant
+refused (Ok x) e s rule later meant h b same = absurd h
+refused (Err y) e s rule later meant h b same =
+    let P : Refusal → Type 0 = λ z. Fails z meant in
+    let Q : Result Declared Break → Type 0 = λ m. Fails e m in
+    subst P (sym h) (subst Q same (rule-found e s rule later b))
+
+-- the answer on a whole program
+pub whole : (r : Result Declarations Refusal) (ss : List Statement) (t : List (List ℕ)) (b : Before) → t ≡ table_of (typed_in_whole ss) → b ≡ before_of []
+    → Gives declared r (checked t b ss) → Gives declared r (checked (table_of (typed_in_whole ss)) (before_of []) ss)
+whole r ss t b h k g =
+    let P : List (List ℕ) → Type 0 = λ x. Gives declared r (checked x b ss) in
+    let Q : Before → Type 0 = λ x. Gives declared r (checked (table_of (typed_in_whole ss)) x ss) in
+    subst Q k (subst P h g)
+
+pub kept : (r : Result Declarations Refusal) (ss : List Statement) → Gives declared r (checked (table_of (typed_in_whole ss)) (before_of []) ss) → IfOk r (λ d. InProfile ss)
+kept (Ok d) ss g = record { each = (ok-whole (typed_in_whole ss) [] ss (declared d) g).keep.each }
+kept (Err e) ss g = tt
+
+pub all-declared : (r : Result Declarations Refusal) (ss : List Statement) → Gives declared r (checked (table_of (typed_in_whole ss)) (before_of []) ss) → IfOk r (λ d. declared d ≡ declared_in ss)
+all-declared (Ok d) ss g = (ok-whole (typed_in_whole ss) [] ss (declared d) g).declared
+all-declared (Err e) ss g = tt
+
+pub first-refused : (r : Result Declarations Refusal) (ss : List Statement) → Gives declared r (checked (table_of (typed_in_whole ss)) (before_of []) ss) → IfErr r (Says (BreaksFirst ss))
+first-refused (Ok d) ss g = tt
+first-refused (Err Memory) ss g = tt
+first-refused (Err (Refused n l)) ss g =
+    let b = err-breaks (typed_in_whole ss) [] ss (record { number = n; line = l }) g in
+    record { front = b.kept; statement = b.statement; back = b.back; cut = b.cut; kept = record { each = b.keep.each }; broken = b.broken; place = b.place }

@@ -1,89 +1,224 @@
--- The rules of the profile, statement by statement.
-use Rattle.std.specs.Prelude.{◌≡◌, ℕ, Bool, true, false, nat_le, nat_lt, nat_eq, ◌&&◌, ◌||◌, not, List, [], ◌∷◌, ◌++◌, length, map, Option, Some, None, option_to_list, if◌then◌else◌}
-use Rattle.std.specs.List.{list_any}
+-- The rules of the profile, each a test of a statement after the statements of a front; the rules on
+-- order, labels, ranges and blocks are those of `structure`.
+use Rattle.std.specs.Prelude.{◌≡◌, ℕ, Bool, true, false, not, ◌&&◌, ◌||◌, ◌==◌, nat_lt, nat_le, int_lt, if◌then◌else◌, List, [], ◌∷◌, ◌++◌, length, Option, Some, None, is_some, Result, Ok, Err}
+use Rattle.std.specs.List.{list_any, list_all}
 use Rattle.ast.specs.Store.{same_name}
-use Rattle.ast.specs.Tree.{Statement, integer, assign, print, end, line_of}
-use Rattle.profile_check.specs.Names.{names_declared, names_named, all_declared, all_named, table_of, is_integer, is_intrinsic}
+use Rattle.ast.specs.Symbols.{Extent, most_elements}
+use Rattle.ast.specs.Tree.{Term, PrintItem, value_item, text_item, Bounds, Declarator, Definition, DoHead, Kind, Statement, integer, dimension, parameters, assign, do_loop, block_if, else_if, logical_if, print, read}
+use Rattle.structure.specs.Open.{Open, is_active, open_after}
+use Rattle.structure.specs.Rules.{rules as order_rules, lowest_broken as lowest_order}
+use Rattle.profile_check.specs.Declarations.{Declared, Constants, Arrays, declared_in, and_then_declared, constant_named, constant_value, extent_of, dimensions_named, with_constant, objects_by}
+use Rattle.profile_check.specs.Kinds.{integral, logical, is_of, are_integral}
+use Rattle.profile_check.specs.TakenBefore.{taken_before}
+use Rattle.profile_check.specs.Uses.{Use, uses, typed_by, bounded_by, dimensioned_by, defined_by, declarator_names, definition_names, program_named_by, is_intrinsic, is_among, is_call, has_its_arguments, names_used, names_mentioned}
 
-abbrev pub is_declaration : Statement → Bool
-is_declaration (integer l declared) = true
-is_declaration (assign l target e) = false
-is_declaration (print l items) = false
-is_declaration (end l) = false
+-- The context of a statement: the names that INTEGER statements of the whole program give a type, how
+-- many statements stand before it, the ranges and blocks that are open, and what is declared.
+pub record Context : Type 0 where
+  pub typed : List (List ℕ)
+  pub statements : ℕ
+  pub opened : List Open
+  pub declared : Declared
 
-abbrev pub is_executable : Statement → Bool
-is_executable s = not (is_declaration s)
+abbrev pub context_after : List (List ℕ) → List Statement → Context
+context_after typed front = record { typed = typed; statements = length front; opened = open_after front; declared = declared_in front }
 
--- a statement and its label, if it has one
-abbrev pub LabelledStatement : Type 0
-LabelledStatement = Option ℕ × Statement
+-- ---- 31: a name that isn't integer, by its first letter or by an INTEGER statement anywhere
 
-abbrev pub all_labels : List LabelledStatement → List ℕ
-all_labels [] = []
-all_labels (p ∷ ps) = option_to_list p.0 ++ all_labels ps
+abbrev pub begins_i_to_n : List ℕ → Bool
+begins_i_to_n [] = false
+begins_i_to_n (c ∷ cs) = nat_le 73 c && nat_le c 78
 
-abbrev pub statements_of : List LabelledStatement → List Statement
-statements_of ps = map (λ p. p.1) ps
+abbrev pub is_integer : List (List ℕ) → List ℕ → Bool
+is_integer typed name = begins_i_to_n name || is_among typed name
 
--- whether one of the names stands before, or again among the rest
-abbrev pub repeats : List (List ℕ) → List (List ℕ) → Bool
-repeats before [] = false
-repeats before (name ∷ names) = list_any (same_name name) before || (list_any (same_name name) names || repeats before names)
+abbrev pub are_real : List (List ℕ) → List (List ℕ) → Bool
+are_real typed names = list_any (λ x. not (is_integer typed x)) names
 
--- The rules look at a statement after the labelled statements of a front.
+abbrev pub names_real : List (List ℕ) → Kind → Bool
+names_real typed k =
+    are_real typed (declarator_names (dimensioned_by k))
+    || (are_real typed (definition_names (defined_by k)) || are_real typed (names_used k))
 
--- 30: a declaration after an executable statement
-abbrev pub is_late : List LabelledStatement → Statement → Bool
-is_late front s = is_declaration s && list_any is_executable (statements_of front)
+-- ---- 32: declared twice, or a name of something else
 
--- 31: a name that isn't integer; `declared` are the names that INTEGER statements of the program
--- declare, wherever these stand
-abbrev pub names_real : List (List ℕ) → Statement → Bool
-names_real declared s = list_any (λ x. not (is_integer declared x)) (names_named s)
+abbrev pub is_some_and : {X : Type 0} → (X → Bool) → Option X → Bool
+is_some_and test None = false
+is_some_and test (Some x) = test x
 
--- 32: a name's type given twice, or an intrinsic's name used otherwise
-abbrev pub declares_again : List LabelledStatement → Statement → Bool
-declares_again front s = list_any is_intrinsic (names_named s) || repeats (all_declared (statements_of front)) (names_declared s)
+-- a name of an intrinsic function or of the program
+abbrev pub is_other : Option (List ℕ) → List ℕ → Bool
+is_other program name = is_intrinsic name || is_some_and (same_name name) program
 
--- 40: more than 4,096 statements, END counted, or more than 512 names
-abbrev pub is_too_large : List LabelledStatement → Statement → Bool
-is_too_large front s = nat_le 4096 (length front) || nat_lt 512 (length (table_of (all_named (statements_of front) ++ names_named s)))
+abbrev pub declares_again : Option (List ℕ) → List (List ℕ) → List (List ℕ) → Kind → Bool
+declares_again program typed objects k =
+    taken_before typed (declarator_names (typed_by k))
+    || (taken_before objects (objects_by k)
+    || (is_some_and (is_other program) (program_named_by k) || list_any (is_other program) (names_mentioned k)))
 
--- 41: a label that stands before
-abbrev pub is_label_again : List LabelledStatement → Option ℕ → Bool
-is_label_again front None = false
-is_label_again front (Some l) = list_any (nat_eq l) (all_labels front)
+-- ---- 33: subscripts and arguments in another number
+
+abbrev pub is_miscounted : Arrays → Use → Bool
+is_miscounted arrays u =
+    if is_call u then not (has_its_arguments u)
+    else not (u.count == length (dimensions_named arrays u.name))
+
+abbrev pub miscounts : Context → Kind → Bool
+miscounts c k = list_any (is_miscounted c.declared.arrays) (uses k)
+
+-- ---- 37: an active DO variable is assigned, read or used by an inner DO; 38: a constant is
+
+abbrev pub changes_active : Context → Kind → Bool
+changes_active c k = list_any (λ u. u.is_given && is_active c.opened u.name) (uses k)
+
+abbrev pub is_constant : Constants → List ℕ → Bool
+is_constant cs name = is_some (constant_named cs name)
+
+abbrev pub changes_constant : Context → Kind → Bool
+changes_constant c k = list_any (λ u. u.is_given && is_constant c.declared.constants u.name) (uses k)
+
+-- ---- 39: bounds that are crossed, or more than seven dimensions
+
+abbrev pub most_dimensions : ℕ
+most_dimensions = 7
+
+abbrev pub is_crossed : {E : Type 0} → Result Extent E → Bool
+is_crossed (Ok d) = int_lt d.upper d.lower
+is_crossed (Err e) = false
+
+abbrev pub is_ill_bounded : Constants → Declarator → Bool
+is_ill_bounded cs d = nat_lt most_dimensions (length d.bounds) || list_any (λ b. is_crossed (extent_of cs b)) d.bounds
+
+abbrev pub crosses_bounds : Context → Kind → Bool
+crosses_bounds c k = list_any (is_ill_bounded c.declared.constants) (bounded_by k)
+
+-- ---- 40: too large
+
+abbrev pub most_statements : ℕ
+most_statements = 4096
+
+abbrev pub most_nested : ℕ
+most_nested = 16
+
+abbrev pub most_names : ℕ
+most_names = 512
+
+abbrev pub opens : Kind → Bool
+opens (do_loop h) = true
+opens (block_if e) = true
+opens _ = false
+
+abbrev pub is_larger : ℕ → List Open → Kind → List (List ℕ) → ℕ → Bool
+is_larger statements opened k names elements =
+    nat_le most_statements statements
+    || ((opens k && nat_le most_nested (length opened))
+    || (nat_lt most_names (length names) || nat_lt most_elements elements))
+
+abbrev pub is_too_large : Context → Statement → Bool
+is_too_large c s = is_larger c.statements c.opened s.kind (and_then_declared c.declared s).names (and_then_declared c.declared s).elements
+
+-- ---- 42: a constant expression without a value
+
+abbrev pub has_no_value : {X E : Type 0} → Result X E → Bool
+has_no_value (Ok x) = false
+has_no_value (Err e) = true
+
+abbrev pub lacks_bound : Constants → Declarator → Bool
+lacks_bound cs d = list_any (λ b. has_no_value (extent_of cs b)) d.bounds
+
+abbrev pub lacks_constant : Constants → List Definition → Bool
+lacks_constant cs [] = false
+lacks_constant cs (d ∷ ds) = has_no_value (constant_value cs d.value) || lacks_constant (with_constant cs d.name (constant_value cs d.value)) ds
+
+abbrev pub lacks_value : Constants → Kind → Bool
+lacks_value cs k = list_any (lacks_bound cs) (bounded_by k) || lacks_constant cs (defined_by k)
+
+-- ---- 43: logical against integer
+
+abbrev pub optional_is_integral : Option Term → Bool
+optional_is_integral None = true
+optional_is_integral (Some e) = is_of integral e
+
+abbrev pub item_is_integral : PrintItem → Bool
+item_is_integral (value_item e) = is_of integral e
+item_is_integral (text_item t) = true
+
+abbrev pub bounds_are_integral : Bounds → Bool
+bounds_are_integral b = optional_is_integral b.lower && is_of integral b.upper
+
+abbrev pub head_is_integral : DoHead → Bool
+head_is_integral h = is_of integral h.first && (is_of integral h.last && optional_is_integral h.step)
+
+abbrev pub is_well_kinded : Kind → Bool
+is_well_kinded (integer ds) = list_all (λ d. list_all bounds_are_integral d.bounds) ds
+is_well_kinded (dimension ds) = list_all (λ d. list_all bounds_are_integral d.bounds) ds
+is_well_kinded (parameters ds) = list_all (λ d. is_of integral d.value) ds
+is_well_kinded (assign a e) = is_of integral e && are_integral a.subscripts
+is_well_kinded (do_loop h) = head_is_integral h
+is_well_kinded (block_if c) = is_of logical c
+is_well_kinded (else_if c) = is_of logical c
+is_well_kinded (logical_if c k) = is_of logical c && is_well_kinded k
+is_well_kinded (print items) = list_all item_is_integral items
+is_well_kinded (read elements) = list_all (λ a. are_integral a.subscripts) elements
+is_well_kinded _ = true
+
+-- a rule, by the number of its refusal
+pub record Rule : Type 0 where
+  pub number : ℕ
+  pub is_broken : Context → Statement → Bool
+
+abbrev pub rules_on_values : List Rule
+rules_on_values = record { number = 32; is_broken = λ c s. declares_again c.declared.program c.declared.typed c.declared.objects s.kind }
+    ∷ record { number = 33; is_broken = λ c s. miscounts c s.kind }
+    ∷ record { number = 37; is_broken = λ c s. changes_active c s.kind }
+    ∷ record { number = 38; is_broken = λ c s. changes_constant c s.kind }
+    ∷ record { number = 39; is_broken = λ c s. crosses_bounds c s.kind }
+    ∷ record { number = 40; is_broken = is_too_large }
+    ∷ record { number = 42; is_broken = λ c s. lacks_value c.declared.constants s.kind }
+    ∷ record { number = 43; is_broken = λ c s. not (is_well_kinded s.kind) }
+    ∷ []
+
+abbrev pub rules : List Rule
+rules = record { number = 31; is_broken = λ c s. names_real c.typed s.kind } ∷ rules_on_values
+
+abbrev pub lowest_of : List Rule → Context → Statement → Option ℕ
+lowest_of [] c s = None
+lowest_of (r ∷ rs) c s = if r.is_broken c s then Some r.number else lowest_of rs c s
+
+-- the lower of two numbers, where there are any
+abbrev pub lower : Option ℕ → Option ℕ → Option ℕ
+lower None n = n
+lower (Some m) None = Some m
+lower (Some m) (Some n) = if nat_le m n then Some m else Some n
+
+-- the names that the INTEGER statements of a program give a type; one in a logical IF gives none
+abbrev pub typed_at_top : Kind → List (List ℕ)
+typed_at_top (integer ds) = declarator_names ds
+typed_at_top _ = []
+
+abbrev pub typed_in_whole : List Statement → List (List ℕ)
+typed_in_whole [] = []
+typed_in_whole (s ∷ ss) = typed_at_top s.kind ++ typed_in_whole ss
 
 -- the lowest rule that a statement breaks
-abbrev pub rule_broken : List (List ℕ) → List LabelledStatement → LabelledStatement → Option ℕ
-rule_broken declared front p =
-    if is_late front p.1 then Some 30
-    else if names_real declared p.1 then Some 31
-    else if declares_again front p.1 then Some 32
-    else if is_too_large front p.1 then Some 40
-    else if is_label_again front p.0 then Some 41
-    else None
+abbrev pub rule_broken : List (List ℕ) → List Statement → Statement → Option ℕ
+rule_broken typed front s = lower (lowest_order order_rules front s) (lowest_of rules (context_after typed front) s)
 
 -- no statement breaks a rule
-pub record KeepRules (declared : List (List ℕ)) (ps : List LabelledStatement) : Type 0 where
-  pub each : (front : List LabelledStatement) (p : LabelledStatement) (back : List LabelledStatement)
-      → ps ≡ front ++ p ∷ back → rule_broken declared front p ≡ None
-
--- the names that the INTEGER statements of a program declare
-abbrev pub declared_in : List LabelledStatement → List (List ℕ)
-declared_in ps = all_declared (statements_of ps)
+pub record KeepRules (typed : List (List ℕ)) (ss : List Statement) : Type 0 where
+  pub each : (front : List Statement) (s : Statement) (back : List Statement) → ss ≡ front ++ s ∷ back → rule_broken typed front s ≡ None
 
 -- the statements keep the rules of the profile
-abbrev pub InProfile : List LabelledStatement → Type 0
-InProfile ps = KeepRules (declared_in ps) ps
+abbrev pub InProfile : List Statement → Type 0
+InProfile ss = KeepRules (typed_in_whole ss) ss
 
 -- the first statement that breaks a rule stands at the line, and the lowest rule that it breaks has
 -- the number
-pub record BreaksFirst (ps : List LabelledStatement) (number line : ℕ) : Type 0 where
-  pub front : List LabelledStatement
-  pub statement : LabelledStatement
-  pub back : List LabelledStatement
-  pub cut : ps ≡ front ++ statement ∷ back
-  pub keep : KeepRules (declared_in ps) front
-  pub broken : rule_broken (declared_in ps) front statement ≡ Some number
-  pub place : line ≡ line_of statement.1
+pub record BreaksFirst (ss : List Statement) (number line : ℕ) : Type 0 where
+  pub front : List Statement
+  pub statement : Statement
+  pub back : List Statement
+  pub cut : ss ≡ front ++ statement ∷ back
+  pub kept : KeepRules (typed_in_whole ss) front
+  pub broken : rule_broken (typed_in_whole ss) front statement ≡ Some number
+  pub place : line ≡ statement.line

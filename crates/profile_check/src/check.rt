@@ -1,95 +1,125 @@
-//! The rules of the profile over a whole program.
+//! The rules over a whole program.
 
-ghost use Rattle.std.specs.Prelude.{◌≡◌, ◌≤◌, ◌<◌, ◌^◌, ◌++◌, map, length, drop, OnOk, IfOk};
-ghost use Rattle.indexmap.specs.IndexSet.{insert_all};
-ghost use Rattle.ast.specs.Store.{same_name};
-ghost use Rattle.ast.specs.View.{letters, statement};
-ghost use Rattle.fixed_form.specs.Answers.{entries};
-ghost use Rattle.profile_check.specs.Names.{names_named, all_declared, all_named, table_of, references_in};
-ghost use Rattle.profile_check.specs.Seen.{standing, after, rule_by_tables, first_broken};
-ghost use Rattle.profile_check.specs.Answers.{Breaks, IsFound, IsFirstBreak};
-ghost use Rattle.profile_check.specs.Labels.{labelled_of};
+ghost use Rattle.std.specs.Prelude.{◌≡◌, ◌<◌, ◌^◌, None, IfErr, IfOk, OnOk, length, map};
+ghost use Rattle.ast.specs.Answers.{Gives, Says};
+ghost use Rattle.ast.specs.View as view;
+ghost use Rattle.profile_check.specs.Checking as spec;
+ghost use Rattle.profile_check.specs.CheckingView.{before};
+ghost use Rattle.profile_check.specs.Declarations.{declared_in};
+ghost use Rattle.profile_check.specs.DeclarationsView.{declared};
+ghost use Rattle.profile_check.specs.Rules.{BreaksFirst, InProfile, lower, typed_in_whole};
 
-use crate::names::add_statement;
-use crate::refusal::Refusal;
-use crate::rules::{add_all, declared_names};
-use crate::seen::Seen;
-use ast::{Name, Stmt};
-use fixed_form::Labelled;
+use crate::declarations::Declarations;
+use crate::names::{add_all, typed_at_top};
+use crate::uses::add_uses;
+use ast::{Name, Refusal, Stmt};
 use indexmap::IndexSet;
 use std::alloc::{AllocError, Global};
+use structure::Structure;
 
-/// The names that INTEGER statements declare, wherever these stand.
-fn declared_anywhere(alloc: Global, body: &[Stmt]) -> Result<IndexSet<Name>, AllocError>
-    ensures { IfOk result (λ table. map letters table.keys ≡ table_of (all_declared (map statement body.now))) }
+/// The statements before the next.
+#[derive(Drop)]
+pub struct Seen {
+    structure: Structure,
+    declarations: Declarations,
+    count: usize,
+}
+
+/// The lower of two numbers, where there are any.
+fn lower(left: Option<u8>, right: Option<u8>) -> Option<u8>
+    ensures { result ≡ lower left right }
 {
-    let mut table = IndexSet::new(alloc);
-    for stmt in body {
-        add_all(&mut table, declared_names(stmt))?;
+    match left {
+        None => right,
+        Some(a) => match right {
+            None => Some(a),
+            Some(b) => { if a <= b { Some(a) } else { Some(b) } }
+        },
     }
-    Ok(table)
 }
 
-/// The names from the one at `first` on.
-fn names_from(names: &[Name], first: usize) -> &[Name]
-    requires { first ≤ length names.now }
-    ensures { result.now ≡ drop first names.now }
-{
-    &names[first..]
-}
-
-/// Appends the names of a statement to `named`, and refuses it where it breaks a rule.
-fn check_statement(
-    declared: &IndexSet<Name>,
+/// The lowest rule that the next statement breaks. Where it breaks none it is one of those before
+/// from now on.
+fn rule_broken(
+    alloc: Global,
+    typed: &IndexSet<Name>,
     seen: &mut Seen,
-    label: Option<u32>,
     stmt: &Stmt,
-    named: &mut Vec<Name>,
-) -> Result<(), Refusal>
-    ensures named { OnOk result (map letters named.new.items ≡ map letters named.old.items ++ names_named (statement stmt.now)) }
-    ensures seen { OnOk result (standing seen.new ≡ after (standing seen.old) (label, statement stmt.now)) }
-    ensures rule { Breaks result (statement stmt.now) (rule_by_tables (map letters declared.now.keys) (standing seen.old) (label, statement stmt.now)) }
+) -> Result<Option<u8>, AllocError>
+    requires { seen.old.count < 2 ^ 63 }
+    ensures rule { IfOk result (λ rule. rule ≡ spec.rule_by (map view.letters typed.now.keys) (before seen.old) (view.statement stmt.now)) }
+    ensures kept { IfOk result (λ rule. rule ≡ None → before seen.new ≡ spec.and_one (before seen.old) (view.statement stmt.now)) }
 {
-    let first = named.len();
-    add_statement(named, stmt)?;
-    match seen.rule_broken(declared, label, stmt, names_from(named, first))? {
+    let mut used = Vec::new(alloc);
+    add_uses(&mut used, &stmt.kind)?;
+    let own = seen
+        .declarations
+        .rule_broken(alloc, typed, &seen.structure, seen.count, stmt, &used)?;
+    let order = seen.structure.rule_broken(stmt)?;
+    seen.count += 1;
+    Ok(lower(order, own))
+}
+
+/// The names that INTEGER statements give a type, wherever these stand.
+fn typed_anywhere(alloc: Global, stmts: &[Stmt]) -> Result<IndexSet<Name>, AllocError>
+    ensures { IfOk result (λ typed. map view.letters typed.keys ≡ spec.table_of (typed_in_whole (map view.statement stmts.now))) }
+{
+    let mut typed = IndexSet::new(alloc);
+    for stmt in stmts {
+        let names = typed_at_top(alloc, &stmt.kind)?;
+        add_all(&mut typed, &names)?;
+    }
+    Ok(typed)
+}
+
+/// Refuses the next statement where it breaks a rule.
+fn check_statement(
+    alloc: Global,
+    typed: &IndexSet<Name>,
+    seen: &mut Seen,
+    stmt: &Stmt,
+) -> Result<(), Refusal>
+    requires { seen.old.count < 2 ^ 63 }
+    ensures seen { OnOk result (before seen.new ≡ spec.and_one (before seen.old) (view.statement stmt.now)) }
+    ensures rule { spec.Breaks result (view.statement stmt.now) (spec.rule_by (map view.letters typed.now.keys) (before seen.old) (view.statement stmt.now)) }
+{
+    match rule_broken(alloc, typed, seen, stmt)? {
         Some(number) => Err(Refusal::Refused {
             number,
-            line: stmt.line(),
+            line: stmt.line,
         }),
         None => Ok(()),
     }
 }
 
-/// The names that the statements name and those `seen` before, each once; appends all to `named`, and
-/// refuses the first statement that breaks a rule.
+/// What is declared after the statements; refuses the first that breaks a rule.
 fn check_all(
-    declared: &IndexSet<Name>,
+    alloc: Global,
+    typed: &IndexSet<Name>,
     mut seen: Seen,
-    labelled: &[Labelled],
-    body: &[Stmt],
-    named: &mut Vec<Name>,
-) -> Result<IndexSet<Name>, Refusal>
-    requires { length labelled.now ≡ length body.now }
-    ensures named { OnOk result (map letters named.new.items ≡ map letters named.old.items ++ all_named (map statement body.now)) }
-    ensures table { IfOk result (λ table. map letters table.keys ≡ insert_all same_name (standing seen).named (all_named (map statement body.now))) }
-    ensures broken { IsFound result (first_broken (map letters declared.now.keys) (standing seen) (labelled_of (entries labelled.now) (map statement body.now))) }
+    stmts: &[Stmt],
+) -> Result<Declarations, Refusal>
+    requires { seen.count ≡ 0 }
+    ensures { Gives declared result (spec.checked (map view.letters typed.now.keys) (before seen) (map view.statement stmts.now)) }
 {
-    for i in 0..body.len() {
-        check_statement(declared, &mut seen, labelled[i].label, &body[i], named)?;
+    for stmt in stmts {
+        check_statement(alloc, typed, &mut seen, stmt)?;
     }
-    Ok(seen.into_names())
+    Ok(seen.declarations)
 }
 
-/// The table of the names that the statements name, of which there are few enough to be numbered.
-/// Refuses the first statement that breaks a rule, by the lowest rule that it breaks.
-pub fn check(alloc: Global, labelled: &[Labelled], body: &[Stmt]) -> Result<IndexSet<Name>, Refusal>
-    requires { length labelled.now ≡ length body.now }
-    ensures names { IfOk result (λ names. map letters names.keys ≡ table_of (all_named (map statement body.now))) }
-    ensures few { IfOk result (λ names. references_in (map statement body.now) < 2 ^ 64) }
-    ensures broken { IsFirstBreak result (labelled_of (entries labelled.now) (map statement body.now)) }
+/// What a program's statements declare. Refuses the first statement that breaks a rule, by the lowest
+/// rule that it breaks.
+pub fn check(alloc: Global, stmts: &[Stmt]) -> Result<Declarations, Refusal>
+    ensures kept { IfOk result (λ d. InProfile (map view.statement stmts.now)) }
+    ensures declared { IfOk result (λ d. declared d ≡ declared_in (map view.statement stmts.now)) }
+    ensures refused { IfErr result (Says (BreaksFirst (map view.statement stmts.now))) }
 {
-    let declared = declared_anywhere(alloc, body)?;
-    let mut named = Vec::new(alloc);
-    check_all(&declared, Seen::new(alloc), labelled, body, &mut named)
+    let typed = typed_anywhere(alloc, stmts)?;
+    let seen = Seen {
+        structure: Structure::new(alloc),
+        declarations: Declarations::new(alloc),
+        count: 0,
+    };
+    check_all(alloc, &typed, seen, stmts)
 }

@@ -1,17 +1,17 @@
-//! Programs in the profile: names, kinds and limits, and the tree of a whole source text.
+//! From a source text to its program.
 #![tactic(auto)]
 
+mod arrays;
 mod check;
+mod constants;
+mod declarations;
+mod kinds;
 mod names;
-mod numbering;
+mod nesting;
+mod program;
 mod reading;
-mod refusal;
+mod resolving;
 mod rules;
-mod seen;
-mod tree;
+mod uses;
 
-pub use reading::program;
-pub use refusal::Refusal;
-
-#[cfg(test)]
-mod tests;
+pub use program::program as read_program;

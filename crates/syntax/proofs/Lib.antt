@@ -1,11 +1,7 @@
-pub mod Calls
-pub mod Complete
-pub mod NoLater
-pub mod Numbered
+pub mod Labels
 pub mod Public
-pub mod Sound
+pub mod Rest
 pub mod Squeezing
-pub mod StatementSound
 pub mod StatementComplete
-pub mod Tools
-pub mod Values
+pub mod StatementNumbered
+pub mod StatementSound

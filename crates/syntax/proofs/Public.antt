@@ -1,95 +1,97 @@
--- What the public clauses say of an answer.
-use Rattle.std.proofs.Common.{◌≡◌, ℕ, leb, List, Result, Ok, Err, refl, sym, ap, subst, ◌∙◌}
+-- What the clauses say of an answer.
+use Rattle.std.proofs.Common.{◌≡◌, ℕ, List, Option, Some, None, Result, Ok, Err, refl, sym, ap, subst, ◌∙◌, arith}
 use Rattle.std.specs.Prelude.{IfOk, IfErr}
-use Rattle.std.proofs.lemmas.Bool.{leb-true, le-leb}
-use Rattle.ast.specs.Tree.{Term, depth, Statement}
-use Rattle.ast.specs.View.{term, statement}
-use Rattle.ast.specs.declared.expression.Expr.{Expr}
+use Rattle.ast.specs.Answers.{Break, Gives, Says}
+use Rattle.ast.specs.Results.{◌>>=◌}
+use Rattle.ast.specs.Tree.{Statement}
+use Rattle.ast.specs.View.{statement}
+use Rattle.ast.specs.declared.refusal.Refusal.{Refusal}
+use Rattle.ast.specs.declared.refusal.Refusal.TheVariants.{Memory, Refused}
 use Rattle.ast.specs.declared.statement.Stmt.{Stmt}
-use Rattle.syntax.specs.declared.refusal.SyntaxRefusal.{SyntaxRefusal}
-use Rattle.syntax.specs.declared.refusal.SyntaxRefusal.TheVariants.{Memory, Refused}
-use Rattle.syntax.specs.Answers.{Answers, Says}
-use Rattle.syntax.specs.Classes.{holds_later_form}
-use Rattle.syntax.specs.Grammar.{IsExpression}
+use Rattle.expressions.specs.Answers.{refuse, IsNumber}
+use Rattle.expressions.proofs.Numbered.{fault}
+use Rattle.expressions.proofs.Tools.{done}
 use Rattle.syntax.specs.Pieces.{Piece, Cut, marks, constants}
-use Rattle.syntax.specs.Reading.{◌>>=◌, whole_at}
-use Rattle.syntax.specs.ReadingStatements.{expression_at, shallow_expression, statement_at}
-use Rattle.syntax.specs.Squeezing.{squeezed, text_at}
+use Rattle.syntax.specs.ReadingStatements.{statement_at}
+use Rattle.syntax.specs.Squeezing.{squeezed, finished, text_at}
 use Rattle.syntax.specs.Statements.{IsStatement}
-use Rattle.syntax.proofs.NoLater.{no_later}
-use Rattle.syntax.proofs.Numbered.{text_numbered, expression_numbered}
-use Rattle.syntax.proofs.Squeezing.{squeezed_cut, cut_squeezed, unfinished}
-use Rattle.syntax.proofs.StatementComplete.{whole_again, statement_again}
-use Rattle.syntax.proofs.StatementSound.{whole_sound, statement_sound}
-use Rattle.syntax.proofs.Tools.{done, bind_ok, ok_is, on_true, on_false, choice}
+use Rattle.syntax.proofs.Rest.{nested_short}
+use Rattle.syntax.proofs.Squeezing.{squeezed_cut, cut_squeezed}
+use Rattle.syntax.proofs.StatementComplete.{statement_again}
+use Rattle.syntax.proofs.StatementNumbered.{statement_numbered}
+use Rattle.syntax.proofs.StatementSound.{statement_sound}
 
--- ---- expressions
+text_cut : (line : ℕ) (label : Option ℕ) (t : List ℕ) (ps : List Piece) → Cut ps t → text_at line label t ≡ statement_at line label t (marks ps) (constants ps)
+text_cut line label t ps cut = ap (λ (o : Option (List ℕ × List (List ℕ))). finished line o >>= λ x. statement_at line label t x.0 x.1) (squeezed_cut ps t cut)
 
-expression_sound : (t : List ℕ) (e : Term) → expression_at t ≡ Ok e → IsExpression t e
-expression_sound t e h =
-    elim (choice (holds_later_form t) (Err 28) (whole_at t >>= shallow_expression) (Ok e) h) [
-      | on_true later is ↦ absurd cc
-      | on_false now is ↦
-          let b = bind_ok (whole_at t) shallow_expression e is in
-          elim (choice (leb (depth b.0) 128) (Ok b.0) (Err 26) (Ok e) b.2) [
-            | on_true low f ↦ subst (λ (x : Term). IsExpression t x) (ok_is b.0 e f) (whole_sound t b.0 b.1, leb-true (depth b.0) 128 low)
-            | on_false deep f ↦ absurd cc
-          ]
+abbrev at_fault : Break → Result Statement Break
+at_fault d = Err d
+
+fault_is : (c d : Break) → at_fault c ≡ at_fault d → c ≡ d
+fault_is c d e = cc
+
+-- a text is cut, or it ends in a character constant
+data IsCut (line : ℕ) (label : Option ℕ) (t : List ℕ) : Type 0 where
+  cut_so : (ps : List Piece) → Cut ps t → text_at line label t ≡ statement_at line label t (marks ps) (constants ps) → IsCut line label t
+  uncut : ((ps : List Piece) → Cut ps t → ⊥) → text_at line label t ≡ refuse line 21 → IsCut line label t
+
+is_cut : (line : ℕ) (label : Option ℕ) (t : List ℕ) → IsCut line label t
+is_cut line label t = go (squeezed t) refl
+  where
+    go : (o : Option (List ℕ × List (List ℕ))) → squeezed t ≡ o → IsCut line label t
+    go (Some x) is = let c = cut_squeezed t x is in cut_so c.0 c.1 (text_cut line label t c.0 c.1)
+    go None is = uncut (λ ps cut. let both : squeezed t ≡ Some (marks ps, constants ps) = squeezed_cut ps t cut in cc) (ap (λ (o : Option (List ℕ × List (List ℕ))). finished line o >>= λ x. statement_at line label t x.0 x.1) is)
+
+text_sound : (line : ℕ) (label : Option ℕ) (t : List ℕ) (s : Statement) → text_at line label t ≡ Ok s → IsStatement line label t s
+text_sound line label t s e =
+    elim (is_cut line label t) [
+      | cut_so ps cut is ↦
+          let d = statement_sound line label t (marks ps) (constants ps) s (sym is ∙ e) in
+          record { pieces = ps; cut = cut; derived = d.derived; initial = d.initial; shallow = d.shallow; at = d.at; labelled = d.labelled }
+      | uncut none is ↦ let both : refuse line 21 ≡ done s = sym is ∙ e in absurd cc
     ]
 
-expression_again : (t : List ℕ) (e : Term) → IsExpression t e → expression_at t ≡ Ok e
-expression_again t e h = rw (no_later e t h.0, whole_again t e h.0, le-leb (depth e) 128 h.1) refl
+text_again : (line : ℕ) (label : Option ℕ) (t : List ℕ) (s : Statement) → IsStatement line label t s → text_at line label t ≡ Ok s
+text_again line label t s h =
+    text_cut line label t h.pieces h.cut
+    ∙ statement_again line label t (marks h.pieces) (constants h.pieces) s (record { derived = h.derived; initial = h.initial; shallow = h.shallow; at = h.at; labelled = h.labelled })
+    (omega (arith, nested_short s.kind (marks h.pieces) (constants h.pieces) h.derived))
 
-pub expression_found : (line : ℕ) (t : List ℕ) (r : Result Expr SyntaxRefusal) → Answers term line r (expression_at t) → IfOk r (λ e. IsExpression t (term e))
-expression_found line t (Ok e) h = expression_sound t (term e) h
-expression_found line t (Err f) h = tt
+pub statement_found : (line : ℕ) (label : Option ℕ) (t : List ℕ) (r : Result Stmt Refusal) → Gives statement r (text_at line label t) → IfOk r (λ s. IsStatement line label t (statement s))
+statement_found line label t (Ok s) h = text_sound line label t (statement s) h
+statement_found line label t (Err f) h = tt
 
-pub expression_only : (line : ℕ) (t : List ℕ) (r : Result Expr SyntaxRefusal) → Answers term line r (expression_at t) → (e : Term) → IsExpression t e → Answers term line r (Ok e)
-expression_only line t r h e is = subst (λ (x : Result Term ℕ). Answers term line r x) (expression_again t e is) h
+pub statement_only : (line : ℕ) (label : Option ℕ) (t : List ℕ) (r : Result Stmt Refusal) → Gives statement r (text_at line label t) → (s : Statement) → IsStatement line label t s → Gives statement r (Ok s)
+statement_only line label t r h s is = subst (λ (x : Result Statement Break). Gives statement r x) (text_again line label t s is) h
 
-pub expression_refused : (line : ℕ) (t : List ℕ) (r : Result Expr SyntaxRefusal) → Answers term line r (expression_at t) → IfErr r (Says line ((e : Term) → IsExpression t e → ⊥))
-expression_refused line t (Ok e) h = tt
-expression_refused line t (Err Memory) h = tt
-expression_refused line t (Err (Refused number at)) h = (h.0, expression_numbered t number h.1, λ e is. let both : done e ≡ Err number = sym (expression_again t e is) ∙ h.1 in absurd cc)
+pub statement_refused : (line : ℕ) (label : Option ℕ) (t : List ℕ) (r : Result Stmt Refusal) → Gives statement r (text_at line label t) → IfErr r (Says (λ number at. (at ≡ line) × IsNumber number × ((s : Statement) → IsStatement line label t s → ⊥)))
+statement_refused line label t (Ok s) h = tt
+statement_refused line label t (Err Memory) h = tt
+statement_refused line label t (Err (Refused number at)) h =
+    let none : (s : Statement) → IsStatement line label t s → ⊥ = λ s is. let both : done s ≡ Err (record { number = number; line = at }) = sym (text_again line label t s is) ∙ h in cc in
+    elim (is_cut line label t) [
+      | cut_so ps cut is ↦
+          let f = fault line (statement_at line label t (marks ps) (constants ps)) (record { number = number; line = at }) (statement_numbered line label t (marks ps) (constants ps)) (sym is ∙ h) in
+          (f.at, (f.low, f.high), none)
+      | uncut _ is ↦
+          let same = fault_is (record { number = 21; line = line }) (record { number = number; line = at }) (sym is ∙ h) in
+          let n : 21 ≡ number = ap (λ (d : Break). d.number) same in
+          (ap (λ (d : Break). d.line) (sym same), (omega (arith, n), omega (arith, n)), none)
+    ]
 
--- ---- statements
+pub statement_unfinished : (line : ℕ) (label : Option ℕ) (t : List ℕ) (r : Result Stmt Refusal) → Gives statement r (text_at line label t) → ((ps : List Piece) → Cut ps t → ⊥) → Gives statement r (refuse line 21)
+statement_unfinished line label t r h none =
+    elim (is_cut line label t) [
+      | cut_so ps cut is ↦ absurd (none ps cut)
+      | uncut _ is ↦ subst (λ (x : Result Statement Break). Gives statement r x) is h
+    ]
 
-text_cut : (line : ℕ) (t : List ℕ) (ps : List Piece) → Cut ps t → text_at line t ≡ statement_at line (marks ps) (constants ps)
-text_cut line t ps cut = ap (λ (r : Result (List ℕ × List (List ℕ)) ℕ). r >>= λ x. statement_at line x.0 x.1) (squeezed_cut ps t cut)
+pub statement_finished : (line : ℕ) (label : Option ℕ) (t : List ℕ) (r : Result Stmt Refusal) → Gives statement r (text_at line label t) → IfErr r (Says (λ number at. number ≡ 21 → (ps : List Piece) → Cut ps t → ⊥))
+statement_finished line label t (Ok s) h = tt
+statement_finished line label t (Err Memory) h = tt
+statement_finished line label t (Err (Refused number at)) h = λ unfinished ps cut.
+    let f = fault line (statement_at line label t (marks ps) (constants ps)) (record { number = number; line = at }) (statement_numbered line label t (marks ps) (constants ps)) (sym (text_cut line label t ps cut) ∙ h) in
+    f.whole unfinished
 
-text_sound : (line : ℕ) (t : List ℕ) (s : Statement) → text_at line t ≡ Ok s → IsStatement line t s
-text_sound line t s h =
-    let b = bind_ok (squeezed t) (λ x. statement_at line x.0 x.1) s h in
-    let c = cut_squeezed t b.0 b.1 in
-    let read : statement_at line (marks c.0) (constants c.0) ≡ Ok s = sym (ap (λ (x : List ℕ × List (List ℕ)). statement_at line x.0 x.1) c.2) ∙ b.2 in
-    let f = statement_sound line (marks c.0) (constants c.0) s read in
-    record { pieces = c.0; cut = c.1; class = f.0.0; derived = f.0.1; depth = f.1; at = f.0.2 }
-
-text_again : (line : ℕ) (t : List ℕ) (s : Statement) → IsStatement line t s → text_at line t ≡ Ok s
-text_again line t s h = text_cut line t h.pieces h.cut ∙ statement_again line (marks h.pieces) (constants h.pieces) s h.class h.derived h.depth h.at
-
--- a text that nothing cuts ends in a character constant
-no_cut : (line : ℕ) (t : List ℕ) → ((ps : List Piece) → Cut ps t → ⊥) → text_at line t ≡ Err 21
-no_cut line t none = go (squeezed t) refl
-  where
-    go : (r : Result (List ℕ × List (List ℕ)) ℕ) → squeezed t ≡ r → (r >>= λ x. statement_at line x.0 x.1) ≡ Err 21
-    go (Ok x) is = let c = cut_squeezed t x is in absurd (none c.0 c.1)
-    go (Err n) is = ap (λ (k : ℕ). Err k) (unfinished t n is)
-
-pub statement_found : (line : ℕ) (t : List ℕ) (r : Result Stmt SyntaxRefusal) → Answers statement line r (text_at line t) → IfOk r (λ s. IsStatement line t (statement s))
-statement_found line t (Ok s) h = text_sound line t (statement s) h
-statement_found line t (Err f) h = tt
-
-pub statement_only : (line : ℕ) (t : List ℕ) (r : Result Stmt SyntaxRefusal) → Answers statement line r (text_at line t) → (s : Statement) → IsStatement line t s → Answers statement line r (Ok s)
-statement_only line t r h s is = subst (λ (x : Result Statement ℕ). Answers statement line r x) (text_again line t s is) h
-
-pub statement_refused : (line : ℕ) (t : List ℕ) (r : Result Stmt SyntaxRefusal) → Answers statement line r (text_at line t) → IfErr r (Says line ((s : Statement) → IsStatement line t s → ⊥))
-statement_refused line t (Ok s) h = tt
-statement_refused line t (Err Memory) h = tt
-statement_refused line t (Err (Refused number at)) h = (h.0, text_numbered line t number h.1, λ s is. let both : done s ≡ Err number = sym (text_again line t s is) ∙ h.1 in absurd cc)
-
-pub statement_unfinished : (line : ℕ) (t : List ℕ) (r : Result Stmt SyntaxRefusal) → Answers statement line r (text_at line t) → ((ps : List Piece) → Cut ps t → ⊥) → Answers statement line r (Err 21)
-statement_unfinished line t r h none = subst (λ (x : Result Statement ℕ). Answers statement line r x) (no_cut line t none) h
-
-pub statement_exact : (line : ℕ) (t : List ℕ) (r : Result Stmt SyntaxRefusal) → Answers statement line r (text_at line t) → (ps : List Piece) → Cut ps t → Answers statement line r (statement_at line (marks ps) (constants ps))
-statement_exact line t r h ps cut = subst (λ (x : Result Statement ℕ). Answers statement line r x) (text_cut line t ps cut) h
+pub statement_exact : (line : ℕ) (label : Option ℕ) (t : List ℕ) (r : Result Stmt Refusal) → Gives statement r (text_at line label t) → (ps : List Piece) → Cut ps t → Gives statement r (statement_at line label t (marks ps) (constants ps))
+statement_exact line label t r h ps cut = subst (λ (x : Result Statement Break). Gives statement r x) (text_cut line label t ps cut) h

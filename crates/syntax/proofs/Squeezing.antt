@@ -1,12 +1,11 @@
 -- Going through a text once gives the marks and the character constants of its cut into pieces.
-use Rattle.std.proofs.Common.{◌≡◌, ℕ, Bool, true, false, cond, eqb, List, [], ◌∷◌, ◌++◌, Result, Ok, Err, refl, sym, ap, subst, ◌∙◌, ◌⊎◌, inl, inr, append_assoc}
+use Rattle.std.proofs.Common.{◌≡◌, ℕ, Bool, true, false, cond, eqb, List, [], ◌∷◌, ◌++◌, Option, Some, refl, sym, ap, subst, ◌∙◌, ◌⊎◌, inl, inr, append_assoc}
 use Rattle.std.proofs.lemmas.Bool.{eqb-true, eqb-false, ne_eqb}
 use Rattle.std.proofs.lemmas.List.{append-nil}
-use Rattle.syntax.specs.declared.pieces.Place.{Place}
 use Rattle.syntax.specs.declared.pieces.Place.TheVariants.{Outside, Inside, Closing}
 use Rattle.syntax.specs.Pieces.{Piece, mark, quoted, doubled, NoApostrophe, Cut, folded, marks, constants}
 use Rattle.syntax.specs.Squeezing.{run, squeezed}
-use Rattle.syntax.proofs.Tools.{ok_is, on_true, on_false, choice}
+use Rattle.expressions.proofs.Tools.{some_is, on_true, on_false, choice}
 
 -- ---- a text that is cut is gone through
 
@@ -36,8 +35,8 @@ closing_run : (ms : List ℕ) (ks : List (List ℕ)) (read rest : List ℕ) → 
 closing_run ms ks read [] h = refl
 closing_run ms ks read (c ∷ t) h = rw (ne_eqb c 39 h) refl
 
-abbrev pair_of : List ℕ → List (List ℕ) → Result (List ℕ × List (List ℕ)) ℕ
-pair_of ms ks = Ok (ms, ks)
+abbrev pair_of : List ℕ → List (List ℕ) → Option (List ℕ × List (List ℕ))
+pair_of ms ks = Some (ms, ks)
 
 run_cut : (ps : List Piece) (ms : List ℕ) (ks : List (List ℕ)) (t : List ℕ) → Cut ps t → run Outside ms ks [] t ≡ pair_of (ms ++ marks ps) (ks ++ constants ps)
 run_cut [] ms ks t h = rw (h, append-nil ms, append-nil ks) refl
@@ -54,7 +53,7 @@ run_cut (quoted s ∷ ps) ms ks t h =
     ∙ ap (λ (w : List ℕ). pair_of w ((ks ++ s ∷ []) ++ constants ps)) (append_assoc ms (39 ∷ []) (marks ps))
     ∙ ap (λ (w : List (List ℕ)). pair_of (ms ++ 39 ∷ marks ps) w) (append_assoc ks (s ∷ []) (constants ps))
 
-pub squeezed_cut : (ps : List Piece) (t : List ℕ) → Cut ps t → squeezed t ≡ Ok (marks ps, constants ps)
+pub squeezed_cut : (ps : List Piece) (t : List ℕ) → Cut ps t → squeezed t ≡ Some (marks ps, constants ps)
 squeezed_cut ps t h = run_cut ps [] [] t h
 
 -- ---- what is gone through is cut
@@ -104,26 +103,26 @@ ended_quote c t ms ks read x quote (inr h) =
     )
 
 mutual
-  outside_cut : (t ms : List ℕ) (ks : List (List ℕ)) (x : List ℕ × List (List ℕ)) → run Outside ms ks [] t ≡ Ok x → Found ms ks t x
+  outside_cut : (t ms : List ℕ) (ks : List (List ℕ)) (x : List ℕ × List (List ℕ)) → run Outside ms ks [] t ≡ Some x → Found ms ks t x
   outside_cut [] ms ks x e = ([], refl, sym e ∙ sym (rw (append-nil ms, append-nil ks) refl))
   outside_cut (c ∷ t) ms ks x e =
-      elim (choice (eqb c 39) (run Inside (ms ++ c ∷ []) ks [] t) (run Outside (ms ++ folded c) ks [] t) (Ok x) e) [
+      elim (choice (eqb c 39) (run Inside (ms ++ c ∷ []) ks [] t) (run Outside (ms ++ folded c) ks [] t) (Some x) e) [
         | on_true quote is ↦ quoted_found c t ms ks x (eqb-true c 39 quote) (inside_cut t (ms ++ c ∷ []) ks [] x is)
         | on_false other is ↦ mark_found c t ms ks x other (outside_cut t (ms ++ folded c) ks x is)
       ]
 
-  inside_cut : (t ms : List ℕ) (ks : List (List ℕ)) (read : List ℕ) (x : List ℕ × List (List ℕ)) → run Inside ms ks read t ≡ Ok x → Ended ms ks read t x
+  inside_cut : (t ms : List ℕ) (ks : List (List ℕ)) (read : List ℕ) (x : List ℕ × List (List ℕ)) → run Inside ms ks read t ≡ Some x → Ended ms ks read t x
   inside_cut [] ms ks read x e = absurd cc
   inside_cut (c ∷ t) ms ks read x e =
-      elim (choice (eqb c 39) (run Closing ms ks read t) (run Inside ms ks (read ++ c ∷ []) t) (Ok x) e) [
+      elim (choice (eqb c 39) (run Closing ms ks read t) (run Inside ms ks (read ++ c ∷ []) t) (Some x) e) [
         | on_true quote is ↦ ended_quote c t ms ks read x (eqb-true c 39 quote) (closing_cut t ms ks read x is)
         | on_false other is ↦ ended_more c t ms ks read x other (inside_cut t ms ks (read ++ c ∷ []) x is)
       ]
 
-  closing_cut : (t ms : List ℕ) (ks : List (List ℕ)) (read : List ℕ) (x : List ℕ × List (List ℕ)) → run Closing ms ks read t ≡ Ok x → Closed ms ks read t x
+  closing_cut : (t ms : List ℕ) (ks : List (List ℕ)) (read : List ℕ) (x : List ℕ × List (List ℕ)) → run Closing ms ks read t ≡ Some x → Closed ms ks read t x
   closing_cut [] ms ks read x e = inl (tt, ([], refl, sym e ∙ sym (rw (append-nil ms, append-nil (ks ++ read ∷ [])) refl)))
   closing_cut (c ∷ t) ms ks read x e =
-      elim (choice (eqb c 39) (run Inside ms ks (read ++ c ∷ []) t) (run Outside (ms ++ folded c) (ks ++ read ∷ []) [] t) (Ok x) e) [
+      elim (choice (eqb c 39) (run Inside ms ks (read ++ c ∷ []) t) (run Outside (ms ++ folded c) (ks ++ read ∷ []) [] t) (Some x) e) [
         | on_true quote is ↦
             let q : c ≡ 39 = eqb-true c 39 quote in
             inr (t, ap (λ (d : ℕ). d ∷ t) q, subst (λ (d : ℕ). Ended ms ks (read ++ d ∷ []) t x) q (inside_cut t ms ks (read ++ c ∷ []) x is))
@@ -131,30 +130,5 @@ mutual
       ]
 
 -- the pieces of a text that was gone through
-pub cut_squeezed : (t : List ℕ) (x : List ℕ × List (List ℕ)) → squeezed t ≡ Ok x → (ps : List Piece) × Cut ps t × (x ≡ (marks ps, constants ps))
-cut_squeezed t x e = let f = outside_cut t [] [] x e in (f.0, f.1, ok_is x (marks f.0, constants f.0) f.2)
-
--- ---- a text that isn't cut
-
-run_fails : (t : List ℕ) (p : Place) (ms : List ℕ) (ks : List (List ℕ)) (read : List ℕ) (n : ℕ) → run p ms ks read t ≡ Err n → n ≡ 21
-run_fails [] Outside ms ks read n e = absurd cc
-run_fails [] Inside ms ks read n e = cc
-run_fails [] Closing ms ks read n e = absurd cc
-run_fails (c ∷ t) Outside ms ks read n e =
-    elim (choice (eqb c 39) (run Inside (ms ++ c ∷ []) ks read t) (run Outside (ms ++ folded c) ks read t) (Err n) e) [
-      | on_true quote is ↦ run_fails t Inside (ms ++ c ∷ []) ks read n is
-      | on_false other is ↦ run_fails t Outside (ms ++ folded c) ks read n is
-    ]
-run_fails (c ∷ t) Inside ms ks read n e =
-    elim (choice (eqb c 39) (run Closing ms ks read t) (run Inside ms ks (read ++ c ∷ []) t) (Err n) e) [
-      | on_true quote is ↦ run_fails t Closing ms ks read n is
-      | on_false other is ↦ run_fails t Inside ms ks (read ++ c ∷ []) n is
-    ]
-run_fails (c ∷ t) Closing ms ks read n e =
-    elim (choice (eqb c 39) (run Inside ms ks (read ++ c ∷ []) t) (run Outside (ms ++ folded c) (ks ++ read ∷ []) [] t) (Err n) e) [
-      | on_true quote is ↦ run_fails t Inside ms ks (read ++ c ∷ []) n is
-      | on_false other is ↦ run_fails t Outside (ms ++ folded c) (ks ++ read ∷ []) [] n is
-    ]
-
-pub unfinished : (t : List ℕ) (n : ℕ) → squeezed t ≡ Err n → n ≡ 21
-unfinished t n e = run_fails t Outside [] [] [] n e
+pub cut_squeezed : (t : List ℕ) (x : List ℕ × List (List ℕ)) → squeezed t ≡ Some x → (ps : List Piece) × Cut ps t × (x ≡ (marks ps, constants ps))
+cut_squeezed t x e = let f = outside_cut t [] [] x e in (f.0, f.1, some_is x (marks f.0, constants f.0) f.2)

@@ -1,11 +1,7 @@
-pub mod Answers
-pub mod Characters
 pub mod Classes
-pub mod Grammar
-pub mod Levels
+pub mod Depths
 pub mod Pieces
-pub mod Reading
 pub mod ReadingStatements
-pub mod Real
 pub mod Squeezing
 pub mod Statements
+pub mod Views

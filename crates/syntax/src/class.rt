@@ -1,119 +1,103 @@
 //! The class of a statement.
 
-ghost use Rattle.std.specs.Prelude.{◌≡◌};
-ghost use Rattle.std.specs.Option.{option_map};
-ghost use Rattle.syntax.specs.Classes.{anywhere, begins_call, begins_dotted, holds_later_form, level_after, stands_at_level_zero, begins_word, without_comma, is_do_value, is_do_variable, is_do_label, is_do, begins_left_out_word, begins_later_word, is_left_out_print, is_left_out_write, is_left_out_read, is_left_out, class_by_word, class_of};
+ghost use Rattle.std.specs.Prelude.{◌≡◌, option_map, map};
+ghost use Rattle.syntax.specs.Classes.{stands_at_level_zero, enclosed, is_word, is_digits, after_label, are_labels, if_class, without_comma, is_do_value, is_do_variable, is_do, first_keyword, class_by_keyword, simple_class, other_class, class_behind_if, class_of};
+ghost use Rattle.syntax.specs.Views.{class};
 
-use crate::scan::{
-    begins_any, begins_digit, begins_letter, begins_with, digits, is_alphanumeric, is_letter,
-    letters_and_digits,
-};
+use expressions::{after, begins_digit, begins_letter, begins_with, digits, letters_and_digits};
 
-/// The class of a statement.
+/// A keyword that a statement begins with.
 #[derive(Clone, Copy)]
-pub enum Class {
-    /// A form that a later stage of this compiler reads.
-    Later,
-    Assignment,
-    /// A statement that the language leaves out by name.
-    LeftOut,
+pub enum Keyword {
+    Program,
     Integer,
+    Dimension,
+    Parameter,
+    /// `PRINT*`
     Print,
+    /// `WRITE(*,*)`
+    Write,
+    /// `READ*`
+    Read,
+    /// `READ(*,*)`
+    ReadUnit,
+    Continue,
+    Else,
+    ElseIf,
+    EndIf,
+    Stop,
     End,
+    /// A keyword of a statement that the language leaves out.
+    LeftOut,
+}
+
+/// The class of a statement, with what stands behind its keyword.
+#[derive(Clone, Copy)]
+pub enum Class<'a> {
+    /// A block IF: its condition.
+    BlockIf(&'a [u8]),
+    /// A logical IF: its condition, and its statement.
+    LogicalIf(&'a [u8], &'a [u8]),
+    Do(&'a [u8]),
+    /// An assignment: its text.
+    Assignment(&'a [u8]),
+    Worded(Keyword, &'a [u8]),
+    /// An IF whose parenthesis isn't closed.
+    Unclosed,
     Unknown,
 }
 
-const DOTTED: [&[u8]; 13] = [
-    b".TRUE.", b".FALSE.", b".EQV.", b".NEQV.", b".OR.", b".AND.", b".NOT.", b".LT.", b".LE.",
-    b".EQ.", b".NE.", b".GT.", b".GE.",
+/// The words that a statement may begin with, in the order in which they are tried.
+const KEYWORDS: [(&[u8], Keyword); 48] = [
+    (b"INTEGER*", Keyword::LeftOut),
+    (b"REAL", Keyword::LeftOut),
+    (b"DOUBLEPRECISION", Keyword::LeftOut),
+    (b"COMPLEX", Keyword::LeftOut),
+    (b"LOGICAL", Keyword::LeftOut),
+    (b"CHARACTER", Keyword::LeftOut),
+    (b"COMMON", Keyword::LeftOut),
+    (b"EQUIVALENCE", Keyword::LeftOut),
+    (b"DATA", Keyword::LeftOut),
+    (b"SAVE", Keyword::LeftOut),
+    (b"IMPLICIT", Keyword::LeftOut),
+    (b"EXTERNAL", Keyword::LeftOut),
+    (b"INTRINSIC", Keyword::LeftOut),
+    (b"SUBROUTINE", Keyword::LeftOut),
+    (b"FUNCTION", Keyword::LeftOut),
+    (b"BLOCKDATA", Keyword::LeftOut),
+    (b"ENTRY", Keyword::LeftOut),
+    (b"CALL", Keyword::LeftOut),
+    (b"RETURN", Keyword::LeftOut),
+    (b"GOTO", Keyword::LeftOut),
+    (b"ASSIGN", Keyword::LeftOut),
+    (b"PAUSE", Keyword::LeftOut),
+    (b"FORMAT", Keyword::LeftOut),
+    (b"OPEN", Keyword::LeftOut),
+    (b"CLOSE", Keyword::LeftOut),
+    (b"INQUIRE", Keyword::LeftOut),
+    (b"BACKSPACE", Keyword::LeftOut),
+    (b"ENDFILE", Keyword::LeftOut),
+    (b"REWIND", Keyword::LeftOut),
+    (b"ENDDO", Keyword::LeftOut),
+    (b"DOWHILE", Keyword::LeftOut),
+    (b"PROGRAM", Keyword::Program),
+    (b"INTEGER", Keyword::Integer),
+    (b"DIMENSION", Keyword::Dimension),
+    (b"PARAMETER", Keyword::Parameter),
+    (b"PRINT*", Keyword::Print),
+    (b"PRINT", Keyword::LeftOut),
+    (b"WRITE(*,*)", Keyword::Write),
+    (b"WRITE", Keyword::LeftOut),
+    (b"READ*", Keyword::Read),
+    (b"READ(*,*)", Keyword::ReadUnit),
+    (b"READ", Keyword::LeftOut),
+    (b"CONTINUE", Keyword::Continue),
+    (b"ELSEIF", Keyword::ElseIf),
+    (b"ELSE", Keyword::Else),
+    (b"ENDIF", Keyword::EndIf),
+    (b"STOP", Keyword::Stop),
+    (b"END", Keyword::End),
 ];
-
-const LEFT_OUT: [&[u8]; 31] = [
-    b"INTEGER*",
-    b"REAL",
-    b"DOUBLEPRECISION",
-    b"COMPLEX",
-    b"LOGICAL",
-    b"CHARACTER",
-    b"COMMON",
-    b"EQUIVALENCE",
-    b"DATA",
-    b"SAVE",
-    b"IMPLICIT",
-    b"EXTERNAL",
-    b"INTRINSIC",
-    b"SUBROUTINE",
-    b"FUNCTION",
-    b"BLOCKDATA",
-    b"ENTRY",
-    b"CALL",
-    b"RETURN",
-    b"GOTO",
-    b"ASSIGN",
-    b"PAUSE",
-    b"FORMAT",
-    b"OPEN",
-    b"CLOSE",
-    b"INQUIRE",
-    b"BACKSPACE",
-    b"ENDFILE",
-    b"REWIND",
-    b"ENDDO",
-    b"DOWHILE",
-];
-
-const LATER: [&[u8]; 8] = [
-    b"PROGRAM",
-    b"DIMENSION",
-    b"PARAMETER",
-    b"CONTINUE",
-    b"ELSE",
-    b"ENDIF",
-    b"STOP",
-    b"READ*",
-];
-
-/// Whether a name directly followed by an opening parenthesis stands anywhere.
-fn holds_call(text: &[u8]) -> bool
-    ensures { result ≡ anywhere begins_call text.now }
-{
-    let mut in_name = false;
-    for mark in text {
-        if in_name && *mark == b'(' {
-            return true;
-        }
-        in_name = is_letter(*mark) || (in_name && is_alphanumeric(*mark));
-    }
-    false
-}
-
-#[tactic(auto, unfolding(crate::specs::Classes::begins_dotted))]
-fn begins_dotted(text: &[u8]) -> bool
-    ensures { result ≡ begins_dotted text.now }
-{
-    begins_any(text, &DOTTED)
-}
-
-/// Whether one of the operators or constants between full stops stands anywhere.
-fn holds_dotted(text: &[u8]) -> bool
-    ensures { result ≡ anywhere begins_dotted text.now }
-{
-    let mut rest = text;
-    while let [_, after @ ..] = rest {
-        if begins_dotted(rest) {
-            return true;
-        }
-        rest = after;
-    }
-    false
-}
-
-/// Whether the text holds a form that a later stage of this compiler reads, wherever it stands.
-pub fn holds_later_form(text: &[u8]) -> bool
-    ensures { result ≡ holds_later_form text.now }
-{
-    holds_call(text) || holds_dotted(text)
-}
 
 /// Whether a mark stands outside all parentheses.
 fn stands_at_level_zero(text: &[u8], wanted: u8) -> bool
@@ -133,26 +117,87 @@ fn stands_at_level_zero(text: &[u8], wanted: u8) -> bool
     false
 }
 
-/// Whether what stands after `DO` makes a DO statement of it.
-fn is_do_label(text: &[u8]) -> bool
-    ensures { result ≡ is_do_label text.now }
+/// What stands before the parenthesis that closes one opened before the text, and what stands
+/// behind that parenthesis.
+fn enclosed(text: &[u8]) -> Option<(&[u8], &[u8])>
+    ensures { option_map (λ x. (x.0.now, x.1.now)) result ≡ enclosed text.now }
 {
-    begins_digit(text) && is_do_variable(without_comma(&text[digits(text)..]))
+    let mut level: usize = 0;
+    for (index, mark) in text.iter().enumerate() {
+        if level == 0 && *mark == b')' {
+            return Some((&text[..index], &text[index + 1..]));
+        }
+        level = match *mark {
+            b'(' => level + 1,
+            b')' => level.saturating_sub(1),
+            _ => level,
+        };
+    }
+    None
 }
 
-fn without_comma(text: &[u8]) -> &[u8]
-    ensures { result.now ≡ without_comma text.now }
+/// Whether the text is this word.
+pub fn is_word(text: &[u8], word: &[u8]) -> bool
+    ensures { result ≡ is_word word.now text.now }
 {
-    match text {
-        [b',', rest @ ..] => rest,
-        _ => text,
+    match after(text, word) {
+        Some(rest) => rest.is_empty(),
+        None => false,
     }
 }
 
-fn is_do_variable(text: &[u8]) -> bool
-    ensures { result ≡ is_do_variable text.now }
+/// Whether the text is digits, one at least.
+pub fn is_digits(text: &[u8]) -> bool
+    ensures { result ≡ is_digits text.now }
 {
-    begins_letter(text) && is_do_value(&text[letters_and_digits(text)..])
+    begins_digit(text) && digits(text) == text.len()
+}
+
+/// The text behind digits and a comma.
+fn after_label(text: &[u8]) -> Option<&[u8]>
+    ensures { option_map (λ x. x.now) result ≡ after_label text.now }
+{
+    if begins_digit(text) {
+        after(&text[digits(text)..], b",")
+    } else {
+        None
+    }
+}
+
+/// Whether the text is the three labels of an arithmetic IF.
+fn are_labels(text: &[u8]) -> bool
+    ensures { result ≡ are_labels text.now }
+{
+    match after_label(text) {
+        Some(second) => match after_label(second) {
+            Some(third) => is_digits(third),
+            None => false,
+        },
+        None => false,
+    }
+}
+
+/// The class of an IF, by its condition and what follows the matching parenthesis.
+fn if_class<'a>(condition: &'a [u8], rest: &'a [u8]) -> Class<'a>
+    ensures { class result ≡ if_class condition.now rest.now }
+{
+    if is_word(rest, b"THEN") {
+        Class::BlockIf(condition)
+    } else if are_labels(rest) {
+        Class::Worded(Keyword::LeftOut, rest)
+    } else {
+        Class::LogicalIf(condition, rest)
+    }
+}
+
+/// The text behind a comma, where one stands first, and otherwise the text.
+pub fn without_comma(text: &[u8]) -> &[u8]
+    ensures { result.now ≡ without_comma text.now }
+{
+    match after(text, b",") {
+        Some(rest) => rest,
+        None => text,
+    }
 }
 
 fn is_do_value(text: &[u8]) -> bool
@@ -161,81 +206,76 @@ fn is_do_value(text: &[u8]) -> bool
     begins_with(text, b'=') && stands_at_level_zero(text, b',')
 }
 
+fn is_do_variable(text: &[u8]) -> bool
+    ensures { result ≡ is_do_variable text.now }
+{
+    begins_letter(text) && is_do_value(&text[letters_and_digits(text)..])
+}
+
+/// Whether what stands behind `DO` makes a DO of it.
 fn is_do(text: &[u8]) -> bool
     ensures { result ≡ is_do text.now }
 {
-    text.starts_with(b"DO") && is_do_label(&text[2..])
+    begins_digit(text) && is_do_variable(without_comma(&text[digits(text)..]))
 }
 
-#[tactic(auto, unfolding(crate::specs::Classes::begins_left_out_word))]
-fn begins_left_out_word(text: &[u8]) -> bool
-    ensures { result ≡ begins_left_out_word text.now }
+/// The class by the first of the words that the text begins with.
+fn first_keyword<'a>(text: &'a [u8], words: &[(&[u8], Keyword)]) -> Class<'a>
+    ensures { class result ≡ first_keyword (map (λ w. (w.0.now, w.1)) words.now) text.now }
 {
-    begins_any(text, &LEFT_OUT)
+    for entry in words {
+        if let Some(rest) = after(text, entry.0) {
+            return Class::Worded(entry.1, rest);
+        }
+    }
+    Class::Unknown
 }
 
-#[tactic(auto, unfolding(crate::specs::Classes::begins_later_word))]
-fn begins_later_word(text: &[u8]) -> bool
-    ensures { result ≡ begins_later_word text.now }
+#[tactic(auto, unfolding(crate::specs::Classes::class_by_keyword))]
+fn class_by_keyword(text: &[u8]) -> Class<'_>
+    ensures { class result ≡ class_by_keyword text.now }
 {
-    begins_any(text, &LATER)
+    first_keyword(text, &KEYWORDS)
 }
 
-fn is_left_out_print(text: &[u8]) -> bool
-    ensures { result ≡ is_left_out_print text.now }
+fn simple_class(text: &[u8]) -> Class<'_>
+    ensures { class result ≡ simple_class text.now }
 {
-    text.starts_with(b"PRINT") && !text.starts_with(b"PRINT*")
-}
-
-fn is_left_out_write(text: &[u8]) -> bool
-    ensures { result ≡ is_left_out_write text.now }
-{
-    text.starts_with(b"WRITE") && !text.starts_with(b"WRITE(*,*)")
-}
-
-fn is_left_out_read(text: &[u8]) -> bool
-    ensures { result ≡ is_left_out_read text.now }
-{
-    text.starts_with(b"READ") && !text.starts_with(b"READ*") && !text.starts_with(b"READ(*,*)")
-}
-
-fn is_left_out(text: &[u8]) -> bool
-    ensures { result ≡ is_left_out text.now }
-{
-    begins_left_out_word(text)
-        || is_left_out_print(text)
-        || is_left_out_write(text)
-        || is_left_out_read(text)
-}
-
-fn class_by_word(text: &[u8]) -> Class
-    ensures { result ≡ class_by_word text.now }
-{
-    if is_left_out(text) {
-        Class::LeftOut
-    } else if begins_later_word(text) {
-        Class::Later
-    } else if text.starts_with(b"INTEGER") {
-        Class::Integer
-    } else if text.starts_with(b"PRINT*") {
-        Class::Print
-    } else if text.starts_with(b"END") {
-        Class::End
+    if stands_at_level_zero(text, b'=') {
+        Class::Assignment(text)
     } else {
-        Class::Unknown
+        class_by_keyword(text)
+    }
+}
+
+/// The class of a statement that is no IF.
+fn other_class(text: &[u8]) -> Class<'_>
+    ensures { class result ≡ other_class text.now }
+{
+    match after(text, b"DO") {
+        Some(rest) if is_do(rest) => Class::Do(rest),
+        _ => simple_class(text),
+    }
+}
+
+/// The class of a text behind whose `IF(` the rest stands.
+fn class_behind_if<'a>(text: &'a [u8], rest: &'a [u8]) -> Class<'a>
+    ensures { class result ≡ class_behind_if text.now rest.now }
+{
+    match enclosed(rest) {
+        Some((_, behind)) if begins_with(behind, b'=') => other_class(text),
+        Some((condition, behind)) => if_class(condition, behind),
+        None => Class::Unclosed,
     }
 }
 
 /// The class of a statement's marks: its text without blanks, folded to upper case, an apostrophe
 /// standing for each character constant.
-pub fn class_of(text: &[u8]) -> Class
-    ensures { result ≡ class_of text.now }
+pub fn class_of(text: &[u8]) -> Class<'_>
+    ensures { class result ≡ class_of text.now }
 {
-    if holds_later_form(text) || is_do(text) {
-        Class::Later
-    } else if stands_at_level_zero(text, b'=') {
-        Class::Assignment
-    } else {
-        class_by_word(text)
+    match after(text, b"IF(") {
+        Some(rest) => class_behind_if(text, rest),
+        None => other_class(text),
     }
 }

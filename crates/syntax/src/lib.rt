@@ -2,14 +2,14 @@
 #![tactic(auto)]
 
 mod class;
-mod expressions;
+mod depths;
+mod keywords;
+mod lists;
+mod loops;
 mod pieces;
-mod refusal;
-mod scan;
 mod statements;
 
-pub use expressions::expr;
-pub use refusal::SyntaxRefusal;
+pub use ast::Refusal as SyntaxRefusal;
 pub use statements::statement;
 
 #[cfg(test)]

@@ -2,10 +2,10 @@
 
 ghost use Rattle.std.specs.Prelude.{◌≡◌, ℕ, List, [], ◌∷◌, ◌++◌, map, length, OnOk, IfOk};
 ghost use Rattle.syntax.specs.Pieces.{folded};
-ghost use Rattle.syntax.specs.Answers.{Gives};
-ghost use Rattle.syntax.specs.Squeezing.{left_of, squeezed};
+ghost use Rattle.ast.specs.Answers.{Gives};
+ghost use Rattle.syntax.specs.Squeezing.{left_of, squeezed, finished};
 
-use crate::refusal::Failure;
+use ast::{Line, Refusal};
 use std::alloc::{AllocError, Global};
 use std::mem;
 
@@ -39,14 +39,14 @@ struct Squeezing {
 }
 
 /// The marks and the character constants of a text. Number 21.
-pub fn squeeze(alloc: Global, text: &[u8]) -> Result<Squeezed, Failure>
-    ensures { Gives (λ s. (s.marks.items, map (λ v. v.items) s.constants.items)) result (squeezed text.now) }
+pub fn squeeze(alloc: Global, text: &[u8], line: Line) -> Result<Squeezed, Refusal>
+    ensures { Gives (λ s. (s.marks.items, map (λ v. v.items) s.constants.items)) result (finished line (squeezed text.now)) }
 {
     let mut state = begin(alloc, text.len())?;
     for byte in text {
         take(alloc, &mut state, *byte)?;
     }
-    finish(state)
+    finish(state, line)
 }
 
 fn begin(alloc: Global, length: usize) -> Result<Squeezing, AllocError>
@@ -123,8 +123,8 @@ fn push_folded(marks: &mut Vec<u8>, byte: u8) -> Result<(), AllocError>
     Ok(())
 }
 
-fn finish(state: Squeezing) -> Result<Squeezed, Failure>
-    ensures { Gives (λ s. (s.marks.items, map (λ v. v.items) s.constants.items)) result (left_of state []) }
+fn finish(state: Squeezing, line: Line) -> Result<Squeezed, Refusal>
+    ensures { Gives (λ s. (s.marks.items, map (λ v. v.items) s.constants.items)) result (finished line (left_of state [])) }
 {
     let Squeezing {
         marks,
@@ -134,7 +134,7 @@ fn finish(state: Squeezing) -> Result<Squeezed, Failure>
     } = state;
     match place {
         Place::Outside => {}
-        Place::Inside => return Err(Failure::Broken(21)),
+        Place::Inside => return Err(Refusal::Refused { number: 21, line }),
         Place::Closing => constants.push(open)?,
     }
     Ok(Squeezed { marks, constants })

@@ -2,8 +2,12 @@ use Rattle.std.proofs.Common.{subst, sym}
 use Rattle.std.proofs.lemmas.Result.{IfOk-weaker}
 use Rattle.doac.specs.Engines.{Checks}
 use Rattle.doac.specs.declared.outcome.Outcome.{Outcome}
+use Rattle.doac.proofs.Counts.{few_loops}
 use Rattle.doac.proofs.Pages.{refused_text}
 use Rattle.doac.proofs.page.checked.Goals as goal
+
+pub accepted-requires : goal.accepted-requires
+accepted-requires c = few_loops _ _ c.in-Ok.ensures.found
 
 pub returns-in-Err-Refused : goal.returns-in-Err-Refused
 returns-in-Err-Refused c =

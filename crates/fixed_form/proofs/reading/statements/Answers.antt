@@ -1,6 +1,6 @@
 use Rattle.fixed_form.specs.Answers.{entries}
 use Rattle.fixed_form.proofs.Laws.{found_of, only_of, refused_of, exactly_of}
-use Rattle.fixed_form.proofs.Shape.{shaped_of}
+use Rattle.fixed_form.proofs.Ends.{shaped_of}
 use Rattle.fixed_form.proofs.reading.statements.Goals as goal
 
 pub returns-clause-found : goal.returns-clause-found

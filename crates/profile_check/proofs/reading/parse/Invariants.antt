@@ -7,6 +7,6 @@ use Rattle.profile_check.proofs.reading.parse.Given as goal
 
 abbrev pub invariant-loop-one : goal.invariant-loop-one
 invariant-loop-one l = record {
-  spelled : Spelled (entries (take l.one-index l.labelled)) (map statement l.body.items);
-  begins : Begins (entries l.labelled) (map statement l.body.items) (entries (drop l.one-index l.labelled));
+  spelled : Spelled (entries (take l.one-index l.labelled)) (map statement l.stmts.items);
+  begins : Begins (entries l.labelled) (map statement l.stmts.items) (entries (drop l.one-index l.labelled));
 }

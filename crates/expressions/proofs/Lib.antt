@@ -1,0 +1,7 @@
+pub mod Complete
+pub mod Followers
+pub mod Numbered
+pub mod Public
+pub mod Sound
+pub mod Tools
+pub mod Values

@@ -1,0 +1,11 @@
+use Rattle.std.proofs.Common.{◌≡◌, map, drop, ◌&&◌}
+use Rattle.std.specs.List.{list_any}
+use Rattle.profile_check.specs.DeclaredView.{constants_of}
+use Rattle.profile_check.specs.Rules.{is_constant}
+use Rattle.profile_check.specs.UsesView.{use_of}
+use Rattle.profile_check.proofs.rules.changes_constant.Given as goal
+
+abbrev pub invariant-loop-one : goal.invariant-loop-one
+invariant-loop-one l =
+    list_any (λ u. u.is_given && is_constant (constants_of l.constants.entries) u.name) (map use_of (drop l.one-index l.used))
+    ≡ list_any (λ u. u.is_given && is_constant (constants_of l.constants.entries) u.name) (map use_of l.used)

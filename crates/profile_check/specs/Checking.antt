@@ -1,0 +1,52 @@
+-- What the check keeps of the statements before, and the rules by that.
+use Rattle.std.specs.Prelude.{◌≡◌, ℕ, ◌+◌, List, [], ◌∷◌, length, Option, Some, None, Result, Ok, Err}
+use Rattle.indexmap.specs.IndexSet.{insert_all}
+use Rattle.ast.specs.Answers.{Break}
+use Rattle.ast.specs.Store.{same_name}
+use Rattle.ast.specs.Tree.{Statement}
+use Rattle.ast.specs.declared.refusal.Refusal.{Refusal}
+use Rattle.ast.specs.declared.refusal.Refusal.TheVariants.{Memory, Refused}
+use Rattle.structure.specs.Standing.{Standing, standing_after, next, rule_by as order_by}
+use Rattle.profile_check.specs.Declarations.{Declared, declared_in, and_then_declared}
+use Rattle.profile_check.specs.Rules.{Context, lower, lowest_of, rules}
+
+-- the order of the statements before, what they declare, and how many they are
+pub record Before : Type 0 where
+  pub order : Standing
+  pub declared : Declared
+  pub count : ℕ
+
+abbrev pub before_of : List Statement → Before
+before_of front = record { order = standing_after front; declared = declared_in front; count = length front }
+
+abbrev pub and_one : Before → Statement → Before
+and_one b s = record { order = next b.order s; declared = and_then_declared b.declared s; count = b.count + 1 }
+
+abbrev pub context_by : List (List ℕ) → Before → Context
+context_by typed b = record { typed = typed; statements = b.count; opened = b.order.opened; declared = b.declared }
+
+-- the lowest rule that a statement breaks, by the table of names with a type
+abbrev pub rule_by : List (List ℕ) → Before → Statement → Option ℕ
+rule_by typed b s = lower (order_by b.order s) (lowest_of rules (context_by typed b) s)
+
+-- what is declared after all, or the first broken rule
+abbrev pub going_on : Option ℕ → Statement → Result Declared Break → Result Declared Break
+going_on None s later = later
+going_on (Some n) s later = Err (record { number = n; line = s.line })
+
+abbrev pub checked : List (List ℕ) → Before → List Statement → Result Declared Break
+checked typed b [] = Ok b.declared
+checked typed b (s ∷ ss) = going_on (rule_by typed b s) s (checked typed (and_one b s) ss)
+
+-- a table of names
+abbrev pub table_of : List (List ℕ) → List (List ℕ)
+table_of names = insert_all same_name [] names
+
+-- one statement's answer: a broken rule at its line, or none
+abbrev pub IsRuleOf : Refusal → Statement → Option ℕ → Type 0
+IsRuleOf Memory s rule = Unit {0}
+IsRuleOf (Refused number line) s rule = (rule ≡ Some number) × (line ≡ s.line)
+
+abbrev pub Breaks : {X : Type 0} → Result X Refusal → Statement → Option ℕ → Type 0
+Breaks (Ok x) s rule = rule ≡ None
+Breaks (Err e) s rule = IsRuleOf e s rule

@@ -1,0 +1,7 @@
+use Rattle.std.proofs.Common.{◌≡◌, drop, map}
+use Rattle.structure.specs.Open.{is_active}
+use Rattle.structure.specs.View.{opened}
+use Rattle.structure.proofs.opened.has_variable.Given as goal
+
+abbrev pub invariant-loop-open : goal.invariant-loop-open
+invariant-loop-open l = is_active (map opened (drop l.open-index l.structures)) l.name.letters ≡ is_active (map opened l.structures) l.name.letters

@@ -1,6 +1,0 @@
-use Rattle.std.proofs.Common.{◌≡◌, map, drop}
-use Rattle.syntax.specs.Real.{begins_any}
-use Rattle.syntax.proofs.scan.begins_any.Given as goal
-
-abbrev pub invariant-loop-word : goal.invariant-loop-word
-invariant-loop-word l = begins_any (map (λ w. w.now) (drop l.word-index l.words)) l.text ≡ begins_any (map (λ w. w.now) l.words) l.text

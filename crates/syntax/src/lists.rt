@@ -1,0 +1,311 @@
+//! Lists, their parts parted by commas.
+
+ghost use Rattle.std.specs.Prelude.{◌≡◌, ◌+◌, ◌++◌, ◌∷◌, [], length, map, IfOk, IfErr, codes};
+ghost use Rattle.ast.specs.Answers.{Gives};
+ghost use Rattle.ast.specs.View.{access, bounds, declarator, definition, item, term};
+ghost use Rattle.ast.specs.declared.refusal.Refusal.TheVariants.{Refused};
+ghost use Rattle.expressions.specs.Answers.{IsRefused};
+ghost use Rattle.expressions.specs.Reading.{element_at, end_at, wanted_at, spent};
+ghost use Rattle.syntax.specs.ReadingStatements.{parts_at, closed_list, open_list, upper_at, bounds_at, array_of, array_at, declared_at, declarator_at, part_at, definition_at, next_constant, item_at, items_from, items_at};
+ghost use Rattle.syntax.specs.Squeezing.{texts_left};
+
+use ast::{Access, Bounds, Declarator, Definition, Expr, Item, Line, Name, Refusal};
+use expressions::{access, after, end, expression, name, wanted};
+use std::alloc::{AllocError, Global};
+use std::vec::IntoIter;
+
+/// The number where the room for the parts of a list ends: that of no refusal.
+const SPENT: u8 = 0;
+
+/// The refusal where the room ends. No text comes there.
+pub fn spent(line: Line) -> Refusal
+    ensures { result ≡ Refused spent line }
+{
+    Refusal::Refused {
+        number: SPENT,
+        line,
+    }
+}
+
+/// Room for the parts that a text may have.
+pub fn room(text: &[u8]) -> u128
+    ensures { result ≡ length text.now + 1 }
+{
+    text.len() as u128 + 1
+}
+
+// ---- bounds
+
+/// Bounds after whose first expression the text stands.
+fn upper(alloc: Global, first: Expr, text: &[u8], line: Line) -> Result<(Bounds, &[u8]), Refusal>
+    ensures { Gives (λ x. (bounds x.0, x.1.now)) result (upper_at line (term first) text.now) }
+{
+    match after(text, b":") {
+        Some(behind) => {
+            let (upper, rest) = expression(alloc, behind, line)?;
+            let lower = Some(first);
+            Ok((Bounds { lower, upper }, rest))
+        }
+        None => {
+            let bounds = Bounds {
+                lower: None,
+                upper: first,
+            };
+            Ok((bounds, text))
+        }
+    }
+}
+
+/// The bounds of one dimension. Numbers 22 to 25.
+fn bounds(alloc: Global, text: &[u8], line: Line) -> Result<(Bounds, &[u8]), Refusal>
+    ensures { Gives (λ x. (bounds x.0, x.1.now)) result (bounds_at line text.now) }
+{
+    let (first, rest) = expression(alloc, text, line)?;
+    upper(alloc, first, rest, line)
+}
+
+fn with_bounds(mut read: Vec<Bounds>, next: Bounds) -> Result<Vec<Bounds>, AllocError>
+    ensures { IfOk result (λ v. map bounds v.items ≡ map bounds read.items ++ bounds next ∷ []) }
+{
+    read.push(next)?;
+    Ok(read)
+}
+
+/// The bounds after those that were read, the first right here, and what stands behind the closing
+/// parenthesis. `room` bounds their number.
+fn bounds_list(
+    alloc: Global,
+    read: Vec<Bounds>,
+    text: &[u8],
+    line: Line,
+    room: u128,
+) -> Result<(Vec<Bounds>, &[u8]), Refusal>
+    ensures { Gives (λ x. (map bounds x.0.items, x.1.now)) result (parts_at line (bounds_at line) (wanted_at line (codes ")")) room (map bounds read.items) text.now) }
+{
+    if room == 0 {
+        return Err(spent(line));
+    }
+    let (next, rest) = bounds(alloc, text, line)?;
+    let longer = with_bounds(read, next)?;
+    match after(rest, b",") {
+        Some(behind) => bounds_list(alloc, longer, behind, line, room - 1),
+        None => Ok((longer, wanted(rest, b")", line)?)),
+    }
+}
+
+// ---- names with bounds
+
+/// An array behind whose name and opening parenthesis the text stands. Numbers 22 to 25.
+fn array(alloc: Global, name: Name, text: &[u8], line: Line) -> Result<(Declarator, &[u8]), Refusal>
+    ensures { Gives (λ x. (declarator x.0, x.1.now)) result (array_of line name.letters text.now) }
+{
+    let (bounds, rest) = bounds_list(alloc, Vec::new(alloc), text, line, room(text))?;
+    Ok((Declarator { name, bounds }, rest))
+}
+
+/// A declarator behind whose name the text stands. Numbers 22 to 25.
+fn declared(
+    alloc: Global,
+    name: Name,
+    text: &[u8],
+    line: Line,
+) -> Result<(Declarator, &[u8]), Refusal>
+    ensures { Gives (λ x. (declarator x.0, x.1.now)) result (declared_at line name.letters text.now) }
+{
+    match after(text, b"(") {
+        Some(inside) => array(alloc, name, inside, line),
+        None => {
+            let bounds = Vec::new(alloc);
+            Ok((Declarator { name, bounds }, text))
+        }
+    }
+}
+
+/// A name, with bounds if `bounded` asks for them or if it has some. Numbers 22 to 25.
+fn declarator(
+    alloc: Global,
+    bounded: bool,
+    text: &[u8],
+    line: Line,
+) -> Result<(Declarator, &[u8]), Refusal>
+    ensures { Gives (λ x. (declarator x.0, x.1.now)) result (part_at bounded line text.now) }
+{
+    let (name, rest) = name(text, line)?;
+    if bounded {
+        array(alloc, name, wanted(rest, b"(", line)?, line)
+    } else {
+        declared(alloc, name, rest, line)
+    }
+}
+
+fn with_declarator(
+    mut read: Vec<Declarator>,
+    next: Declarator,
+) -> Result<Vec<Declarator>, AllocError>
+    ensures { IfOk result (λ v. map declarator v.items ≡ map declarator read.items ++ declarator next ∷ []) }
+{
+    read.push(next)?;
+    Ok(read)
+}
+
+/// The declarators after those that were read, the first right here, to the end of the text. `room`
+/// bounds their number. Numbers 22 to 25.
+pub fn declarators(
+    alloc: Global,
+    bounded: bool,
+    read: Vec<Declarator>,
+    text: &[u8],
+    line: Line,
+    room: u128,
+) -> Result<(Vec<Declarator>, &[u8]), Refusal>
+    ensures { Gives (λ x. (map declarator x.0.items, x.1.now)) result (parts_at line (part_at bounded line) (end_at line) room (map declarator read.items) text.now) }
+{
+    if room == 0 {
+        return Err(spent(line));
+    }
+    let (next, rest) = declarator(alloc, bounded, text, line)?;
+    let longer = with_declarator(read, next)?;
+    match after(rest, b",") {
+        Some(behind) => declarators(alloc, bounded, longer, behind, line, room - 1),
+        None => Ok((longer, end(rest, line)?)),
+    }
+}
+
+// ---- definitions
+
+/// A name, `=` and an expression. Numbers 22 to 25.
+fn definition(alloc: Global, text: &[u8], line: Line) -> Result<(Definition, &[u8]), Refusal>
+    ensures { Gives (λ x. (definition x.0, x.1.now)) result (definition_at line text.now) }
+{
+    let (name, rest) = name(text, line)?;
+    let behind = wanted(rest, b"=", line)?;
+    let (value, rest) = expression(alloc, behind, line)?;
+    Ok((Definition { name, value }, rest))
+}
+
+fn with_definition(
+    mut read: Vec<Definition>,
+    next: Definition,
+) -> Result<Vec<Definition>, AllocError>
+    ensures { IfOk result (λ v. map definition v.items ≡ map definition read.items ++ definition next ∷ []) }
+{
+    read.push(next)?;
+    Ok(read)
+}
+
+/// The definitions after those that were read, the first right here, and what stands behind the
+/// closing parenthesis. `room` bounds their number. Numbers 22 to 25.
+pub fn definitions(
+    alloc: Global,
+    read: Vec<Definition>,
+    text: &[u8],
+    line: Line,
+    room: u128,
+) -> Result<(Vec<Definition>, &[u8]), Refusal>
+    ensures { Gives (λ x. (map definition x.0.items, x.1.now)) result (parts_at line (definition_at line) (wanted_at line (codes ")")) room (map definition read.items) text.now) }
+{
+    if room == 0 {
+        return Err(spent(line));
+    }
+    let (next, rest) = definition(alloc, text, line)?;
+    let longer = with_definition(read, next)?;
+    match after(rest, b",") {
+        Some(behind) => definitions(alloc, longer, behind, line, room - 1),
+        None => Ok((longer, wanted(rest, b")", line)?)),
+    }
+}
+
+// ---- variables and elements
+
+fn with_element(mut read: Vec<Access>, next: Access) -> Result<Vec<Access>, AllocError>
+    ensures { IfOk result (λ v. map access v.items ≡ map access read.items ++ access next ∷ []) }
+{
+    read.push(next)?;
+    Ok(read)
+}
+
+/// The elements after those that were read, the first right here, to the end of the text. `room`
+/// bounds their number. Numbers 22 to 25.
+pub fn elements(
+    alloc: Global,
+    read: Vec<Access>,
+    text: &[u8],
+    line: Line,
+    room: u128,
+) -> Result<(Vec<Access>, &[u8]), Refusal>
+    ensures { Gives (λ x. (map access x.0.items, x.1.now)) result (parts_at line (element_at line) (end_at line) room (map access read.items) text.now) }
+{
+    if room == 0 {
+        return Err(spent(line));
+    }
+    let (next, rest) = access(alloc, text, line)?;
+    let longer = with_element(read, next)?;
+    match after(rest, b",") {
+        Some(behind) => elements(alloc, longer, behind, line, room - 1),
+        None => Ok((longer, end(rest, line)?)),
+    }
+}
+
+// ---- items
+
+/// The next character constant as an item. Number 25.
+fn constant_text(constants: &mut IntoIter<Vec<u8>>, line: Line) -> Result<Item, Refusal>
+    ensures reads { Gives (λ x. (item x, texts_left constants.new)) result (next_constant line (texts_left constants.old)) }
+    ensures sure { IfErr result IsRefused }
+{
+    match constants.next() {
+        Some(text) if !text.is_empty() => Ok(Item::Text(text)),
+        _ => Err(Refusal::Refused { number: 25, line }),
+    }
+}
+
+/// The item that the text begins with, and what stands after it. Numbers 22 to 25.
+fn item<'a>(
+    alloc: Global,
+    text: &'a [u8],
+    constants: &mut IntoIter<Vec<u8>>,
+    line: Line,
+) -> Result<(Item, &'a [u8]), Refusal>
+    ensures { Gives (λ x. (item x.0, x.1.now, texts_left constants.new)) result (item_at line text.now (texts_left constants.old)) }
+{
+    match after(text, b"'") {
+        Some(behind) => Ok((constant_text(constants, line)?, behind)),
+        None => {
+            let (value, rest) = expression(alloc, text, line)?;
+            Ok((Item::Value(value), rest))
+        }
+    }
+}
+
+fn with_item(mut read: Vec<Item>, next: Item) -> Result<Vec<Item>, AllocError>
+    ensures { IfOk result (λ v. map item v.items ≡ map item read.items ++ item next ∷ []) }
+{
+    read.push(next)?;
+    Ok(read)
+}
+
+/// The items after those that were read, the first right here, to the end of the text. `room` bounds
+/// their number. Numbers 22 to 25.
+pub fn items(
+    alloc: Global,
+    read: Vec<Item>,
+    text: &[u8],
+    constants: &mut IntoIter<Vec<u8>>,
+    line: Line,
+    room: u128,
+) -> Result<Vec<Item>, Refusal>
+    ensures { Gives (λ v. map item v.items) result (items_from line room (map item read.items) text.now (texts_left constants.old)) }
+{
+    if room == 0 {
+        return Err(spent(line));
+    }
+    let (next, rest) = item(alloc, text, constants, line)?;
+    let longer = with_item(read, next)?;
+    match after(rest, b",") {
+        Some(behind) => items(alloc, longer, behind, constants, line, room - 1),
+        None => {
+            end(rest, line)?;
+            Ok(longer)
+        }
+    }
+}
