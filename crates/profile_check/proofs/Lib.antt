@@ -7,6 +7,7 @@ pub mod Laid
 pub mod Laws
 pub mod OneProgram
 pub mod Parsing
+pub mod Parts
 pub mod Positions
 pub mod Resolved
 pub mod Steps

@@ -1,7 +1,7 @@
 -- What the names of a statement stand for, and the numbers of its references: an account of the code.
 use Rattle.std.specs.Prelude.{ℕ, ℤ, ◌+◌, codes, if◌then◌else◌, List, [], ◌∷◌, Option, Some, None, position, unwrap_or, option_map}
 use Rattle.ast.specs.Store.{same_name}
-use Rattle.ast.specs.Tree.{Ref, Term, Terms, parameter, element, call, parentheses, unary, binary, no_terms, then_term, Access, PrintItem, value_item, text_item, DoHead, Kind, assign, do_loop, block_if, else_if, logical_if, print, read}
+use Rattle.ast.specs.Tree.{Ref, Term, Terms, parameter, element, call, parentheses, unary, binary, no_terms, then_term, Access, PrintItem, value_item, text_item, DoHead, Kind, assign, do_loop, block_if, else_if, logical_if, print, read, Statement}
 use Rattle.ast.specs.declared.expression.Intrinsic.{Intrinsic}
 use Rattle.ast.specs.declared.expression.Intrinsic.TheVariants.{Abs, Iabs, Max, Max0, Min, Min0, Mod}
 use Rattle.profile_check.specs.Declarations.{Constants, constant_named}
@@ -154,3 +154,16 @@ kind_count (logical_if e k) = count e + kind_count k
 kind_count (print items) = total item_count items
 kind_count (read elements) = total access_count elements
 kind_count k = 0
+
+-- statements one after another
+abbrev pub statement_resolved : Table → ℕ → Statement → Statement
+statement_resolved t n s = record { line = s.line; label = s.label; kind = kind_resolved t n s.kind }
+
+abbrev pub statement_count : Statement → ℕ
+statement_count s = kind_count s.kind
+
+abbrev pub statements_resolved : Table → ℕ → List Statement → List Statement
+statements_resolved t n ss = in_turn (λ m s. statement_resolved t m s) statement_count n ss
+
+abbrev pub references_in : List Statement → ℕ
+references_in ss = total statement_count ss

@@ -9,16 +9,9 @@ ghost use Rattle.profile_check.specs.Declarations.{constant_named};
 ghost use Rattle.profile_check.specs.ResolvingView.{table_of};
 ghost use Rattle.std.specs.Prelude.{[]};
 
+use crate::declarations::Declarations;
 use ast::{Access, DoHead, Expr, Intrinsic, Item, Kind, Name, RefId, Reference};
-use indexmap::{IndexMap, IndexSet};
 use std::alloc::Global;
-
-/// The names of a program in the order of its symbols, and its constants.
-#[derive(Drop)]
-pub struct Table {
-    pub names: IndexSet<Name>,
-    pub constants: IndexMap<Name, i64>,
-}
 
 /// The intrinsic function of a name.
 fn intrinsic_named(name: &Name) -> Option<Intrinsic>
@@ -45,11 +38,11 @@ fn intrinsic_named(name: &Name) -> Option<Intrinsic>
 }
 
 /// Numbers a reference.
-fn number(reference: &mut Reference, table: &Table, next: usize)
-    ensures { ref reference.new ≡ spec.numbered (table_of table.now) next (ref reference.old) }
+fn number(reference: &mut Reference, declarations: &Declarations, next: usize)
+    ensures { ref reference.new ≡ spec.numbered (table_of declarations.now) next (ref reference.old) }
 {
     reference.id = RefId(next);
-    reference.cell = table.names.get_index_of(&reference.name).unwrap_or(0);
+    reference.cell = declarations.names.get_index_of(&reference.name).unwrap_or(0);
 }
 
 /// Takes an expression out of its place.
@@ -61,17 +54,17 @@ fn taken(place: &mut Expr) -> Expr
 
 /// The constant of a name.
 #[tactic(auto, using(crate::proofs::Entries::constant_found))]
-fn constant_of(table: &Table, name: &Name) -> Option<i64>
-    ensures { result ≡ constant_named (table_of table.now).constants name.now.letters }
+fn constant_of(declarations: &Declarations, name: &Name) -> Option<i64>
+    ensures { result ≡ constant_named (table_of declarations.now).constants name.now.letters }
 {
-    table.constants.get(name).copied()
+    declarations.constants.get(name).copied()
 }
 
 /// An element, its reference numbered.
-fn element(mut reference: Reference, subscripts: Vec<Expr>, table: &Table, next: usize) -> Expr
-    ensures { term result ≡ tree.element (spec.numbered (table_of table.now) next (ref reference)) (terms (map term subscripts.items)) }
+fn element(mut reference: Reference, subscripts: Vec<Expr>, declarations: &Declarations, next: usize) -> Expr
+    ensures { term result ≡ tree.element (spec.numbered (table_of declarations.now) next (ref reference)) (terms (map term subscripts.items)) }
 {
-    number(&mut reference, table, next);
+    number(&mut reference, declarations, next);
     Expr::Element(Access {
         reference,
         subscripts,
@@ -79,38 +72,38 @@ fn element(mut reference: Reference, subscripts: Vec<Expr>, table: &Table, next:
 }
 
 /// A name alone, a constant or a variable; the number after it.
-fn alone(reference: Reference, list: Vec<Expr>, table: &Table, next: usize) -> (Expr, usize)
+fn alone(reference: Reference, list: Vec<Expr>, declarations: &Declarations, next: usize) -> (Expr, usize)
     requires bounded { next + 1 < 2 ^ 64 }
     requires empty { list.items ≡ [] }
-    ensures tree { term result.0 ≡ spec.alone (table_of table.now) next (ref reference) (constant_named (table_of table.now).constants reference.name.letters) }
+    ensures tree { term result.0 ≡ spec.alone (table_of declarations.now) next (ref reference) (constant_named (table_of declarations.now).constants reference.name.letters) }
     ensures after { result.1 ≡ next + spec.count (term result.0) }
     ensures bound { result.1 ≤ next + 1 }
 {
-    match constant_of(table, &reference.name) {
+    match constant_of(declarations, &reference.name) {
         Some(value) => (Expr::Parameter(reference.name, value), next),
-        None => (element(reference, list, table, next), next + 1),
+        None => (element(reference, list, declarations, next), next + 1),
     }
 }
 
 /// A name with what stands behind it in parentheses, resolved: a call or an element; the number
 /// after it.
-fn with_list(reference: Reference, list: Vec<Expr>, table: &Table, next: usize) -> (Expr, usize)
+fn with_list(reference: Reference, list: Vec<Expr>, declarations: &Declarations, next: usize) -> (Expr, usize)
     requires { next + 1 < 2 ^ 64 }
-    ensures tree { term result.0 ≡ spec.list_at (table_of table.now) next (ref reference) (terms (map term list.items)) (spec.intrinsic_named reference.name.letters) }
+    ensures tree { term result.0 ≡ spec.list_at (table_of declarations.now) next (ref reference) (terms (map term list.items)) (spec.intrinsic_named reference.name.letters) }
     ensures after { result.1 + spec.count_terms (terms (map term list.items)) ≡ next + spec.count (term result.0) }
     ensures bound { result.1 ≤ next + 1 }
 {
     match intrinsic_named(&reference.name) {
         Some(intrinsic) => (Expr::Call(intrinsic, list), next),
-        None => (element(reference, list, table, next), next + 1),
+        None => (element(reference, list, declarations, next), next + 1),
     }
 }
 
 /// An expression resolved, its references numbered from `next` on; the number after them.
 #[cycle(resolve)]
-fn resolved(expression: Expr, table: &Table, next: usize) -> (Expr, usize)
+fn resolved(expression: Expr, declarations: &Declarations, next: usize) -> (Expr, usize)
     requires { next + spec.count (term expression) < 2 ^ 64 }
-    ensures tree { term result.0 ≡ spec.resolved (table_of table.now) next (term expression) }
+    ensures tree { term result.0 ≡ spec.resolved (table_of declarations.now) next (term expression) }
     ensures after { result.1 ≡ next + spec.count (term result.0) }
     ensures bound { result.1 ≤ next + spec.count (term expression) }
 {
@@ -124,25 +117,25 @@ fn resolved(expression: Expr, table: &Table, next: usize) -> (Expr, usize)
                 subscripts,
             } = access;
             if subscripts.is_empty() {
-                return alone(reference, subscripts, table, next);
+                return alone(reference, subscripts, declarations, next);
             }
-            with_subscripts(reference, subscripts, table, next)
+            with_subscripts(reference, subscripts, declarations, next)
         }
         Expr::Call(intrinsic, arguments) => {
-            let (arguments, after) = resolved_terms(arguments, table, next);
+            let (arguments, after) = resolved_terms(arguments, declarations, next);
             (Expr::Call(intrinsic, arguments), after)
         }
         Expr::Parentheses(inner) => {
-            let (inner, after) = resolved_box(inner, table, next);
+            let (inner, after) = resolved_box(inner, declarations, next);
             (Expr::Parentheses(inner), after)
         }
         Expr::Unary(prefix, operand) => {
-            let (operand, after) = resolved_box(operand, table, next);
+            let (operand, after) = resolved_box(operand, declarations, next);
             (Expr::Unary(prefix, operand), after)
         }
         Expr::Binary(operator, left, right) => {
-            let (left, between) = resolved_box(left, table, next);
-            let (right, after) = resolved_box(right, table, between);
+            let (left, between) = resolved_box(left, declarations, next);
+            let (right, after) = resolved_box(right, declarations, between);
             (Expr::Binary(operator, left, right), after)
         }
     }
@@ -151,15 +144,15 @@ fn resolved(expression: Expr, table: &Table, next: usize) -> (Expr, usize)
 /// Resolves expressions in their places, their references numbered from `next` on; the number after
 /// them.
 #[cycle(resolve)]
-fn resolve_all(list: &mut [Expr], table: &Table, next: usize) -> usize
+fn resolve_all(list: &mut [Expr], declarations: &Declarations, next: usize) -> usize
     requires { next + spec.count_all (map term list.old) < 2 ^ 64 }
-    ensures tree { map term list.new ≡ spec.list_resolved (table_of table.now) next (map term list.old) }
+    ensures tree { map term list.new ≡ spec.list_resolved (table_of declarations.now) next (map term list.old) }
     ensures after { result ≡ next + spec.count_all (map term list.new) }
     ensures bound { result ≤ next + spec.count_all (map term list.old) }
 {
     let mut after = next;
     for place in list.iter_mut() {
-        let (tree, behind) = resolved(taken(place), table, after);
+        let (tree, behind) = resolved(taken(place), declarations, after);
         *place = tree;
         after = behind;
     }
@@ -168,13 +161,13 @@ fn resolve_all(list: &mut [Expr], table: &Table, next: usize) -> usize
 
 /// Expressions in their list, resolved there.
 #[cycle(resolve)]
-fn resolved_list(mut list: Vec<Expr>, table: &Table, next: usize) -> (Vec<Expr>, usize)
+fn resolved_list(mut list: Vec<Expr>, declarations: &Declarations, next: usize) -> (Vec<Expr>, usize)
     requires { next + spec.count_all (map term list.items) < 2 ^ 64 }
-    ensures tree { map term result.0.items ≡ spec.list_resolved (table_of table.now) next (map term list.items) }
+    ensures tree { map term result.0.items ≡ spec.list_resolved (table_of declarations.now) next (map term list.items) }
     ensures after { result.1 ≡ next + spec.count_all (map term result.0.items) }
     ensures bound { result.1 ≤ next + spec.count_all (map term list.items) }
 {
-    let after = resolve_all(&mut list, table, next);
+    let after = resolve_all(&mut list, declarations, next);
     (list, after)
 }
 
@@ -184,54 +177,54 @@ fn resolved_list(mut list: Vec<Expr>, table: &Table, next: usize) -> (Vec<Expr>,
 fn with_subscripts(
     reference: Reference,
     list: Vec<Expr>,
-    table: &Table,
+    declarations: &Declarations,
     next: usize,
 ) -> (Expr, usize)
     requires few { next + spec.count_terms (terms (map term list.items)) + 1 < 2 ^ 64 }
     requires some { 0 < length list.items }
-    ensures tree { term result.0 ≡ spec.resolved (table_of table.now) next (tree.element (ref reference) (terms (map term list.items))) }
+    ensures tree { term result.0 ≡ spec.resolved (table_of declarations.now) next (tree.element (ref reference) (terms (map term list.items))) }
     ensures after { result.1 ≡ next + spec.count (term result.0) }
     ensures bound { result.1 ≤ next + spec.count_terms (terms (map term list.items)) + 1 }
 {
-    let (list, after) = resolved_terms(list, table, next);
-    with_list(reference, list, table, after)
+    let (list, after) = resolved_terms(list, declarations, next);
+    with_list(reference, list, declarations, after)
 }
 
 /// The same, as the subscripts of an element or the arguments of a call.
 #[cycle(resolve)]
 #[tactic(auto, using(crate::proofs::Positions::list_law, crate::proofs::Positions::count_law, crate::proofs::Weights::weight_law))]
-fn resolved_terms(list: Vec<Expr>, table: &Table, next: usize) -> (Vec<Expr>, usize)
+fn resolved_terms(list: Vec<Expr>, declarations: &Declarations, next: usize) -> (Vec<Expr>, usize)
     requires { next + spec.count_terms (terms (map term list.items)) < 2 ^ 64 }
-    ensures tree { terms (map term result.0.items) ≡ spec.all_resolved (table_of table.now) next (terms (map term list.items)) }
+    ensures tree { terms (map term result.0.items) ≡ spec.all_resolved (table_of declarations.now) next (terms (map term list.items)) }
     ensures after { result.1 ≡ next + spec.count_terms (terms (map term result.0.items)) }
     ensures bound { result.1 ≤ next + spec.count_terms (terms (map term list.items)) }
 {
-    resolved_list(list, table, next)
+    resolved_list(list, declarations, next)
 }
 
 /// An expression in its box, resolved there.
 #[cycle(resolve)]
-fn resolved_box(mut place: Box<Expr>, table: &Table, next: usize) -> (Box<Expr>, usize)
+fn resolved_box(mut place: Box<Expr>, declarations: &Declarations, next: usize) -> (Box<Expr>, usize)
     requires { next + spec.count (term place.value) < 2 ^ 64 }
-    ensures tree { term result.0.value ≡ spec.resolved (table_of table.now) next (term place.value) }
+    ensures tree { term result.0.value ≡ spec.resolved (table_of declarations.now) next (term place.value) }
     ensures after { result.1 ≡ next + spec.count (term result.0.value) }
     ensures bound { result.1 ≤ next + spec.count (term place.value) }
 {
-    let (tree, after) = resolved(taken(&mut place), table, next);
+    let (tree, after) = resolved(taken(&mut place), declarations, next);
     *place = tree;
     (place, after)
 }
 
 /// An optional expression resolved.
-fn resolved_optional(given: Option<Expr>, table: &Table, next: usize) -> (Option<Expr>, usize)
+fn resolved_optional(given: Option<Expr>, declarations: &Declarations, next: usize) -> (Option<Expr>, usize)
     requires { next + spec.count_optional (optional_term given) < 2 ^ 64 }
-    ensures tree { optional_term result.0 ≡ option_map (λ e. spec.resolved (table_of table.now) next e) (optional_term given) }
+    ensures tree { optional_term result.0 ≡ option_map (λ e. spec.resolved (table_of declarations.now) next e) (optional_term given) }
     ensures after { result.1 ≡ next + spec.count_optional (optional_term result.0) }
     ensures bound { result.1 ≤ next + spec.count_optional (optional_term given) }
 {
     match given {
         Some(expression) => {
-            let (tree, after) = resolved(expression, table, next);
+            let (tree, after) = resolved(expression, declarations, next);
             (Some(tree), after)
         }
         None => (None, next),
@@ -239,9 +232,9 @@ fn resolved_optional(given: Option<Expr>, table: &Table, next: usize) -> (Option
 }
 
 /// A variable or an element that is given a value, resolved.
-fn resolved_access(given: Access, table: &Table, next: usize) -> (Access, usize)
+fn resolved_access(given: Access, declarations: &Declarations, next: usize) -> (Access, usize)
     requires { next + spec.access_count (access_of given) < 2 ^ 64 }
-    ensures tree { access_of result.0 ≡ spec.access_resolved (table_of table.now) next (access_of given) }
+    ensures tree { access_of result.0 ≡ spec.access_resolved (table_of declarations.now) next (access_of given) }
     ensures after { result.1 ≡ next + spec.access_count (access_of result.0) }
     ensures bound { result.1 ≤ next + spec.access_count (access_of given) }
 {
@@ -249,8 +242,8 @@ fn resolved_access(given: Access, table: &Table, next: usize) -> (Access, usize)
         mut reference,
         subscripts,
     } = given;
-    let (subscripts, after) = resolved_terms(subscripts, table, next);
-    number(&mut reference, table, after);
+    let (subscripts, after) = resolved_terms(subscripts, declarations, next);
+    number(&mut reference, declarations, after);
     let target = Access {
         reference,
         subscripts,
@@ -271,15 +264,15 @@ fn taken_access(alloc: Global, place: &mut Access) -> Access
 }
 
 /// Resolves the elements of a READ in their places; the number after their references.
-fn resolve_targets(alloc: Global, targets: &mut [Access], table: &Table, next: usize) -> usize
+fn resolve_targets(alloc: Global, targets: &mut [Access], declarations: &Declarations, next: usize) -> usize
     requires { next + spec.total spec.access_count (map access_of targets.old) < 2 ^ 64 }
-    ensures tree { map access_of targets.new ≡ spec.accesses_resolved (table_of table.now) next (map access_of targets.old) }
+    ensures tree { map access_of targets.new ≡ spec.accesses_resolved (table_of declarations.now) next (map access_of targets.old) }
     ensures after { result ≡ next + spec.total spec.access_count (map access_of targets.new) }
     ensures bound { result ≤ next + spec.total spec.access_count (map access_of targets.old) }
 {
     let mut after = next;
     for place in targets.iter_mut() {
-        let (target, behind) = resolved_access(taken_access(alloc, place), table, after);
+        let (target, behind) = resolved_access(taken_access(alloc, place), declarations, after);
         *place = target;
         after = behind;
     }
@@ -294,15 +287,15 @@ fn taken_item(place: &mut Item) -> Item
 }
 
 /// An item of a PRINT resolved.
-fn resolved_item(given: Item, table: &Table, next: usize) -> (Item, usize)
+fn resolved_item(given: Item, declarations: &Declarations, next: usize) -> (Item, usize)
     requires { next + spec.item_count (item_of given) < 2 ^ 64 }
-    ensures tree { item_of result.0 ≡ spec.item_resolved (table_of table.now) next (item_of given) }
+    ensures tree { item_of result.0 ≡ spec.item_resolved (table_of declarations.now) next (item_of given) }
     ensures after { result.1 ≡ next + spec.item_count (item_of result.0) }
     ensures bound { result.1 ≤ next + spec.item_count (item_of given) }
 {
     match given {
         Item::Value(expression) => {
-            let (tree, after) = resolved(expression, table, next);
+            let (tree, after) = resolved(expression, declarations, next);
             (Item::Value(tree), after)
         }
         Item::Text(text) => (Item::Text(text), next),
@@ -310,15 +303,15 @@ fn resolved_item(given: Item, table: &Table, next: usize) -> (Item, usize)
 }
 
 /// Resolves the items of a PRINT in their places; the number after their references.
-fn resolve_items(items: &mut [Item], table: &Table, next: usize) -> usize
+fn resolve_items(items: &mut [Item], declarations: &Declarations, next: usize) -> usize
     requires { next + spec.total spec.item_count (map item_of items.old) < 2 ^ 64 }
-    ensures tree { map item_of items.new ≡ spec.items_resolved (table_of table.now) next (map item_of items.old) }
+    ensures tree { map item_of items.new ≡ spec.items_resolved (table_of declarations.now) next (map item_of items.old) }
     ensures after { result ≡ next + spec.total spec.item_count (map item_of items.new) }
     ensures bound { result ≤ next + spec.total spec.item_count (map item_of items.old) }
 {
     let mut after = next;
     for place in items.iter_mut() {
-        let (item, behind) = resolved_item(taken_item(place), table, after);
+        let (item, behind) = resolved_item(taken_item(place), declarations, after);
         *place = item;
         after = behind;
     }
@@ -326,9 +319,9 @@ fn resolve_items(items: &mut [Item], table: &Table, next: usize) -> usize
 }
 
 /// The head of a DO resolved.
-fn resolved_head(given: DoHead, table: &Table, next: usize) -> (DoHead, usize)
+fn resolved_head(given: DoHead, declarations: &Declarations, next: usize) -> (DoHead, usize)
     requires { next + spec.head_count (head_of given) < 2 ^ 64 }
-    ensures tree { head_of result.0 ≡ spec.head_resolved (table_of table.now) next (head_of given) }
+    ensures tree { head_of result.0 ≡ spec.head_resolved (table_of declarations.now) next (head_of given) }
     ensures after { result.1 ≡ next + spec.head_count (head_of result.0) }
     ensures bound { result.1 ≤ next + spec.head_count (head_of given) }
 {
@@ -339,10 +332,10 @@ fn resolved_head(given: DoHead, table: &Table, next: usize) -> (DoHead, usize)
         last,
         step,
     } = given;
-    let (first, behind_first) = resolved(first, table, next);
-    let (last, behind_last) = resolved(last, table, behind_first);
-    let (step, after) = resolved_optional(step, table, behind_last);
-    number(&mut variable, table, after);
+    let (first, behind_first) = resolved(first, declarations, next);
+    let (last, behind_last) = resolved(last, declarations, behind_first);
+    let (step, after) = resolved_optional(step, declarations, behind_last);
+    number(&mut variable, declarations, after);
     let head = DoHead {
         terminal,
         variable,
@@ -355,41 +348,41 @@ fn resolved_head(given: DoHead, table: &Table, next: usize) -> (DoHead, usize)
 
 /// What a statement does, its names resolved.
 #[cycle(resolve_kind)]
-fn resolved_kind(alloc: Global, given: Kind, table: &Table, next: usize) -> (Kind, usize)
+fn resolved_kind(alloc: Global, given: Kind, declarations: &Declarations, next: usize) -> (Kind, usize)
     requires { next + spec.kind_count (kind_of given) < 2 ^ 64 }
-    ensures tree { kind_of result.0 ≡ spec.kind_resolved (table_of table.now) next (kind_of given) }
+    ensures tree { kind_of result.0 ≡ spec.kind_resolved (table_of declarations.now) next (kind_of given) }
     ensures after { result.1 ≡ next + spec.kind_count (kind_of result.0) }
     ensures bound { result.1 ≤ next + spec.kind_count (kind_of given) }
 {
     match given {
         Kind::Assign(target, value) => {
-            let (value, between) = resolved(value, table, next);
-            let (target, after) = resolved_access(target, table, between);
+            let (value, between) = resolved(value, declarations, next);
+            let (target, after) = resolved_access(target, declarations, between);
             (Kind::Assign(target, value), after)
         }
         Kind::Do(head) => {
-            let (head, after) = resolved_head(head, table, next);
+            let (head, after) = resolved_head(head, declarations, next);
             (Kind::Do(head), after)
         }
         Kind::If(condition) => {
-            let (condition, after) = resolved(condition, table, next);
+            let (condition, after) = resolved(condition, declarations, next);
             (Kind::If(condition), after)
         }
         Kind::ElseIf(condition) => {
-            let (condition, after) = resolved(condition, table, next);
+            let (condition, after) = resolved(condition, declarations, next);
             (Kind::ElseIf(condition), after)
         }
         Kind::LogicalIf(condition, inner) => {
-            let (condition, between) = resolved(condition, table, next);
-            let (inner, after) = resolved_inner(alloc, inner, table, between);
+            let (condition, between) = resolved(condition, declarations, next);
+            let (inner, after) = resolved_inner(alloc, inner, declarations, between);
             (Kind::LogicalIf(condition, inner), after)
         }
         Kind::Print(mut items) => {
-            let after = resolve_items(&mut items, table, next);
+            let after = resolve_items(&mut items, declarations, next);
             (Kind::Print(items), after)
         }
         Kind::Read(mut targets) => {
-            let after = resolve_targets(alloc, &mut targets, table, next);
+            let after = resolve_targets(alloc, &mut targets, declarations, next);
             (Kind::Read(targets), after)
         }
         kind @ (Kind::Program(_)
@@ -409,16 +402,16 @@ fn resolved_kind(alloc: Global, given: Kind, table: &Table, next: usize) -> (Kin
 fn resolved_inner(
     alloc: Global,
     mut place: Box<Kind>,
-    table: &Table,
+    declarations: &Declarations,
     next: usize,
 ) -> (Box<Kind>, usize)
     requires { next + spec.kind_count (kind_of place.value) < 2 ^ 64 }
-    ensures tree { kind_of result.0.value ≡ spec.kind_resolved (table_of table.now) next (kind_of place.value) }
+    ensures tree { kind_of result.0.value ≡ spec.kind_resolved (table_of declarations.now) next (kind_of place.value) }
     ensures after { result.1 ≡ next + spec.kind_count (kind_of result.0.value) }
     ensures bound { result.1 ≤ next + spec.kind_count (kind_of place.value) }
 {
     let inner = std::mem::replace(&mut *place, Kind::Continue);
-    let (kind, after) = resolved_kind(alloc, inner, table, next);
+    let (kind, after) = resolved_kind(alloc, inner, declarations, next);
     *place = kind;
     (place, after)
 }

@@ -13,7 +13,7 @@ use Rattle.profile_check.proofs.resolving.+resolve.Goals as goal
 
 pub with_subscripts-returns-clause-tree : goal.with_subscripts-returns-clause-tree
 with_subscripts-returns-clause-tree t c =
-    let table = table_of c.args.table.now in
+    let table = table_of c.args.declarations.now in
     let r = ref c.args.reference in
     let f = spec.intrinsic_named c.args.reference.name.letters in
     let es = terms (map term c.resolved_terms-list.result.0.items) in
@@ -29,7 +29,7 @@ resolve_all-loop-place-preserved t c =
     let i = c.loop-place.place-index in
     let y = c.resolved-tree.result.0 in
     let here : i < length xs = omega (arith, c.loop-place-test.true, c.loop-place.auto.list) in
-    let table = table_of c.args.table.now in
+    let table = table_of c.args.declarations.now in
     let is : term y ≡ spec.resolved table c.loop-place.after (term (get_or xs i c.place-item.result)) = c.resolved-tree.ensures.tree ∙ ap (λ (e : Expr). spec.resolved table c.loop-place.after (term e)) c.taken.ensures in
     record {
       tree = ap (λ (n : ℕ). map term (take (i + 1) (set xs i y)) ++ spec.list_resolved table n (map term (drop (i + 1) (set xs i y)))) c.resolved-tree.ensures.after ∙ tree_turn term spec.count (λ m e. spec.resolved table m e) c.loop-place.after xs i y c.place-item.result here is ∙ c.loop-place.invariant.tree;

@@ -8,8 +8,8 @@ use Rattle.profile_check.proofs.resolving.+resolve.Given as goal
 
 abbrev pub invariant-resolve_all-loop-place : goal.invariant-resolve_all-loop-place
 invariant-resolve_all-loop-place l = record {
-  tree : map term (take l.place-index l.list) ++ spec.list_resolved (table_of l.table) l.after (map term (drop l.place-index l.list))
-      ≡ spec.list_resolved (table_of l.table) l.next (map term l.fn.list);
+  tree : map term (take l.place-index l.list) ++ spec.list_resolved (table_of l.declarations) l.after (map term (drop l.place-index l.list))
+      ≡ spec.list_resolved (table_of l.declarations) l.next (map term l.fn.list);
   after : l.after ≡ l.next + spec.count_all (map term (take l.place-index l.list));
   rest : drop l.place-index l.list ≡ drop l.place-index l.fn.list;
   bound : l.after + spec.count_all (map term (drop l.place-index l.list)) ≤ l.next + spec.count_all (map term l.fn.list);

@@ -14,7 +14,7 @@ loop-place-preserved c =
     let i = c.loop-place.place-index in
     let y = c.resolved_item-item.result.0 in
     let here : i < length xs = omega (arith, c.loop-place-test.true, c.loop-place.auto.items) in
-    let table = table_of c.args.table.now in
+    let table = table_of c.args.declarations.now in
     let same : item c.taken_item.result ≡ item (get_or xs i c.place-item.result) = ap (λ (x : Item). item x) c.taken_item.ensures in
     let is : item y ≡ spec.item_resolved table c.loop-place.after (item (get_or xs i c.place-item.result)) = c.resolved_item-item.ensures.tree ∙ ap (λ (x : tree.PrintItem). spec.item_resolved table c.loop-place.after x) same in
     record {

@@ -13,7 +13,7 @@ loop-place-preserved c =
     let i = c.loop-place.place-index in
     let y = c.resolved_access-target.result.0 in
     let here : i < length xs = omega (arith, c.loop-place-test.true, c.loop-place.auto.targets) in
-    let table = table_of c.args.table.now in
+    let table = table_of c.args.declarations.now in
     let same : access c.taken_access.result ≡ access (get_or xs i c.place-item.result) = c.taken_access.ensures in
     let is : access y ≡ spec.access_resolved table c.loop-place.after (access (get_or xs i c.place-item.result)) = c.resolved_access-target.ensures.tree ∙ ap (λ (x : tree.Access). spec.access_resolved table c.loop-place.after x) same in
     record {
