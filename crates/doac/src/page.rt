@@ -18,7 +18,7 @@ use crate::store::append_store;
 use crate::streams::write_all;
 use ast::{Answer, End, Line, Program, Refusal};
 use interpreter::run_seq;
-use profile_check::read_program;
+use profile_check::program;
 use std::alloc::{AllocError, Global};
 use std::io::Write;
 
@@ -33,7 +33,7 @@ pub struct Page {
 pub fn checked(alloc: Global, source: &[u8]) -> Result<Page, AllocError>
     ensures { IfOk result (λ page. Checks source.now page.outcome page.text.items) }
 {
-    match read_program(alloc, source) {
+    match program(alloc, source) {
         Ok(program) => accepted(alloc, &program),
         Err(Refusal::Refused { number, line }) => refused(alloc, number, line),
         Err(Refusal::Memory) => Err(AllocError),
@@ -44,7 +44,7 @@ pub fn checked(alloc: Global, source: &[u8]) -> Result<Page, AllocError>
 pub fn run(alloc: Global, source: &[u8], input: &[u8], store: bool) -> Result<Page, AllocError>
     ensures { IfOk result (λ page. Runs store source.now input.now page.outcome page.text.items) }
 {
-    match read_program(alloc, source) {
+    match program(alloc, source) {
         Ok(program) => ran(alloc, &program, input, store),
         Err(Refusal::Refused { number, line }) => refused(alloc, number, line),
         Err(Refusal::Memory) => Err(AllocError),

@@ -7,8 +7,7 @@ use Rattle.ast.specs.Tree.{Term, Statement, Kind, do_loop, block_if, else_if, el
 use Rattle.structure.specs.Open.{Open, do_range, if_block, open_from, open_after, after, begun, ended_by, ended as spec_ended, with_else, without_block}
 use Rattle.structure.specs.Rules.{is_out_of_order, is_some_and, is_end, by_label, is_range_of, is_around, is_other_range, is_block, is_any_range, begins_with, may_go_on, may_not_end_a_range, is_misplaced_arm, holds_wrong_statement, crosses, ends_wrongly, breaks_blocks, rules, lowest_broken}
 use Rattle.profile_check.specs.Nesting.{Frame, in_range, in_block, Nest, nest, next_arm, end_block, end_ranges, ended, own_node, with_kind, with_statement}
-use Rattle.profile_check.specs.Layout.{Lays}
-use Rattle.profile_check.proofs.Laid.{IsInBlock, MayStand, LaysNest, kind-lays}
+use Rattle.profile_check.proofs.Laid.{IsInBlock, MayStand}
 
 abbrev is_last : Option Term → Bool
 is_last None = true
@@ -160,37 +159,6 @@ all-ended (in_range line d before ∷ frames) s e h =
 all-ended (in_block done line c before ∷ frames) s e h =
     absurd (let q : true ≡ false = sym (ap (λ (k : Kind). is_misplaced_arm k (shapes (in_block done line c before ∷ frames))) e) ∙ misplaced (shapes (in_block done line c before ∷ frames)) s h.blocks in cc)
 
--- ---- whole lists
-
-pub record Nested (n : Nest) (ss : List Statement) : Type 0 where
-  pub laid : LaysNest n.frames n.nodes ss
-  pub shaped : shapes n.frames ≡ open_after ss
-
-open-append : (opened : List Open) (front : List Statement) (s : Statement) → open_from opened (front ++ s ∷ []) ≡ after (open_from opened front) s
+pub open-append : (opened : List Open) (front : List Statement) (s : Statement) → open_from opened (front ++ s ∷ []) ≡ after (open_from opened front) s
 open-append opened [] s = refl
 open-append opened (f ∷ front) s = open-append (after opened f) front s
-
-pub nested-more : (n : Nest) (ss : List Statement) (s : Statement) → Nested n ss → lowest_broken rules ss s ≡ None → Nested (with_statement n s) (ss ++ s ∷ [])
-nested-more n ss s h k =
-    let q : Kept (shapes n.frames) s = subst (λ (o : List Open). Kept o s) (sym h.shaped) (kept ss s k) in
-    record {
-      laid = kind-lays n ss s s.kind refl (may_stand n.frames s q) h.laid;
-      shaped = shape n s q ∙ ap (λ (o : List Open). after o s) h.shaped ∙ sym (open-append [] ss s);
-    }
-
-pub nested-none : Nested (nest [] []) []
-nested-none = record { laid = refl; shaped = refl }
-
--- behind END nothing is open, and the nodes lay out the statements
-pub nested-end : (n : Nest) (ss : List Statement) (s : Statement) → s.kind ≡ end → Nested n ss → lowest_broken rules ss s ≡ None
-    → Lays (block (with_statement n s).nodes) (ss ++ s ∷ [])
-nested-end n ss s e h k =
-    let q : Kept (shapes n.frames) s = subst (λ (o : List Open). Kept o s) (sym h.shaped) (kept ss s k) in
-    let none : n.frames ≡ [] = all-ended n.frames s e q in
-    let more = nested-more n ss s h k in
-    let left : (with_statement n s).frames ≡ [] = ap (λ (j : Kind). (with_kind n s j).frames) e ∙ ap (λ (fs : List Frame). (ended s.label fs (n.nodes ++ own_node s end ∷ [])).frames) none ∙ nothing-left s.label (n.nodes ++ own_node s end ∷ []) in
-    subst (λ (fs : List Frame). LaysNest fs (with_statement n s).nodes (ss ++ s ∷ [])) left more.laid
-  where
-    nothing-left : (label : Option ℕ) (ns : List Node) → (ended label [] ns).frames ≡ []
-    nothing-left None ns = refl
-    nothing-left (Some l) ns = refl

@@ -4,12 +4,14 @@ pub mod Entries
 pub mod Erased
 pub mod Frames
 pub mod Laid
+pub mod LaidText
 pub mod Laws
 pub mod OneProgram
 pub mod Parsing
 pub mod Parts
 pub mod Positions
 pub mod Resolved
+pub mod SameShape
 pub mod Steps
 pub mod Sums
 pub mod Tables

@@ -142,5 +142,8 @@ constant_or other None = other
 abbrev pub sort_of : Declared → List ℕ → Sort
 sort_of d name = constant_or (variable (dimensions_named d.arrays name)) (constant_named d.constants name)
 
+abbrev pub symbol_of : Declared → List ℕ → Symbol
+symbol_of d name = record { name = name; sort = sort_of d name }
+
 abbrev pub symbols_of : Declared → List Symbol
-symbols_of d = map (λ x. record { name = x; sort = sort_of d x }) d.names
+symbols_of d = map (symbol_of d) d.names

@@ -8,10 +8,12 @@ mod declarations;
 mod kinds;
 mod names;
 mod nesting;
-mod program;
 mod reading;
 mod resolving;
 mod rules;
+mod symbols;
+mod tree;
 mod uses;
+mod whole;
 
-pub use program::program as read_program;
+pub use whole::program;

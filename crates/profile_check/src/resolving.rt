@@ -348,7 +348,7 @@ fn resolved_head(given: DoHead, declarations: &Declarations, next: usize) -> (Do
 
 /// What a statement does, its names resolved.
 #[cycle(resolve_kind)]
-fn resolved_kind(alloc: Global, given: Kind, declarations: &Declarations, next: usize) -> (Kind, usize)
+pub fn resolved_kind(alloc: Global, given: Kind, declarations: &Declarations, next: usize) -> (Kind, usize)
     requires { next + spec.kind_count (kind_of given) < 2 ^ 64 }
     ensures tree { kind_of result.0 ≡ spec.kind_resolved (table_of declarations.now) next (kind_of given) }
     ensures after { result.1 ≡ next + spec.kind_count (kind_of result.0) }
