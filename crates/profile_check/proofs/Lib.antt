@@ -1,5 +1,6 @@
 pub mod Chosen
 pub mod Counts
+pub mod Ending
 pub mod Entries
 pub mod Erased
 pub mod Frames

@@ -51,7 +51,7 @@ text_sound line label t s e =
       | uncut none is ↦ let both : refuse line 21 ≡ done s = sym is ∙ e in absurd cc
     ]
 
-text_again : (line : ℕ) (label : Option ℕ) (t : List ℕ) (s : Statement) → IsStatement line label t s → text_at line label t ≡ Ok s
+pub text_again : (line : ℕ) (label : Option ℕ) (t : List ℕ) (s : Statement) → IsStatement line label t s → text_at line label t ≡ Ok s
 text_again line label t s h =
     text_cut line label t h.pieces h.cut
     ∙ statement_again line label t (marks h.pieces) (constants h.pieces) s (record { derived = h.derived; initial = h.initial; shallow = h.shallow; at = h.at; labelled = h.labelled })
