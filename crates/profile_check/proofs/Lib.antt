@@ -10,6 +10,9 @@ pub mod Parsing
 pub mod Parts
 pub mod Positions
 pub mod Resolved
+pub mod ResolvedKinds
+pub mod ResolvedTerms
+pub mod Settling
 pub mod Steps
 pub mod Sums
 pub mod Tables
