@@ -160,7 +160,7 @@ pub record ListSettled (symbols : List Symbol) (n : ℕ) (es : List Term) : Type
 abbrev count : List Term → ℕ
 count es = length (expressions_references es)
 
-references-append : (xs ys : List Term) → expressions_references (xs ++ ys) ≡ expressions_references xs ++ expressions_references ys
+pub references-append : (xs ys : List Term) → expressions_references (xs ++ ys) ≡ expressions_references xs ++ expressions_references ys
 references-append [] ys = refl
 references-append (x ∷ xs) ys = ap (λ (rs : List Ref). term_references x ++ rs) (references-append xs ys) ∙ sym (append_assoc (term_references x) (expressions_references xs) (expressions_references ys))
 

@@ -12,7 +12,10 @@ pub mod Parsing
 pub mod Parts
 pub mod Positions
 pub mod Resolved
+pub mod ResolvedKinds
+pub mod ResolvedTerms
 pub mod SameShape
+pub mod Settling
 pub mod Steps
 pub mod Sums
 pub mod Tables
