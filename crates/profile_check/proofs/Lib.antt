@@ -10,6 +10,7 @@ pub mod Parsing
 pub mod Parts
 pub mod Positions
 pub mod Resolved
+pub mod Sound
 pub mod Steps
 pub mod Sums
 pub mod Tables
