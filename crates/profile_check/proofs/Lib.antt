@@ -3,6 +3,7 @@ pub mod Counts
 pub mod Entries
 pub mod Erased
 pub mod Frames
+pub mod Known
 pub mod Laid
 pub mod Laws
 pub mod OneProgram
@@ -10,6 +11,7 @@ pub mod Parsing
 pub mod Parts
 pub mod Positions
 pub mod Resolved
+pub mod Sized
 pub mod Sound
 pub mod Steps
 pub mod Sums
