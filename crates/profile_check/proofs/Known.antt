@@ -1,15 +1,26 @@
 -- What the symbols of a program in the profile stand for.
-use Rattle.std.proofs.Common.{◌≡◌, ◌∙◌, ℕ, Bool, true, false, not, cond, List, [], ◌∷◌, ◌++◌, map, refl, ap, sym, subst}
-use Rattle.std.specs.List.{IsDistinct, list_any}
-use Rattle.std.proofs.lemmas.Cmp.{nat_list_eq_equiv}
+use Rattle.std.proofs.Common.{◌≡◌, ◌∙◌, ℕ, ℤ, Bool, true, false, not, cond, List, [], ◌∷◌, ◌++◌, length, map, refl, ap, sym, subst, Option, Some, None, option_map}
+use Rattle.std.specs.Prelude.{◌&&◌, ◌||◌, if◌then◌else◌, is_some, slice_get, unwrap_or}
+use Rattle.std.specs.List.{IsDistinct, list_any, find, position_or_len}
+use Rattle.std.proofs.lemmas.Bool.{or_parts, and_from, lt-ltb}
+use Rattle.std.proofs.lemmas.Cmp.{nat_list_eq_equiv, int_eq_equiv}
+use Rattle.std.proofs.lemmas.List.Folds.{list_any-append, find_at}
 use Rattle.std.proofs.lemmas.Map.Keys.{IsDistinct-push}
+use Rattle.std.proofs.lemmas.Option.{slice_get_within, slice_get-map}
 use Rattle.indexmap.specs.IndexSet.{insert_key, insert_all}
+use Rattle.ast.specs.Program.{is_variable, is_variable_named}
 use Rattle.ast.specs.Store.{same_name}
-use Rattle.ast.specs.Symbols.{Symbol, names_of}
-use Rattle.ast.specs.Tree.{Statement}
-use Rattle.profile_check.specs.Declarations.{Declared, nothing, declared_in, and_then_declared, sort_of, symbols_of}
-use Rattle.profile_check.specs.Uses.{names_mentioned}
-use Rattle.profile_check.proofs.Sound.{along-declared}
+use Rattle.ast.specs.Symbols.{variable, Symbol, names_of}
+use Rattle.ast.specs.Tree.{Kind, Statement}
+use Rattle.profile_check.specs.Declarations.{Declared, nothing, declared_in, and_then_declared, constant_named, dimensions_named, constant_or, sort_of, symbols_of}
+use Rattle.profile_check.specs.Reads.{is_fixed, is_constant}
+use Rattle.profile_check.specs.Resolving.{place_of}
+use Rattle.profile_check.specs.Rules.{InProfile}
+use Rattle.profile_check.specs.Uses.{is_among, typed_by, dimensioned_by, defined_by, declarator_names, definition_names, names_used, names_declared, names_mentioned}
+use Rattle.profile_check.proofs.Entries.{same-names, turn}
+use Rattle.profile_check.proofs.Laws.{had-all}
+use Rattle.profile_check.proofs.Parts.{table_in, Serves}
+use Rattle.profile_check.proofs.Sound.{along-declared, constant-others}
 
 -- ---- each name is one symbol's
 
@@ -40,3 +51,84 @@ names-at d (x ∷ names) = ap (λ (xs : List (List ℕ)). x ∷ xs) (names-at d 
 
 pub distinct : (ss : List Statement) → IsDistinct same_name (names_of (symbols_of (declared_in ss)))
 distinct ss = subst (λ (xs : List (List ℕ)). IsDistinct same_name xs) (sym (names-at (declared_in ss) (declared_in ss).names)) (distinct-names ss)
+
+-- ---- each constant is a name
+
+not-defined : (k : Kind) (x : List ℕ) → is_among (names_mentioned k) x ≡ false → is_among (definition_names (defined_by k)) x ≡ false
+not-defined k x h =
+    let others = declarator_names (typed_by k) ++ declarator_names (dimensioned_by k) in
+    let defined = definition_names (defined_by k) in
+    let a = or_parts (is_among (names_declared k) x) (is_among (names_used k) x) (sym (list_any-append (same_name x) (names_declared k) (names_used k)) ∙ h) in
+    (or_parts (is_among others x) (is_among defined x) (sym (list_any-append (same_name x) others defined) ∙ a.0)).1
+
+abbrev AreNames : Declared → Type 0
+AreNames d = (x : List ℕ) → is_among d.names x ≡ false → constant_named d.constants x ≡ None
+
+are-names-more : (d : Declared) (s : Statement) → AreNames d → AreNames (and_then_declared d s)
+are-names-more d s p = λ x h.
+    let q = or_parts (is_among d.names x) (is_among (names_mentioned s.kind) x) (sym (had-all x d.names (names_mentioned s.kind)) ∙ h) in
+    constant-others d.constants (defined_by s.kind) x (not-defined s.kind x q.1) ∙ p x q.0
+
+are-names : (ss : List Statement) → AreNames (declared_in ss)
+are-names ss = along-declared AreNames ss (λ x h. refl) (λ front s back e p. are-names-more (declared_in front) s p)
+
+constant-named : (ss : List Statement) (x : List ℕ) (v : ℤ) → constant_named (declared_in ss).constants x ≡ Some v → is_among (declared_in ss).names x ≡ true
+constant-named ss x v h = by (is_among (declared_in ss).names x) refl
+  where
+    by : (b : Bool) → is_among (declared_in ss).names x ≡ b → b ≡ true
+    by true e = refl
+    by false e = let none = are-names ss x e in absurd cc
+
+-- ---- what a name stands for
+
+-- the symbol of a constant
+fixed-at : (d : Declared) (x : List ℕ) (n : ℤ) → constant_named d.constants x ≡ Some n → is_fixed (sort_of d x) n ≡ true
+fixed-at d x n h = ap (λ (v : Option ℤ). is_fixed (constant_or (variable (dimensions_named d.arrays x)) v) n) h ∙ int_eq_equiv.refl n
+
+constant-found : (d : Declared) (names : List (List ℕ)) (x : List ℕ) (n : ℤ) → constant_named d.constants x ≡ Some n → is_among names x ≡ true → is_constant (symbols_at d names) x n ≡ true
+constant-found d [] x n h m = absurd cc
+constant-found d (y ∷ names) x n h m = by (constant-found d names x n h) (same_name x y) refl m
+  where
+    by : (is_among names x ≡ true → is_constant (symbols_at d names) x n ≡ true) → (b : Bool) → same_name x y ≡ b → (b || is_among names x) ≡ true
+        → (if same_name y x then is_fixed (sort_of d y) n else is_constant (symbols_at d names) x n) ≡ true
+    by rest true e k =
+        ap (λ (b : Bool). if b then is_fixed (sort_of d y) n else is_constant (symbols_at d names) x n) (turn y x ∙ e)
+        ∙ ap (λ (z : List ℕ). is_fixed (sort_of d z) n) (sym (same-names x y e)) ∙ fixed-at d x n h
+    by rest false e k = ap (λ (b : Bool). if b then is_fixed (sort_of d y) n else is_constant (symbols_at d names) x n) (turn y x ∙ e) ∙ rest k
+
+-- the place of a name
+found : (names : List (List ℕ)) (x : List ℕ) → is_among names x ≡ true → find (same_name x) names ≡ Some x
+found [] x m = absurd cc
+found (y ∷ names) x m = by (found names x) (same_name x y) refl m
+  where
+    by : (is_among names x ≡ true → find (same_name x) names ≡ Some x) → (b : Bool) → same_name x y ≡ b → (b || is_among names x) ≡ true → cond b (Some y) (find (same_name x) names) ≡ Some x
+    by rest true e k = ap (λ (z : List ℕ). Some z) (sym (same-names x y e))
+    by rest false e k = rest k
+
+at-place : (names : List (List ℕ)) (x : List ℕ) → is_among names x ≡ true → slice_get names (place_of names x) ≡ Some x
+at-place names x m =
+    let p = position_or_len (same_name x) names in
+    let here : slice_get names p ≡ Some x = sym (find_at (same_name x) names) ∙ found names x m in
+    ap (λ (b : Bool). slice_get names (unwrap_or (cond b (Some p) None) 0)) (lt-ltb p (length names) (slice_get_within names p x here)) ∙ here
+
+symbol-at : (d : Declared) (names : List (List ℕ)) (i : ℕ) (x : List ℕ) → slice_get names i ≡ Some x → slice_get (symbols_at d names) i ≡ Some (record { name = x; sort = sort_of d x })
+symbol-at d names i x h =
+    slice_get-map (λ (y : List ℕ). record { name = y; sort = sort_of d y }) names i ∙ ap (λ (o : Option (List ℕ)). option_map (λ y. record { name = y; sort = sort_of d y }) o) h
+
+variable-at : (d : Declared) (x : List ℕ) → constant_named d.constants x ≡ None → is_variable_named x (Some (record { name = x; sort = sort_of d x })) ≡ true
+variable-at d x h =
+    and_from (same_name x x) (is_variable (sort_of d x)) (nat_list_eq_equiv.refl x)
+    (ap (λ (v : Option ℤ). is_variable (constant_or (variable (dimensions_named d.arrays x)) v)) h)
+
+no-constant : (found : Option ℤ) → not (is_some found) ≡ true → found ≡ None
+no-constant None h = refl
+no-constant (Some n) h = absurd cc
+
+-- the symbols serve the names that are declared
+pub serves : (ss : List Statement) → InProfile ss → Serves (symbols_of (declared_in ss)) (table_in (declared_in ss))
+serves ss h = record {
+  constants = λ x v e. constant-found (declared_in ss) (declared_in ss).names x v e (constant-named ss x v e);
+  places = λ r n m f.
+    ap (λ (o : Option Symbol). is_variable_named r.name o) (symbol-at (declared_in ss) (declared_in ss).names (place_of (declared_in ss).names r.name) r.name (at-place (declared_in ss).names r.name m))
+    ∙ variable-at (declared_in ss) r.name (no-constant (constant_named (declared_in ss).constants r.name) f);
+}
