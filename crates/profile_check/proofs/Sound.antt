@@ -331,11 +331,11 @@ apart-more d s h p =
         let q : true ≡ false = sym c ∙ none in absurd cc
 
 -- the parts of rule 32
-record Once (d : Declared) (k : Kind) : Type 0 where
-  objects : taken_before d.objects (objects_by k) ≡ false
-  names : list_any (is_other d.program) (names_mentioned k) ≡ false
+pub record Once (d : Declared) (k : Kind) : Type 0 where
+  pub objects : taken_before d.objects (objects_by k) ≡ false
+  pub names : list_any (is_other d.program) (names_mentioned k) ≡ false
 
-once : (c : Context) (s : Statement) → Kept c s → Once c.declared s.kind
+pub once : (c : Context) (s : Statement) → Kept c s → Once c.declared s.kind
 once c s k =
     let other = is_some_and (is_other c.declared.program) (program_named_by s.kind) in
     let names = list_any (is_other c.declared.program) (names_mentioned s.kind) in
