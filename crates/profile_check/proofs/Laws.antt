@@ -26,7 +26,7 @@ had-key : (x y : List ℕ) (keys : List (List ℕ)) (b : Bool) → list_any (sam
 had-key x y keys true h = had-equal x y keys (same_name x y) refl h
 had-key x y keys false h = list_any-append (same_name x) keys (y ∷ []) ∙ ap (λ b. list_any (same_name x) keys || b) (or-false (same_name x y))
 
-had-all : (x : List ℕ) (keys xs : List (List ℕ)) → list_any (same_name x) (insert_all same_name keys xs) ≡ (list_any (same_name x) keys || list_any (same_name x) xs)
+pub had-all : (x : List ℕ) (keys xs : List (List ℕ)) → list_any (same_name x) (insert_all same_name keys xs) ≡ (list_any (same_name x) keys || list_any (same_name x) xs)
 had-all x keys [] = sym (or-false (list_any (same_name x) keys))
 had-all x keys (y ∷ ys) =
     had-all x (insert_key same_name keys y) ys ∙ ap (λ b. b || list_any (same_name x) ys) (had-key x y keys (list_any (same_name y) keys) refl)
@@ -45,7 +45,7 @@ agrees typed front s =
     let d = real-table typed (names_used s.kind) in
     ap₂ lower (order-agrees front s) (λ i. if (a i || (b i || d i)) then Some 31 else lowest_of rules_on_values (context_after typed front) s)
 
-declared-append : (d : Declared) (front : List Statement) (s : Statement) → declared_from d (front ++ s ∷ []) ≡ and_then_declared (declared_from d front) s
+pub declared-append : (d : Declared) (front : List Statement) (s : Statement) → declared_from d (front ++ s ∷ []) ≡ and_then_declared (declared_from d front) s
 declared-append d [] s = refl
 declared-append d (f ∷ front) s = declared-append (and_then_declared d f) front s
 

@@ -4,6 +4,7 @@ pub mod Ending
 pub mod Entries
 pub mod Erased
 pub mod Frames
+pub mod Known
 pub mod Laid
 pub mod LaidText
 pub mod Laws
@@ -16,6 +17,8 @@ pub mod ResolvedKinds
 pub mod ResolvedTerms
 pub mod SameShape
 pub mod Settling
+pub mod Sized
+pub mod Sound
 pub mod Steps
 pub mod Sums
 pub mod Tables
