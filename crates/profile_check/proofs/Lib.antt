@@ -13,6 +13,7 @@ pub mod Resolved
 pub mod Steps
 pub mod Sums
 pub mod Tables
+pub mod Texts
 pub mod Turns
 pub mod Unique
 pub mod Weights
