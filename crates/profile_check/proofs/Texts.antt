@@ -1,23 +1,25 @@
 -- Statements that a text spells: their references have no numbers and no places yet, there are no more
 -- of them than the text has characters, and their expressions are shallow.
 use Rattle.std.proofs.Common.{◌≡◌, ◌∙◌, ℕ, ◌+◌, ◌-◌, ◌*◌, ◌<◌, ◌≤◌, Bool, true, false, cond, eqb, leb, ◌&&◌, ◌⊎◌, inl, inr, List, [], ◌∷◌, ◌++◌, length, map, Option, Some, None, option_map, refl, ap, ap₂, sym, subst, arith}
-use Rattle.std.specs.Prelude.{codes, max, nat_le}
-use Rattle.std.specs.List.{list_all}
+use Rattle.std.specs.Prelude.{codes, max, ⊤}
 use Rattle.std.proofs.lemmas.Bool.{le-leb}
 use Rattle.std.proofs.lemmas.List.{length-append}
 use Rattle.ast.specs.Program.{greatest_depth}
-use Rattle.ast.specs.References.{optional, item_expressions, items_expressions, kind_expressions}
+use Rattle.ast.specs.References.{optional, items_expressions, kind_expressions}
 use Rattle.ast.specs.Tree.{Ref, Term, Terms, constant, truth, parameter, element, call, parentheses, unary, binary, no_terms, then_term, Access, accessed, PrintItem, value_item, text_item, DoHead, Kind, assign, do_loop, block_if, else_if, logical_if, print, read, Statement, depth}
 use Rattle.expressions.proofs.Tools.{some_is, on_true, on_false, choice, after_law}
 use Rattle.expressions.specs.Characters.{begins_letter, begins_with, after}
-use Rattle.expressions.specs.Grammar.{Spells, AreSubscripts, AreFurther, IsReference, IsAccess, reference_to, depth_limit}
+use Rattle.expressions.specs.Grammar.{Spells, AreSubscripts, AreFurther, IsReference, IsAccess}
 use Rattle.expressions.specs.Levels.{primary, top, spelling, prefix_spelling, left_level, right_level, operand_level}
+use Rattle.fixed_form.specs.declared.labelled.Labelled.{Labelled}
+use Rattle.fixed_form.specs.Answers.{entries}
+use Rattle.fixed_form.specs.Limits.{longest_text}
 use Rattle.fixed_form.specs.Lines.{Entry}
 use Rattle.syntax.specs.declared.class.Keyword.{Keyword}
 use Rattle.syntax.specs.declared.class.Keyword.TheVariants as keywords
 use Rattle.syntax.specs.Classes as classes
 use Rattle.syntax.specs.Classes.{Class, worded, assignment, unclosed, unknown, level_after, enclosed_from, enclosed, is_word, are_labels, if_class, is_do, stands_at_level_zero, first_keyword, class_by_keyword, simple_class, other_class, class_behind_if, class_of}
-use Rattle.syntax.specs.Depths.{greatest, depth_of_kind, depth_of_access, depth_of_item}
+use Rattle.syntax.specs.Depths.{greatest, depth_of_kind, depth_of_optional, depth_of_access, depth_of_item}
 use Rattle.syntax.specs.Pieces.{Piece, mark, quoted, doubled, Cut, folded, marks}
 use Rattle.syntax.specs.Statements as statements
 use Rattle.syntax.specs.Statements.{AreParts, AreOptional, AreBehindComma, nothing, IsStep, AreParameters, IsDoHead, IsItem, AreFurtherItems, AreItems, IsKind, IsStatement}
@@ -184,8 +186,16 @@ head-few : (d : DoHead) (t : List ℕ) → IsDoHead d t → head_count d ≤ len
 head-few d t h =
     let p = h.8 in
     let behind : length h.2 + (1 + length h.3) ≤ length t = omega (arith, ap length h.4, length-append h.0 (h.1 ++ (h.2 ++ (codes "=" ++ h.3))), length-append h.1 (h.2 ++ (codes "=" ++ h.3)), length-append h.2 (codes "=" ++ h.3)) in
-    omega (arith, reference-long d.variable h.2 h.7, term-few d.first top p.0 p.4, term-few d.last top p.1 p.5, step-few d.step p.2 p.6,
-    ap length p.3, length-append p.0 (codes "," ++ (p.1 ++ p.2)), length-append p.1 p.2)
+    omega (
+      arith,
+      reference-long d.variable h.2 h.7,
+      term-few d.first top p.0 p.4,
+      term-few d.last top p.1 p.5,
+      step-few d.step p.2 p.6,
+      ap length p.3,
+      length-append p.0 (codes "," ++ (p.1 ++ p.2)),
+      length-append p.1 p.2,
+    )
 
 print-few : (cs : List (List ℕ)) (items : List PrintItem) (u : List ℕ) → AreBehindComma (AreItems cs) items u ⊎ AreOptional (AreItems cs) items u → total item_count items ≤ length u
 print-few cs [] u h = omega arith
@@ -271,6 +281,11 @@ class-kept t = go (after (codes "IF(") t) refl
 kept-of : (t : List ℕ) (c : Class) → class_of t ≡ c → kept c ≤ length t
 kept-of t c e = subst (λ (d : Class). kept d ≤ length t) e (class-kept t)
 
+-- behind one of two keywords
+behind-word : {A B : Type 0} (t u : List ℕ) (a b : Keyword) → ((class_of t ≡ worded a u) × A) ⊎ ((class_of t ≡ worded b u) × B) → length u ≤ length t
+behind-word t u a b (inl h) = kept-of t (worded a u) h.0
+behind-word t u a b (inr h) = kept-of t (worded b u) h.0
+
 -- ---- statements
 
 kind-few : (k : Kind) (t : List ℕ) (cs : List (List ℕ)) → IsKind k t cs → kind_count k ≤ length t
@@ -281,16 +296,8 @@ kind-few (block_if e) t cs h = omega (arith, kept-of t (classes.block_if h.0) h.
 kind-few (else_if e) t cs h =
     omega (arith, kept-of t (worded keywords.ElseIf (codes "(" ++ h.0 ++ codes ")THEN")) h.1, length-append h.0 (codes ")THEN"), term-few e top h.0 h.2)
 kind-few (logical_if e k) t cs h = omega (arith, kept-of t (classes.logical_if h.0 h.1) h.2, term-few e top h.0 h.3, kind-few k h.1 cs h.4)
-kind-few (print items) t cs h = by h.1
-  where
-    by : ((class_of t ≡ worded keywords.Print h.0) × AreBehindComma (AreItems cs) items h.0) ⊎ ((class_of t ≡ worded keywords.Write h.0) × AreOptional (AreItems cs) items h.0) → total item_count items ≤ length t
-    by (inl g) = omega (arith, kept-of t (worded keywords.Print h.0) g.0, print-few cs items h.0 (inl g.1))
-    by (inr g) = omega (arith, kept-of t (worded keywords.Write h.0) g.0, print-few cs items h.0 (inr g.1))
-kind-few (read es) t cs h = by h.1
-  where
-    by : ((class_of t ≡ worded keywords.Read h.0) × AreBehindComma (AreParts IsAccess nothing) es h.0) ⊎ ((class_of t ≡ worded keywords.ReadUnit h.0) × AreOptional (AreParts IsAccess nothing) es h.0) → total access_count es ≤ length t
-    by (inl g) = omega (arith, kept-of t (worded keywords.Read h.0) g.0, read-few es h.0 (inl g.1))
-    by (inr g) = omega (arith, kept-of t (worded keywords.ReadUnit h.0) g.0, read-few es h.0 (inr g.1))
+kind-few (print items) t cs h = omega (arith, behind-word t h.0 keywords.Print keywords.Write h.1, print-few cs items h.0 (either-way h.1))
+kind-few (read es) t cs h = omega (arith, behind-word t h.0 keywords.Read keywords.ReadUnit h.1, read-few es h.0 (either-way h.1))
 kind-few k t cs h = omega arith
 
 folded-short : (c : ℕ) → length (folded c) ≤ 1
@@ -308,3 +315,77 @@ marks-short (quoted s ∷ ps) t h = omega (arith, marks-short ps h.0 h.3, ap len
 
 pub few-references : (line : ℕ) (label : Option ℕ) (text : List ℕ) (s : Statement) → IsStatement line label text s → kind_count s.kind ≤ length text
 few-references line label text s h = omega (arith, kind-few s.kind (marks h.pieces) _ h.derived, marks-short h.pieces text h.cut)
+
+-- ---- shallow
+
+are-shallow : (es : List Term) → greatest depth es ≤ greatest_depth → are_shallow_in es ≡ true
+are-shallow [] h = refl
+are-shallow (e ∷ es) h = ap₂ (λ (a b : Bool). a && b) (le-leb (depth e) greatest_depth (omega arith)) (are-shallow es (omega arith))
+
+items-depth : (items : List PrintItem) → greatest depth (items_expressions items) ≤ greatest depth_of_item items
+items-depth [] = omega arith
+items-depth (value_item e ∷ items) = omega (arith, items-depth items)
+items-depth (text_item s ∷ items) = omega (arith, items-depth items)
+
+accesses-depth : (es : List Access) → greatest depth (map accessed es) ≤ greatest depth_of_access es
+accesses-depth [] = omega arith
+accesses-depth (a ∷ es) = omega (arith, accesses-depth es)
+
+kind-depth : (k : Kind) → greatest depth (kind_expressions k) ≤ depth_of_kind k
+kind-depth (assign a e) = omega arith
+kind-depth (print items) = items-depth items
+kind-depth (read es) = accesses-depth es
+kind-depth k = omega arith
+
+-- the variable of a DO stands among its expressions
+head-depth : (o : Option Term) (r : Ref) → greatest depth (optional o ++ element r no_terms ∷ []) ≤ max (depth_of_optional o) 1
+head-depth None r = omega arith
+head-depth (Some e) r = omega arith
+
+own-depth : (k : Kind) → greatest depth (own_expressions k) ≤ max (depth_of_kind k) 1
+own-depth (do_loop d) = omega (arith, head-depth d.step d.variable)
+own-depth (block_if e) = omega arith
+own-depth (else_if e) = omega arith
+own-depth (logical_if e k) = omega (arith, kind-depth k)
+own-depth (assign a e) = omega (arith, kind-depth (assign a e))
+own-depth (print items) = omega (arith, kind-depth (print items))
+own-depth (read es) = omega (arith, kind-depth (read es))
+own-depth k = omega arith
+
+pub shallow : (line : ℕ) (label : Option ℕ) (text : List ℕ) (s : Statement) → IsStatement line label text s → are_shallow_in (own_expressions s.kind) ≡ true
+shallow line label text s h = are-shallow (own_expressions s.kind) (omega (arith, own-depth s.kind, h.shallow))
+
+-- ---- all statements of a text
+
+abbrev pub AreShort : List Entry → Type 0
+AreShort [] = ⊤
+AreShort (e ∷ es) = (length e.text ≤ longest_text) × AreShort es
+
+pub entries-short : (xs : List Labelled) → AreShort (entries xs)
+entries-short [] = tt
+entries-short (x ∷ xs) = (x.text_in_range, entries-short xs)
+
+pub all-few : (es : List Entry) (ss : List Statement) → Spelled es ss → AreShort es → references_in ss ≤ length ss * longest_text
+all-few [] [] h short = omega arith
+all-few [] (s ∷ ss) h short = absurd h
+all-few (e ∷ es) [] h short = absurd h
+all-few (e ∷ es) (s ∷ ss) h short = omega (arith, few-references e.line e.label e.text s h.0, all-few es ss h.1 short.1)
+
+-- a statement in its place is spelled by an entry
+abbrev IsSpelled : Statement → Type 0
+IsSpelled s = (e : Entry) × IsStatement e.line e.label e.text s
+
+spelled-at : (es : List Entry) (front : List Statement) (s : Statement) (back : List Statement) → Spelled es (front ++ s ∷ back) → IsSpelled s
+spelled-at [] [] s back h = absurd h
+spelled-at [] (f ∷ front) s back h = absurd h
+spelled-at (e ∷ es) [] s back h = (e, h.0)
+spelled-at (e ∷ es) (f ∷ front) s back h = spelled-at es front s back h.1
+
+spelled-in : (es : List Entry) (ss front : List Statement) (s : Statement) (back : List Statement) → ss ≡ front ++ s ∷ back → Spelled es ss → IsSpelled s
+spelled-in es ss front s back e h = spelled-at es front s back (subst (λ (xs : List Statement). Spelled es xs) e h)
+
+pub all-bare : (es : List Entry) (ss front : List Statement) (s : Statement) (back : List Statement) → ss ≡ front ++ s ∷ back → Spelled es ss → own_text s.kind ≡ s.kind
+all-bare es ss front s back e h = let x = spelled-in es ss front s back e h in statement-bare _ _ _ s x.1
+
+pub all-shallow : (es : List Entry) (ss front : List Statement) (s : Statement) (back : List Statement) → ss ≡ front ++ s ∷ back → Spelled es ss → are_shallow_in (own_expressions s.kind) ≡ true
+all-shallow es ss front s back e h = let x = spelled-in es ss front s back e h in shallow _ _ _ s x.1
