@@ -22,6 +22,7 @@ pub mod Sound
 pub mod Steps
 pub mod Sums
 pub mod Tables
+pub mod Texts
 pub mod Turns
 pub mod Unique
 pub mod Weights

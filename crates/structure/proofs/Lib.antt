@@ -1,3 +1,4 @@
 pub mod Agreement
 pub mod Behind
 pub mod Broken
+pub mod Exactly

@@ -3,11 +3,15 @@
 use Rattle.std.specs.Prelude.{ℕ, List, ◌∷◌, drop, get_or, map, reverse, Option, Some, None, option_map, option_to_list}
 use Rattle.std.specs.Option.{unwrap_or}
 use Rattle.ast.specs.Tree.{Kind, do_loop, block_if, end_if}
+use Rattle.structure.specs.declared.span.Blocks.{Blocks}
 use Rattle.structure.specs.declared.span.Span.{Span}
 
 -- the places of a span's first and last statement
 abbrev pub span_of : Span → ℕ × ℕ
 span_of s = (s.first, s.last)
+
+abbrev pub spans_in : Blocks → List (ℕ × ℕ)
+spans_in b = map span_of b.spans.items
 
 -- the spans, kept from the last to the first
 abbrev pub spans_kept : List Span → List (ℕ × ℕ)

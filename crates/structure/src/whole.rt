@@ -1,12 +1,12 @@
 //! The rules on order, labels, ranges and blocks, over all statements, and the spans of structures.
 
-ghost use Rattle.std.specs.Prelude.{◌≡◌, ◌++◌, ℕ, IfErr, IfOk, OnOk, List, Some, cond, get_or, map, nat_eq, reverse};
+ghost use Rattle.std.specs.Prelude.{◌≡◌, ◌++◌, ℕ, Err, IfErr, IfOk, Ok, OnOk, List, Some, cond, get_or, map, nat_eq, reverse};
 ghost use Rattle.std.specs.Option.{unwrap_or};
 ghost use Rattle.indexmap.specs.IndexMap.{get};
-ghost use Rattle.ast.specs.Answers.{Says};
+ghost use Rattle.ast.specs.Answers.{Gives, Says};
 ghost use Rattle.ast.specs.Tree.{Statement};
 ghost use Rattle.ast.specs.View.{kind as kind_of, statement};
-ghost use Rattle.structure.specs.Backward.{last_place, span_of, span_to, spans_kept, with_end};
+ghost use Rattle.structure.specs.Backward.{last_place, span_of, span_to, spans_in, spans_kept, with_end};
 ghost use Rattle.structure.specs.Rules.{BreakFirst, Keep, is_some_and, rules};
 ghost use Rattle.structure.specs.Spans.{spans_of};
 
@@ -163,9 +163,11 @@ fn spans(alloc: Global, statements: &[Stmt]) -> Result<Vec<Span>, AllocError>
 /// and stands nowhere else. Or the first statement that breaks a rule of order, labels, ranges or
 /// blocks, by its line and the lowest such rule: 30, 34 to 36 or 41.
 pub fn blocks(alloc: Global, _labelled: &[Labelled], statements: &[Stmt]) -> Result<Blocks, Refusal>
-    ensures found { IfOk result (λ b. map span_of b.spans.items ≡ spans_of (map statement statements.now)) }
+    ensures found { IfOk result (λ b. spans_in b ≡ spans_of (map statement statements.now)) }
     ensures kept { IfOk result (λ b. Keep rules (map statement statements.now)) }
+    ensures only { Keep rules (map statement statements.now) → Gives spans_in result (Ok (spans_of (map statement statements.now))) }
     ensures refused { IfErr result (Says (BreakFirst rules (map statement statements.now))) }
+    ensures exactly { (number line : ℕ) → BreakFirst rules (map statement statements.now) number line → Gives spans_in result (Err (record { number = number; line = line })) }
 {
     keep_rules(alloc, statements)?;
     let spans = spans(alloc, statements)?;
