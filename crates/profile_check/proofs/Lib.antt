@@ -26,3 +26,4 @@ pub mod Texts
 pub mod Turns
 pub mod Unique
 pub mod Weights
+pub mod WholeText
