@@ -41,7 +41,7 @@ distinct-none : IsDistinct same_name []
 unfolding IsDistinct
 distinct-none = tt
 
-pub distinct-names : (ss : List Statement) → IsDistinct same_name (declared_in ss).names
+distinct-names : (ss : List Statement) → IsDistinct same_name (declared_in ss).names
 distinct-names ss =
     along-declared (λ (d : Declared). IsDistinct same_name d.names) ss distinct-none
     (λ front s back e p. distinct-all (declared_in front).names (names_mentioned s.kind) p)

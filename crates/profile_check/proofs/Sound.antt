@@ -355,7 +355,7 @@ named-more : (front : List Statement) (s : Statement) (x : List ℕ) → (is_amo
 named-more front s x h =
     ap (λ (d : Declared). is_among d.names x) (declared-append nothing front s) ∙ had-all x (declared_in front).names (names_mentioned s.kind) ∙ h
 
-pub named : (ss front : List Statement) (s : Statement) (back : List Statement) (x : List ℕ) → ss ≡ front ++ s ∷ back → is_among (names_mentioned s.kind) x ≡ true
+named : (ss front : List Statement) (s : Statement) (back : List Statement) (x : List ℕ) → ss ≡ front ++ s ∷ back → is_among (names_mentioned s.kind) x ≡ true
     → is_among (declared_in ss).names x ≡ true
 named ss front s back x e h =
     along-rest (λ (f : List Statement). is_among (declared_in f).names x ≡ true) ss
