@@ -1,6 +1,6 @@
 -- What the symbols of a program in the profile stand for.
 use Rattle.std.proofs.Common.{◌≡◌, ◌∙◌, ℕ, ℤ, ◌<◌, Bool, true, false, not, cond, List, [], ◌∷◌, ◌++◌, length, get_or, map, refl, ap, sym, subst, Option, Some, None, option_map, inl, inr}
-use Rattle.std.specs.Prelude.{◌&&◌, ◌||◌, if◌then◌else◌, is_some, slice_get, unwrap_or}
+use Rattle.std.specs.Prelude.{◌||◌, if◌then◌else◌, is_some, slice_get, unwrap_or}
 use Rattle.std.specs.List.{IsDistinct, list_any, find, position_or_len}
 use Rattle.std.proofs.lemmas.Bool.{or_parts, or_from, or_left, or_right, and_parts, and_from, lt-ltb, cases_order}
 use Rattle.std.proofs.lemmas.Bool.Decides.{Decides-int_eq}
@@ -15,7 +15,7 @@ use Rattle.ast.specs.Symbols.{Extent, variable, Symbol, names_of}
 use Rattle.ast.specs.Tree.{Ref, Kind, Statement}
 use Rattle.ast.specs.declared.expression.Intrinsic.{Intrinsic}
 use Rattle.ast.specs.declared.expression.Intrinsic.TheVariants.{Abs, Iabs, Max, Max0, Min, Min0, Mod}
-use Rattle.profile_check.specs.Declarations.{Declared, nothing, declared_in, and_then_declared, constant_named, dimensions_named, constant_or, sort_of, symbols_of}
+use Rattle.profile_check.specs.Declarations.{Declared, declared_in, and_then_declared, constant_named, dimensions_named, constant_or, sort_of, symbols_of}
 use Rattle.profile_check.specs.Erasure.{intrinsic_name}
 use Rattle.profile_check.specs.Reads.{is_fixed, is_constant}
 use Rattle.profile_check.specs.Resolving.{place_of, intrinsic_named}

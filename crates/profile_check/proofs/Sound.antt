@@ -1,6 +1,6 @@
 -- What each statement of a program in the profile keeps, and that each name that it uses stands for
 -- something.
-use Rattle.std.proofs.Common.{◌≡◌, ◌∙◌, ℕ, ℤ, ◌+◌, ◌≤◌, Bool, true, false, not, List, [], ◌∷◌, ◌++◌, length, map, refl, ap, sym, subst, arith, append_assoc, append-nil, Option, Some, None, Result, Ok, Err, inl, inr}
+use Rattle.std.proofs.Common.{◌≡◌, ◌∙◌, ℕ, ℤ, Bool, true, false, not, List, [], ◌∷◌, ◌++◌, length, map, refl, ap, sym, subst, append_assoc, append-nil, Option, Some, None, Result, Ok, Err, inl, inr}
 use Rattle.std.specs.Prelude.{◌⊎◌, ◌&&◌, ◌||◌, ◌==◌, nat_le, if◌then◌else◌, is_some}
 use Rattle.std.specs.List.{list_any, list_all, filter}
 use Rattle.std.proofs.lemmas.Bool.{or_parts, or_left, or_right, and_parts, and_from, not-true, not-false}
@@ -13,9 +13,9 @@ use Rattle.ast.specs.Store.{same_name}
 use Rattle.ast.specs.Symbols.{Extent}
 use Rattle.ast.specs.declared.fault.Fault.{Fault}
 use Rattle.ast.specs.Tree.{Declarator, Definition, Statement, Kind, program, integer, dimension, parameters, assign, do_loop, go_on, block_if, else_if, else_arm, end_if, logical_if, print, read, stop, end}
-use Rattle.structure.specs.Open.{Open, open_after}
+use Rattle.structure.specs.Open.{open_after}
 use Rattle.structure.specs.Rules.{is_empty, is_program, is_out_of_order, is_declaration, is_executable, is_misplaced_arm, is_around, is_block, by_label, may_stand_in_if, holds_wrong_statement, crosses, ends_wrongly, breaks_blocks, is_label_again, rules as order_rules, lowest_broken as lowest_order, Keep as KeepOrder}
-use Rattle.profile_check.specs.Declarations.{Declared, Arrays, Constants, nothing, declared_in, declared_from, and_then_declared, arrays_by, or_no_extents, extents_of, with_arrays, constant_value, with_constant, with_constants, dimensions_named, constant_named, objects_by}
+use Rattle.profile_check.specs.Declarations.{Declared, Arrays, Constants, nothing, declared_in, and_then_declared, arrays_by, or_no_extents, extents_of, with_arrays, constant_value, with_constant, with_constants, dimensions_named, constant_named, objects_by}
 use Rattle.profile_check.specs.Rules.{Context, context_after, is_some_and, is_other, is_constant, names_real, declares_again, is_miscounted, miscounts, changes_active, changes_constant, crosses_bounds, is_too_large, lacks_value, is_well_kinded, rules, lowest_of, lower, typed_in_whole, InProfile}
 use Rattle.profile_check.specs.Resolving.{Table}
 use Rattle.profile_check.specs.TakenBefore.{taken_before}
