@@ -134,8 +134,8 @@ pub serves : (ss : List Statement) → InProfile ss → Serves (symbols_of (decl
 serves ss h = record {
   constants = λ x v e. constant-found (declared_in ss) (declared_in ss).names x v e (constant-named ss x v e);
   places = λ r n m f.
-    ap (λ (o : Option Symbol). is_variable_named r.name o) (symbol-at (declared_in ss) (declared_in ss).names (place_of (declared_in ss).names r.name) r.name (at-place (declared_in ss).names r.name m))
-    ∙ variable-at (declared_in ss) r.name (no-constant (constant_named (declared_in ss).constants r.name) f);
+      ap (λ (o : Option Symbol). is_variable_named r.name o) (symbol-at (declared_in ss) (declared_in ss).names (place_of (declared_in ss).names r.name) r.name (at-place (declared_in ss).names r.name m))
+      ∙ variable-at (declared_in ss) r.name (no-constant (constant_named (declared_in ss).constants r.name) f);
 }
 
 -- ---- no name is an intrinsic function's
@@ -161,8 +161,8 @@ no-intrinsic : (ss : List Statement) → InProfile ss → list_any is_intrinsic 
 no-intrinsic ss h =
     along-declared (λ (d : Declared). list_any is_intrinsic d.names ≡ false) ss refl
     (λ front s back e p.
-      none-all is_intrinsic (declared_in front).names (names_mentioned s.kind) p
-      (none-other (declared_in front).program (names_mentioned s.kind) (once (context_after (typed_in_whole ss) front) s (kept ss h front s back e)).names))
+    none-all is_intrinsic (declared_in front).names (names_mentioned s.kind) p
+    (none-other (declared_in front).program (names_mentioned s.kind) (once (context_after (typed_in_whole ss) front) s (kept ss h front s back e)).names))
 
 intrinsic : (f : Intrinsic) → is_intrinsic (intrinsic_name f) ≡ true
 intrinsic Abs = refl
@@ -251,13 +251,13 @@ known ss h =
     let d = declared_in ss in
     record {
       place = λ r s p q e.
-        let a = held d d.names r p in
-        let b = held d d.names s q in
-        same-place d.names s.name r.cell s.cell (distinct-names ss) (a.name ∙ ap (λ (x : List ℕ). Some x) e) b.name;
+          let a = held d d.names r p in
+          let b = held d d.names s q in
+          same-place d.names s.name r.cell s.cell (distinct-names ss) (a.name ∙ ap (λ (x : List ℕ). Some x) e) b.name;
       value = λ x n m p q. same_Some n m (sym (valued d d.names x n p).value ∙ (valued d d.names x m q).value);
       no_constant = λ r n p q. none-some n (sym (held d d.names r p).free ∙ (valued d d.names r.name n q).value);
       no_function = λ r f p e.
-        not-named f r.cell ((held d d.names r p).name ∙ ap (λ (x : List ℕ). Some x) e);
+          not-named f r.cell ((held d d.names r p).name ∙ ap (λ (x : List ℕ). Some x) e);
       no_value = λ f n p. not-named f (place_of d.names (intrinsic_name f)) (at-place d.names (intrinsic_name f) (valued d d.names (intrinsic_name f) n p).named);
       function = λ f g e. same_Some f g (sym (intrinsic-back f) ∙ ap intrinsic_named e ∙ intrinsic-back g);
     }

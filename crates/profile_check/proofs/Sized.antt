@@ -58,7 +58,7 @@ uncrossed-onto constants before (b ∷ bs) u h =
     by rest (Err f) k = refl
     by rest (Ok d) k =
         rest d (list_all-append is_uncrossed before (d ∷ [])
-          ∙ and_from (are_uncrossed before) (are_uncrossed (d ∷ [])) u (and_from (is_uncrossed d) true (not_from_false (int_lt d.upper d.lower) k) refl))
+        ∙ and_from (are_uncrossed before) (are_uncrossed (d ∷ [])) u (and_from (is_uncrossed d) true (not_from_false (int_lt d.upper d.lower) k) refl))
 
 -- ---- no array is too large
 

@@ -188,7 +188,7 @@ closed-more first front s e none a c =
     let more = declared-append nothing front s in
     record {
       executes = list_any-append (λ (f : Statement). is_executable f.kind) front (s ∷ [])
-        ∙ ap (λ (b : Bool). list_any (λ (f : Statement). is_executable f.kind) front || b) (or-false (is_executable s.kind)) ∙ e;
+          ∙ ap (λ (b : Bool). list_any (λ (f : Statement). is_executable f.kind) front || b) (or-false (is_executable s.kind)) ∙ e;
       arrays = ap (λ (d : Declared). d.arrays) more ∙ arrays-stay (declared_in front) s none.0 ∙ a;
       constants = ap (λ (d : Declared). d.constants) more ∙ constants-stay (declared_in front) s none.1 ∙ c;
     }
@@ -201,12 +201,12 @@ closed : (ss : List Statement) → InProfile ss → (front : List Statement) (s 
 closed ss h front s back e x =
     along-rest (λ (f : List Statement). Closed front f) ss
     (λ f t b q p.
-      let o = in-order ss h f t b q in
-      closed-more front f t (or_left (list_any (λ (f : Statement). is_executable f.kind) f) (is_executable t.kind) p.executes)
-      (none-by t.kind (not-declaration f t o p.executes) (not-wrong f t o)) p.arrays p.constants)
+    let o = in-order ss h f t b q in
+    closed-more front f t (or_left (list_any (λ (f : Statement). is_executable f.kind) f) (is_executable t.kind) p.executes)
+    (none-by t.kind (not-declaration f t o p.executes) (not-wrong f t o)) p.arrays p.constants)
     (front ++ s ∷ []) back (e ∙ sym (append_assoc front (s ∷ []) back))
     (closed-more front front s (or_right (list_any (λ (f : Statement). is_executable f.kind) front) (is_executable s.kind) x)
-      (none-by s.kind (is-declared s.kind x) (not-wrong front s (in-order ss h front s back e))) refl refl)
+    (none-by s.kind (is-declared s.kind x) (not-wrong front s (in-order ss h front s back e))) refl refl)
 
 -- ---- names taken into a table one after another
 
@@ -300,16 +300,16 @@ apart-more d s h p =
     let q = taken-parts d.objects arrays constants h in
     record {
       array = λ x k.
-        let o = parts x k in
-        dimensions-others d.constants d.arrays (bounded_by s.kind) x o.1 ∙ p.array x o.0;
+          let o = parts x k in
+          dimensions-others d.constants d.arrays (bounded_by s.kind) x o.1 ∙ p.array x o.0;
       constant = λ x k.
-        let o = parts x k in
-        constant-others d.constants (defined_by s.kind) x o.2 ∙ p.constant x o.0;
+          let o = parts x k in
+          constant-others d.constants (defined_by s.kind) x o.2 ∙ p.constant x o.0;
       apart = λ x k. elim (constant-cases d (defined_by s.kind) x k) [
         | inl c ↦ dimensions-others d.constants d.arrays (bounded_by s.kind) x (old x c q.0 (is_among arrays x) refl) ∙ p.apart x c
         | inr c ↦
-          let o = or_parts (is_among d.objects x) (is_among arrays x) (sym (had-all x d.objects arrays) ∙ taken-new (insert_all same_name d.objects arrays) constants x q.1 c) in
-          dimensions-others d.constants d.arrays (bounded_by s.kind) x o.1 ∙ p.array x o.0
+            let o = or_parts (is_among d.objects x) (is_among arrays x) (sym (had-all x d.objects arrays) ∙ taken-new (insert_all same_name d.objects arrays) constants x q.1 c) in
+            dimensions-others d.constants d.arrays (bounded_by s.kind) x o.1 ∙ p.array x o.0
       ];
     }
   where
@@ -319,7 +319,7 @@ apart-more d s h p =
     parts x k =
         let a = or_parts (is_among d.objects x) (is_among (objects_by s.kind) x) (sym (had-all x d.objects (objects_by s.kind)) ∙ k) in
         let b = or_parts (is_among (declarator_names (bounded_by s.kind)) x) (is_among (definition_names (defined_by s.kind)) x)
-          (sym (list_any-append (same_name x) (declarator_names (bounded_by s.kind)) (definition_names (defined_by s.kind))) ∙ a.1) in
+        (sym (list_any-append (same_name x) (declarator_names (bounded_by s.kind)) (definition_names (defined_by s.kind))) ∙ a.1) in
         (a.0, b.0, b.1)
 
     -- a constant of those before is not declared as an array
@@ -401,7 +401,7 @@ sound-uses t arrays a (u ∷ us) n m g =
   where
     own : is_call u ≡ false → ((x : List ℕ) → is_among (names_in (u ∷ us)) x ≡ true → is_among t.names x ≡ true) → is_among t.names u.name ≡ true
     own e n = n u.name (ap (λ (b : Bool). is_among (map (λ (v : Use). v.name) (if not b then u ∷ filter is_name us else filter is_name us)) u.name) e
-      ∙ ap (λ (b : Bool). b || is_among (names_in us) u.name) (nat_list_eq_equiv.refl u.name))
+        ∙ ap (λ (b : Bool). b || is_among (names_in us) u.name) (nat_list_eq_equiv.refl u.name))
 
     more : (x : List ℕ) (b : Bool) → is_among (names_in us) x ≡ true → is_among (map (λ (v : Use). v.name) (if b then u ∷ filter is_name us else filter is_name us)) x ≡ true
     more x true k = or_right (same_name x u.name) (is_among (names_in us) x) k
