@@ -1,5 +1,5 @@
 -- The last statement of a text is END.
-use Rattle.std.proofs.Common.{◌≡◌, ◌∙◌, ℕ, ◌-◌, Option, inl, inr, Bool, true, false, not, cond, List, [], ◌∷◌, ◌++◌, refl, ap, sym, subst, map, filter, codes, arith, leb, ltb}
+use Rattle.std.proofs.Common.{◌≡◌, ◌∙◌, ℕ, ◌-◌, Option, inl, inr, Bool, true, false, not, cond, List, [], ◌∷◌, ◌++◌, refl, ap, sym, subst, map, codes, arith, leb, ltb}
 use Rattle.std.specs.Prelude.{if◌then◌else◌, ◌&&◌, ◌==◌}
 use Rattle.std.specs.Char.{to_ascii_uppercase}
 use Rattle.std.specs.List.{list_any}
@@ -8,10 +8,8 @@ use Rattle.ast.specs.Tree.{Kind, Statement, program, integer, dimension, paramet
 use Rattle.fixed_form.specs.Line.{without_blanks, is_end}
 use Rattle.fixed_form.specs.Lines.{Entry, AreEnded}
 use Rattle.syntax.specs.Classes.{Class, worded, class_of, class_by_keyword}
-use Rattle.syntax.specs.Classes as classes
-use Rattle.syntax.specs.Pieces.{Piece, mark, quoted, Cut, folded, marks, constants, doubled}
+use Rattle.syntax.specs.Pieces.{Piece, mark, quoted, Cut, marks, constants}
 use Rattle.syntax.specs.Statements.{IsKind, IsStatement}
-use Rattle.syntax.specs.declared.class.Keyword.{Keyword}
 use Rattle.syntax.specs.declared.class.Keyword.TheVariants.{End}
 use Rattle.profile_check.proofs.Entries.{same-names}
 use Rattle.profile_check.proofs.SameShape.{EndsInEnd}

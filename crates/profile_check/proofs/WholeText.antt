@@ -1,15 +1,15 @@
 -- A whole text: its lines, their statements, the rules of the profile and the tree.
-use Rattle.std.proofs.Common.{◌≡◌, ◌∙◌, ℕ, zero, ◌+◌, ◌*◌, ◌<◌, ◌≤◌, ◌^◌, true, false, List, [], ◌∷◌, ◌++◌, refl, ap, sym, subst, map, length, append_assoc, arith, inr, Result, Ok, Err, IfOk, IfErr}
+use Rattle.std.proofs.Common.{◌≡◌, ◌∙◌, ℕ, ◌+◌, ◌*◌, ◌<◌, ◌≤◌, ◌^◌, true, false, List, [], ◌∷◌, ◌++◌, refl, ap, sym, subst, map, length, append_assoc, arith, inr, Result, Ok, Err, IfErr}
 use Rattle.std.specs.List.{list_all, IsDistinct}
 use Rattle.std.specs.Result.{IsErrAnd}
 use Rattle.std.proofs.lemmas.Bool.{or_parts}
 use Rattle.ast.specs.Answers.{Break, Gives, Fails, Says}
-use Rattle.ast.specs.Program.{ProgramTree, is_placed, are_placed, are_shallow}
+use Rattle.ast.specs.Program.{ProgramTree, are_placed, are_shallow}
 use Rattle.ast.specs.ProgramView.{program as program_of}
 use Rattle.ast.specs.References.{are_numbered, block_expressions, block_references}
 use Rattle.ast.specs.Store.{same_name}
 use Rattle.ast.specs.Symbols.{Symbol, names_of, is_sized}
-use Rattle.ast.specs.Tree.{Term, Kind, Statement, Block, block}
+use Rattle.ast.specs.Tree.{Term, Statement, Block, block}
 use Rattle.ast.specs.declared.program.Program.{Program}
 use Rattle.ast.specs.declared.refusal.Refusal.{Refusal}
 use Rattle.ast.specs.declared.refusal.Refusal.TheVariants.{Memory, Refused}
@@ -17,7 +17,7 @@ use Rattle.fixed_form.proofs.Laws.{one_list}
 use Rattle.fixed_form.specs.Limits.{longest_text}
 use Rattle.fixed_form.specs.Lines.{Entry, Lines, lines_in, AreShaped}
 use Rattle.structure.specs.Open.{open_after}
-use Rattle.structure.specs.Rules.{holds_wrong_statement, is_misplaced_arm, by_label, is_around, is_block, Keep, rules}
+use Rattle.structure.specs.Rules.{holds_wrong_statement, is_misplaced_arm, by_label, is_around, is_block}
 use Rattle.syntax.proofs.Public.{text_again}
 use Rattle.syntax.specs.Statements.{IsStatement}
 use Rattle.profile_check.proofs.Ending.{ends-in-end}
@@ -32,14 +32,14 @@ use Rattle.profile_check.proofs.SameShape.{nested-lays}
 use Rattle.profile_check.proofs.Sized.{few_statements, sized}
 use Rattle.profile_check.proofs.Sound.{keeps-structure, in-order, sound}
 use Rattle.profile_check.proofs.Texts.{AreShort, all-few, all-bare, all-shallow}
-use Rattle.profile_check.specs.Causes.{Refuses, UnspelledAt}
+use Rattle.profile_check.specs.Causes.{Refuses}
 use Rattle.profile_check.specs.Declarations.{declared_in, symbols_of}
 use Rattle.profile_check.specs.Erasure.{block_erased}
 use Rattle.profile_check.specs.Layout.{Lays}
 use Rattle.profile_check.specs.Nesting.{nested}
 use Rattle.profile_check.specs.Reads.{AreProgram, Reads, Spelled, is_meant}
 use Rattle.profile_check.specs.Resolving.{Table, kind_count, kind_resolved, statements_resolved, references_in}
-use Rattle.profile_check.specs.Rules.{InProfile, BreaksFirst, most_statements, typed_in_whole}
+use Rattle.profile_check.specs.Rules.{InProfile, BreaksFirst, most_statements}
 
 -- ---- the statements of a text in the profile
 
@@ -179,18 +179,6 @@ one-reading text p q a b =
 no-break : (ss : List Statement) (n l : ℕ) → InProfile ss → BreaksFirst ss n l → ⊥
 no-break ss n l h b = let both = sym (h.each b.front b.statement b.back b.cut) ∙ b.broken in cc
 
-pub read-again : (text : List ℕ) (es : List Entry) (ss : List Statement) (tree : ProgramTree)
-    → ((fs : List Entry) → Lines text fs → es ≡ fs) → ((ts : List Statement) → Spelled es ts → ss ≡ ts) → Reads text tree → InProfile ss
-read-again text es ss tree lines stmts r =
-    let same = lines r.entries r.lines in
-    let spelled = subst (λ (fs : List Entry). Spelled fs r.statements) (sym same) r.spelled in
-    subst (λ (ts : List Statement). InProfile ts) (sym (stmts r.statements spelled)) r.profile
-
--- a refusal that a text in the profile can't have
-pub no-refusal : (ss : List Statement) (e : Refusal) (m : Result ProgramTree Break) → InProfile ss → Says (BreaksFirst ss) e → Fails e m
-no-refusal ss Memory m h s = tt
-no-refusal ss (Refused n l) m h s = absurd (no-break ss n l h s)
-
 pub out-of-profile : (text : List ℕ) (es : List Entry) (ss : List Statement) (e : Refusal) → Lines text es → Spelled es ss → Says (BreaksFirst ss) e → Says (Refuses text) e
 out-of-profile text es ss Memory lines spelled s = tt
 out-of-profile text es ss (Refused n l) lines spelled s = inr (inr (record { entries = es; lines = lines; statements = ss; spelled = spelled; first = s }))
@@ -203,3 +191,52 @@ handed (Err y) e m h f = subst (λ (z : Refusal). Fails z m) (sym h) f
 pub handed-cause : (r : Result Program Refusal) (e : Refusal) (text : List ℕ) → IsErrAnd r (λ y. y ≡ e) → Says (Refuses text) e → IfErr r (Says (Refuses text))
 handed-cause (Ok x) e text h s = absurd h
 handed-cause (Err y) e text h s = subst (λ (z : Refusal). Says (Refuses text) z) (sym h) s
+
+-- ---- a text that reads as a program has no cause to be refused
+
+abbrev listed : List Entry → Result (List Entry) Break
+listed es = Ok es
+
+abbrev spelt : List Statement → Result (List Statement) Break
+spelt ss = Ok ss
+
+no-refusal : (ss : List Statement) (e : Refusal) (m : Result ProgramTree Break) → InProfile ss → Says (BreaksFirst ss) e → Fails e m
+no-refusal ss Memory m h s = tt
+no-refusal ss (Refused n l) m h s = absurd (no-break ss n l h s)
+
+same-entries : (es fs : List Entry) → listed fs ≡ listed es → es ≡ fs
+same-entries es fs e = cc
+
+same-statements : (ss ts : List Statement) → spelt ts ≡ spelt ss → ss ≡ ts
+same-statements ss ts e = cc
+
+none-fails : (e : Refusal) (ss : List Statement) (m : Result ProgramTree Break) → Fails e (spelt ss) → Fails e m
+none-fails Memory ss m h = tt
+none-fails (Refused n l) ss m h = absurd (let q : spelt ss ≡ Err (record { number = n; line = l }) = h in differ ss _ q)
+  where
+    differ : (ss : List Statement) (d : Break) → spelt ss ≡ Err d → ⊥
+    differ ss d h = cc
+
+pub unread : (r : Result Program Refusal) (e : Refusal) (text : List ℕ) (es : List Entry) (tree : ProgramTree) → IsErrAnd r (λ y. y ≡ e)
+    → ((fs : List Entry) → Lines text fs → listed fs ≡ listed es) → ((ss : List Statement) → Spelled es ss → Fails e (spelt ss))
+    → Reads text tree → Gives program_of r (Ok tree)
+unread r e text es tree h lines only reads =
+    let same = same-entries es reads.entries (lines reads.entries reads.lines) in
+    let spelled = subst (λ (fs : List Entry). Spelled fs reads.statements) (sym same) reads.spelled in
+    handed r e (Ok tree) h (none-fails e reads.statements (Ok tree) (only reads.statements spelled))
+
+pub refused-not : (r : Result Program Refusal) (e : Refusal) (text : List ℕ) (es : List Entry) (ss : List Statement) (tree : ProgramTree) → IsErrAnd r (λ y. y ≡ e)
+    → ((fs : List Entry) → Lines text fs → listed fs ≡ listed es) → ((ts : List Statement) → Spelled es ts → spelt ts ≡ spelt ss) → Says (BreaksFirst ss) e
+    → Reads text tree → Gives program_of r (Ok tree)
+refused-not r e text es ss tree h lines stmts says reads =
+    let same = same-entries es reads.entries (lines reads.entries reads.lines) in
+    let spelled = subst (λ (fs : List Entry). Spelled fs reads.statements) (sym same) reads.spelled in
+    let these = same-statements ss reads.statements (stmts reads.statements spelled) in
+    handed r e (Ok tree) h (no-refusal ss e (Ok tree) (subst (λ (ts : List Statement). InProfile ts) (sym these) reads.profile) says)
+
+-- want of memory says nothing of the text
+pub no-memory : (r : Result Program Refusal) (m : Result ProgramTree Break) → IsErrAnd r (λ y. y ≡ Memory) → Gives program_of r m
+no-memory r m h = handed r Memory m h tt
+
+pub no-cause : (r : Result Program Refusal) (text : List ℕ) → IsErrAnd r (λ y. y ≡ Memory) → IfErr r (Says (Refuses text))
+no-cause r text h = handed-cause r Memory text h tt
