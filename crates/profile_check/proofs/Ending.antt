@@ -78,8 +78,8 @@ only-end (else_if e) cs h = absurd (not-end _ refl h.1)
 only-end else_arm cs h = absurd (not-end _ refl h)
 only-end end_if cs h = absurd (not-end _ refl h)
 only-end (logical_if e k) cs h = absurd (not-end _ refl h.2)
-only-end (print is) cs h = elim h.1 [ | inl p ↦ absurd (not-end _ refl p.0) | inr p ↦ absurd (not-end _ refl p.0) ]
-only-end (read es) cs h = elim h.1 [ | inl p ↦ absurd (not-end _ refl p.0) | inr p ↦ absurd (not-end _ refl p.0) ]
+only-end (print is) cs h = elim h.1 [ inl p ↦ absurd (not-end _ refl p.0) | inr p ↦ absurd (not-end _ refl p.0) ]
+only-end (read es) cs h = elim h.1 [ inl p ↦ absurd (not-end _ refl p.0) | inr p ↦ absurd (not-end _ refl p.0) ]
 only-end stop cs h = absurd (not-end _ refl h.1)
 only-end end cs h = refl
 
