@@ -8,6 +8,7 @@ pub mod Known
 pub mod Laid
 pub mod LaidText
 pub mod Laws
+pub mod OneCause
 pub mod OneProgram
 pub mod Parsing
 pub mod Parts

@@ -1,5 +1,5 @@
 -- A whole text: its lines, their statements, the rules of the profile and the tree.
-use Rattle.std.proofs.Common.{◌≡◌, ◌∙◌, ℕ, ◌+◌, ◌*◌, ◌<◌, ◌≤◌, ◌^◌, true, false, List, [], ◌∷◌, ◌++◌, refl, ap, sym, subst, map, length, append_assoc, arith, inr, Result, Ok, Err, IfErr}
+use Rattle.std.proofs.Common.{◌≡◌, ◌∙◌, ℕ, ◌+◌, ◌*◌, ◌<◌, ◌≤◌, ◌^◌, true, false, List, [], ◌∷◌, ◌++◌, refl, ap, sym, subst, map, length, append_assoc, arith, inl, inr, Result, Ok, Err, IfErr}
 use Rattle.std.specs.List.{list_all, IsDistinct}
 use Rattle.std.specs.Result.{IsErrAnd}
 use Rattle.std.proofs.lemmas.Bool.{or_parts}
@@ -15,7 +15,7 @@ use Rattle.ast.specs.declared.refusal.Refusal.{Refusal}
 use Rattle.ast.specs.declared.refusal.Refusal.TheVariants.{Memory, Refused}
 use Rattle.fixed_form.proofs.Laws.{one_list}
 use Rattle.fixed_form.specs.Limits.{longest_text}
-use Rattle.fixed_form.specs.Lines.{Entry, Lines, lines_in, AreShaped}
+use Rattle.fixed_form.specs.Lines.{Entry, Lines, Broken, lines_in, AreShaped}
 use Rattle.structure.specs.Open.{open_after}
 use Rattle.structure.specs.Rules.{holds_wrong_statement, is_misplaced_arm, by_label, is_around, is_block}
 use Rattle.syntax.proofs.Public.{text_again}
@@ -32,7 +32,7 @@ use Rattle.profile_check.proofs.SameShape.{nested-lays}
 use Rattle.profile_check.proofs.Sized.{few_statements, sized}
 use Rattle.profile_check.proofs.Sound.{keeps-structure, in-order, sound}
 use Rattle.profile_check.proofs.Texts.{AreShort, all-few, all-bare, all-shallow}
-use Rattle.profile_check.specs.Causes.{Refuses}
+use Rattle.profile_check.specs.Causes.{UnspelledAt, Refuses}
 use Rattle.profile_check.specs.Declarations.{declared_in, symbols_of}
 use Rattle.profile_check.specs.Erasure.{block_erased}
 use Rattle.profile_check.specs.Layout.{Lays}
@@ -156,7 +156,7 @@ one-statement line label text s t a b =
     let both : meant s ≡ meant t = sym (text_again line label text s a) ∙ text_again line label text t b in
     cc
 
-one-spelling : (es : List Entry) (ss ts : List Statement) → Spelled es ss → Spelled es ts → ss ≡ ts
+pub one-spelling : (es : List Entry) (ss ts : List Statement) → Spelled es ss → Spelled es ts → ss ≡ ts
 one-spelling [] [] [] a b = refl
 one-spelling [] (s ∷ ss) ts a b = absurd a
 one-spelling [] [] (t ∷ ts) a b = absurd b
@@ -178,6 +178,14 @@ one-reading text p q a b =
 
 no-break : (ss : List Statement) (n l : ℕ) → InProfile ss → BreaksFirst ss n l → ⊥
 no-break ss n l h b = let both = sym (h.each b.front b.statement b.back b.cut) ∙ b.broken in cc
+
+pub in-lines : (text : List ℕ) (e : Refusal) → Says (Broken text) e → Says (Refuses text) e
+in-lines text Memory s = tt
+in-lines text (Refused n l) s = inl s
+
+pub in-statements : (text : List ℕ) (es : List Entry) (e : Refusal) → Lines text es → Says (UnspelledAt es) e → Says (Refuses text) e
+in-statements text es Memory lines s = tt
+in-statements text es (Refused n l) lines s = inr (inl (record { entries = es; lines = lines; at = s }))
 
 pub out-of-profile : (text : List ℕ) (es : List Entry) (ss : List Statement) (e : Refusal) → Lines text es → Spelled es ss → Says (BreaksFirst ss) e → Says (Refuses text) e
 out-of-profile text es ss Memory lines spelled s = tt

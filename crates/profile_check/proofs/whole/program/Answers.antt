@@ -4,9 +4,11 @@ use Rattle.ast.specs.Program.{ProgramTree}
 use Rattle.ast.specs.Tree.{block}
 use Rattle.ast.specs.View.{statement}
 use Rattle.fixed_form.specs.Answers.{entries}
+use Rattle.ast.specs.declared.refusal.Refusal.TheVariants.{Memory}
+use Rattle.profile_check.proofs.OneCause.{not-refused, exact-refusal}
 use Rattle.profile_check.proofs.Parts.{table_in}
 use Rattle.profile_check.proofs.Texts.{entries-short}
-use Rattle.profile_check.proofs.WholeText.{IsRead, are-distinct, are-sized, are-placed, are-numbered, are-shallow, few-references, as-read, one-reading, unread, refused-not, handed-cause, out-of-profile, no-memory, no-cause}
+use Rattle.profile_check.proofs.WholeText.{IsRead, are-distinct, are-sized, are-placed, are-numbered, are-shallow, few-references, as-read, one-reading, unread, refused-not, handed-cause, in-lines, in-statements, out-of-profile, no-memory, no-cause}
 use Rattle.profile_check.specs.Declarations.{Declared, symbols_of}
 use Rattle.profile_check.specs.Nesting.{nested}
 use Rattle.profile_check.specs.ReadsView.{statements_of}
@@ -102,3 +104,29 @@ returns-clause-found c =
 
 pub returns-clause-only : goal.returns-clause-only
 returns-clause-only c = λ tree reads. ap (λ (p : ProgramTree). Ok p) (one-reading c.args.text.now tree _ reads (returns-clause-found c))
+
+pub returns-in_err-labelled-clause-refused : goal.returns-in_err-labelled-clause-refused
+returns-in_err-labelled-clause-refused c = handed-cause c.from_residual.result c.in_err-labelled.field-0.0 c.args.text.now c.from_residual.ensures.1 (in-lines c.args.text.now c.in_err-labelled.field-0.0 c.in_err-labelled.ensures.refused)
+
+pub returns-in_err-stmts-clause-refused : goal.returns-in_err-stmts-clause-refused
+returns-in_err-stmts-clause-refused c =
+    handed-cause c.from_residual-in_err-stmts.result c.in_err-stmts.field-0.0 c.args.text.now c.from_residual-in_err-stmts.ensures.1
+    (in-statements c.args.text.now (entries c.in_ok-labelled.labelled.items) c.in_err-stmts.field-0.0 c.in_ok-labelled.ensures.found (rw (c.deref.ensures.value) at c.in_err-stmts.ensures.refused))
+
+pub returns-in_err-labelled-clause-exactly : goal.returns-in_err-labelled-clause-exactly
+returns-in_err-labelled-clause-exactly c = exact-refusal c.from_residual.result c.in_err-labelled.field-0.0 c.args.text.now c.from_residual.ensures.1 (returns-in_err-labelled-clause-refused c)
+
+pub returns-in_err-stmts-clause-exactly : goal.returns-in_err-stmts-clause-exactly
+returns-in_err-stmts-clause-exactly c = exact-refusal c.from_residual-in_err-stmts.result c.in_err-stmts.field-0.0 c.args.text.now c.from_residual-in_err-stmts.ensures.1 (returns-in_err-stmts-clause-refused c)
+
+pub returns-in_err-declarations-clause-exactly : goal.returns-in_err-declarations-clause-exactly
+returns-in_err-declarations-clause-exactly c = exact-refusal c.from_residual-in_err-declarations.result c.in_err-declarations.field-0.0 c.args.text.now c.from_residual-in_err-declarations.ensures.1 (returns-in_err-declarations-clause-refused c)
+
+pub returns-in_err-symbols-clause-exactly : goal.returns-in_err-symbols-clause-exactly
+returns-in_err-symbols-clause-exactly c = exact-refusal c.from_residual-in_err-symbols.result Memory c.args.text.now c.from_residual-in_err-symbols.ensures.1 (returns-in_err-symbols-clause-refused c)
+
+pub returns-in_err-body-clause-exactly : goal.returns-in_err-body-clause-exactly
+returns-in_err-body-clause-exactly c = exact-refusal c.from_residual-in_err-body.result Memory c.args.text.now c.from_residual-in_err-body.ensures.1 (returns-in_err-body-clause-refused c)
+
+pub returns-clause-exactly : goal.returns-clause-exactly
+returns-clause-exactly c = λ number line cause. absurd (not-refused c.args.text.now _ number line (returns-clause-found c) cause)
