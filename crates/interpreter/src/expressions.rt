@@ -2,7 +2,6 @@
 
 ghost use Rattle.std.specs.Prelude.{◌≡◌, ◌<◌, ◌≤◌, IfOk, int_lt, map, not, true};
 ghost use Rattle.std.specs.List.{list_all};
-ghost use Rattle.ast.specs.Exact.{prefixed_value, truth_value, value_of};
 ghost use Rattle.ast.specs.Meaning.{target, value};
 ghost use Rattle.ast.specs.Symbols.{dimensions_in, elements, most_elements};
 ghost use Rattle.ast.specs.Tree.{accessed, call, terms};
@@ -16,47 +15,8 @@ ghost use Rattle.interpreter.specs.View.{look, store_in, symbols_in};
 use crate::memory::Memory;
 use crate::places::Walk;
 use crate::stop::Stop;
-use ast::{Access, Dimension, Expr, Fault, Intrinsic, Line, Operator, Prefix};
-use values::{abs, add, div, modulo, mul, neg, sub};
-
-fn truth(holds: bool) -> i64
-    ensures { result ≡ truth_value holds }
-{
-    if holds { 1 } else { 0 }
-}
-
-/// What a prefix makes of a value.
-fn apply_prefix(prefix: Prefix, a: i64) -> Result<i64, Fault>
-    ensures { result ≡ prefixed_value prefix a }
-{
-    match prefix {
-        Prefix::Plus => Ok(a),
-        Prefix::Minus => neg(a),
-        Prefix::Not => Ok(truth(a == 0)),
-    }
-}
-
-/// What an operator makes of two values.
-fn apply_operator(operator: Operator, a: i64, b: i64) -> Result<i64, Fault>
-    ensures { result ≡ value_of operator a b }
-{
-    match operator {
-        Operator::Add => add(a, b),
-        Operator::Subtract => sub(a, b),
-        Operator::Multiply => mul(a, b),
-        Operator::Divide => div(a, b),
-        Operator::Less => Ok(truth(a < b)),
-        Operator::LessOrEqual => Ok(truth(a <= b)),
-        Operator::Equal => Ok(truth(a == b)),
-        Operator::NotEqual => Ok(truth(a != b)),
-        Operator::Greater => Ok(truth(a > b)),
-        Operator::GreaterOrEqual => Ok(truth(a >= b)),
-        Operator::And => Ok(truth(a != 0 && b != 0)),
-        Operator::Or => Ok(truth(a != 0 || b != 0)),
-        Operator::Equivalent => Ok(truth((a != 0) == (b != 0))),
-        Operator::NotEquivalent => Ok(truth((a != 0) != (b != 0))),
-    }
-}
+use ast::{Access, Dimension, Expr, Fault, Intrinsic, Line};
+use values::{abs, apply_operator, apply_prefix, modulo, truth};
 
 /// Evaluates expressions for their faults alone.
 #[cycle(value)]

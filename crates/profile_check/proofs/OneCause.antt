@@ -67,9 +67,10 @@ one-unspelled : (es : List Entry) (n l m k : ℕ) → UnspelledAt es n l → Uns
 one-unspelled es n l m k a b = by (places a.front a.back b.front b.back a.entry b.entry (sym a.cut ∙ b.cut))
   where
     by : Places a.front b.front a.entry b.entry → Same n l m k
-    by (inl s) =
-        (one-fault b.entry n m (subst (λ (e : Entry). IsFault e n) s.items a.fault.fault) b.fault.fault,
-        a.fault.place ∙ ap (λ (e : Entry). e.line) s.items ∙ sym b.fault.place)
+    by (inl s) = (
+      one-fault b.entry n m (subst (λ (e : Entry). IsFault e n) s.items a.fault.fault) b.fault.fault,
+      a.fault.place ∙ ap (λ (e : Entry). e.line) s.items ∙ sym b.fault.place,
+    )
     by (inr (inl s)) = absurd (spelled-none a.front a.entry s.between b.front b.statements n l b.spelled s.longer a.fault)
     by (inr (inr s)) = absurd (spelled-none b.front b.entry s.between a.front a.statements m k a.spelled s.longer b.fault)
 

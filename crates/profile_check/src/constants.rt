@@ -1,59 +1,19 @@
 //! Constant expressions, and what PARAMETER statements define.
 
 ghost use Rattle.std.specs.Prelude.{◌≡◌, IfOk, OnOk, is_some, map, option_map};
-ghost use Rattle.ast.specs.Exact.{prefixed_value, truth_value, value_of};
 ghost use Rattle.ast.specs.Tree.{terms};
 ghost use Rattle.ast.specs.View as view;
 ghost use Rattle.profile_check.specs.Declarations as spec;
 ghost use Rattle.profile_check.specs.DeclaredView.{constants_of};
 ghost use Rattle.profile_check.specs.Rules.{is_constant, lacks_constant};
 
-use ast::{Definition, Expr, Fault, Name, Operator, Prefix};
+use ast::{Definition, Expr, Fault, Name};
 use indexmap::IndexMap;
 use std::alloc::AllocError;
-use values::{add, div, mul, neg, sub};
+use values::{apply_operator, apply_prefix, truth};
 
 /// The values of constants.
 pub type Constants = IndexMap<Name, i64>;
-
-fn truth(holds: bool) -> i64
-    ensures { result ≡ truth_value holds }
-{
-    if holds { 1 } else { 0 }
-}
-
-/// What a prefix makes of a value.
-fn apply_prefix(prefix: Prefix, a: i64) -> Result<i64, Fault>
-    ensures { result ≡ prefixed_value prefix a }
-{
-    match prefix {
-        Prefix::Plus => Ok(a),
-        Prefix::Minus => neg(a),
-        Prefix::Not => Ok(truth(a == 0)),
-    }
-}
-
-/// What an operator makes of two values.
-fn apply_operator(operator: Operator, a: i64, b: i64) -> Result<i64, Fault>
-    ensures { result ≡ value_of operator a b }
-{
-    match operator {
-        Operator::Add => add(a, b),
-        Operator::Subtract => sub(a, b),
-        Operator::Multiply => mul(a, b),
-        Operator::Divide => div(a, b),
-        Operator::Less => Ok(truth(a < b)),
-        Operator::LessOrEqual => Ok(truth(a <= b)),
-        Operator::Equal => Ok(truth(a == b)),
-        Operator::NotEqual => Ok(truth(a != b)),
-        Operator::Greater => Ok(truth(a > b)),
-        Operator::GreaterOrEqual => Ok(truth(a >= b)),
-        Operator::And => Ok(truth(a != 0 && b != 0)),
-        Operator::Or => Ok(truth(a != 0 || b != 0)),
-        Operator::Equivalent => Ok(truth((a != 0) == (b != 0))),
-        Operator::NotEquivalent => Ok(truth((a != 0) != (b != 0))),
-    }
-}
 
 /// Whether a name is a constant.
 #[tactic(auto, using(crate::proofs::Entries::constant_found))]

@@ -1,11 +1,11 @@
-//! Arithmetic on 64-bit integers: the exact value, or the fault in its place.
+//! Operations on 64-bit integers: the exact value, or the fault in its place.
 #![tactic(auto)]
 
 ghost use Rattle.std.specs.Prelude.{◌≡◌, ◌≢◌, ◌-ℤ◌, ◌+ℤ◌, int_div, pos, ◌<◌, ◌^◌, unsigned_abs, ℤ};
-ghost use Rattle.ast.specs.Exact.{absolute, negated, positive_part, remainder, trips, value_of};
+ghost use Rattle.ast.specs.Exact.{absolute, negated, positive_part, prefixed_value, remainder, trips, truth_value, value_of};
 ghost use Rattle.ast.specs.declared.expression.Operator.TheVariants.{Add, Subtract, Multiply, Divide};
 
-use ast::Fault;
+use ast::{Fault, Operator, Prefix};
 
 /// The sum; `Overflow` where it is no 64-bit integer.
 pub fn add(a: i64, b: i64) -> Result<i64, Fault>
@@ -65,6 +65,46 @@ pub fn abs(a: i64) -> Result<i64, Fault>
     ensures { result ≡ absolute a }
 {
     a.checked_abs().ok_or(Fault::Overflow)
+}
+
+/// A truth value as it is kept: 1 where it is true, 0 where it is false.
+pub fn truth(holds: bool) -> i64
+    ensures { result ≡ truth_value holds }
+{
+    if holds { 1 } else { 0 }
+}
+
+/// What a sign or `.NOT.` makes of a value.
+pub fn apply_prefix(prefix: Prefix, a: i64) -> Result<i64, Fault>
+    ensures { result ≡ prefixed_value prefix a }
+{
+    match prefix {
+        Prefix::Plus => Ok(a),
+        Prefix::Minus => neg(a),
+        Prefix::Not => Ok(truth(a == 0)),
+    }
+}
+
+/// What an operator makes of two values; a fault where `add`, `sub`, `mul` or `div` has one.
+pub fn apply_operator(operator: Operator, a: i64, b: i64) -> Result<i64, Fault>
+    ensures { result ≡ value_of operator a b }
+{
+    match operator {
+        Operator::Add => add(a, b),
+        Operator::Subtract => sub(a, b),
+        Operator::Multiply => mul(a, b),
+        Operator::Divide => div(a, b),
+        Operator::Less => Ok(truth(a < b)),
+        Operator::LessOrEqual => Ok(truth(a <= b)),
+        Operator::Equal => Ok(truth(a == b)),
+        Operator::NotEqual => Ok(truth(a != b)),
+        Operator::Greater => Ok(truth(a > b)),
+        Operator::GreaterOrEqual => Ok(truth(a >= b)),
+        Operator::And => Ok(truth(a != 0 && b != 0)),
+        Operator::Or => Ok(truth(a != 0 || b != 0)),
+        Operator::Equivalent => Ok(truth((a != 0) == (b != 0))),
+        Operator::NotEquivalent => Ok(truth((a != 0) != (b != 0))),
+    }
 }
 
 /// `m2 - m1 + m3`, exactly.
