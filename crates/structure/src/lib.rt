@@ -10,3 +10,6 @@ mod whole;
 pub use span::{Blocks, Span};
 pub use structure::Structure;
 pub use whole::blocks;
+
+#[cfg(test)]
+mod tests;
