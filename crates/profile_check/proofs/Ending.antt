@@ -1,5 +1,5 @@
 -- The last statement of a text is END.
-use Rattle.std.proofs.Common.{◌≡◌, ◌∙◌, ℕ, ◌-◌, Option, inl, inr, Bool, true, false, not, cond, List, [], ◌∷◌, ◌++◌, refl, ap, sym, subst, map, filter, codes, arith, leb, ltb}
+use Rattle.std.proofs.Common.{◌≡◌, ◌∙◌, ℕ, ◌-◌, Option, inl, inr, Bool, true, false, not, cond, List, [], ◌∷◌, ◌++◌, refl, ap, sym, subst, map, codes, arith, leb, ltb}
 use Rattle.std.specs.Prelude.{if◌then◌else◌, ◌&&◌, ◌==◌}
 use Rattle.std.specs.Char.{to_ascii_uppercase}
 use Rattle.std.specs.List.{list_any}
@@ -8,10 +8,8 @@ use Rattle.ast.specs.Tree.{Kind, Statement, program, integer, dimension, paramet
 use Rattle.fixed_form.specs.Line.{without_blanks, is_end}
 use Rattle.fixed_form.specs.Lines.{Entry, AreEnded}
 use Rattle.syntax.specs.Classes.{Class, worded, class_of, class_by_keyword}
-use Rattle.syntax.specs.Classes as classes
-use Rattle.syntax.specs.Pieces.{Piece, mark, quoted, Cut, folded, marks, constants, doubled}
+use Rattle.syntax.specs.Pieces.{Piece, mark, quoted, Cut, marks, constants}
 use Rattle.syntax.specs.Statements.{IsKind, IsStatement}
-use Rattle.syntax.specs.declared.class.Keyword.{Keyword}
 use Rattle.syntax.specs.declared.class.Keyword.TheVariants.{End}
 use Rattle.profile_check.proofs.Entries.{same-names}
 use Rattle.profile_check.proofs.SameShape.{EndsInEnd}
@@ -34,18 +32,19 @@ text-of t = map to_ascii_uppercase (without_blanks t)
 abbrev has_apostrophe : List ℕ → Bool
 has_apostrophe t = list_any (λ c. c == 39) t
 
+-- one character more, which is a blank or not
+one-mark : (c : ℕ) (b : Bool) (rest ms : List ℕ) → (has_apostrophe (text-of rest) ≡ false → ms ≡ text-of rest)
+    → has_apostrophe (map to_ascii_uppercase (cond (not b) (c ∷ without_blanks rest) (without_blanks rest))) ≡ false
+    → (if b then [] else (if leb 97 c && leb c 122 then (c - 32) ∷ [] else c ∷ [])) ++ ms ≡ map to_ascii_uppercase (cond (not b) (c ∷ without_blanks rest) (without_blanks rest))
+one-mark c true rest ms more n = more n
+one-mark c false rest ms more n =
+    let p = or_parts (to_ascii_uppercase c == 39) (has_apostrophe (text-of rest)) n in
+    ap (λ (x : List ℕ). x ++ ms) (upper c (ltb c 97) (ltb c 123) refl refl) ∙ ap (λ (x : List ℕ). to_ascii_uppercase c ∷ x) (more p.1)
+
 plain-marks : (ps : List Piece) (t : List ℕ) → Cut ps t → has_apostrophe (text-of t) ≡ false → marks ps ≡ text-of t
 plain-marks [] t h n = ap text-of (sym h)
 plain-marks (mark c ∷ ps) t h n =
-    by (c == 32) (subst (λ (u : List ℕ). has_apostrophe (text-of u) ≡ false) h.1 n) ∙ ap text-of (sym h.1)
-  where
-    by : (b : Bool)
-        → has_apostrophe (map to_ascii_uppercase (cond (not b) (c ∷ without_blanks h.0) (without_blanks h.0))) ≡ false
-        → (if b then [] else (if leb 97 c && leb c 122 then (c - 32) ∷ [] else c ∷ [])) ++ marks ps ≡ map to_ascii_uppercase (cond (not b) (c ∷ without_blanks h.0) (without_blanks h.0))
-    by true m = plain-marks ps h.0 h.3 m
-    by false m =
-        let p = or_parts (to_ascii_uppercase c == 39) (has_apostrophe (text-of h.0)) m in
-        ap (λ (x : List ℕ). x ++ marks ps) (upper c (ltb c 97) (ltb c 123) refl refl) ∙ ap (λ (x : List ℕ). to_ascii_uppercase c ∷ x) (plain-marks ps h.0 h.3 p.1)
+    one-mark c (c == 32) h.0 (marks ps) (λ m. plain-marks ps h.0 h.3 m) (subst (λ (u : List ℕ). has_apostrophe (text-of u) ≡ false) h.1 n) ∙ ap text-of (sym h.1)
 plain-marks (quoted s ∷ ps) t h n =
     absurd (let e : true ≡ false = subst (λ (u : List ℕ). has_apostrophe (text-of u) ≡ false) h.1 n in cc)
 
@@ -58,13 +57,13 @@ class-of-end = refl
 end-text : (text : List ℕ) → is_end text ≡ true → text-of text ≡ codes "END"
 end-text text h = same-names (text-of text) (codes "END") h
 
-abbrev keyword-of : Class → List ℕ
-keyword-of (worded End u) = 1 ∷ []
-keyword-of _ = []
+abbrev is-end-class : Class → Bool
+is-end-class (worded End u) = true
+is-end-class _ = false
 
--- a class that is END's
-not-end : (c : Class) → keyword-of c ≡ [] → class_of (codes "END") ≡ c → ⊥
-not-end c n e = let q : 1 ∷ [] ≡ [] = ap keyword-of (sym class-of-end ∙ e) ∙ n in cc
+-- a class that isn't END's
+not-end : (c : Class) → is-end-class c ≡ false → class_of (codes "END") ≡ c → ⊥
+not-end c n e = let q : true ≡ false = ap is-end-class (sym class-of-end ∙ e) ∙ n in cc
 
 only-end : (k : Kind) (cs : List (List ℕ)) → IsKind k (codes "END") cs → k ≡ end
 only-end (program x) cs h = absurd (not-end _ refl h.1)
@@ -79,8 +78,8 @@ only-end (else_if e) cs h = absurd (not-end _ refl h.1)
 only-end else_arm cs h = absurd (not-end _ refl h)
 only-end end_if cs h = absurd (not-end _ refl h)
 only-end (logical_if e k) cs h = absurd (not-end _ refl h.2)
-only-end (print is) cs h = elim h.1 [ | inl p ↦ absurd (not-end _ refl p.0) | inr p ↦ absurd (not-end _ refl p.0) ]
-only-end (read es) cs h = elim h.1 [ | inl p ↦ absurd (not-end _ refl p.0) | inr p ↦ absurd (not-end _ refl p.0) ]
+only-end (print is) cs h = elim h.1 [ inl p ↦ absurd (not-end _ refl p.0) | inr p ↦ absurd (not-end _ refl p.0) ]
+only-end (read es) cs h = elim h.1 [ inl p ↦ absurd (not-end _ refl p.0) | inr p ↦ absurd (not-end _ refl p.0) ]
 only-end stop cs h = absurd (not-end _ refl h.1)
 only-end end cs h = refl
 

@@ -1,6 +1,6 @@
 -- What the symbols of a program in the profile stand for.
 use Rattle.std.proofs.Common.{◌≡◌, ◌∙◌, ℕ, ℤ, ◌<◌, Bool, true, false, not, cond, List, [], ◌∷◌, ◌++◌, length, get_or, map, refl, ap, sym, subst, Option, Some, None, option_map, inl, inr}
-use Rattle.std.specs.Prelude.{◌&&◌, ◌||◌, if◌then◌else◌, is_some, slice_get, unwrap_or}
+use Rattle.std.specs.Prelude.{◌||◌, if◌then◌else◌, is_some, slice_get, unwrap_or}
 use Rattle.std.specs.List.{IsDistinct, list_any, find, position_or_len}
 use Rattle.std.proofs.lemmas.Bool.{or_parts, or_from, or_left, or_right, and_parts, and_from, lt-ltb, cases_order}
 use Rattle.std.proofs.lemmas.Bool.Decides.{Decides-int_eq}
@@ -15,7 +15,7 @@ use Rattle.ast.specs.Symbols.{Extent, variable, Symbol, names_of}
 use Rattle.ast.specs.Tree.{Ref, Kind, Statement}
 use Rattle.ast.specs.declared.expression.Intrinsic.{Intrinsic}
 use Rattle.ast.specs.declared.expression.Intrinsic.TheVariants.{Abs, Iabs, Max, Max0, Min, Min0, Mod}
-use Rattle.profile_check.specs.Declarations.{Declared, nothing, declared_in, and_then_declared, constant_named, dimensions_named, constant_or, sort_of, symbols_of}
+use Rattle.profile_check.specs.Declarations.{Declared, declared_in, and_then_declared, constant_named, dimensions_named, constant_or, sort_of, symbols_of}
 use Rattle.profile_check.specs.Erasure.{intrinsic_name}
 use Rattle.profile_check.specs.Reads.{is_fixed, is_constant}
 use Rattle.profile_check.specs.Resolving.{place_of, intrinsic_named}
@@ -41,7 +41,7 @@ distinct-none : IsDistinct same_name []
 unfolding IsDistinct
 distinct-none = tt
 
-pub distinct-names : (ss : List Statement) → IsDistinct same_name (declared_in ss).names
+distinct-names : (ss : List Statement) → IsDistinct same_name (declared_in ss).names
 distinct-names ss =
     along-declared (λ (d : Declared). IsDistinct same_name d.names) ss distinct-none
     (λ front s back e p. distinct-all (declared_in front).names (names_mentioned s.kind) p)
@@ -134,8 +134,8 @@ pub serves : (ss : List Statement) → InProfile ss → Serves (symbols_of (decl
 serves ss h = record {
   constants = λ x v e. constant-found (declared_in ss) (declared_in ss).names x v e (constant-named ss x v e);
   places = λ r n m f.
-    ap (λ (o : Option Symbol). is_variable_named r.name o) (symbol-at (declared_in ss) (declared_in ss).names (place_of (declared_in ss).names r.name) r.name (at-place (declared_in ss).names r.name m))
-    ∙ variable-at (declared_in ss) r.name (no-constant (constant_named (declared_in ss).constants r.name) f);
+      ap (λ (o : Option Symbol). is_variable_named r.name o) (symbol-at (declared_in ss) (declared_in ss).names (place_of (declared_in ss).names r.name) r.name (at-place (declared_in ss).names r.name m))
+      ∙ variable-at (declared_in ss) r.name (no-constant (constant_named (declared_in ss).constants r.name) f);
 }
 
 -- ---- no name is an intrinsic function's
@@ -161,8 +161,8 @@ no-intrinsic : (ss : List Statement) → InProfile ss → list_any is_intrinsic 
 no-intrinsic ss h =
     along-declared (λ (d : Declared). list_any is_intrinsic d.names ≡ false) ss refl
     (λ front s back e p.
-      none-all is_intrinsic (declared_in front).names (names_mentioned s.kind) p
-      (none-other (declared_in front).program (names_mentioned s.kind) (once (context_after (typed_in_whole ss) front) s (kept ss h front s back e)).names))
+    none-all is_intrinsic (declared_in front).names (names_mentioned s.kind) p
+    (none-other (declared_in front).program (names_mentioned s.kind) (once (context_after (typed_in_whole ss) front) s (kept ss h front s back e)).names))
 
 intrinsic : (f : Intrinsic) → is_intrinsic (intrinsic_name f) ≡ true
 intrinsic Abs = refl
@@ -251,13 +251,13 @@ known ss h =
     let d = declared_in ss in
     record {
       place = λ r s p q e.
-        let a = held d d.names r p in
-        let b = held d d.names s q in
-        same-place d.names s.name r.cell s.cell (distinct-names ss) (a.name ∙ ap (λ (x : List ℕ). Some x) e) b.name;
+          let a = held d d.names r p in
+          let b = held d d.names s q in
+          same-place d.names s.name r.cell s.cell (distinct-names ss) (a.name ∙ ap (λ (x : List ℕ). Some x) e) b.name;
       value = λ x n m p q. same_Some n m (sym (valued d d.names x n p).value ∙ (valued d d.names x m q).value);
       no_constant = λ r n p q. none-some n (sym (held d d.names r p).free ∙ (valued d d.names r.name n q).value);
       no_function = λ r f p e.
-        not-named f r.cell ((held d d.names r p).name ∙ ap (λ (x : List ℕ). Some x) e);
+          not-named f r.cell ((held d d.names r p).name ∙ ap (λ (x : List ℕ). Some x) e);
       no_value = λ f n p. not-named f (place_of d.names (intrinsic_name f)) (at-place d.names (intrinsic_name f) (valued d d.names (intrinsic_name f) n p).named);
       function = λ f g e. same_Some f g (sym (intrinsic-back f) ∙ ap intrinsic_named e ∙ intrinsic-back g);
     }

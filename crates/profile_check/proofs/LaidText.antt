@@ -1,10 +1,10 @@
 -- What lays out as statements has their texts and their expressions.
-use Rattle.std.proofs.Common.{◌≡◌, ◌∙◌, ℕ, true, List, [], ◌∷◌, ◌++◌, refl, ap, sym, subst, map, append_assoc, Option, Some, None, inl, inr}
+use Rattle.std.proofs.Common.{◌≡◌, ◌∙◌, ℕ, true, List, [], ◌∷◌, ◌++◌, refl, ap, sym, map, append_assoc, Option, Some, None, inl, inr}
 use Rattle.std.specs.Prelude.{option_map}
 use Rattle.std.proofs.lemmas.List.{append-nil, map-append}
 use Rattle.ast.specs.References.{kind_expressions, block_expressions, node_expressions, arms_expressions, optional}
-use Rattle.ast.specs.Tree.{Term, Statement, Kind, DoHead, do_loop, block_if, else_if, else_arm, end_if, logical_if, program, integer, dimension, parameters, assign, go_on, print, read, stop, end, Node, plain, loop, choose, Block, no_nodes, then_node, Arms, no_arms, then_arm}
-use Rattle.profile_check.specs.Erasure.{erased, head_erased, kind_erased, node_erased, block_erased, arms_erased}
+use Rattle.ast.specs.Tree.{Term, Statement, Kind, do_loop, block_if, else_if, else_arm, end_if, logical_if, program, integer, dimension, parameters, assign, go_on, print, read, stop, end, Node, plain, loop, choose, Block, no_nodes, then_node, Arms, no_arms, then_arm}
+use Rattle.profile_check.specs.Erasure.{erased, kind_erased, node_erased, block_erased, arms_erased}
 use Rattle.profile_check.specs.Layout.{stands_alone, EndsWith, arm_head, Lays, LaysNode, LaysIf, LaysArms, LaysLogicalIf}
 use Rattle.profile_check.proofs.Parts.{own_expressions, expressions_in, own_text, text_of}
 

@@ -8,6 +8,7 @@ pub mod Known
 pub mod Laid
 pub mod LaidText
 pub mod Laws
+pub mod OneCause
 pub mod OneProgram
 pub mod Parsing
 pub mod Parts
@@ -26,3 +27,4 @@ pub mod Texts
 pub mod Turns
 pub mod Unique
 pub mod Weights
+pub mod WholeText

@@ -1,11 +1,11 @@
 -- A list of statements is at most one program, where they keep the rules on structure and each name
 -- stands for one thing.
-use Rattle.std.proofs.Common.{◌≡◌, ◌∙◌, ℕ, true, List, ap, sym, subst}
+use Rattle.std.proofs.Common.{◌≡◌, ◌∙◌, true, List, sym, subst}
 use Rattle.std.specs.List.{list_all}
 use Rattle.ast.specs.Program.{ProgramTree, is_placed}
 use Rattle.ast.specs.References.{block_expressions, block_references}
 use Rattle.ast.specs.Symbols.{Symbol}
-use Rattle.ast.specs.Tree.{Block, Statement}
+use Rattle.ast.specs.Tree.{Statement}
 use Rattle.structure.specs.Rules.{Keep, rules}
 use Rattle.profile_check.specs.Declarations.{declared_in, symbols_of}
 use Rattle.profile_check.specs.Erasure.{block_erased}

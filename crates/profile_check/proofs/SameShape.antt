@@ -1,6 +1,6 @@
 -- Resolving a statement changes nothing that nesting and the rules on structure look at, so resolved
 -- statements nest as those of the text do.
-use Rattle.std.proofs.Common.{◌≡◌, ◌∙◌, ℕ, ◌+◌, Bool, true, not, List, [], ◌∷◌, ◌++◌, refl, ap, sym, subst, append_assoc, Option, Some, None}
+use Rattle.std.proofs.Common.{◌≡◌, ◌∙◌, ℕ, ◌+◌, Bool, not, List, [], ◌∷◌, ◌++◌, refl, ap, sym, subst, append_assoc, Option, Some, None}
 use Rattle.std.specs.Prelude.{◌&&◌, ◌||◌}
 use Rattle.ast.specs.Tree.{Statement, Kind, do_loop, block_if, else_if, else_arm, end_if, logical_if, program, integer, dimension, parameters, assign, go_on, print, read, stop, end, Node, block}
 use Rattle.structure.specs.Open.{Open, open_after, after, begun, ended as spec_ended}

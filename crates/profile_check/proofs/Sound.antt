@@ -1,6 +1,6 @@
 -- What each statement of a program in the profile keeps, and that each name that it uses stands for
 -- something.
-use Rattle.std.proofs.Common.{◌≡◌, ◌∙◌, ℕ, ℤ, ◌+◌, ◌≤◌, Bool, true, false, not, List, [], ◌∷◌, ◌++◌, length, map, refl, ap, sym, subst, arith, append_assoc, append-nil, Option, Some, None, Result, Ok, Err, inl, inr}
+use Rattle.std.proofs.Common.{◌≡◌, ◌∙◌, ℕ, ℤ, Bool, true, false, not, List, [], ◌∷◌, ◌++◌, length, map, refl, ap, sym, subst, append_assoc, append-nil, Option, Some, None, Result, Ok, Err, inl, inr}
 use Rattle.std.specs.Prelude.{◌⊎◌, ◌&&◌, ◌||◌, ◌==◌, nat_le, if◌then◌else◌, is_some}
 use Rattle.std.specs.List.{list_any, list_all, filter}
 use Rattle.std.proofs.lemmas.Bool.{or_parts, or_left, or_right, and_parts, and_from, not-true, not-false}
@@ -13,9 +13,9 @@ use Rattle.ast.specs.Store.{same_name}
 use Rattle.ast.specs.Symbols.{Extent}
 use Rattle.ast.specs.declared.fault.Fault.{Fault}
 use Rattle.ast.specs.Tree.{Declarator, Definition, Statement, Kind, program, integer, dimension, parameters, assign, do_loop, go_on, block_if, else_if, else_arm, end_if, logical_if, print, read, stop, end}
-use Rattle.structure.specs.Open.{Open, open_after}
+use Rattle.structure.specs.Open.{open_after}
 use Rattle.structure.specs.Rules.{is_empty, is_program, is_out_of_order, is_declaration, is_executable, is_misplaced_arm, is_around, is_block, by_label, may_stand_in_if, holds_wrong_statement, crosses, ends_wrongly, breaks_blocks, is_label_again, rules as order_rules, lowest_broken as lowest_order, Keep as KeepOrder}
-use Rattle.profile_check.specs.Declarations.{Declared, Arrays, Constants, nothing, declared_in, declared_from, and_then_declared, arrays_by, or_no_extents, extents_of, with_arrays, constant_value, with_constant, with_constants, dimensions_named, constant_named, objects_by}
+use Rattle.profile_check.specs.Declarations.{Declared, Arrays, Constants, nothing, declared_in, and_then_declared, arrays_by, or_no_extents, extents_of, with_arrays, constant_value, with_constant, with_constants, dimensions_named, constant_named, objects_by}
 use Rattle.profile_check.specs.Rules.{Context, context_after, is_some_and, is_other, is_constant, names_real, declares_again, is_miscounted, miscounts, changes_active, changes_constant, crosses_bounds, is_too_large, lacks_value, is_well_kinded, rules, lowest_of, lower, typed_in_whole, InProfile}
 use Rattle.profile_check.specs.Resolving.{Table}
 use Rattle.profile_check.specs.TakenBefore.{taken_before}
@@ -188,7 +188,7 @@ closed-more first front s e none a c =
     let more = declared-append nothing front s in
     record {
       executes = list_any-append (λ (f : Statement). is_executable f.kind) front (s ∷ [])
-        ∙ ap (λ (b : Bool). list_any (λ (f : Statement). is_executable f.kind) front || b) (or-false (is_executable s.kind)) ∙ e;
+          ∙ ap (λ (b : Bool). list_any (λ (f : Statement). is_executable f.kind) front || b) (or-false (is_executable s.kind)) ∙ e;
       arrays = ap (λ (d : Declared). d.arrays) more ∙ arrays-stay (declared_in front) s none.0 ∙ a;
       constants = ap (λ (d : Declared). d.constants) more ∙ constants-stay (declared_in front) s none.1 ∙ c;
     }
@@ -201,12 +201,12 @@ closed : (ss : List Statement) → InProfile ss → (front : List Statement) (s 
 closed ss h front s back e x =
     along-rest (λ (f : List Statement). Closed front f) ss
     (λ f t b q p.
-      let o = in-order ss h f t b q in
-      closed-more front f t (or_left (list_any (λ (f : Statement). is_executable f.kind) f) (is_executable t.kind) p.executes)
-      (none-by t.kind (not-declaration f t o p.executes) (not-wrong f t o)) p.arrays p.constants)
+    let o = in-order ss h f t b q in
+    closed-more front f t (or_left (list_any (λ (f : Statement). is_executable f.kind) f) (is_executable t.kind) p.executes)
+    (none-by t.kind (not-declaration f t o p.executes) (not-wrong f t o)) p.arrays p.constants)
     (front ++ s ∷ []) back (e ∙ sym (append_assoc front (s ∷ []) back))
     (closed-more front front s (or_right (list_any (λ (f : Statement). is_executable f.kind) front) (is_executable s.kind) x)
-      (none-by s.kind (is-declared s.kind x) (not-wrong front s (in-order ss h front s back e))) refl refl)
+    (none-by s.kind (is-declared s.kind x) (not-wrong front s (in-order ss h front s back e))) refl refl)
 
 -- ---- names taken into a table one after another
 
@@ -300,16 +300,16 @@ apart-more d s h p =
     let q = taken-parts d.objects arrays constants h in
     record {
       array = λ x k.
-        let o = parts x k in
-        dimensions-others d.constants d.arrays (bounded_by s.kind) x o.1 ∙ p.array x o.0;
+          let o = parts x k in
+          dimensions-others d.constants d.arrays (bounded_by s.kind) x o.1 ∙ p.array x o.0;
       constant = λ x k.
-        let o = parts x k in
-        constant-others d.constants (defined_by s.kind) x o.2 ∙ p.constant x o.0;
+          let o = parts x k in
+          constant-others d.constants (defined_by s.kind) x o.2 ∙ p.constant x o.0;
       apart = λ x k. elim (constant-cases d (defined_by s.kind) x k) [
         | inl c ↦ dimensions-others d.constants d.arrays (bounded_by s.kind) x (old x c q.0 (is_among arrays x) refl) ∙ p.apart x c
         | inr c ↦
-          let o = or_parts (is_among d.objects x) (is_among arrays x) (sym (had-all x d.objects arrays) ∙ taken-new (insert_all same_name d.objects arrays) constants x q.1 c) in
-          dimensions-others d.constants d.arrays (bounded_by s.kind) x o.1 ∙ p.array x o.0
+            let o = or_parts (is_among d.objects x) (is_among arrays x) (sym (had-all x d.objects arrays) ∙ taken-new (insert_all same_name d.objects arrays) constants x q.1 c) in
+            dimensions-others d.constants d.arrays (bounded_by s.kind) x o.1 ∙ p.array x o.0
       ];
     }
   where
@@ -319,7 +319,7 @@ apart-more d s h p =
     parts x k =
         let a = or_parts (is_among d.objects x) (is_among (objects_by s.kind) x) (sym (had-all x d.objects (objects_by s.kind)) ∙ k) in
         let b = or_parts (is_among (declarator_names (bounded_by s.kind)) x) (is_among (definition_names (defined_by s.kind)) x)
-          (sym (list_any-append (same_name x) (declarator_names (bounded_by s.kind)) (definition_names (defined_by s.kind))) ∙ a.1) in
+        (sym (list_any-append (same_name x) (declarator_names (bounded_by s.kind)) (definition_names (defined_by s.kind))) ∙ a.1) in
         (a.0, b.0, b.1)
 
     -- a constant of those before is not declared as an array
@@ -355,7 +355,7 @@ named-more : (front : List Statement) (s : Statement) (x : List ℕ) → (is_amo
 named-more front s x h =
     ap (λ (d : Declared). is_among d.names x) (declared-append nothing front s) ∙ had-all x (declared_in front).names (names_mentioned s.kind) ∙ h
 
-pub named : (ss front : List Statement) (s : Statement) (back : List Statement) (x : List ℕ) → ss ≡ front ++ s ∷ back → is_among (names_mentioned s.kind) x ≡ true
+named : (ss front : List Statement) (s : Statement) (back : List Statement) (x : List ℕ) → ss ≡ front ++ s ∷ back → is_among (names_mentioned s.kind) x ≡ true
     → is_among (declared_in ss).names x ≡ true
 named ss front s back x e h =
     along-rest (λ (f : List Statement). is_among (declared_in f).names x ≡ true) ss
@@ -401,7 +401,7 @@ sound-uses t arrays a (u ∷ us) n m g =
   where
     own : is_call u ≡ false → ((x : List ℕ) → is_among (names_in (u ∷ us)) x ≡ true → is_among t.names x ≡ true) → is_among t.names u.name ≡ true
     own e n = n u.name (ap (λ (b : Bool). is_among (map (λ (v : Use). v.name) (if not b then u ∷ filter is_name us else filter is_name us)) u.name) e
-      ∙ ap (λ (b : Bool). b || is_among (names_in us) u.name) (nat_list_eq_equiv.refl u.name))
+        ∙ ap (λ (b : Bool). b || is_among (names_in us) u.name) (nat_list_eq_equiv.refl u.name))
 
     more : (x : List ℕ) (b : Bool) → is_among (names_in us) x ≡ true → is_among (map (λ (v : Use). v.name) (if b then u ∷ filter is_name us else filter is_name us)) x ≡ true
     more x true k = or_right (same_name x u.name) (is_among (names_in us) x) k

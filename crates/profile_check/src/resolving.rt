@@ -42,7 +42,10 @@ fn number(reference: &mut Reference, declarations: &Declarations, next: usize)
     ensures { ref reference.new ≡ spec.numbered (table_of declarations.now) next (ref reference.old) }
 {
     reference.id = RefId(next);
-    reference.cell = declarations.names.get_index_of(&reference.name).unwrap_or(0);
+    reference.cell = declarations
+        .names
+        .get_index_of(&reference.name)
+        .unwrap_or(0);
 }
 
 /// Takes an expression out of its place.
@@ -61,7 +64,12 @@ fn constant_of(declarations: &Declarations, name: &Name) -> Option<i64>
 }
 
 /// An element, its reference numbered.
-fn element(mut reference: Reference, subscripts: Vec<Expr>, declarations: &Declarations, next: usize) -> Expr
+fn element(
+    mut reference: Reference,
+    subscripts: Vec<Expr>,
+    declarations: &Declarations,
+    next: usize,
+) -> Expr
     ensures { term result ≡ tree.element (spec.numbered (table_of declarations.now) next (ref reference)) (terms (map term subscripts.items)) }
 {
     number(&mut reference, declarations, next);
@@ -72,7 +80,12 @@ fn element(mut reference: Reference, subscripts: Vec<Expr>, declarations: &Decla
 }
 
 /// A name alone, a constant or a variable; the number after it.
-fn alone(reference: Reference, list: Vec<Expr>, declarations: &Declarations, next: usize) -> (Expr, usize)
+fn alone(
+    reference: Reference,
+    list: Vec<Expr>,
+    declarations: &Declarations,
+    next: usize,
+) -> (Expr, usize)
     requires bounded { next + 1 < 2 ^ 64 }
     requires empty { list.items ≡ [] }
     ensures tree { term result.0 ≡ spec.alone (table_of declarations.now) next (ref reference) (constant_named (table_of declarations.now).constants reference.name.letters) }
@@ -87,7 +100,12 @@ fn alone(reference: Reference, list: Vec<Expr>, declarations: &Declarations, nex
 
 /// A name with what stands behind it in parentheses, resolved: a call or an element; the number
 /// after it.
-fn with_list(reference: Reference, list: Vec<Expr>, declarations: &Declarations, next: usize) -> (Expr, usize)
+fn with_list(
+    reference: Reference,
+    list: Vec<Expr>,
+    declarations: &Declarations,
+    next: usize,
+) -> (Expr, usize)
     requires { next + 1 < 2 ^ 64 }
     ensures tree { term result.0 ≡ spec.list_at (table_of declarations.now) next (ref reference) (terms (map term list.items)) (spec.intrinsic_named reference.name.letters) }
     ensures after { result.1 + spec.count_terms (terms (map term list.items)) ≡ next + spec.count (term result.0) }
@@ -161,7 +179,11 @@ fn resolve_all(list: &mut [Expr], declarations: &Declarations, next: usize) -> u
 
 /// Expressions in their list, resolved there.
 #[cycle(resolve)]
-fn resolved_list(mut list: Vec<Expr>, declarations: &Declarations, next: usize) -> (Vec<Expr>, usize)
+fn resolved_list(
+    mut list: Vec<Expr>,
+    declarations: &Declarations,
+    next: usize,
+) -> (Vec<Expr>, usize)
     requires { next + spec.count_all (map term list.items) < 2 ^ 64 }
     ensures tree { map term result.0.items ≡ spec.list_resolved (table_of declarations.now) next (map term list.items) }
     ensures after { result.1 ≡ next + spec.count_all (map term result.0.items) }
@@ -204,7 +226,11 @@ fn resolved_terms(list: Vec<Expr>, declarations: &Declarations, next: usize) -> 
 
 /// An expression in its box, resolved there.
 #[cycle(resolve)]
-fn resolved_box(mut place: Box<Expr>, declarations: &Declarations, next: usize) -> (Box<Expr>, usize)
+fn resolved_box(
+    mut place: Box<Expr>,
+    declarations: &Declarations,
+    next: usize,
+) -> (Box<Expr>, usize)
     requires { next + spec.count (term place.value) < 2 ^ 64 }
     ensures tree { term result.0.value ≡ spec.resolved (table_of declarations.now) next (term place.value) }
     ensures after { result.1 ≡ next + spec.count (term result.0.value) }
@@ -216,7 +242,11 @@ fn resolved_box(mut place: Box<Expr>, declarations: &Declarations, next: usize) 
 }
 
 /// An optional expression resolved.
-fn resolved_optional(given: Option<Expr>, declarations: &Declarations, next: usize) -> (Option<Expr>, usize)
+fn resolved_optional(
+    given: Option<Expr>,
+    declarations: &Declarations,
+    next: usize,
+) -> (Option<Expr>, usize)
     requires { next + spec.count_optional (optional_term given) < 2 ^ 64 }
     ensures tree { optional_term result.0 ≡ option_map (λ e. spec.resolved (table_of declarations.now) next e) (optional_term given) }
     ensures after { result.1 ≡ next + spec.count_optional (optional_term result.0) }
@@ -264,7 +294,12 @@ fn taken_access(alloc: Global, place: &mut Access) -> Access
 }
 
 /// Resolves the elements of a READ in their places; the number after their references.
-fn resolve_targets(alloc: Global, targets: &mut [Access], declarations: &Declarations, next: usize) -> usize
+fn resolve_targets(
+    alloc: Global,
+    targets: &mut [Access],
+    declarations: &Declarations,
+    next: usize,
+) -> usize
     requires { next + spec.total spec.access_count (map access_of targets.old) < 2 ^ 64 }
     ensures tree { map access_of targets.new ≡ spec.accesses_resolved (table_of declarations.now) next (map access_of targets.old) }
     ensures after { result ≡ next + spec.total spec.access_count (map access_of targets.new) }
@@ -348,7 +383,12 @@ fn resolved_head(given: DoHead, declarations: &Declarations, next: usize) -> (Do
 
 /// What a statement does, its names resolved.
 #[cycle(resolve_kind)]
-pub fn resolved_kind(alloc: Global, given: Kind, declarations: &Declarations, next: usize) -> (Kind, usize)
+pub fn resolved_kind(
+    alloc: Global,
+    given: Kind,
+    declarations: &Declarations,
+    next: usize,
+) -> (Kind, usize)
     requires { next + spec.kind_count (kind_of given) < 2 ^ 64 }
     ensures tree { kind_of result.0 ≡ spec.kind_resolved (table_of declarations.now) next (kind_of given) }
     ensures after { result.1 ≡ next + spec.kind_count (kind_of result.0) }

@@ -1,6 +1,6 @@
 //! Whole texts.
 
-ghost use Rattle.std.specs.Prelude.{IfOk, IfErr, Ok, ◌≡◌, ◌<◌, ◌^◌, map, length};
+ghost use Rattle.std.specs.Prelude.{◌≡◌, ℕ, IfOk, IfErr, Ok, Err};
 ghost use Rattle.ast.specs.Answers.{Gives, Says};
 ghost use Rattle.ast.specs.Program.{ProgramTree};
 ghost use Rattle.ast.specs.ProgramView.{program as program_of};
@@ -27,6 +27,7 @@ pub fn program(alloc: Global, text: &[u8]) -> Result<Program, Refusal>
     ensures found { IfOk result (λ p. Reads text.now (program_of p)) }
     ensures only { (tree : ProgramTree) → Reads text.now tree → Gives program_of result (Ok tree) }
     ensures refused { IfErr result (Says (Refuses text.now)) }
+    ensures exactly { (number line : ℕ) → Refuses text.now number line → Gives program_of result (Err (record { number = number; line = line })) }
     ensures one { (p q : ProgramTree) → Reads text.now p → Reads text.now q → p ≡ q }
 {
     let labelled = statements(alloc, text)?;

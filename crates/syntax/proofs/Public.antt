@@ -31,11 +31,11 @@ fault_is : (c d : Break) → at_fault c ≡ at_fault d → c ≡ d
 fault_is c d e = cc
 
 -- a text is cut, or it ends in a character constant
-data IsCut (line : ℕ) (label : Option ℕ) (t : List ℕ) : Type 0 where
+pub data IsCut (line : ℕ) (label : Option ℕ) (t : List ℕ) : Type 0 where
   cut_so : (ps : List Piece) → Cut ps t → text_at line label t ≡ statement_at line label t (marks ps) (constants ps) → IsCut line label t
   uncut : ((ps : List Piece) → Cut ps t → ⊥) → text_at line label t ≡ refuse line 21 → IsCut line label t
 
-is_cut : (line : ℕ) (label : Option ℕ) (t : List ℕ) → IsCut line label t
+pub is_cut : (line : ℕ) (label : Option ℕ) (t : List ℕ) → IsCut line label t
 is_cut line label t = go (squeezed t) refl
   where
     go : (o : Option (List ℕ × List (List ℕ))) → squeezed t ≡ o → IsCut line label t
