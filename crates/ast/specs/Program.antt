@@ -1,7 +1,7 @@
 -- The program that a `Program` stands for, and what holds of each.
-use Rattle.std.specs.Prelude.{ℕ, ◌+◌, List, map, Bool, true, false, ◌&&◌, nat_le, slice_get, Option, Some, None}
+use Rattle.std.specs.Prelude.{ℕ, ◌+◌, List, Bool, true, false, ◌&&◌, nat_le, slice_get, Option, Some, None}
 use Rattle.std.specs.List.{list_all}
-use Rattle.ast.specs.References.{block_references, block_expressions, are_numbered}
+use Rattle.ast.specs.References.{block_references, block_expressions}
 use Rattle.ast.specs.Store.{same_name}
 use Rattle.ast.specs.Symbols.{Sort, variable, fixed, Symbol}
 use Rattle.ast.specs.Tree.{Ref, Node, plain, loop, choose, Block, no_nodes, then_node, Arms, no_arms, then_arm, depth}

@@ -2,8 +2,8 @@
 -- element before the element; the right side of an assignment before its target; of a DO its
 -- parameters, its variable, then its range; of an IF its first condition, its first arm, the second
 -- condition, and so on. A program's references are numbered in this order.
-use Rattle.std.specs.Prelude.{◌≡◌, ℕ, ◌+◌, Bool, true, ◌&&◌, ◌==◌, List, [], ◌∷◌, ◌++◌, Option, Some, None, map}
-use Rattle.ast.specs.Tree.{Ref, Term, Terms, element, call, parentheses, unary, binary, no_terms, then_term, Access, accessed, PrintItem, value_item, text_item, DoHead, Kind, assign, print, read, Node, plain, loop, choose, Block, no_nodes, then_node, Arms, no_arms, then_arm}
+use Rattle.std.specs.Prelude.{ℕ, ◌+◌, Bool, true, ◌&&◌, ◌==◌, List, [], ◌∷◌, ◌++◌, Option, Some, None, map}
+use Rattle.ast.specs.Tree.{Ref, Term, Terms, element, call, parentheses, unary, binary, no_terms, then_term, accessed, PrintItem, value_item, text_item, DoHead, Kind, assign, print, read, Node, plain, loop, choose, Block, no_nodes, then_node, Arms, no_arms, then_arm}
 
 abbrev mutual
   pub term_references : Term → List Ref

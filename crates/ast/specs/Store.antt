@@ -1,5 +1,5 @@
 -- Stores: the value of each element of each name, elements numbered from 0 in storage order.
-use Rattle.std.specs.Prelude.{ℕ, ℤ, zero, suc, ◌+◌, pos, Bool, nat_eq, ◌==◌, ◌&&◌, List, [], ◌∷◌, if◌then◌else◌, Option, Some, None, unwrap_or, slice_get, get_or}
+use Rattle.std.specs.Prelude.{ℕ, ℤ, zero, suc, ◌+◌, pos, Bool, nat_eq, ◌==◌, ◌&&◌, List, [], ◌∷◌, if◌then◌else◌, Option, None, unwrap_or, slice_get, get_or}
 use Rattle.std.specs.Cmp.Lexicographic.{pointwise}
 
 -- whether two names are the same

@@ -1,5 +1,5 @@
 -- A program's symbols: what each of its names stands for.
-use Rattle.std.specs.Prelude.{ℕ, ℤ, ◌+◌, ◌*◌, ◌-ℤ◌, int_lt, unsigned_abs, nat_le, Bool, true, false, not, ◌&&◌, ◌||◌, if◌then◌else◌, List, [], ◌∷◌, Option, Some, None, Result, Ok, Err, map}
+use Rattle.std.specs.Prelude.{ℕ, ℤ, ◌+◌, ◌*◌, ◌-ℤ◌, int_lt, unsigned_abs, nat_le, Bool, not, ◌&&◌, if◌then◌else◌, List, [], ◌∷◌, Result, Ok, Err, map}
 use Rattle.std.specs.List.{list_all}
 use Rattle.ast.specs.Results.{◌>>=◌}
 use Rattle.ast.specs.Store.{StoreOf, same_name, values_from}

@@ -21,3 +21,6 @@ pub use refusal::Refusal;
 pub use statement::{Bounds, Declarator, Definition, DoHead, Item, Kind, Label, Line, Stmt};
 pub use store::Store;
 pub use tree::{Arm, Node};
+
+#[cfg(test)]
+mod tests;
