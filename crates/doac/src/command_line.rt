@@ -35,7 +35,7 @@ fn store<'a>(alloc: Global) -> Arg<'a>
     Arg::new(alloc, "store")
         .long("store")
         .action(ArgAction::SetTrue)
-        .help("Writes each variable's value after a run without a fault")
+        .help("Writes each variable's value after a run that comes to END")
 }
 
 fn number<'a>(alloc: Global) -> Arg<'a>

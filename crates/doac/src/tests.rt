@@ -185,6 +185,83 @@ fn checks(rt: HostRuntime) -> Result<(), Fail> {
     Ok(())
 }
 
+/// A refusal of each rule of the profile, and of two rules of lines, by its number and its line.
+#[test]
+fn refusals(rt: HostRuntime) -> Result<(), Fail> {
+    let rows: [(&[u8], &[u8]); 20] = [
+        (b"     1I=1\n      END\n", b"REFUSED 3 LINE 1\n"),
+        (b"      I=1\n1    1+2\n      END\n", b"REFUSED 5 LINE 2\n"),
+        (
+            b"      PROGRAM P\n      I=1\n      INTEGER J\n      END\n",
+            b"REFUSED 30 LINE 3\n",
+        ),
+        (
+            b"      INTEGER I\n      INTEGER J,I\n      END\n",
+            b"REFUSED 32 LINE 2\n",
+        ),
+        (b"      MAX=1\n      END\n", b"REFUSED 32 LINE 1\n"),
+        (
+            b"      INTEGER A(2)\n      K=A(1,2)\n      END\n",
+            b"REFUSED 33 LINE 2\n",
+        ),
+        (
+            b"      INTEGER A(2)\n      K=1\n      PRINT *,A\n      END\n",
+            b"REFUSED 33 LINE 3\n",
+        ),
+        (b"      K=MOD(7)\n      END\n", b"REFUSED 33 LINE 1\n"),
+        (
+            b"      DO 10 I=1,2\n      DO 20 J=1,2\n   10 CONTINUE\n   20 CONTINUE\n      END\n",
+            b"REFUSED 34 LINE 3\n",
+        ),
+        (
+            b"      DO 10 I=1,2\n      K=I\n      END\n",
+            b"REFUSED 34 LINE 3\n",
+        ),
+        (
+            b"      DO 10 I=1,2\n   10 STOP\n      END\n",
+            b"REFUSED 35 LINE 2\n",
+        ),
+        (
+            b"      IF (I.EQ.0) THEN\n      K=I\n      END\n",
+            b"REFUSED 36 LINE 3\n",
+        ),
+        (
+            b"      IF (I.EQ.0) DO 10 J=1,2\n   10 CONTINUE\n      END\n",
+            b"REFUSED 36 LINE 1\n",
+        ),
+        (
+            b"      DO 10 I=1,2\n   10 READ *,I\n      END\n",
+            b"REFUSED 37 LINE 2\n",
+        ),
+        (
+            b"      PARAMETER (N=1)\n      DO 10 N=1,2\n   10 CONTINUE\n      END\n",
+            b"REFUSED 38 LINE 2\n",
+        ),
+        (b"      INTEGER A(2:1)\n      END\n", b"REFUSED 39 LINE 1\n"),
+        (
+            b"      INTEGER A(1024,1024)\n      DIMENSION L(1)\n      END\n",
+            b"REFUSED 40 LINE 2\n",
+        ),
+        (b"   10 I=1\n   10 J=1\n      END\n", b"REFUSED 41 LINE 2\n"),
+        (
+            b"      PARAMETER (N=2,M=1/(N-2))\n      END\n",
+            b"REFUSED 42 LINE 1\n",
+        ),
+        (
+            b"      K=1\n      IF (K) K=2\n      END\n",
+            b"REFUSED 43 LINE 2\n",
+        ),
+    ];
+    for (source, output) in rows {
+        let mut source = source;
+        let mut out = Vec::new(rt.alloc());
+        let given = check(rt.alloc(), &mut source, &mut out)?;
+        assert_eq!(rt; out.as_slice(), output);
+        assert_eq!(rt; given, 1);
+    }
+    Ok(())
+}
+
 #[test]
 fn writers_that_fail(rt: HostRuntime) -> Result<(), Fail> {
     let whole: &[u8] = b" 1\nFAULT 3 ZERO DIVISOR LINE 2\n";
