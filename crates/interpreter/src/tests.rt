@@ -75,6 +75,7 @@ fn program_that_prints(alloc: Global) -> Result<Program, Fail> {
     Ok(Program {
         symbols: Vec::new(alloc),
         body: Vec::from_array(alloc, [print])?,
+        statements: 1,
     })
 }
 
