@@ -1,4 +1,5 @@
 pub mod Chosen
+pub mod ConstantValues
 pub mod Counts
 pub mod Ending
 pub mod Entries

@@ -1,17 +1,15 @@
 -- How large a program in the profile is: its statements, and the elements of its arrays.
-use Rattle.std.proofs.Common.{◌≡◌, ◌∙◌, ℕ, ℤ, suc, ◌+◌, ◌≤◌, Bool, true, false, not, List, [], ◌∷◌, ◌++◌, length, refl, arith, length-append, Option, Some, None, Result, Ok, Err}
+use Rattle.std.proofs.Common.{◌≡◌, ◌∙◌, ℕ, ℤ, suc, ◌+◌, ◌≤◌, Bool, true, false, not, List, [], ◌∷◌, ◌++◌, length, refl, arith, length-append, map, Option, Some, None, option_map}
 use Rattle.std.specs.Prelude.{◌&&◌, ◌||◌, nat_le, nat_lt, int_lt, if◌then◌else◌}
 use Rattle.std.specs.List.{list_any, list_all}
 use Rattle.std.proofs.lemmas.Bool.{or_parts, and_parts, and_from, not_from_false, leb-false, ltb-false, le-leb}
-use Rattle.std.proofs.lemmas.List.Folds.{list_all-append, list_all-map}
+use Rattle.std.proofs.lemmas.List.Folds.{list_all-map}
 use Rattle.indexmap.specs.IndexMap.{insert_entry}
-use Rattle.ast.specs.Results.{◌>>=◌}
 use Rattle.ast.specs.Store.{same_name}
 use Rattle.ast.specs.Symbols.{Extent, variable, elements, most_elements, is_sized_sort, is_sized}
 use Rattle.ast.specs.Tree.{Bounds, Declarator, Statement}
-use Rattle.ast.specs.declared.fault.Fault.{Fault}
 use Rattle.structure.specs.Open.{open_after}
-use Rattle.profile_check.specs.Declarations.{Declared, Arrays, Constants, extent_of, extents_onto, extents_of, or_no_extents, arrays_by, with_arrays, few_or_more, counted, dimensions_named, constant_named, constant_or, sort_of, declared_in, and_then_declared, symbols_of}
+use Rattle.profile_check.specs.Declarations.{Declared, Arrays, Constants, extent_of, all_or_none, extents_of, or_no_extents, arrays_by, with_arrays, few_or_more, counted, dimensions_named, constant_named, constant_or, sort_of, declared_in, and_then_declared, symbols_of}
 use Rattle.profile_check.specs.Rules.{context_after, is_crossed, is_ill_bounded, opens, most_dimensions, most_statements, most_nested, most_names, InProfile}
 use Rattle.profile_check.specs.Uses.{bounded_by}
 use Rattle.profile_check.proofs.Sound.{Kept, kept, along, along-declared}
@@ -45,20 +43,21 @@ is_uncrossed d = not (int_lt d.upper d.lower)
 abbrev are_uncrossed : List Extent → Bool
 are_uncrossed ds = list_all is_uncrossed ds
 
--- the extents of bounds that are not crossed, behind others
-uncrossed-onto : (constants : Constants) (before : List Extent) (bs : List Bounds) → are_uncrossed before ≡ true → list_any (λ b. is_crossed (extent_of constants b)) bs ≡ false
-    → are_uncrossed (or_no_extents (extents_onto constants before bs)) ≡ true
-uncrossed-onto constants before [] u h = u
-uncrossed-onto constants before (b ∷ bs) u h =
+-- the extents of bounds that are not crossed
+uncrossed : (constants : Constants) (bs : List Bounds) → list_any (λ b. is_crossed (extent_of constants b)) bs ≡ false → are_uncrossed (or_no_extents (extents_of constants bs)) ≡ true
+uncrossed constants [] h = refl
+uncrossed constants (b ∷ bs) h =
     let p = or_parts (is_crossed (extent_of constants b)) (list_any (λ (c : Bounds). is_crossed (extent_of constants c)) bs) h in
-    by (λ d k. uncrossed-onto constants (before ++ d ∷ []) bs k p.1) (extent_of constants b) p.0
+    by (extent_of constants b) (map (extent_of constants) bs) p.0 (uncrossed constants bs p.1)
   where
-    by : ((d : Extent) → are_uncrossed (before ++ d ∷ []) ≡ true → are_uncrossed (or_no_extents (extents_onto constants (before ++ d ∷ []) bs)) ≡ true)
-        → (r : Result Extent Fault) → is_crossed r ≡ false → are_uncrossed (or_no_extents (r >>= λ d. extents_onto constants (before ++ d ∷ []) bs)) ≡ true
-    by rest (Err f) k = refl
-    by rest (Ok d) k =
-        rest d (list_all-append is_uncrossed before (d ∷ [])
-        ∙ and_from (are_uncrossed before) (are_uncrossed (d ∷ [])) u (and_from (is_uncrossed d) true (not_from_false (int_lt d.upper d.lower) k) refl))
+    onto : (d : Extent) (r : Option (List Extent)) → is_crossed (Some d) ≡ false → are_uncrossed (or_no_extents r) ≡ true → are_uncrossed (or_no_extents (option_map (λ ds. d ∷ ds) r)) ≡ true
+    onto d None k u = refl
+    onto d (Some ds) k u = and_from (is_uncrossed d) (are_uncrossed ds) (not_from_false (int_lt d.upper d.lower) k) u
+
+    by : (o : Option Extent) (others : List (Option Extent)) → is_crossed o ≡ false → are_uncrossed (or_no_extents (all_or_none others)) ≡ true
+        → are_uncrossed (or_no_extents (all_or_none (o ∷ others))) ≡ true
+    by None others k u = refl
+    by (Some d) others k u = onto d (all_or_none others) k u
 
 -- ---- no array is too large
 
@@ -92,7 +91,7 @@ sized-by constants total (d ∷ ds) h c =
     let q = or_parts (nat_lt most_dimensions (length d.bounds)) crossed p.0 in
     let few = (few-parts total (elements es) (counted-before (few_or_more (total + elements es)) (arrays_by constants ds) c)).1 in
     and_from (is_sized_sort (variable es)) (are_sized (arrays_by constants ds))
-    (and_from (are_uncrossed es) (nat_le (elements es) most_elements) (uncrossed-onto constants [] d.bounds refl q.1) (le-leb (elements es) most_elements few))
+    (and_from (are_uncrossed es) (nat_le (elements es) most_elements) (uncrossed constants d.bounds q.1) (le-leb (elements es) most_elements few))
     (sized-by constants (few_or_more (total + elements es)) ds p.1 c)
 
 sized-entry : (arrays : Arrays) (x : List ℕ) (ds : List Extent) → are_sized arrays ≡ true → is_sized_sort (variable ds) ≡ true → are_sized (insert_entry same_name arrays x ds) ≡ true

@@ -1,6 +1,6 @@
 -- What each statement of a program in the profile keeps, and that each name that it uses stands for
 -- something.
-use Rattle.std.proofs.Common.{◌≡◌, ◌∙◌, ℕ, ℤ, Bool, true, false, not, List, [], ◌∷◌, ◌++◌, length, map, refl, ap, sym, subst, append_assoc, append-nil, Option, Some, None, Result, Ok, Err, inl, inr}
+use Rattle.std.proofs.Common.{◌≡◌, ◌∙◌, ℕ, ℤ, Bool, true, false, not, List, [], ◌∷◌, ◌++◌, length, map, refl, ap, sym, subst, append_assoc, append-nil, Option, Some, None, inl, inr}
 use Rattle.std.specs.Prelude.{◌⊎◌, ◌&&◌, ◌||◌, ◌==◌, nat_le, if◌then◌else◌, is_some}
 use Rattle.std.specs.List.{list_any, list_all, filter}
 use Rattle.std.proofs.lemmas.Bool.{or_parts, or_left, or_right, and_parts, and_from, not-true, not-false}
@@ -11,7 +11,6 @@ use Rattle.indexmap.specs.IndexMap.{insert_entry}
 use Rattle.indexmap.specs.IndexSet.{insert_key, insert_all}
 use Rattle.ast.specs.Store.{same_name}
 use Rattle.ast.specs.Symbols.{Extent}
-use Rattle.ast.specs.declared.fault.Fault.{Fault}
 use Rattle.ast.specs.Tree.{Declarator, Definition, Statement, Kind, program, integer, dimension, parameters, assign, do_loop, go_on, block_if, else_if, else_arm, end_if, logical_if, print, read, stop, end}
 use Rattle.structure.specs.Open.{open_after}
 use Rattle.structure.specs.Rules.{is_empty, is_program, is_out_of_order, is_declaration, is_executable, is_misplaced_arm, is_around, is_block, by_label, may_stand_in_if, holds_wrong_statement, crosses, ends_wrongly, breaks_blocks, is_label_again, rules as order_rules, lowest_broken as lowest_order, Keep as KeepOrder}
@@ -264,9 +263,9 @@ constant-other (c ∷ constants) y n x e = by (constant-other constants y n x e)
         ap (λ (b : Bool). if b then Some n else constant_named constants x) other ∙ sym (ap (λ (b : Bool). if b then Some c.1 else constant_named constants x) other)
     by rest false k = ap (λ (v : Option ℤ). if same_name c.0 x then Some c.1 else v) rest
 
-constant-added : (constants : Constants) (y : List ℕ) (r : Result ℤ Fault) (x : List ℕ) → same_name x y ≡ false → constant_named (with_constant constants y r) x ≡ constant_named constants x
-constant-added constants y (Ok n) x e = constant-other constants y n x e
-constant-added constants y (Err f) x e = refl
+constant-added : (constants : Constants) (y : List ℕ) (r : Option ℤ) (x : List ℕ) → same_name x y ≡ false → constant_named (with_constant constants y r) x ≡ constant_named constants x
+constant-added constants y (Some n) x e = constant-other constants y n x e
+constant-added constants y None x e = refl
 
 pub constant-others : (constants : Constants) (ds : List Definition) (x : List ℕ) → is_among (definition_names ds) x ≡ false → constant_named (with_constants constants ds) x ≡ constant_named constants x
 constant-others constants [] x h = refl

@@ -1,14 +1,15 @@
 -- What is declared after some statements of a text.
-use Rattle.std.specs.Prelude.{ℕ, ℤ, suc, ◌+◌, nat_lt, pos, if◌then◌else◌, List, [], ◌∷◌, ◌++◌, map, Option, Some, None, Result, Ok, Err}
+use Rattle.std.specs.Prelude.{ℕ, ℤ, suc, ◌+◌, nat_lt, pos, if◌then◌else◌, List, [], ◌∷◌, ◌++◌, map, Option, Some, None, option_map, Result, Ok, Err}
+use Rattle.std.specs.Result.{result_ok}
 use Rattle.indexmap.specs.IndexMap.{insert_entry}
 use Rattle.indexmap.specs.IndexSet.{insert_all}
-use Rattle.ast.specs.Exact.{truth_value, prefixed_value, value_of}
-use Rattle.ast.specs.Results.{◌>>=◌}
+use Rattle.ast.specs.Meaning.{LookUp, value}
 use Rattle.ast.specs.Store.{same_name}
 use Rattle.ast.specs.Symbols.{Extent, Sort, variable, fixed, Symbol, elements, most_elements}
-use Rattle.ast.specs.Tree.{Term, Terms, constant, truth, parameter, element, call, parentheses, unary, binary, no_terms, then_term, Bounds, Declarator, Definition, Kind, Statement}
+use Rattle.ast.specs.Tree.{Term, Bounds, Declarator, Definition, Kind, Statement}
 use Rattle.ast.specs.declared.fault.Fault.{Fault}
 use Rattle.ast.specs.declared.fault.Fault.TheVariants.{Index}
+use Rattle.profile_check.specs.Erasure.{erased}
 use Rattle.profile_check.specs.Uses.{typed_by, bounded_by, defined_by, declarator_names, definition_names, names_mentioned, program_named_by}
 
 -- the constants that PARAMETER statements have defined
@@ -19,48 +20,48 @@ abbrev pub constant_named : Constants → List ℕ → Option ℤ
 constant_named [] name = None
 constant_named (c ∷ cs) name = if same_name c.0 name then Some c.1 else constant_named cs name
 
--- In a constant expression stand constants alone: a variable, an element or an intrinsic function has
--- no value there.
-abbrev pub or_none : Option ℤ → Result ℤ Fault
-or_none (Some n) = Ok n
-or_none None = Err Index
+-- In a constant expression a name stands for a constant; a variable, an element and an intrinsic
+-- function have no value there.
+abbrev pub or_fault : Option ℤ → Result ℤ Fault
+or_fault (Some n) = Ok n
+or_fault None = Err Index
 
-abbrev pub name_value : Constants → List ℕ → Terms → Result ℤ Fault
-name_value cs name no_terms = or_none (constant_named cs name)
-name_value cs name (then_term e es) = Err Index
+abbrev pub constants_look : Constants → LookUp
+constants_look cs r [] = or_fault (constant_named cs r.name)
+constants_look cs r (x ∷ xs) = Err Index
 
-abbrev pub constant_value : Constants → Term → Result ℤ Fault
-constant_value cs (constant n) = Ok n
-constant_value cs (truth b) = Ok (truth_value b)
-constant_value cs (parameter x n) = Ok n
-constant_value cs (element r es) = name_value cs r.name es
-constant_value cs (call f es) = Err Index
-constant_value cs (parentheses e) = constant_value cs e
-constant_value cs (unary p e) = constant_value cs e >>= λ a. prefixed_value p a
-constant_value cs (binary o a b) = constant_value cs a >>= λ u. constant_value cs b >>= λ v. value_of o u v
+-- the value of a constant expression as its text has it, if it has one
+abbrev pub constant_value : Constants → Term → Option ℤ
+constant_value cs e = result_ok (value (constants_look cs) (erased e))
 
 -- the values of bounds, if they have values; an absent lower bound is 1
-abbrev pub lower_value : Constants → Option Term → Result ℤ Fault
-lower_value cs None = Ok (pos 1)
+abbrev pub lower_value : Constants → Option Term → Option ℤ
+lower_value cs None = Some (pos 1)
 lower_value cs (Some e) = constant_value cs e
 
-abbrev pub extent_of : Constants → Bounds → Result Extent Fault
-extent_of cs b = lower_value cs b.lower >>= λ l. constant_value cs b.upper >>= λ u. Ok (record { lower = l; upper = u })
+abbrev pub extent_by : Option ℤ → Option ℤ → Option Extent
+extent_by (Some l) (Some u) = Some (record { lower = l; upper = u })
+extent_by (Some l) None = None
+extent_by None u = None
 
--- all dimensions, those before them first, if all have values
-abbrev pub extents_onto : Constants → List Extent → List Bounds → Result (List Extent) Fault
-extents_onto cs ds [] = Ok ds
-extents_onto cs ds (b ∷ bs) = extent_of cs b >>= λ d. extents_onto cs (ds ++ d ∷ []) bs
+abbrev pub extent_of : Constants → Bounds → Option Extent
+extent_of cs b = extent_by (lower_value cs b.lower) (constant_value cs b.upper)
 
-abbrev pub extents_of : Constants → List Bounds → Result (List Extent) Fault
-extents_of cs bs = extents_onto cs [] bs
+-- all values, or none where one is absent
+abbrev pub all_or_none : {X : Type 0} → List (Option X) → Option (List X)
+all_or_none [] = Some []
+all_or_none (Some x ∷ others) = option_map (λ xs. x ∷ xs) (all_or_none others)
+all_or_none (None ∷ others) = None
+
+abbrev pub extents_of : Constants → List Bounds → Option (List Extent)
+extents_of cs bs = all_or_none (map (extent_of cs) bs)
 
 abbrev pub Arrays : Type 0
 Arrays = List (List ℕ × List Extent)
 
-abbrev pub or_no_extents : Result (List Extent) Fault → List Extent
-or_no_extents (Ok ds) = ds
-or_no_extents (Err f) = []
+abbrev pub or_no_extents : Option (List Extent) → List Extent
+or_no_extents (Some ds) = ds
+or_no_extents None = []
 
 -- the arrays with the bounds that they are given
 abbrev pub arrays_by : Constants → List Declarator → Arrays
@@ -76,9 +77,9 @@ with_arrays arrays [] = arrays
 with_arrays arrays (a ∷ more) = with_arrays (insert_entry same_name arrays a.0 a.1) more
 
 -- each definition of a PARAMETER statement stands after those before it
-abbrev pub with_constant : Constants → List ℕ → Result ℤ Fault → Constants
-with_constant cs name (Ok n) = insert_entry same_name cs name n
-with_constant cs name (Err f) = cs
+abbrev pub with_constant : Constants → List ℕ → Option ℤ → Constants
+with_constant cs name (Some n) = insert_entry same_name cs name n
+with_constant cs name None = cs
 
 abbrev pub with_constants : Constants → List Definition → Constants
 with_constants cs [] = cs

@@ -1,6 +1,6 @@
 -- The rules of the profile, each a test of a statement after the statements of a front; the rules on
 -- order, labels, ranges and blocks are those of `structure`.
-use Rattle.std.specs.Prelude.{◌≡◌, ℕ, Bool, true, false, not, ◌&&◌, ◌||◌, ◌==◌, nat_lt, nat_le, int_lt, if◌then◌else◌, List, [], ◌∷◌, ◌++◌, length, Option, Some, None, is_some, Result, Ok, Err}
+use Rattle.std.specs.Prelude.{◌≡◌, ℕ, Bool, true, false, not, ◌&&◌, ◌||◌, ◌==◌, nat_lt, nat_le, int_lt, if◌then◌else◌, List, [], ◌∷◌, ◌++◌, length, Option, Some, None, is_some, is_none}
 use Rattle.std.specs.List.{list_any, list_all}
 use Rattle.ast.specs.Store.{same_name}
 use Rattle.ast.specs.Symbols.{Extent, most_elements}
@@ -82,9 +82,9 @@ changes_constant c k = list_any (λ u. u.is_given && is_constant c.declared.cons
 abbrev pub most_dimensions : ℕ
 most_dimensions = 7
 
-abbrev pub is_crossed : {E : Type 0} → Result Extent E → Bool
-is_crossed (Ok d) = int_lt d.upper d.lower
-is_crossed (Err e) = false
+abbrev pub is_crossed : Option Extent → Bool
+is_crossed (Some d) = int_lt d.upper d.lower
+is_crossed None = false
 
 abbrev pub is_ill_bounded : Constants → Declarator → Bool
 is_ill_bounded cs d = nat_lt most_dimensions (length d.bounds) || list_any (λ b. is_crossed (extent_of cs b)) d.bounds
@@ -119,16 +119,12 @@ is_too_large c s = is_larger c.statements c.opened s.kind (and_then_declared c.d
 
 -- ---- 42: a constant expression without a value
 
-abbrev pub has_no_value : {X E : Type 0} → Result X E → Bool
-has_no_value (Ok x) = false
-has_no_value (Err e) = true
-
 abbrev pub lacks_bound : Constants → Declarator → Bool
-lacks_bound cs d = list_any (λ b. has_no_value (extent_of cs b)) d.bounds
+lacks_bound cs d = list_any (λ b. is_none (extent_of cs b)) d.bounds
 
 abbrev pub lacks_constant : Constants → List Definition → Bool
 lacks_constant cs [] = false
-lacks_constant cs (d ∷ ds) = has_no_value (constant_value cs d.value) || lacks_constant (with_constant cs d.name (constant_value cs d.value)) ds
+lacks_constant cs (d ∷ ds) = is_none (constant_value cs d.value) || lacks_constant (with_constant cs d.name (constant_value cs d.value)) ds
 
 abbrev pub lacks_value : Constants → Kind → Bool
 lacks_value cs k = list_any (lacks_bound cs) (bounded_by k) || lacks_constant cs (defined_by k)

@@ -1,18 +1,18 @@
 //! The dimensions of arrays.
 
-ghost use Rattle.std.specs.Prelude.{◌≡◌, ◌+◌, ◌*◌, ◌<◌, ◌≤◌, ◌^◌, IfOk, OnOk, Option, filter, int_lt, length, map, unsigned_abs, ◌-ℤ◌};
+ghost use Rattle.std.specs.Prelude.{◌≡◌, ◌+◌, ◌*◌, ◌<◌, ◌≤◌, ◌^◌, IfOk, OnOk, Option, filter, int_lt, is_none, length, map, option_map, unsigned_abs, ◌-ℤ◌};
 ghost use Rattle.std.specs.List.{list_any};
 ghost use Rattle.indexmap.specs.IndexMap.{insert_entry};
 ghost use Rattle.ast.specs.Store.{same_name};
 ghost use Rattle.ast.specs.Symbols.{elements, width};
 ghost use Rattle.ast.specs.View as view;
 ghost use Rattle.profile_check.specs.Declarations as spec;
-ghost use Rattle.profile_check.specs.DeclaredView.{arrays_of, constants_of, extent_result};
+ghost use Rattle.profile_check.specs.DeclaredView.{arrays_of, constants_of};
 ghost use Rattle.profile_check.specs.Rules as rules;
 ghost use Rattle.profile_check.specs.Uses.{has_bounds};
 
 use crate::constants::{Constants, constant_value};
-use ast::{Bounds, Declarator, Dimension, Expr, Fault, Name};
+use ast::{Bounds, Declarator, Dimension, Expr, Name};
 use indexmap::IndexMap;
 use std::alloc::{AllocError, Global};
 
@@ -23,22 +23,22 @@ pub type Arrays = IndexMap<Name, Vec<Dimension>>;
 const MOST_DIMENSIONS: usize = 7;
 
 /// The value of a lower bound, 1 where it is absent.
-fn lower_value(constants: &Constants, lower: &Option<Expr>) -> Result<i64, Fault>
+fn lower_value(constants: &Constants, lower: &Option<Expr>) -> Option<i64>
     ensures { result ≡ spec.lower_value (constants_of constants.now.entries) (view.optional_term lower.now) }
 {
     match lower {
         Some(expression) => constant_value(constants, expression),
-        None => Ok(1),
+        None => Some(1),
     }
 }
 
-/// A dimension by its bounds; a fault where one of them has no value.
-fn dimension_of(constants: &Constants, bounds: &Bounds) -> Result<Dimension, Fault>
-    ensures { extent_result result ≡ spec.extent_of (constants_of constants.now.entries) (view.bounds bounds.now) }
+/// A dimension by its bounds, if both have values.
+fn dimension_of(constants: &Constants, bounds: &Bounds) -> Option<Dimension>
+    ensures { option_map view.extent result ≡ spec.extent_of (constants_of constants.now.entries) (view.bounds bounds.now) }
 {
     let lower = lower_value(constants, &bounds.lower)?;
     let upper = constant_value(constants, &bounds.upper)?;
-    Ok(Dimension { lower, upper })
+    Some(Dimension { lower, upper })
 }
 
 /// Whether a dimension's upper bound is below the lower.
@@ -46,8 +46,8 @@ fn is_crossed(constants: &Constants, bounds: &Bounds) -> bool
     ensures { result ≡ rules.is_crossed (spec.extent_of (constants_of constants.now.entries) (view.bounds bounds.now)) }
 {
     match dimension_of(constants, bounds) {
-        Ok(dimension) => dimension.upper < dimension.lower,
-        Err(_) => false,
+        Some(dimension) => dimension.upper < dimension.lower,
+        None => false,
     }
 }
 
@@ -64,16 +64,16 @@ fn are_crossed(constants: &Constants, bounds: &[Bounds]) -> bool
 
 /// Whether bounds have no value.
 fn lack_value(constants: &Constants, bounds: &Bounds) -> bool
-    ensures { result ≡ rules.has_no_value (spec.extent_of (constants_of constants.now.entries) (view.bounds bounds.now)) }
+    ensures { result ≡ is_none (spec.extent_of (constants_of constants.now.entries) (view.bounds bounds.now)) }
 {
     match dimension_of(constants, bounds) {
-        Ok(_) => false,
-        Err(_) => true,
+        Some(_) => false,
+        None => true,
     }
 }
 
 fn lacks_bound(constants: &Constants, bounds: &[Bounds]) -> bool
-    ensures { result ≡ list_any (λ b. rules.has_no_value (spec.extent_of (constants_of constants.now.entries) b)) (map view.bounds bounds.now) }
+    ensures { result ≡ list_any (λ b. is_none (spec.extent_of (constants_of constants.now.entries) b)) (map view.bounds bounds.now) }
 {
     for dimension in bounds {
         if lack_value(constants, dimension) {
@@ -188,8 +188,8 @@ fn dimensions_of(
     let mut dimensions = Vec::new(alloc);
     for given in bounds {
         match dimension_of(constants, given) {
-            Ok(dimension) => dimensions.push(dimension)?,
-            Err(_) => return Ok(Vec::new(alloc)),
+            Some(dimension) => dimensions.push(dimension)?,
+            None => return Ok(Vec::new(alloc)),
         }
     }
     Ok(dimensions)

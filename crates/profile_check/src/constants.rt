@@ -1,13 +1,14 @@
 //! Constant expressions, and what PARAMETER statements define.
 
 ghost use Rattle.std.specs.Prelude.{◌≡◌, IfOk, OnOk, is_some, map, option_map};
-ghost use Rattle.ast.specs.Tree.{terms};
+ghost use Rattle.ast.specs.Tree.{element, terms};
 ghost use Rattle.ast.specs.View as view;
 ghost use Rattle.profile_check.specs.Declarations as spec;
 ghost use Rattle.profile_check.specs.DeclaredView.{constants_of};
+ghost use Rattle.profile_check.specs.Erasure.{intrinsic_name, ref_to};
 ghost use Rattle.profile_check.specs.Rules.{is_constant, lacks_constant};
 
-use ast::{Definition, Expr, Fault, Name};
+use ast::{Definition, Expr, Intrinsic, Name};
 use indexmap::IndexMap;
 use std::alloc::AllocError;
 use values::{apply_operator, apply_prefix, truth};
@@ -23,40 +24,63 @@ pub fn is_constant(constants: &Constants, name: Name) -> bool
     constants.contains_key(&name)
 }
 
-/// The value of the constant of a name; `Index` where it is none.
+/// The value of the constant of a name, if it is one.
 #[tactic(auto, using(crate::proofs::Entries::constant_found))]
-fn constant_named(constants: &Constants, name: Name) -> Result<i64, Fault>
-    ensures { result ≡ spec.or_none (spec.constant_named (constants_of constants.now.entries) name.letters) }
+fn constant_named(constants: &Constants, name: Name) -> Option<i64>
+    ensures { result ≡ spec.constant_named (constants_of constants.now.entries) name.letters }
 {
-    constants.get(&name).copied().ok_or(Fault::Index)
+    constants.get(&name).copied()
 }
 
-/// The value of a name in a constant expression: it may have no subscripts.
-fn name_value(constants: &Constants, name: Name, subscripts: &[Expr]) -> Result<i64, Fault>
-    ensures { result ≡ spec.name_value (constants_of constants.now.entries) name.letters (terms (map view.term subscripts.now)) }
+/// The name of an intrinsic function.
+fn intrinsic_name(function: Intrinsic) -> Name
+    ensures { result.letters ≡ intrinsic_name function }
 {
-    match subscripts {
+    let letters = match function {
+        Intrinsic::Abs => *b"ABS   ",
+        Intrinsic::Iabs => *b"IABS  ",
+        Intrinsic::Max => *b"MAX   ",
+        Intrinsic::Max0 => *b"MAX0  ",
+        Intrinsic::Min => *b"MIN   ",
+        Intrinsic::Min0 => *b"MIN0  ",
+        Intrinsic::Mod => *b"MOD   ",
+    };
+    Name { letters }
+}
+
+/// The value of a name in a constant expression: it may have no list.
+#[tactic(auto, using(crate::proofs::ConstantValues::name_law, crate::proofs::ConstantValues::list_law))]
+fn name_value(constants: &Constants, name: Name, list: &[Expr]) -> Option<i64>
+    ensures { result ≡ spec.constant_value (constants_of constants.now.entries) (element (ref_to name.letters) (terms (map view.term list.now))) }
+{
+    match list {
         [] => constant_named(constants, name),
-        [_first, _others @ ..] => Err(Fault::Index),
+        [_first, _others @ ..] => None,
     }
 }
 
-/// The value of a constant expression; a fault where it has none.
-pub fn constant_value(constants: &Constants, expression: &Expr) -> Result<i64, Fault>
+/// The value of a constant expression as its text has it, if it has one.
+#[tactic(auto, using(crate::proofs::ConstantValues::name_law, crate::proofs::ConstantValues::prefixed_law, crate::proofs::ConstantValues::binary_law))]
+pub fn constant_value(constants: &Constants, expression: &Expr) -> Option<i64>
     ensures { result ≡ spec.constant_value (constants_of constants.now.entries) (view.term expression.now) }
 {
     match expression {
-        Expr::Constant(number) => Ok(*number),
-        Expr::Truth(holds) => Ok(truth(*holds)),
-        Expr::Parameter(_, number) => Ok(*number),
+        Expr::Constant(number) => Some(*number),
+        Expr::Truth(holds) => Some(truth(*holds)),
+        Expr::Parameter(name, _) => constant_named(constants, *name),
         Expr::Element(access) => name_value(constants, access.reference.name, &access.subscripts),
-        Expr::Call(_, _) => Err(Fault::Index),
+        Expr::Call(function, arguments) => {
+            name_value(constants, intrinsic_name(*function), arguments)
+        }
         Expr::Parentheses(inner) => constant_value(constants, inner),
-        Expr::Unary(prefix, operand) => apply_prefix(*prefix, constant_value(constants, operand)?),
+        Expr::Unary(prefix, operand) => {
+            let a = constant_value(constants, operand)?;
+            apply_prefix(*prefix, a).ok()
+        }
         Expr::Binary(operator, left, right) => {
             let a = constant_value(constants, left)?;
             let b = constant_value(constants, right)?;
-            apply_operator(*operator, a, b)
+            apply_operator(*operator, a, b).ok()
         }
     }
 }
@@ -66,11 +90,11 @@ pub fn constant_value(constants: &Constants, expression: &Expr) -> Result<i64, F
 fn add_constant(
     constants: &mut Constants,
     name: Name,
-    value: Result<i64, Fault>,
+    value: Option<i64>,
 ) -> Result<(), AllocError>
     ensures { OnOk result (constants_of constants.new.entries ≡ spec.with_constant (constants_of constants.old.entries) name.letters value) }
 {
-    if let Ok(number) = value {
+    if let Some(number) = value {
         constants.insert(name, number)?;
     }
     Ok(())
@@ -84,7 +108,7 @@ pub fn define(constants: &mut Constants, defined: &[Definition]) -> Result<bool,
     let mut lacks = false;
     for definition in defined {
         let value = constant_value(constants, &definition.value);
-        lacks = lacks || value.is_err();
+        lacks = lacks || value.is_none();
         add_constant(constants, definition.name, value)?;
     }
     Ok(lacks)
