@@ -23,7 +23,7 @@ use Rattle.profile_check.specs.Rules.{is_some_and, is_other, context_after, type
 use Rattle.profile_check.specs.Uses.{is_among, is_intrinsic, typed_by, dimensioned_by, defined_by, declarator_names, definition_names, names_used, names_declared, names_mentioned}
 use Rattle.profile_check.proofs.Entries.{same-names, turn}
 use Rattle.profile_check.proofs.Erased.{Known}
-use Rattle.profile_check.proofs.Laws.{had-all}
+use Rattle.profile_check.proofs.Fresh.{had-all}
 use Rattle.profile_check.proofs.Parts.{table_in, Serves}
 use Rattle.profile_check.proofs.Sound.{kept, once, along-declared, constant-others}
 

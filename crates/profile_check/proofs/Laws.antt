@@ -1,36 +1,22 @@
 -- Going through the statements one by one finds the first that breaks a rule.
-use Rattle.std.proofs.Common.{◌≡◌, ℕ, ◌+◌, ◌||◌, not, Bool, true, false, cond, List, [], ◌∷◌, ◌++◌, refl, ap, ap₂, ◌∙◌, sym, subst, length, Option, Some, None, Ok, Err, append_assoc, length-append, append-nil}
-use Rattle.std.specs.Prelude.{if◌then◌else◌}
-use Rattle.std.proofs.lemmas.List.Folds.{list_any-append}
-use Rattle.std.proofs.Math.Bool.{or-false, or_assoc}
+use Rattle.std.proofs.Common.{◌≡◌, ℕ, ◌+◌, ◌||◌, not, Bool, false, List, [], ◌∷◌, ◌++◌, refl, ap, ap₂, ◌∙◌, sym, subst, length, Option, Some, None, Ok, Err, append_assoc, length-append, append-nil}
+use Rattle.std.specs.Prelude.{◌&&◌, nat_le, nat_lt, if◌then◌else◌}
+use Rattle.std.proofs.lemmas.Bool.{or_parts}
 use Rattle.std.specs.List.{list_any}
-use Rattle.indexmap.specs.IndexSet.{insert_key, insert_all}
 use Rattle.ast.specs.Answers.{Break}
 use Rattle.ast.specs.Store.{same_name}
 use Rattle.ast.specs.Tree.{Statement}
 use Rattle.structure.proofs.Agreement.{agrees as order-agrees, one-more}
-use Rattle.profile_check.proofs.Entries.{same-names}
-use Rattle.profile_check.specs.Checking.{before_of, and_one, rule_by, going_on, checked, table_of}
-use Rattle.profile_check.specs.Declarations.{Declared, declared_in, declared_from, and_then_declared}
-use Rattle.profile_check.specs.Rules.{rule_broken, lower, lowest_of, rules_on_values, begins_i_to_n, are_real, context_after}
-use Rattle.profile_check.specs.Uses.{dimensioned_by, defined_by, declarator_names, definition_names, names_used}
-
--- A table has what was taken into it.
-had-equal : (x y : List ℕ) (keys : List (List ℕ)) (b : Bool) → same_name x y ≡ b → list_any (same_name y) keys ≡ true → list_any (same_name x) keys ≡ (list_any (same_name x) keys || b)
-had-equal x y keys false e h = sym (or-false (list_any (same_name x) keys))
-had-equal x y keys true e h =
-    let there = ap (λ z. list_any (same_name z) keys) (same-names x y e) ∙ h in
-    there ∙ sym (ap (λ b. b || true) there)
-
-had-key : (x y : List ℕ) (keys : List (List ℕ)) (b : Bool) → list_any (same_name y) keys ≡ b → list_any (same_name x) (cond b keys (keys ++ y ∷ [])) ≡ (list_any (same_name x) keys || same_name x y)
-had-key x y keys true h = had-equal x y keys (same_name x y) refl h
-had-key x y keys false h = list_any-append (same_name x) keys (y ∷ []) ∙ ap (λ b. list_any (same_name x) keys || b) (or-false (same_name x y))
-
-pub had-all : (x : List ℕ) (keys xs : List (List ℕ)) → list_any (same_name x) (insert_all same_name keys xs) ≡ (list_any (same_name x) keys || list_any (same_name x) xs)
-had-all x keys [] = sym (or-false (list_any (same_name x) keys))
-had-all x keys (y ∷ ys) =
-    had-all x (insert_key same_name keys y) ys ∙ ap (λ b. b || list_any (same_name x) ys) (had-key x y keys (list_any (same_name y) keys) refl)
-    ∙ or_assoc (list_any (same_name x) keys) (same_name x y) (list_any (same_name x) ys)
+use Rattle.structure.specs.Open.{open_after}
+use Rattle.structure.specs.Rules.{rules as order_rules, lowest_broken as lowest_order}
+use Rattle.profile_check.proofs.Fresh.{had-all, lower-none, none-first, elements-more}
+use Rattle.profile_check.proofs.Sums.{counted_law, limit_before}
+use Rattle.profile_check.specs.Checking.{before_of, and_one, context_by, rule_by, going_on, checked, table_of}
+use Rattle.profile_check.specs.Counted.{few_or_more, counted}
+use Rattle.profile_check.specs.Declarations.{Declared, declared_in, declared_from, and_then_declared, arrays_by, total_elements, objects_by}
+use Rattle.profile_check.specs.Rules.{Context, rule_broken, lower, begins_i_to_n, are_real, context_after, names_real, declares_again, miscounts, changes_active, changes_constant, crosses_bounds, opens, most_statements, most_nested, most_names, is_too_large, lacks_value, is_well_kinded}
+use Rattle.profile_check.specs.TakenBefore.{taken_before}
+use Rattle.profile_check.specs.Uses.{typed_by, bounded_by, dimensioned_by, defined_by, declarator_names, definition_names, names_used}
 
 in-table : (names : List (List ℕ)) (x : List ℕ) → list_any (same_name x) (table_of names) ≡ list_any (same_name x) names
 in-table names x = had-all x [] names
@@ -38,12 +24,32 @@ in-table names x = had-all x [] names
 real-table : (typed names : List (List ℕ)) → are_real (table_of typed) names ≡ are_real typed names
 real-table typed names = λ i. list_any (λ x. not (begins_i_to_n x || in-table typed x i)) names
 
+-- the rules on values where it is known whether a program is too large
+abbrev by_size : Context → Statement → Bool → Option ℕ
+by_size c s large =
+    if declares_again c.declared.program c.declared.typed c.declared.objects s.kind then Some 32
+    else if miscounts c s.kind then Some 33
+    else if changes_active c s.kind then Some 37
+    else if changes_constant c s.kind then Some 38
+    else if crosses_bounds c s.kind then Some 39
+    else if large then Some 40
+    else if lacks_value c.declared.constants s.kind then Some 42
+    else if not (is_well_kinded s.kind) then Some 43
+    else None
+
+size-agrees : (typed : List (List ℕ)) (front : List Statement) (s : Statement) → is_too_large (context_by typed (before_of front)) s ≡ is_too_large (context_after typed front) s
+size-agrees typed front s =
+    let d = declared_in front in
+    let limit = limit_before (total_elements d.arrays) (total_elements (arrays_by d.constants (bounded_by s.kind))) in
+    λ i. nat_le most_statements (length front) || ((opens s.kind && nat_le most_nested (length (open_after front))) || (nat_lt most_names (length (and_then_declared d s).names) || limit i))
+
 agrees : (typed : List (List ℕ)) (front : List Statement) (s : Statement) → rule_by (table_of typed) (before_of front) s ≡ rule_broken typed front s
 agrees typed front s =
     let a = real-table typed (declarator_names (dimensioned_by s.kind)) in
     let b = real-table typed (definition_names (defined_by s.kind)) in
     let d = real-table typed (names_used s.kind) in
-    ap₂ lower (order-agrees front s) (λ i. if (a i || (b i || d i)) then Some 31 else lowest_of rules_on_values (context_after typed front) s)
+    let large = size-agrees typed front s in
+    ap₂ lower (order-agrees front s) (λ i. if (a i || (b i || d i)) then Some 31 else by_size (context_after typed front) s (large i))
 
 pub declared-append : (d : Declared) (front : List Statement) (s : Statement) → declared_from d (front ++ s ∷ []) ≡ and_then_declared (declared_from d front) s
 declared-append d [] s = refl
@@ -52,12 +58,23 @@ declared-append d (f ∷ front) s = declared-append (and_then_declared d f) fron
 declared-rest : (d : Declared) (front : List Statement) (s : Statement) (back : List Statement) → declared_from d ((front ++ s ∷ []) ++ back) ≡ declared_from d (front ++ s ∷ back)
 declared-rest d front s back = ap (declared_from d) (append_assoc front (s ∷ []) back)
 
-before-snoc : (front : List Statement) (s : Statement) → before_of (front ++ s ∷ []) ≡ and_one (before_of front) s
-before-snoc front s =
+-- how many elements there are with those of one more statement
+elements-snoc : (front : List Statement) (s : Statement) → taken_before (declared_in front).objects (objects_by s.kind) ≡ false
+    → few_or_more (total_elements (declared_in (front ++ s ∷ [])).arrays)
+    ≡ counted (few_or_more (total_elements (declared_in front).arrays)) (arrays_by (declared_in front).constants (bounded_by s.kind))
+elements-snoc front s h =
+    let d = declared_in front in
+    ap (λ (e : Declared). few_or_more (total_elements e.arrays)) (declared-append _ front s)
+    ∙ ap few_or_more (elements-more front s h)
+    ∙ sym (counted_law (total_elements d.arrays) (arrays_by d.constants (bounded_by s.kind)))
+
+before-snoc : (front : List Statement) (s : Statement) → taken_before (declared_in front).objects (objects_by s.kind) ≡ false → before_of (front ++ s ∷ []) ≡ and_one (before_of front) s
+before-snoc front s h =
     let o = one-more front s in
     let d = declared-append _ front s in
+    let e = elements-snoc front s h in
     let c : length (front ++ s ∷ []) ≡ length front + 1 = length-append front (s ∷ []) in
-    λ i. record { order = o i; declared = d i; count = c i }
+    λ i. record { order = o i; declared = d i; elements = e i; count = c i }
 
 -- No statement of ps breaks a rule where they follow a front.
 pub record Keep (typed : List (List ℕ)) (front ps : List Statement) : Type 0 where
@@ -79,9 +96,19 @@ grown typed front f q p h = ap (λ xs. rule_broken typed xs p) (sym (append_asso
 here : (typed : List (List ℕ)) (front : List Statement) (p : Statement) {r : Option ℕ} → rule_broken typed front p ≡ r → rule_broken typed (front ++ []) p ≡ r
 here typed front p h = ap (λ xs. rule_broken typed xs p) (append-nil front) ∙ h
 
-there : (typed : List (List ℕ)) (front : List Statement) (q : Statement) (qs : List Statement)
+-- a statement that breaks no rule declares nothing again
+declares-new : (typed : List (List ℕ)) (front : List Statement) (q : Statement) → rule_broken typed front q ≡ None → taken_before (declared_in front).objects (objects_by q.kind) ≡ false
+declares-new typed front q h =
+    let d = declared_in front in
+    let own = (lower-none (lowest_order order_rules front q) _ h).1 in
+    let real = none-first (names_real typed q.kind) 31 _ own in
+    let again = none-first (declares_again d.program d.typed d.objects q.kind) 32 _ real.1 in
+    let names = or_parts (taken_before d.typed (declarator_names (typed_by q.kind))) _ again.0 in
+    (or_parts (taken_before d.objects (objects_by q.kind)) _ names.1).0
+
+there : (typed : List (List ℕ)) (front : List Statement) (q : Statement) (qs : List Statement) → rule_by (table_of typed) (before_of front) q ≡ None
     → checked (table_of typed) (before_of (front ++ q ∷ [])) qs ≡ checked (table_of typed) (and_one (before_of front) q) qs
-there typed front q qs = ap (λ b. checked (table_of typed) b qs) (before-snoc front q)
+there typed front q qs h = ap (λ b. checked (table_of typed) b qs) (before-snoc front q (declares-new typed front q (sym (agrees typed front q) ∙ h)))
 
 keep-cons : (typed : List (List ℕ)) (front : List Statement) (q : Statement) (qs : List Statement)
     → rule_broken typed front q ≡ None → Keep typed (front ++ q ∷ []) qs
@@ -110,7 +137,7 @@ whole-step : (typed : List (List ℕ)) (front : List Statement) (q : Statement) 
     → going_on r q (checked (table_of typed) (and_one (before_of front) q) qs) ≡ Ok d → Whole typed front (q ∷ qs) d
 whole-step typed front q qs d later (Some n) h e = cc
 whole-step typed front q qs d later None h e =
-    let w = later (there typed front q qs ∙ e) in
+    let w = later (there typed front q qs h ∙ e) in
     record {
       keep = record { each = keep-cons typed front q qs (sym (agrees typed front q) ∙ h) w.keep };
       declared = w.declared ∙ declared-rest _ front q qs;
@@ -128,7 +155,7 @@ break-step : (typed : List (List ℕ)) (front : List Statement) (q : Statement) 
     → (r : Option ℕ) → rule_by (table_of typed) (before_of front) q ≡ r
     → going_on r q (checked (table_of typed) (and_one (before_of front) q) qs) ≡ Err d → Breaking typed front (q ∷ qs) d
 break-step typed front q qs d later None h e =
-    let b = later (there typed front q qs ∙ e) in
+    let b = later (there typed front q qs h ∙ e) in
     record {
       kept = q ∷ b.kept;
       statement = b.statement;

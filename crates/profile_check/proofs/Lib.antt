@@ -5,6 +5,7 @@ pub mod Ending
 pub mod Entries
 pub mod Erased
 pub mod Frames
+pub mod Fresh
 pub mod Known
 pub mod Laid
 pub mod LaidText

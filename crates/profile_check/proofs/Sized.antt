@@ -1,5 +1,5 @@
 -- How large a program in the profile is: its statements, and the elements of its arrays.
-use Rattle.std.proofs.Common.{◌≡◌, ◌∙◌, ℕ, ℤ, suc, ◌+◌, ◌≤◌, Bool, true, false, not, List, [], ◌∷◌, ◌++◌, length, refl, arith, length-append, map, Option, Some, None, option_map}
+use Rattle.std.proofs.Common.{◌≡◌, ◌∙◌, ℕ, ℤ, ◌+◌, ◌≤◌, Bool, true, false, not, List, [], ◌∷◌, ◌++◌, length, refl, arith, length-append, map, Option, Some, None, option_map}
 use Rattle.std.specs.Prelude.{◌&&◌, ◌||◌, nat_le, nat_lt, int_lt, if◌then◌else◌}
 use Rattle.std.specs.List.{list_any, list_all}
 use Rattle.std.proofs.lemmas.Bool.{or_parts, and_parts, and_from, not_from_false, leb-false, ltb-false, le-leb}
@@ -9,7 +9,7 @@ use Rattle.ast.specs.Store.{same_name}
 use Rattle.ast.specs.Symbols.{Extent, variable, elements, most_elements, is_sized_sort, is_sized}
 use Rattle.ast.specs.Tree.{Bounds, Declarator, Statement}
 use Rattle.structure.specs.Open.{open_after}
-use Rattle.profile_check.specs.Declarations.{Declared, Arrays, Constants, extent_of, all_or_none, extents_of, or_no_extents, arrays_by, with_arrays, few_or_more, counted, dimensions_named, constant_named, constant_or, sort_of, declared_in, and_then_declared, symbols_of}
+use Rattle.profile_check.specs.Declarations.{Declared, Arrays, Constants, extent_of, all_or_none, extents_of, or_no_extents, arrays_by, with_arrays, total_elements, dimensions_named, constant_named, constant_or, sort_of, declared_in, and_then_declared, symbols_of}
 use Rattle.profile_check.specs.Rules.{context_after, is_crossed, is_ill_bounded, opens, most_dimensions, most_statements, most_nested, most_names, InProfile}
 use Rattle.profile_check.specs.Uses.{bounded_by}
 use Rattle.profile_check.proofs.Sound.{Kept, kept, along, along-declared}
@@ -17,14 +17,16 @@ use Rattle.profile_check.proofs.Sound.{Kept, kept, along, along-declared}
 -- the parts of rule 40
 record Small (front : List Statement) (s : Statement) : Type 0 where
   statements : nat_le most_statements (length front) ≡ false
-  elements : nat_lt most_elements (and_then_declared (declared_in front) s).elements ≡ false
+  elements : nat_lt most_elements (total_elements (declared_in front).arrays + total_elements (arrays_by (declared_in front).constants (bounded_by s.kind))) ≡ false
 
 small : (typed : List (List ℕ)) (front : List Statement) (s : Statement) → Kept (context_after typed front) s → Small front s
 small typed front s k =
-    let d = and_then_declared (declared_in front) s in
-    let a = or_parts (nat_le most_statements (length front)) ((opens s.kind && nat_le most_nested (length (open_after front))) || (nat_lt most_names (length d.names) || nat_lt most_elements d.elements)) k.size in
-    let b = or_parts (opens s.kind && nat_le most_nested (length (open_after front))) (nat_lt most_names (length d.names) || nat_lt most_elements d.elements) a.1 in
-    let c = or_parts (nat_lt most_names (length d.names)) (nat_lt most_elements d.elements) b.1 in
+    let d = declared_in front in
+    let names = (and_then_declared d s).names in
+    let count = total_elements d.arrays + total_elements (arrays_by d.constants (bounded_by s.kind)) in
+    let a = or_parts (nat_le most_statements (length front)) ((opens s.kind && nat_le most_nested (length (open_after front))) || (nat_lt most_names (length names) || nat_lt most_elements count)) k.size in
+    let b = or_parts (opens s.kind && nat_le most_nested (length (open_after front))) (nat_lt most_names (length names) || nat_lt most_elements count) a.1 in
+    let c = or_parts (nat_lt most_names (length names)) (nat_lt most_elements count) b.1 in
     record { statements = a.0; elements = c.1 }
 
 one_more : (most n m : ℕ) → nat_le most n ≡ false → m ≡ n + 1 → m ≤ most
@@ -59,20 +61,6 @@ uncrossed constants (b ∷ bs) h =
     by None others k u = refl
     by (Some d) others k u = onto d (all_or_none others) k u
 
--- ---- no array is too large
-
-few-parts : (total more : ℕ) → few_or_more (total + more) ≤ most_elements → (total ≤ most_elements) × (more ≤ most_elements)
-few-parts total more h = by (nat_lt most_elements (total + more)) refl h
-  where
-    by : (b : Bool) → nat_lt most_elements (total + more) ≡ b → (if b then suc most_elements else total + more) ≤ most_elements → (total ≤ most_elements) × (more ≤ most_elements)
-    by true e k = absurd (omega arith)
-    by false e k = (omega arith, omega arith)
-
--- the arrays of a list are counted one after another
-counted-before : (total : ℕ) (arrays : Arrays) → counted total arrays ≤ most_elements → total ≤ most_elements
-counted-before total [] h = h
-counted-before total (a ∷ arrays) h = (few-parts total (elements a.1) (counted-before (few_or_more (total + elements a.1)) arrays h)).0
-
 -- ---- each array is sized
 
 abbrev is_sized_array : List ℕ × List Extent → Bool
@@ -81,18 +69,19 @@ is_sized_array a = is_sized_sort (variable a.1)
 abbrev are_sized : Arrays → Bool
 are_sized arrays = list_all is_sized_array arrays
 
-sized-by : (constants : Constants) (total : ℕ) (ds : List Declarator) → list_any (is_ill_bounded constants) ds ≡ false → counted total (arrays_by constants ds) ≤ most_elements
+sized-by : (constants : Constants) (ds : List Declarator) → list_any (is_ill_bounded constants) ds ≡ false → total_elements (arrays_by constants ds) ≤ most_elements
     → are_sized (arrays_by constants ds) ≡ true
-sized-by constants total [] h c = refl
-sized-by constants total (d ∷ ds) h c =
+sized-by constants [] h c = refl
+sized-by constants (d ∷ ds) h c =
     let es = or_no_extents (extents_of constants d.bounds) in
     let crossed = list_any (λ (b : Bounds). is_crossed (extent_of constants b)) d.bounds in
     let p = or_parts (is_ill_bounded constants d) (list_any (is_ill_bounded constants) ds) h in
     let q = or_parts (nat_lt most_dimensions (length d.bounds)) crossed p.0 in
-    let few = (few-parts total (elements es) (counted-before (few_or_more (total + elements es)) (arrays_by constants ds) c)).1 in
+    let few : elements es ≤ most_elements = omega arith in
+    let rest : total_elements (arrays_by constants ds) ≤ most_elements = omega arith in
     and_from (is_sized_sort (variable es)) (are_sized (arrays_by constants ds))
     (and_from (are_uncrossed es) (nat_le (elements es) most_elements) (uncrossed constants d.bounds q.1) (le-leb (elements es) most_elements few))
-    (sized-by constants (few_or_more (total + elements es)) ds p.1 c)
+    (sized-by constants ds p.1 rest)
 
 sized-entry : (arrays : Arrays) (x : List ℕ) (ds : List Extent) → are_sized arrays ≡ true → is_sized_sort (variable ds) ≡ true → are_sized (insert_entry same_name arrays x ds) ≡ true
 sized-entry [] x ds h s = and_from (is_sized_sort (variable ds)) true s refl
@@ -115,8 +104,10 @@ sized-more : (typed : List (List ℕ)) (front : List Statement) (s : Statement) 
     → are_sized (and_then_declared (declared_in front) s).arrays ≡ true
 sized-more typed front s k p =
     let d = declared_in front in
-    sized-with d.arrays (arrays_by d.constants (bounded_by s.kind)) p
-    (sized-by d.constants d.elements (bounded_by s.kind) k.bounds (ltb-false most_elements (counted d.elements (arrays_by d.constants (bounded_by s.kind))) (small typed front s k).elements))
+    let more = arrays_by d.constants (bounded_by s.kind) in
+    let together = ltb-false most_elements (total_elements d.arrays + total_elements more) (small typed front s k).elements in
+    let few : total_elements more ≤ most_elements = omega arith in
+    sized-with d.arrays more p (sized-by d.constants (bounded_by s.kind) k.bounds few)
 
 sized-arrays : (ss : List Statement) → InProfile ss → are_sized (declared_in ss).arrays ≡ true
 sized-arrays ss h = along-declared (λ (d : Declared). are_sized d.arrays ≡ true) ss refl (λ front s back e p. sized-more _ front s (kept ss h front s back e) p)

@@ -1,7 +1,7 @@
 -- What each statement of a program in the profile keeps, and that each name that it uses stands for
 -- something.
 use Rattle.std.proofs.Common.{◌≡◌, ◌∙◌, ℕ, ℤ, Bool, true, false, not, List, [], ◌∷◌, ◌++◌, length, map, refl, ap, sym, subst, append_assoc, append-nil, Option, Some, None, inl, inr}
-use Rattle.std.specs.Prelude.{◌⊎◌, ◌&&◌, ◌||◌, ◌==◌, nat_le, if◌then◌else◌, is_some}
+use Rattle.std.specs.Prelude.{◌⊎◌, ◌&&◌, ◌||◌, ◌==◌, if◌then◌else◌, is_some}
 use Rattle.std.specs.List.{list_any, list_all, filter}
 use Rattle.std.proofs.lemmas.Bool.{or_parts, or_left, or_right, and_parts, and_from, not-true, not-false}
 use Rattle.std.proofs.lemmas.Cmp.{nat_list_eq_equiv}
@@ -15,24 +15,16 @@ use Rattle.ast.specs.Tree.{Declarator, Definition, Statement, Kind, program, int
 use Rattle.structure.specs.Open.{open_after}
 use Rattle.structure.specs.Rules.{is_empty, is_program, is_out_of_order, is_declaration, is_executable, is_misplaced_arm, is_around, is_block, by_label, may_stand_in_if, holds_wrong_statement, crosses, ends_wrongly, breaks_blocks, is_label_again, rules as order_rules, lowest_broken as lowest_order, Keep as KeepOrder}
 use Rattle.profile_check.specs.Declarations.{Declared, Arrays, Constants, nothing, declared_in, and_then_declared, arrays_by, or_no_extents, extents_of, with_arrays, constant_value, with_constant, with_constants, dimensions_named, constant_named, objects_by}
-use Rattle.profile_check.specs.Rules.{Context, context_after, is_some_and, is_other, is_constant, names_real, declares_again, is_miscounted, miscounts, changes_active, changes_constant, crosses_bounds, is_too_large, lacks_value, is_well_kinded, rules, lowest_of, lower, typed_in_whole, InProfile}
+use Rattle.profile_check.specs.Rules.{Context, context_after, is_some_and, is_other, is_constant, names_real, declares_again, is_miscounted, miscounts, changes_active, changes_constant, crosses_bounds, is_too_large, lacks_value, is_well_kinded, rules, lowest_of, typed_in_whole, InProfile}
 use Rattle.profile_check.specs.Resolving.{Table}
 use Rattle.profile_check.specs.TakenBefore.{taken_before}
 use Rattle.profile_check.specs.Uses.{Use, uses, is_among, is_call, is_name, has_its_arguments, typed_by, bounded_by, defined_by, declarator_names, definition_names, program_named_by, names_used, names_declared, names_mentioned}
 use Rattle.profile_check.proofs.Entries.{same-names, turn}
-use Rattle.profile_check.proofs.Laws.{declared-append, had-all}
+use Rattle.profile_check.proofs.Fresh.{had-all, lower-none, none-first}
+use Rattle.profile_check.proofs.Laws.{declared-append}
 use Rattle.profile_check.proofs.Parts.{own_expressions, table_in, is_free, is_sound}
 
 -- ---- the rules that each statement keeps
-
-lower-none : (a b : Option ℕ) → lower a b ≡ None → (a ≡ None) × (b ≡ None)
-lower-none None b h = (refl, h)
-lower-none (Some m) None h = absurd cc
-lower-none (Some m) (Some n) h = absurd (by (nat_le m n) h)
-  where
-    by : (b : Bool) → (if b then Some m else Some n) ≡ None → ⊥
-    by true h = cc
-    by false h = cc
 
 pub keeps-structure : (ss : List Statement) → InProfile ss → KeepOrder order_rules ss
 keeps-structure ss h = record { each = λ front s back e. (lower-none (lowest_order order_rules front s) _ (h.each front s back e)).0 }
@@ -40,10 +32,6 @@ keeps-structure ss h = record { each = λ front s back e. (lower-none (lowest_or
 pub keeps-own : (ss : List Statement) → InProfile ss → (front : List Statement) (s : Statement) (back : List Statement) → ss ≡ front ++ s ∷ back
     → lowest_of rules (context_after (typed_in_whole ss) front) s ≡ None
 keeps-own ss h front s back e = (lower-none (lowest_order order_rules front s) _ (h.each front s back e)).1
-
-none-first : (b : Bool) (n : ℕ) (rest : Option ℕ) → (if b then Some n else rest) ≡ None → (b ≡ false) × (rest ≡ None)
-none-first true n rest h = absurd cc
-none-first false n rest h = (refl, h)
 
 -- the rules 30, 34, 35, 36 and 41
 pub record InOrder (front : List Statement) (s : Statement) : Type 0 where

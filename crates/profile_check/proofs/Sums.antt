@@ -1,9 +1,10 @@
 -- Counts that go no further than one more than the most.
-use Rattle.std.proofs.Common.{◌≡◌, ◌∙◌, ℕ, suc, ◌+◌, ◌*◌, ◌<◌, ◌^◌, Bool, true, false, refl, ap, sym, arith, ◌≤◌}
+use Rattle.std.proofs.Common.{◌≡◌, ◌∙◌, ℕ, suc, ◌+◌, ◌*◌, ◌<◌, ◌^◌, Bool, true, false, [], ◌∷◌, ◌++◌, refl, ap, sym, arith, ◌≤◌}
 use Rattle.std.proofs.lemmas.Bool.{lt-ltb, ltb-true, ltb-false}
 use Rattle.std.specs.Prelude.{nat_lt, if◌then◌else◌}
-use Rattle.ast.specs.Symbols.{most_elements}
-use Rattle.profile_check.specs.Declarations.{few_or_more}
+use Rattle.ast.specs.Symbols.{elements, most_elements}
+use Rattle.profile_check.specs.Counted.{few_or_more, counted}
+use Rattle.profile_check.specs.Declarations.{Arrays, total_elements}
 
 cut_at : (n : ℕ) (b : Bool) → nat_lt most_elements n ≡ b → few_or_more n ≡ (if b then suc most_elements else n)
 cut_at n b h = ap (λ c. if c then suc most_elements else n) h
@@ -42,3 +43,44 @@ few_by n false h = let same = cut_at n false h in let low = not-lt n h in omega 
 
 pub few : (n : ℕ) → few_or_more n < 2 ^ 32
 few n = few_by n (nat_lt most_elements n) refl
+
+-- ---- the count and the sum
+
+regrouped : (f : ℕ → ℕ) (a b c : ℕ) → f ((a + b) + c) ≡ f (a + (b + c))
+regrouped f a b c = ap f (let z : (a + b) + c ≡ a + (b + c) = omega arith in z)
+
+no-more : (n : ℕ) → n ≡ n + 0
+no-more n = omega arith
+
+few-before : (n m : ℕ) → few_or_more (few_or_more n + m) ≡ few_or_more (n + m)
+few-before n m =
+    let turned : few_or_more n + m ≡ m + few_or_more n = omega arith in
+    let back : m + n ≡ n + m = omega arith in
+    ap few_or_more turned ∙ sum_law m n ∙ ap few_or_more back
+
+-- the count is the sum, as far as it goes
+pub counted_law : (n : ℕ) (more : Arrays) → counted (few_or_more n) more ≡ few_or_more (n + total_elements more)
+counted_law n [] = ap few_or_more (no-more n)
+counted_law n (a ∷ more) =
+    ap (λ t. counted t more) (few-before n (elements a.1)) ∙ counted_law (n + elements a.1) more ∙ regrouped few_or_more n (elements a.1) (total_elements more)
+
+limit : (n m : ℕ) (b : Bool) → nat_lt most_elements n ≡ b → nat_lt most_elements (few_or_more n + m) ≡ nat_lt most_elements (n + m)
+limit n m false h = ap (λ k. nat_lt most_elements (k + m)) (cut_at n false h)
+limit n m true h =
+    ap (λ k. nat_lt most_elements (k + m)) (cut_at n true h)
+    ∙ lt-ltb most_elements (suc most_elements + m) (omega arith)
+    ∙ sym (lt-ltb most_elements (n + m) (let below = ltb-true most_elements n h in omega (arith, below)))
+
+pub limit_before : (n m : ℕ) → nat_lt most_elements (few_or_more n + m) ≡ nat_lt most_elements (n + m)
+limit_before n m = limit n m (nat_lt most_elements n) refl
+
+-- the count is above the limit where the sum is
+pub limit_law : (n : ℕ) (more : Arrays) → nat_lt most_elements (counted n more) ≡ nat_lt most_elements (n + total_elements more)
+limit_law n [] = ap (nat_lt most_elements) (no-more n)
+limit_law n (a ∷ more) =
+    let sum : (n + elements a.1) + total_elements more ≡ n + (elements a.1 + total_elements more) = omega arith in
+    limit_law (few_or_more (n + elements a.1)) more ∙ limit_before (n + elements a.1) (total_elements more) ∙ ap (nat_lt most_elements) sum
+
+pub total-append : (arrays more : Arrays) → total_elements (arrays ++ more) ≡ total_elements arrays + total_elements more
+total-append [] more = let z : total_elements more ≡ 0 + total_elements more = omega arith in z
+total-append (a ∷ arrays) more = let rest = total-append arrays more in omega (arith, rest)

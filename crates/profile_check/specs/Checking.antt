@@ -7,23 +7,32 @@ use Rattle.ast.specs.Tree.{Statement}
 use Rattle.ast.specs.declared.refusal.Refusal.{Refusal}
 use Rattle.ast.specs.declared.refusal.Refusal.TheVariants.{Memory, Refused}
 use Rattle.structure.specs.Standing.{Standing, standing_after, next, rule_by as order_by}
-use Rattle.profile_check.specs.Declarations.{Declared, declared_in, and_then_declared}
+use Rattle.profile_check.specs.Counted.{few_or_more, counted}
+use Rattle.profile_check.specs.Declarations.{Declared, declared_in, and_then_declared, arrays_by, total_elements}
 use Rattle.profile_check.specs.Rules.{Context, lower, lowest_of, rules}
+use Rattle.profile_check.specs.Uses.{bounded_by}
 
--- the order of the statements before, what they declare, and how many they are
+-- the order of the statements before, what they declare, how many elements their arrays have, counted
+-- to one more than a program may have, and how many they are
 pub record Before : Type 0 where
   pub order : Standing
   pub declared : Declared
+  pub elements : ℕ
   pub count : ℕ
 
 abbrev pub before_of : List Statement → Before
-before_of front = record { order = standing_after front; declared = declared_in front; count = length front }
+before_of front = record { order = standing_after front; declared = declared_in front; elements = few_or_more (total_elements (declared_in front).arrays); count = length front }
 
 abbrev pub and_one : Before → Statement → Before
-and_one b s = record { order = next b.order s; declared = and_then_declared b.declared s; count = b.count + 1 }
+and_one b s = record {
+  order = next b.order s;
+  declared = and_then_declared b.declared s;
+  elements = counted b.elements (arrays_by b.declared.constants (bounded_by s.kind));
+  count = b.count + 1;
+}
 
 abbrev pub context_by : List (List ℕ) → Before → Context
-context_by typed b = record { typed = typed; statements = b.count; opened = b.order.opened; declared = b.declared }
+context_by typed b = record { typed = typed; statements = b.count; opened = b.order.opened; declared = b.declared; elements = b.elements }
 
 -- the lowest rule that a statement breaks, by the table of names with a type
 abbrev pub rule_by : List (List ℕ) → Before → Statement → Option ℕ

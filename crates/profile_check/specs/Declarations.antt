@@ -1,11 +1,11 @@
 -- What is declared after some statements of a text.
-use Rattle.std.specs.Prelude.{ℕ, ℤ, suc, ◌+◌, nat_lt, pos, if◌then◌else◌, List, [], ◌∷◌, ◌++◌, map, Option, Some, None, option_map, Result, Ok, Err}
+use Rattle.std.specs.Prelude.{ℕ, ℤ, ◌+◌, pos, if◌then◌else◌, List, [], ◌∷◌, ◌++◌, map, Option, Some, None, option_map, Result, Ok, Err}
 use Rattle.std.specs.Result.{result_ok}
 use Rattle.indexmap.specs.IndexMap.{insert_entry}
 use Rattle.indexmap.specs.IndexSet.{insert_all}
 use Rattle.ast.specs.Meaning.{LookUp, value}
 use Rattle.ast.specs.Store.{same_name}
-use Rattle.ast.specs.Symbols.{Extent, Sort, variable, fixed, Symbol, elements, most_elements}
+use Rattle.ast.specs.Symbols.{Extent, Sort, variable, fixed, Symbol, elements}
 use Rattle.ast.specs.Tree.{Term, Bounds, Declarator, Definition, Kind, Statement}
 use Rattle.ast.specs.declared.fault.Fault.{Fault}
 use Rattle.ast.specs.declared.fault.Fault.TheVariants.{Index}
@@ -85,34 +85,27 @@ abbrev pub with_constants : Constants → List Definition → Constants
 with_constants cs [] = cs
 with_constants cs (d ∷ ds) = with_constants (with_constant cs d.name (constant_value cs d.value)) ds
 
--- a count, no further than one more than the elements that a program may have
-abbrev pub few_or_more : ℕ → ℕ
-few_or_more n = if nat_lt most_elements n then suc most_elements else n
-
--- how many elements arrays have together with so many before them
-abbrev pub counted : ℕ → Arrays → ℕ
-counted total [] = total
-counted total (a ∷ more) = counted (few_or_more (total + elements a.1)) more
+-- how many elements arrays have together
+abbrev pub total_elements : Arrays → ℕ
+total_elements [] = 0
+total_elements (a ∷ more) = elements a.1 + total_elements more
 
 abbrev pub newer : {X : Type 0} → Option X → Option X → Option X
 newer (Some x) before = Some x
 newer None before = before
 
 -- what is declared: the program's name; the names with a type; the names of arrays and constants;
--- these with what they stand for; how many elements the arrays
--- have together, counted to one more than a program may have; and all names. Each
--- name stands once, in order of first appearance.
+-- these with what they stand for; and all names. Each name stands once, in order of first appearance.
 pub record Declared : Type 0 where
   pub program : Option (List ℕ)
   pub typed : List (List ℕ)
   pub objects : List (List ℕ)
   pub arrays : Arrays
   pub constants : Constants
-  pub elements : ℕ
   pub names : List (List ℕ)
 
 abbrev pub nothing : Declared
-nothing = record { program = None; typed = []; objects = []; arrays = []; constants = []; elements = 0; names = [] }
+nothing = record { program = None; typed = []; objects = []; arrays = []; constants = []; names = [] }
 
 abbrev pub objects_by : Kind → List (List ℕ)
 objects_by k = declarator_names (bounded_by k) ++ definition_names (defined_by k)
@@ -124,7 +117,6 @@ and_then_declared d s = record {
   objects = insert_all same_name d.objects (objects_by s.kind);
   arrays = with_arrays d.arrays (arrays_by d.constants (bounded_by s.kind));
   constants = with_constants d.constants (defined_by s.kind);
-  elements = counted d.elements (arrays_by d.constants (bounded_by s.kind));
   names = insert_all same_name d.names (names_mentioned s.kind);
 }
 

@@ -17,7 +17,6 @@ declared d = record {
   objects = map letters d.objects.keys;
   arrays = arrays_of d.arrays.entries;
   constants = constants_of d.constants.entries;
-  elements = d.elements;
   names = map letters d.names.keys;
 }
 
@@ -27,4 +26,5 @@ context typed structure statements d = record {
   statements = statements;
   opened = (standing structure).opened;
   declared = declared d;
+  elements = d.elements;
 }

@@ -1,6 +1,7 @@
 pub mod Causes
 pub mod Checking
 pub mod CheckingView
+pub mod Counted
 pub mod Declarations
 pub mod DeclarationsView
 pub mod DeclaredView

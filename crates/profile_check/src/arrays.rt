@@ -6,6 +6,7 @@ ghost use Rattle.indexmap.specs.IndexMap.{insert_entry};
 ghost use Rattle.ast.specs.Store.{same_name};
 ghost use Rattle.ast.specs.Symbols.{elements, width};
 ghost use Rattle.ast.specs.View as view;
+ghost use Rattle.profile_check.specs.Counted as counting;
 ghost use Rattle.profile_check.specs.Declarations as spec;
 ghost use Rattle.profile_check.specs.DeclaredView.{arrays_of, constants_of};
 ghost use Rattle.profile_check.specs.Rules as rules;
@@ -146,7 +147,7 @@ const MOST_ELEMENTS: u128 = 1_048_576;
 
 /// A count, no further than one more than the most.
 fn few_or_more(count: u128) -> u128
-    ensures count { result ≡ spec.few_or_more count }
+    ensures count { result ≡ counting.few_or_more count }
     ensures few { result < 2 ^ 32 }
 {
     if count > MOST_ELEMENTS {
@@ -159,7 +160,7 @@ fn few_or_more(count: u128) -> u128
 fn times(width: u128, few: u128) -> u128
     requires wide { width ≤ 2 ^ 64 }
     requires few { few < 2 ^ 32 }
-    ensures count { result ≡ spec.few_or_more (width * few) }
+    ensures count { result ≡ counting.few_or_more (width * few) }
     ensures small { result < 2 ^ 32 }
 {
     few_or_more(width * few)
@@ -168,7 +169,7 @@ fn times(width: u128, few: u128) -> u128
 /// How many elements an array has, counted to one more than the most.
 #[tactic(auto, using(crate::proofs::Sums::product_law))]
 fn elements(dimensions: &[Dimension]) -> u128
-    ensures elements { result ≡ spec.few_or_more (elements (map view.extent dimensions.now)) }
+    ensures elements { result ≡ counting.few_or_more (elements (map view.extent dimensions.now)) }
     ensures few { result < 2 ^ 32 }
 {
     match dimensions {
@@ -198,7 +199,7 @@ fn dimensions_of(
 #[tactic(auto, using(crate::proofs::Sums::sum_law))]
 fn with_elements(total: u128, dimensions: &[Dimension]) -> u128
     requires { total < 2 ^ 32 }
-    ensures sum { result ≡ spec.few_or_more (total + elements (map view.extent dimensions.now)) }
+    ensures sum { result ≡ counting.few_or_more (total + elements (map view.extent dimensions.now)) }
     ensures few { result < 2 ^ 32 }
 {
     few_or_more(total + elements(dimensions))
@@ -215,7 +216,7 @@ fn add_array(
 ) -> Result<u128, AllocError>
     requires { before < 2 ^ 32 }
     ensures arrays { OnOk result (arrays_of arrays.new.entries ≡ insert_entry same_name (arrays_of arrays.old.entries) declarator.now.name.letters (spec.or_no_extents (spec.extents_of (constants_of constants.now.entries) (map view.bounds declarator.now.bounds.items)))) }
-    ensures elements { IfOk result (λ total. total ≡ spec.few_or_more (before + elements (spec.or_no_extents (spec.extents_of (constants_of constants.now.entries) (map view.bounds declarator.now.bounds.items))))) }
+    ensures elements { IfOk result (λ total. total ≡ counting.few_or_more (before + elements (spec.or_no_extents (spec.extents_of (constants_of constants.now.entries) (map view.bounds declarator.now.bounds.items))))) }
     ensures few { IfOk result (λ total. total < 2 ^ 32) }
 {
     let dimensions = dimensions_of(alloc, constants, &declarator.bounds)?;
@@ -234,7 +235,7 @@ pub fn add_arrays(
 ) -> Result<u128, AllocError>
     requires { before < 2 ^ 32 }
     ensures arrays { OnOk result (arrays_of arrays.new.entries ≡ spec.with_arrays (arrays_of arrays.old.entries) (spec.arrays_by (constants_of constants.now.entries) (filter has_bounds (map view.declarator declared.now)))) }
-    ensures elements { IfOk result (λ total. total ≡ spec.counted before (spec.arrays_by (constants_of constants.now.entries) (filter has_bounds (map view.declarator declared.now)))) }
+    ensures elements { IfOk result (λ total. total ≡ counting.counted before (spec.arrays_by (constants_of constants.now.entries) (filter has_bounds (map view.declarator declared.now)))) }
     ensures few { IfOk result (λ total. total < 2 ^ 32) }
 {
     let mut total = before;

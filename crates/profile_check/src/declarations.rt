@@ -117,15 +117,18 @@ fn lacks_value(constants: &mut Constants, kind: &Kind) -> Result<bool, AllocErro
 impl Declarations {
     ghost use Rattle.std.specs.Prelude.{◌≡◌, IfOk, None, map};
     ghost use Rattle.ast.specs.View as view;
-    ghost use Rattle.profile_check.specs.Declarations.{and_then_declared, nothing};
+    ghost use Rattle.profile_check.specs.Counted.{counted};
+    ghost use Rattle.profile_check.specs.Declarations.{and_then_declared, arrays_by, nothing};
     ghost use Rattle.profile_check.specs.DeclarationsView.{context, declared};
     ghost use Rattle.profile_check.specs.Rules as spec;
-    ghost use Rattle.profile_check.specs.Uses.{uses};
+    ghost use Rattle.profile_check.specs.DeclaredView.{constants_of};
+    ghost use Rattle.profile_check.specs.Uses.{bounded_by, uses};
     ghost use Rattle.profile_check.specs.UsesView.{use_of};
 
     /// Nothing yet.
     pub fn new(alloc: Global) -> Self
-        ensures { declared result ≡ nothing }
+        ensures declared { declared result ≡ nothing }
+        ensures elements { result.elements ≡ 0 }
     {
         Declarations {
             program: None,
@@ -152,6 +155,7 @@ impl Declarations {
         requires { map use_of used.now ≡ uses (view.kind stmt.now.kind) }
         ensures rule { IfOk result (λ rule. rule ≡ spec.lowest_of spec.rules (context typed.now structure.now statements self.old) (view.statement stmt.now)) }
         ensures kept { IfOk result (λ rule. rule ≡ None → declared self.new ≡ and_then_declared (declared self.old) (view.statement stmt.now)) }
+        ensures elements { IfOk result (λ rule. rule ≡ None → self.new.elements ≡ counted self.old.elements (arrays_by (constants_of self.old.constants.entries) (bounded_by (view.kind stmt.now.kind)))) }
     {
         let kind = &stmt.kind;
         if names_real(typed, kind, used) {

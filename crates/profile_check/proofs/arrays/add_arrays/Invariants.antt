@@ -1,6 +1,7 @@
 use Rattle.std.proofs.Common.{◌≡◌, ◌<◌, ◌^◌, map, drop, filter}
 use Rattle.ast.specs.View.{declarator}
-use Rattle.profile_check.specs.Declarations.{with_arrays, arrays_by, counted}
+use Rattle.profile_check.specs.Counted.{counted}
+use Rattle.profile_check.specs.Declarations.{with_arrays, arrays_by}
 use Rattle.profile_check.specs.DeclaredView.{constants_of, arrays_of}
 use Rattle.profile_check.specs.Uses.{has_bounds}
 use Rattle.profile_check.proofs.arrays.add_arrays.Given as goal

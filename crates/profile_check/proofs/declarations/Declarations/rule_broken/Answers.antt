@@ -4,7 +4,8 @@ use Rattle.ast.specs.Store.{same_name}
 use Rattle.ast.specs.View as view
 use Rattle.structure.specs.Open.{is_active}
 use Rattle.structure.specs.Standing.{standing}
-use Rattle.profile_check.specs.Declarations.{arrays_by, counted}
+use Rattle.profile_check.specs.Counted.{counted}
+use Rattle.profile_check.specs.Declarations.{arrays_by}
 use Rattle.profile_check.specs.DeclaredView.{arrays_of, constants_of}
 use Rattle.profile_check.specs.Rules as spec
 use Rattle.profile_check.specs.Uses.{has_bounds}
@@ -36,7 +37,7 @@ returns-then-is_larger-clause-rule c =
     (pass 37 (on_uses (λ u. u.is_given && is_active (standing c.args.structure.now).opened u.name) c.changes_active.ensures c.requires c.if-changes_active.false)
     (pass 38 (on_uses (λ u. u.is_given && spec.is_constant (constants_of c.args.self.now.constants.entries) u.name) c.changes_constant.ensures c.requires c.if-changes_constant.false)
     (pass 39 (on_bounds (spec.is_ill_bounded (constants_of c.args.self.now.constants.entries)) c.crosses_bounds.ensures c.declarators_of.ensures c.if-crosses_bounds.false)
-    (hit 40 _ (on_larger c.args.statements (standing c.args.structure.now).opened (view.kind c.args.stmt.now.kind) c.is_larger.ensures
+    (hit 40 _ (on_larger c.args.statements (standing c.args.structure.now).opened (view.kind c.args.stmt.now.kind) c.args.self.now.elements _ c.is_larger.ensures
     (c.in_ok-add_all.ensures ∙ ap (λ ns. insert_all same_name (map view.letters c.args.self.now.names.keys) ns) (ap (map view.letters) c.deref-2.ensures.value ∙ c.in_ok-names.ensures))
     (c.in_ok-elements.ensures.elements
     ∙ ap₂ (λ n ds. counted n (arrays_by (constants_of c.args.self.now.constants.entries) (filter has_bounds ds))) c.from.ensures c.declarators_of-2.ensures) c.if-is_larger.true)))))))
@@ -49,7 +50,7 @@ returns-then-branch-2-clause-rule c =
     (pass 37 (on_uses (λ u. u.is_given && is_active (standing c.args.structure.now).opened u.name) c.changes_active.ensures c.requires c.if-changes_active.false)
     (pass 38 (on_uses (λ u. u.is_given && spec.is_constant (constants_of c.args.self.now.constants.entries) u.name) c.changes_constant.ensures c.requires c.if-changes_constant.false)
     (pass 39 (on_bounds (spec.is_ill_bounded (constants_of c.args.self.now.constants.entries)) c.crosses_bounds.ensures c.declarators_of.ensures c.if-crosses_bounds.false)
-    (pass 40 (on_larger c.args.statements (standing c.args.structure.now).opened (view.kind c.args.stmt.now.kind) c.is_larger.ensures
+    (pass 40 (on_larger c.args.statements (standing c.args.structure.now).opened (view.kind c.args.stmt.now.kind) c.args.self.now.elements _ c.is_larger.ensures
     (c.in_ok-add_all.ensures ∙ ap (λ ns. insert_all same_name (map view.letters c.args.self.now.names.keys) ns) (ap (map view.letters) c.deref-2.ensures.value ∙ c.in_ok-names.ensures))
     (c.in_ok-elements.ensures.elements
     ∙ ap₂ (λ n ds. counted n (arrays_by (constants_of c.args.self.now.constants.entries) (filter has_bounds ds))) c.from.ensures c.declarators_of-2.ensures) c.if-is_larger.false)
@@ -63,7 +64,7 @@ returns-then-not-is_well_kinded-clause-rule c =
     (pass 37 (on_uses (λ u. u.is_given && is_active (standing c.args.structure.now).opened u.name) c.changes_active.ensures c.requires c.if-changes_active.false)
     (pass 38 (on_uses (λ u. u.is_given && spec.is_constant (constants_of c.args.self.now.constants.entries) u.name) c.changes_constant.ensures c.requires c.if-changes_constant.false)
     (pass 39 (on_bounds (spec.is_ill_bounded (constants_of c.args.self.now.constants.entries)) c.crosses_bounds.ensures c.declarators_of.ensures c.if-crosses_bounds.false)
-    (pass 40 (on_larger c.args.statements (standing c.args.structure.now).opened (view.kind c.args.stmt.now.kind) c.is_larger.ensures
+    (pass 40 (on_larger c.args.statements (standing c.args.structure.now).opened (view.kind c.args.stmt.now.kind) c.args.self.now.elements _ c.is_larger.ensures
     (c.in_ok-add_all.ensures ∙ ap (λ ns. insert_all same_name (map view.letters c.args.self.now.names.keys) ns) (ap (map view.letters) c.deref-2.ensures.value ∙ c.in_ok-names.ensures))
     (c.in_ok-elements.ensures.elements
     ∙ ap₂ (λ n ds. counted n (arrays_by (constants_of c.args.self.now.constants.entries) (filter has_bounds ds))) c.from.ensures c.declarators_of-2.ensures) c.if-is_larger.false)
@@ -78,7 +79,7 @@ returns-clause-rule c =
     (pass 37 (on_uses (λ u. u.is_given && is_active (standing c.args.structure.now).opened u.name) c.changes_active.ensures c.requires c.if-changes_active.false)
     (pass 38 (on_uses (λ u. u.is_given && spec.is_constant (constants_of c.args.self.now.constants.entries) u.name) c.changes_constant.ensures c.requires c.if-changes_constant.false)
     (pass 39 (on_bounds (spec.is_ill_bounded (constants_of c.args.self.now.constants.entries)) c.crosses_bounds.ensures c.declarators_of.ensures c.if-crosses_bounds.false)
-    (pass 40 (on_larger c.args.statements (standing c.args.structure.now).opened (view.kind c.args.stmt.now.kind) c.is_larger.ensures
+    (pass 40 (on_larger c.args.statements (standing c.args.structure.now).opened (view.kind c.args.stmt.now.kind) c.args.self.now.elements _ c.is_larger.ensures
     (c.in_ok-add_all.ensures ∙ ap (λ ns. insert_all same_name (map view.letters c.args.self.now.names.keys) ns) (ap (map view.letters) c.deref-2.ensures.value ∙ c.in_ok-names.ensures))
     (c.in_ok-elements.ensures.elements
     ∙ ap₂ (λ n ds. counted n (arrays_by (constants_of c.args.self.now.constants.entries) (filter has_bounds ds))) c.from.ensures c.declarators_of-2.ensures) c.if-is_larger.false)
