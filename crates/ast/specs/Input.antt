@@ -62,7 +62,7 @@ abbrev pub all_words : List (List ℕ) → List (List ℕ)
 all_words [] = []
 all_words (p ∷ ps) = words p ++ all_words ps
 
--- between commas an integer stands, and so beside one
+-- where there are commas, an integer stands before and behind each
 abbrev pub commas_part : List (List ℕ) → Bool
 commas_part [] = true
 commas_part (p ∷ []) = true

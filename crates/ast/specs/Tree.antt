@@ -13,8 +13,8 @@ pub record Ref : Type 0 where
   pub cell : ℕ
 
 mutual
-  -- An expression. An element is a variable too, with no subscripts; in the text of a statement it
-  -- is any name with what follows it in parentheses.
+  -- An expression. A scalar variable is an element without subscripts; in the text of a statement an
+  -- element is any name, with what follows it in parentheses.
   pub data Term : Type 0 where
     constant : ℤ → Term
     truth : Bool → Term

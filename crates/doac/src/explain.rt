@@ -148,7 +148,7 @@ A line with a character other than a blank or 0 in column 6 is a continuation li
 its columns 1 to 5 are blank. A statement that begins in column 1 often looks like one,
 since its sixth character stands in column 6:
 
-PRINT *,1
+INTEGER K
       END
 
 What to do: begin the statement in column 7. A label belongs to the first line of its

@@ -9,7 +9,7 @@ use Rattle.ast.specs.Store.{same_name}
 use Rattle.ast.specs.Symbols.{Extent, variable, elements, most_elements, is_sized_sort, is_sized}
 use Rattle.ast.specs.Tree.{Bounds, Declarator, Statement}
 use Rattle.structure.specs.Open.{open_after}
-use Rattle.profile_check.specs.Declarations.{Declared, Arrays, Constants, extent_of, all_or_none, extents_of, or_no_extents, arrays_by, with_arrays, total_elements, dimensions_named, constant_named, constant_or, sort_of, declared_in, and_then_declared, symbols_of}
+use Rattle.profile_check.specs.Declarations.{Declared, Arrays, Constants, extent_of, all_or_none, extents_of, or_no_extents, arrays_by, with_arrays, array_elements, total_elements, dimensions_named, constant_named, constant_or, sort_of, declared_in, and_then_declared, symbols_of}
 use Rattle.profile_check.specs.Rules.{context_after, is_crossed, is_ill_bounded, opens, most_dimensions, most_statements, most_nested, most_names, InProfile}
 use Rattle.profile_check.specs.Uses.{bounded_by}
 use Rattle.profile_check.proofs.Sound.{Kept, kept, along, along-declared}
@@ -69,6 +69,11 @@ is_sized_array a = is_sized_sort (variable a.1)
 abbrev are_sized : Arrays → Bool
 are_sized arrays = list_all is_sized_array arrays
 
+-- an array with a bound that has no value is sized as a scalar is
+few-elements : (ds : List Extent) → array_elements ds ≤ most_elements → elements ds ≤ most_elements
+few-elements [] h = omega arith
+few-elements (d ∷ ds) h = h
+
 sized-by : (constants : Constants) (ds : List Declarator) → list_any (is_ill_bounded constants) ds ≡ false → total_elements (arrays_by constants ds) ≤ most_elements
     → are_sized (arrays_by constants ds) ≡ true
 sized-by constants [] h c = refl
@@ -77,7 +82,8 @@ sized-by constants (d ∷ ds) h c =
     let crossed = list_any (λ (b : Bounds). is_crossed (extent_of constants b)) d.bounds in
     let p = or_parts (is_ill_bounded constants d) (list_any (is_ill_bounded constants) ds) h in
     let q = or_parts (nat_lt most_dimensions (length d.bounds)) crossed p.0 in
-    let few : elements es ≤ most_elements = omega arith in
+    let one : array_elements es ≤ most_elements = omega arith in
+    let few : elements es ≤ most_elements = few-elements es one in
     let rest : total_elements (arrays_by constants ds) ≤ most_elements = omega arith in
     and_from (is_sized_sort (variable es)) (are_sized (arrays_by constants ds))
     (and_from (are_uncrossed es) (nat_le (elements es) most_elements) (uncrossed constants d.bounds q.1) (le-leb (elements es) most_elements few))

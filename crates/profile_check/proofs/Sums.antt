@@ -2,9 +2,9 @@
 use Rattle.std.proofs.Common.{◌≡◌, ◌∙◌, ℕ, suc, ◌+◌, ◌*◌, ◌<◌, ◌^◌, Bool, true, false, [], ◌∷◌, ◌++◌, refl, ap, sym, arith, ◌≤◌}
 use Rattle.std.proofs.lemmas.Bool.{lt-ltb, ltb-true, ltb-false}
 use Rattle.std.specs.Prelude.{nat_lt, if◌then◌else◌}
-use Rattle.ast.specs.Symbols.{elements, most_elements}
+use Rattle.ast.specs.Symbols.{most_elements}
 use Rattle.profile_check.specs.Counted.{few_or_more, counted}
-use Rattle.profile_check.specs.Declarations.{Arrays, total_elements}
+use Rattle.profile_check.specs.Declarations.{Arrays, array_elements, total_elements}
 
 cut_at : (n : ℕ) (b : Bool) → nat_lt most_elements n ≡ b → few_or_more n ≡ (if b then suc most_elements else n)
 cut_at n b h = ap (λ c. if c then suc most_elements else n) h
@@ -62,7 +62,7 @@ few-before n m =
 pub counted_law : (n : ℕ) (more : Arrays) → counted (few_or_more n) more ≡ few_or_more (n + total_elements more)
 counted_law n [] = ap few_or_more (no-more n)
 counted_law n (a ∷ more) =
-    ap (λ t. counted t more) (few-before n (elements a.1)) ∙ counted_law (n + elements a.1) more ∙ regrouped few_or_more n (elements a.1) (total_elements more)
+    ap (λ t. counted t more) (few-before n (array_elements a.1)) ∙ counted_law (n + array_elements a.1) more ∙ regrouped few_or_more n (array_elements a.1) (total_elements more)
 
 limit : (n m : ℕ) (b : Bool) → nat_lt most_elements n ≡ b → nat_lt most_elements (few_or_more n + m) ≡ nat_lt most_elements (n + m)
 limit n m false h = ap (λ k. nat_lt most_elements (k + m)) (cut_at n false h)
@@ -78,8 +78,8 @@ limit_before n m = limit n m (nat_lt most_elements n) refl
 pub limit_law : (n : ℕ) (more : Arrays) → nat_lt most_elements (counted n more) ≡ nat_lt most_elements (n + total_elements more)
 limit_law n [] = ap (nat_lt most_elements) (no-more n)
 limit_law n (a ∷ more) =
-    let sum : (n + elements a.1) + total_elements more ≡ n + (elements a.1 + total_elements more) = omega arith in
-    limit_law (few_or_more (n + elements a.1)) more ∙ limit_before (n + elements a.1) (total_elements more) ∙ ap (nat_lt most_elements) sum
+    let sum : (n + array_elements a.1) + total_elements more ≡ n + (array_elements a.1 + total_elements more) = omega arith in
+    limit_law (few_or_more (n + array_elements a.1)) more ∙ limit_before (n + array_elements a.1) (total_elements more) ∙ ap (nat_lt most_elements) sum
 
 pub total-append : (arrays more : Arrays) → total_elements (arrays ++ more) ≡ total_elements arrays + total_elements more
 total-append [] more = let z : total_elements more ≡ 0 + total_elements more = omega arith in z

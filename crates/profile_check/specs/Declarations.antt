@@ -85,10 +85,15 @@ abbrev pub with_constants : Constants → List Definition → Constants
 with_constants cs [] = cs
 with_constants cs (d ∷ ds) = with_constants (with_constant cs d.name (constant_value cs d.value)) ds
 
+-- how many elements an array has; none where its bounds have no values, and so it no dimensions
+abbrev pub array_elements : List Extent → ℕ
+array_elements [] = 0
+array_elements (d ∷ ds) = elements (d ∷ ds)
+
 -- how many elements arrays have together
 abbrev pub total_elements : Arrays → ℕ
 total_elements [] = 0
-total_elements (a ∷ more) = elements a.1 + total_elements more
+total_elements (a ∷ more) = array_elements a.1 + total_elements more
 
 abbrev pub newer : {X : Type 0} → Option X → Option X → Option X
 newer (Some x) before = Some x

@@ -75,7 +75,7 @@ uses (print items) = all_uses item_uses items
 uses (read elements) = all_uses given_uses elements
 uses _ = []
 
--- the declarators of a statement, and the constants that it defines
+-- the declarators of an INTEGER statement
 abbrev pub typed_by : Kind → List Declarator
 typed_by (integer ds) = ds
 typed_by (logical_if c k) = typed_by k
@@ -145,12 +145,13 @@ takes_two name = same_name name (codes "MOD   ")
 abbrev pub has_its_arguments : Use → Bool
 has_its_arguments u = if takes_one u.name then u.count == 1 else if takes_two u.name then u.count == 2 else nat_le 2 u.count
 
--- the names that a statement names: those that it declares or defines, then those that it uses
+-- the names that a statement uses
 abbrev pub names_used : Kind → List (List ℕ)
 names_used k = map (λ u. u.name) (filter is_name (uses k))
 
 abbrev pub names_declared : Kind → List (List ℕ)
 names_declared k = declarator_names (typed_by k) ++ declarator_names (dimensioned_by k) ++ definition_names (defined_by k)
 
+-- the names that a statement names: those that it declares or defines, then those that it uses
 abbrev pub names_mentioned : Kind → List (List ℕ)
 names_mentioned k = names_declared k ++ names_used k

@@ -196,13 +196,24 @@ fn dimensions_of(
     Ok(dimensions)
 }
 
+/// How many elements an array has, counted so; none where a bound has no value.
+fn array_elements(dimensions: &[Dimension]) -> u128
+    ensures elements { result ≡ counting.few_or_more (spec.array_elements (map view.extent dimensions.now)) }
+    ensures few { result < 2 ^ 32 }
+{
+    match dimensions {
+        [] => 0,
+        [_first, _others @ ..] => elements(dimensions),
+    }
+}
+
 #[tactic(auto, using(crate::proofs::Sums::sum_law))]
 fn with_elements(total: u128, dimensions: &[Dimension]) -> u128
     requires { total < 2 ^ 32 }
-    ensures sum { result ≡ counting.few_or_more (total + elements (map view.extent dimensions.now)) }
+    ensures sum { result ≡ counting.few_or_more (total + spec.array_elements (map view.extent dimensions.now)) }
     ensures few { result < 2 ^ 32 }
 {
-    few_or_more(total + elements(dimensions))
+    few_or_more(total + array_elements(dimensions))
 }
 
 /// Takes in an array: how many elements there are with it.
@@ -216,7 +227,7 @@ fn add_array(
 ) -> Result<u128, AllocError>
     requires { before < 2 ^ 32 }
     ensures arrays { OnOk result (arrays_of arrays.new.entries ≡ insert_entry same_name (arrays_of arrays.old.entries) declarator.now.name.letters (spec.or_no_extents (spec.extents_of (constants_of constants.now.entries) (map view.bounds declarator.now.bounds.items)))) }
-    ensures elements { IfOk result (λ total. total ≡ counting.few_or_more (before + elements (spec.or_no_extents (spec.extents_of (constants_of constants.now.entries) (map view.bounds declarator.now.bounds.items))))) }
+    ensures elements { IfOk result (λ total. total ≡ counting.few_or_more (before + spec.array_elements (spec.or_no_extents (spec.extents_of (constants_of constants.now.entries) (map view.bounds declarator.now.bounds.items))))) }
     ensures few { IfOk result (λ total. total < 2 ^ 32) }
 {
     let dimensions = dimensions_of(alloc, constants, &declarator.bounds)?;

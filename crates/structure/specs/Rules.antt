@@ -40,7 +40,7 @@ abbrev pub is_end : Kind → Bool
 is_end end = true
 is_end _ = false
 
--- the structures that are open inside a range which a label ends, and inside an outer such range
+-- a range of the label, and one of another label
 abbrev pub is_range_of : ℕ → Open → Bool
 is_range_of label (do_range terminal x) = terminal == label
 is_range_of label (if_block is_last) = false
