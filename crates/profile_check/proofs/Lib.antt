@@ -10,6 +10,7 @@ pub mod Known
 pub mod Laid
 pub mod LaidText
 pub mod Laws
+pub mod OneMore
 pub mod OneProgram
 pub mod Parsing
 pub mod Parts
