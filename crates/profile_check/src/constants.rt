@@ -127,11 +127,7 @@ pub fn constant_value(constants: &Constants, expression: &Expr) -> Option<i64>
 
 /// Takes a constant in, if it has a value.
 #[tactic(auto, using(crate::proofs::Entries::constant_added))]
-fn add_constant(
-    constants: &mut Constants,
-    name: Name,
-    value: Option<i64>,
-) -> Result<(), AllocError>
+fn add_constant(constants: &mut Constants, name: Name, value: Option<i64>) -> Result<(), AllocError>
     ensures { OnOk result (constants_of constants.new.entries ≡ spec.with_constant (constants_of constants.old.entries) name.letters value) }
 {
     if let Some(number) = value {
