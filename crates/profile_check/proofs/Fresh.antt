@@ -1,5 +1,5 @@
 -- A statement that breaks no rule declares nothing again: its arrays stand after those before it.
-use Rattle.std.proofs.Common.{◌≡◌, ◌∙◌, ℕ, ◌+◌, ◌||◌, Bool, true, false, cond, List, [], ◌∷◌, ◌++◌, refl, ap, sym, Option, Some, None, append_assoc, append-nil}
+use Rattle.std.proofs.Common.{◌≡◌, ◌∙◌, ℕ, ◌+◌, ◌||◌, Bool, true, false, cond, List, [], ◌∷◌, ◌++◌, refl, ap, sym, subst, Option, Some, None, append_assoc, append-nil}
 use Rattle.std.specs.Prelude.{nat_le, if◌then◌else◌}
 use Rattle.std.specs.List.{list_any}
 use Rattle.std.proofs.lemmas.Bool.{or_parts}
@@ -10,11 +10,13 @@ use Rattle.indexmap.specs.IndexSet.{insert_key, insert_all}
 use Rattle.ast.specs.Store.{same_name}
 use Rattle.ast.specs.Symbols.{Extent}
 use Rattle.ast.specs.Tree.{Declarator, Statement}
-use Rattle.profile_check.specs.Declarations.{Declared, Arrays, Constants, nothing, declared_in, declared_from, and_then_declared, arrays_by, or_no_extents, extents_of, with_arrays, total_elements, objects_by}
+use Rattle.profile_check.specs.Checking.{and_then_declared}
+use Rattle.profile_check.specs.Declarations.{Declared, Arrays, Constants, declared_in, arrays_by, or_no_extents, extents_of, with_arrays, total_elements, objects_by}
 use Rattle.profile_check.specs.Rules.{lower}
 use Rattle.profile_check.specs.TakenBefore.{taken_before}
 use Rattle.profile_check.specs.Uses.{is_among, bounded_by, defined_by, declarator_names, definition_names}
 use Rattle.profile_check.proofs.Entries.{same-names}
+use Rattle.profile_check.proofs.OneMore.{declared-append}
 use Rattle.profile_check.proofs.Sums.{total-append}
 
 pub lower-none : (a b : Option ℕ) → lower a b ≡ None → (a ≡ None) × (b ≡ None)
@@ -91,9 +93,11 @@ objects-more d s p = λ x h.
     let b = or_parts (is_among arrays x) (is_among constants x) (sym (list_any-append (same_name x) arrays constants) ∙ a.1) in
     others-none d.constants d.arrays (bounded_by s.kind) x b.0 (p x a.0)
 
-objects-from : (d : Declared) (ss : List Statement) → AreObjects d.objects d.arrays → AreObjects (declared_from d ss).objects (declared_from d ss).arrays
-objects-from d [] p = p
-objects-from d (s ∷ ss) p = objects-from (and_then_declared d s) ss (objects-more d s p)
+objects-rest : (front back : List Statement) → AreObjects (declared_in front).objects (declared_in front).arrays → AreObjects (declared_in (front ++ back)).objects (declared_in (front ++ back)).arrays
+objects-rest front [] p = subst (λ (ss : List Statement). AreObjects (declared_in ss).objects (declared_in ss).arrays) (sym (append-nil front)) p
+objects-rest front (s ∷ back) p =
+    let one = subst (λ (d : Declared). AreObjects d.objects d.arrays) (sym (declared-append front s)) (objects-more (declared_in front) s p) in
+    subst (λ (ss : List Statement). AreObjects (declared_in ss).objects (declared_in ss).arrays) (append_assoc front (s ∷ []) back) (objects-rest (front ++ s ∷ []) back one)
 
 objects-one : (objects : List (List ℕ)) (arrays : Arrays) (y : List ℕ) (ds : List Extent) → AreObjects objects arrays → AreObjects (insert_key same_name objects y) (arrays ++ (y, ds) ∷ [])
 objects-one objects arrays y ds p = λ x h.
@@ -116,5 +120,5 @@ pub elements-more : (front : List Statement) (s : Statement) → taken_before (d
     ≡ total_elements (declared_in front).arrays + total_elements (arrays_by (declared_in front).constants (bounded_by s.kind))
 elements-more front s h =
     let d = declared_in front in
-    ap total_elements (appended d.constants d.objects d.arrays (bounded_by s.kind) (definition_names (defined_by s.kind)) (objects-from nothing front (λ x e. refl)) h)
+    ap total_elements (appended d.constants d.objects d.arrays (bounded_by s.kind) (definition_names (defined_by s.kind)) (objects-rest [] front (λ x e. refl)) h)
     ∙ total-append d.arrays (arrays_by d.constants (bounded_by s.kind))

@@ -15,7 +15,8 @@ use Rattle.ast.specs.Symbols.{Extent, variable, Symbol, names_of}
 use Rattle.ast.specs.Tree.{Ref, Kind, Statement}
 use Rattle.ast.specs.declared.expression.Intrinsic.{Intrinsic}
 use Rattle.ast.specs.declared.expression.Intrinsic.TheVariants.{Abs, Iabs, Max, Max0, Min, Min0, Mod}
-use Rattle.profile_check.specs.Declarations.{Declared, declared_in, and_then_declared, constant_named, dimensions_named, constant_or, sort_of, symbols_of}
+use Rattle.profile_check.specs.Checking.{and_then_declared}
+use Rattle.profile_check.specs.Declarations.{Declared, declared_in, constant_named, dimensions_named, constant_or, sort_of, symbols_of}
 use Rattle.profile_check.specs.Erasure.{intrinsic_name}
 use Rattle.profile_check.specs.Reads.{is_fixed, is_constant}
 use Rattle.profile_check.specs.Resolving.{place_of, intrinsic_named}

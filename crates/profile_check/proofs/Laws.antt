@@ -10,10 +10,11 @@ use Rattle.structure.proofs.Agreement.{agrees as order-agrees, one-more}
 use Rattle.structure.specs.Open.{open_after}
 use Rattle.structure.specs.Rules.{rules as order_rules, lowest_broken as lowest_order}
 use Rattle.profile_check.proofs.Fresh.{had-all, lower-none, none-first, elements-more}
+use Rattle.profile_check.proofs.OneMore.{declared-append}
 use Rattle.profile_check.proofs.Sums.{counted_law, limit_before}
-use Rattle.profile_check.specs.Checking.{before_of, and_one, context_by, rule_by, going_on, checked, table_of}
+use Rattle.profile_check.specs.Checking.{and_then_declared, before_of, and_one, context_by, rule_by, going_on, checked, table_of}
 use Rattle.profile_check.specs.Counted.{few_or_more, counted}
-use Rattle.profile_check.specs.Declarations.{Declared, declared_in, declared_from, and_then_declared, arrays_by, total_elements, objects_by}
+use Rattle.profile_check.specs.Declarations.{Declared, declared_in, arrays_by, total_elements, objects_by}
 use Rattle.profile_check.specs.Rules.{Context, rule_broken, lower, begins_i_to_n, are_real, context_after, names_real, declares_again, miscounts, changes_active, changes_constant, crosses_bounds, opens, most_statements, most_nested, most_names, is_too_large, lacks_value, is_well_kinded}
 use Rattle.profile_check.specs.TakenBefore.{taken_before}
 use Rattle.profile_check.specs.Uses.{typed_by, bounded_by, dimensioned_by, defined_by, declarator_names, definition_names, names_used}
@@ -51,27 +52,20 @@ agrees typed front s =
     let large = size-agrees typed front s in
     ap₂ lower (order-agrees front s) (λ i. if (a i || (b i || d i)) then Some 31 else by_size (context_after typed front) s (large i))
 
-pub declared-append : (d : Declared) (front : List Statement) (s : Statement) → declared_from d (front ++ s ∷ []) ≡ and_then_declared (declared_from d front) s
-declared-append d [] s = refl
-declared-append d (f ∷ front) s = declared-append (and_then_declared d f) front s
-
-declared-rest : (d : Declared) (front : List Statement) (s : Statement) (back : List Statement) → declared_from d ((front ++ s ∷ []) ++ back) ≡ declared_from d (front ++ s ∷ back)
-declared-rest d front s back = ap (declared_from d) (append_assoc front (s ∷ []) back)
-
 -- how many elements there are with those of one more statement
 elements-snoc : (front : List Statement) (s : Statement) → taken_before (declared_in front).objects (objects_by s.kind) ≡ false
     → few_or_more (total_elements (declared_in (front ++ s ∷ [])).arrays)
     ≡ counted (few_or_more (total_elements (declared_in front).arrays)) (arrays_by (declared_in front).constants (bounded_by s.kind))
 elements-snoc front s h =
     let d = declared_in front in
-    ap (λ (e : Declared). few_or_more (total_elements e.arrays)) (declared-append _ front s)
+    ap (λ (e : Declared). few_or_more (total_elements e.arrays)) (declared-append front s)
     ∙ ap few_or_more (elements-more front s h)
     ∙ sym (counted_law (total_elements d.arrays) (arrays_by d.constants (bounded_by s.kind)))
 
 before-snoc : (front : List Statement) (s : Statement) → taken_before (declared_in front).objects (objects_by s.kind) ≡ false → before_of (front ++ s ∷ []) ≡ and_one (before_of front) s
 before-snoc front s h =
     let o = one-more front s in
-    let d = declared-append _ front s in
+    let d = declared-append front s in
     let e = elements-snoc front s h in
     let c : length (front ++ s ∷ []) ≡ length front + 1 = length-append front (s ∷ []) in
     λ i. record { order = o i; declared = d i; elements = e i; count = c i }
@@ -140,7 +134,7 @@ whole-step typed front q qs d later None h e =
     let w = later (there typed front q qs h ∙ e) in
     record {
       keep = record { each = keep-cons typed front q qs (sym (agrees typed front q) ∙ h) w.keep };
-      declared = w.declared ∙ declared-rest _ front q qs;
+      declared = w.declared ∙ ap declared_in (append_assoc front (q ∷ []) qs);
     }
 
 pub ok-whole : (typed : List (List ℕ)) (front ps : List Statement) (d : Declared) → checked (table_of typed) (before_of front) ps ≡ Ok d → Whole typed front ps d

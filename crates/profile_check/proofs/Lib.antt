@@ -11,6 +11,7 @@ pub mod Laid
 pub mod LaidText
 pub mod Laws
 pub mod OneCause
+pub mod OneMore
 pub mod OneProgram
 pub mod Parsing
 pub mod Parts

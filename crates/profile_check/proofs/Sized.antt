@@ -9,7 +9,8 @@ use Rattle.ast.specs.Store.{same_name}
 use Rattle.ast.specs.Symbols.{Extent, variable, elements, most_elements, is_sized_sort, is_sized}
 use Rattle.ast.specs.Tree.{Bounds, Declarator, Statement}
 use Rattle.structure.specs.Open.{open_after}
-use Rattle.profile_check.specs.Declarations.{Declared, Arrays, Constants, extent_of, all_or_none, extents_of, or_no_extents, arrays_by, with_arrays, array_elements, total_elements, dimensions_named, constant_named, constant_or, sort_of, declared_in, and_then_declared, symbols_of}
+use Rattle.profile_check.specs.Checking.{and_then_declared}
+use Rattle.profile_check.specs.Declarations.{Declared, Arrays, Constants, extent_of, all_or_none, extents_of, or_no_extents, arrays_by, with_arrays, array_elements, total_elements, dimensions_named, constant_named, constant_or, sort_of, declared_in, symbols_of}
 use Rattle.profile_check.specs.Rules.{context_after, is_crossed, is_ill_bounded, opens, most_dimensions, most_statements, most_nested, most_names, InProfile}
 use Rattle.profile_check.specs.Uses.{bounded_by}
 use Rattle.profile_check.proofs.Sound.{Kept, kept, along, along-declared}

@@ -14,14 +14,15 @@ use Rattle.ast.specs.Symbols.{Extent}
 use Rattle.ast.specs.Tree.{Declarator, Definition, Statement, Kind, program, integer, dimension, parameters, assign, do_loop, go_on, block_if, else_if, else_arm, end_if, logical_if, print, read, stop, end}
 use Rattle.structure.specs.Open.{open_after}
 use Rattle.structure.specs.Rules.{is_empty, is_program, is_out_of_order, is_declaration, is_executable, is_misplaced_arm, is_around, is_block, by_label, may_stand_in_if, holds_wrong_statement, crosses, ends_wrongly, breaks_blocks, is_label_again, rules as order_rules, lowest_broken as lowest_order, Keep as KeepOrder}
-use Rattle.profile_check.specs.Declarations.{Declared, Arrays, Constants, nothing, declared_in, and_then_declared, arrays_by, or_no_extents, extents_of, with_arrays, constant_value, with_constant, with_constants, dimensions_named, constant_named, objects_by}
+use Rattle.profile_check.specs.Checking.{nothing, and_then_declared}
+use Rattle.profile_check.specs.Declarations.{Declared, Arrays, Constants, declared_in, arrays_by, or_no_extents, extents_of, with_arrays, constant_value, with_constant, with_constants, dimensions_named, constant_named, objects_by}
 use Rattle.profile_check.specs.Rules.{Context, context_after, is_some_and, is_other, is_constant, names_real, declares_again, is_miscounted, miscounts, changes_active, changes_constant, crosses_bounds, is_too_large, lacks_value, is_well_kinded, rules, lowest_of, typed_in_whole, InProfile}
 use Rattle.profile_check.specs.Resolving.{Table}
 use Rattle.profile_check.specs.TakenBefore.{taken_before}
 use Rattle.profile_check.specs.Uses.{Use, uses, is_among, is_call, is_name, has_its_arguments, typed_by, bounded_by, defined_by, declarator_names, definition_names, program_named_by, names_used, names_declared, names_mentioned}
 use Rattle.profile_check.proofs.Entries.{same-names, turn}
 use Rattle.profile_check.proofs.Fresh.{had-all, lower-none, none-first}
-use Rattle.profile_check.proofs.Laws.{declared-append}
+use Rattle.profile_check.proofs.OneMore.{declared-append}
 use Rattle.profile_check.proofs.Parts.{own_expressions, table_in, is_free, is_sound}
 
 -- ---- the rules that each statement keeps
@@ -99,7 +100,7 @@ pub along-declared : (P : Declared → Type 0) (ss : List Statement) → P nothi
     → ((front : List Statement) (s : Statement) (back : List Statement) → ss ≡ front ++ s ∷ back → P (declared_in front) → P (and_then_declared (declared_in front) s))
     → P (declared_in ss)
 along-declared P ss none step =
-    along (λ (front : List Statement). P (declared_in front)) ss none (λ front s back e p. subst P (sym (declared-append nothing front s)) (step front s back e p))
+    along (λ (front : List Statement). P (declared_in front)) ss none (λ front s back e p. subst P (sym (declared-append front s)) (step front s back e p))
 
 -- ---- no declaration follows an executable statement
 
@@ -172,7 +173,7 @@ closed-more : (first front : List Statement) (s : Statement) → (list_any (λ f
     → (declared_in front).arrays ≡ (declared_in first).arrays → (declared_in front).constants ≡ (declared_in first).constants
     → Closed first (front ++ s ∷ [])
 closed-more first front s e none a c =
-    let more = declared-append nothing front s in
+    let more = declared-append front s in
     record {
       executes = list_any-append (λ (f : Statement). is_executable f.kind) front (s ∷ [])
           ∙ ap (λ (b : Bool). list_any (λ (f : Statement). is_executable f.kind) front || b) (or-false (is_executable s.kind)) ∙ e;
@@ -340,7 +341,7 @@ apart ss h = along-declared Apart ss apart-none
 named-more : (front : List Statement) (s : Statement) (x : List ℕ) → (is_among (declared_in front).names x || is_among (names_mentioned s.kind) x) ≡ true
     → is_among (declared_in (front ++ s ∷ [])).names x ≡ true
 named-more front s x h =
-    ap (λ (d : Declared). is_among d.names x) (declared-append nothing front s) ∙ had-all x (declared_in front).names (names_mentioned s.kind) ∙ h
+    ap (λ (d : Declared). is_among d.names x) (declared-append front s) ∙ had-all x (declared_in front).names (names_mentioned s.kind) ∙ h
 
 named : (ss front : List Statement) (s : Statement) (back : List Statement) (x : List ℕ) → ss ≡ front ++ s ∷ back → is_among (names_mentioned s.kind) x ≡ true
     → is_among (declared_in ss).names x ≡ true

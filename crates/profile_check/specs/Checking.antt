@@ -8,9 +8,23 @@ use Rattle.ast.specs.declared.refusal.Refusal.{Refusal}
 use Rattle.ast.specs.declared.refusal.Refusal.TheVariants.{Memory, Refused}
 use Rattle.structure.specs.Standing.{Standing, standing_after, next, rule_by as order_by}
 use Rattle.profile_check.specs.Counted.{few_or_more, counted}
-use Rattle.profile_check.specs.Declarations.{Declared, declared_in, and_then_declared, arrays_by, total_elements}
+use Rattle.profile_check.specs.Declarations.{Declared, declared_in, newer, objects_by, with_arrays, with_constants, arrays_by, total_elements}
 use Rattle.profile_check.specs.Rules.{Context, lower, lowest_of, rules}
-use Rattle.profile_check.specs.Uses.{bounded_by}
+use Rattle.profile_check.specs.Uses.{typed_by, bounded_by, defined_by, declarator_names, names_mentioned, program_named_by}
+
+abbrev pub nothing : Declared
+nothing = record { program = None; typed = []; objects = []; arrays = []; constants = []; names = [] }
+
+-- what is declared with one statement more
+abbrev pub and_then_declared : Declared → Statement → Declared
+and_then_declared d s = record {
+  program = newer (program_named_by s.kind) d.program;
+  typed = insert_all same_name d.typed (declarator_names (typed_by s.kind));
+  objects = insert_all same_name d.objects (objects_by s.kind);
+  arrays = with_arrays d.arrays (arrays_by d.constants (bounded_by s.kind));
+  constants = with_constants d.constants (defined_by s.kind);
+  names = insert_all same_name d.names (names_mentioned s.kind);
+}
 
 -- the order of the statements before, what they declare, how many elements their arrays have, counted
 -- to one more than a program may have, and how many they are

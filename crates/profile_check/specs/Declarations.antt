@@ -1,5 +1,5 @@
 -- What is declared after some statements of a text.
-use Rattle.std.specs.Prelude.{ℕ, ℤ, ◌+◌, pos, if◌then◌else◌, List, [], ◌∷◌, ◌++◌, map, Option, Some, None, option_map, Result, Ok, Err}
+use Rattle.std.specs.Prelude.{ℕ, ℤ, ◌+◌, pos, if◌then◌else◌, List, [], ◌∷◌, ◌++◌, map, flat_map, Option, Some, None, option_map, Result, Ok, Err}
 use Rattle.std.specs.Result.{result_ok}
 use Rattle.indexmap.specs.IndexMap.{insert_entry}
 use Rattle.indexmap.specs.IndexSet.{insert_all}
@@ -95,12 +95,26 @@ abbrev pub total_elements : Arrays → ℕ
 total_elements [] = 0
 total_elements (a ∷ more) = array_elements a.1 + total_elements more
 
+-- the arrays that statements give bounds, by the constants before each statement
+abbrev pub arrays_from : Constants → List Statement → Arrays
+arrays_from cs [] = []
+arrays_from cs (s ∷ ss) = arrays_by cs (bounded_by s.kind) ++ arrays_from (with_constants cs (defined_by s.kind)) ss
+
 abbrev pub newer : {X : Type 0} → Option X → Option X → Option X
 newer (Some x) before = Some x
 newer None before = before
 
+-- the program's name, the last that one gives
+abbrev pub program_in : List Statement → Option (List ℕ)
+program_in [] = None
+program_in (s ∷ ss) = newer (program_in ss) (program_named_by s.kind)
+
+-- each name once, in order of first appearance
+abbrev pub once_each : List (List ℕ) → List (List ℕ)
+once_each names = insert_all same_name [] names
+
 -- what is declared: the program's name; the names with a type; the names of arrays and constants;
--- these with what they stand for; and all names. Each name stands once, in order of first appearance.
+-- these with what they stand for; and all names
 pub record Declared : Type 0 where
   pub program : Option (List ℕ)
   pub typed : List (List ℕ)
@@ -109,28 +123,18 @@ pub record Declared : Type 0 where
   pub constants : Constants
   pub names : List (List ℕ)
 
-abbrev pub nothing : Declared
-nothing = record { program = None; typed = []; objects = []; arrays = []; constants = []; names = [] }
-
 abbrev pub objects_by : Kind → List (List ℕ)
 objects_by k = declarator_names (bounded_by k) ++ definition_names (defined_by k)
 
-abbrev pub and_then_declared : Declared → Statement → Declared
-and_then_declared d s = record {
-  program = newer (program_named_by s.kind) d.program;
-  typed = insert_all same_name d.typed (declarator_names (typed_by s.kind));
-  objects = insert_all same_name d.objects (objects_by s.kind);
-  arrays = with_arrays d.arrays (arrays_by d.constants (bounded_by s.kind));
-  constants = with_constants d.constants (defined_by s.kind);
-  names = insert_all same_name d.names (names_mentioned s.kind);
-}
-
-abbrev pub declared_from : Declared → List Statement → Declared
-declared_from d [] = d
-declared_from d (s ∷ ss) = declared_from (and_then_declared d s) ss
-
 abbrev pub declared_in : List Statement → Declared
-declared_in front = declared_from nothing front
+declared_in front = record {
+  program = program_in front;
+  typed = once_each (flat_map (λ s. declarator_names (typed_by s.kind)) front);
+  objects = once_each (flat_map (λ s. objects_by s.kind) front);
+  arrays = with_arrays [] (arrays_from [] front);
+  constants = with_constants [] (flat_map (λ s. defined_by s.kind) front);
+  names = once_each (flat_map (λ s. names_mentioned s.kind) front);
+}
 
 -- the symbols: what each name stands for
 abbrev pub constant_or : Sort → Option ℤ → Sort

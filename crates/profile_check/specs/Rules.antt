@@ -2,12 +2,13 @@
 -- order, labels, ranges and blocks are those of `structure`.
 use Rattle.std.specs.Prelude.{◌≡◌, ℕ, ◌+◌, Bool, true, false, not, ◌&&◌, ◌||◌, ◌==◌, nat_lt, nat_le, int_lt, if◌then◌else◌, List, [], ◌∷◌, ◌++◌, length, Option, Some, None, is_some, is_none}
 use Rattle.std.specs.List.{list_any, list_all}
+use Rattle.indexmap.specs.IndexSet.{insert_all}
 use Rattle.ast.specs.Store.{same_name}
 use Rattle.ast.specs.Symbols.{Extent, most_elements}
 use Rattle.ast.specs.Tree.{Term, PrintItem, value_item, text_item, Bounds, Declarator, Definition, DoHead, Kind, Statement, integer, dimension, parameters, assign, do_loop, block_if, else_if, logical_if, print, read}
 use Rattle.structure.specs.Open.{Open, is_active, open_after}
 use Rattle.structure.specs.Rules.{rules as order_rules, lowest_broken as lowest_order}
-use Rattle.profile_check.specs.Declarations.{Declared, Constants, Arrays, declared_in, and_then_declared, constant_named, constant_value, extent_of, arrays_by, total_elements, dimensions_named, with_constant, objects_by}
+use Rattle.profile_check.specs.Declarations.{Declared, Constants, Arrays, declared_in, constant_named, constant_value, extent_of, arrays_by, total_elements, dimensions_named, with_constant, objects_by}
 use Rattle.profile_check.specs.Kinds.{integral, logical, is_of, are_integral}
 use Rattle.profile_check.specs.TakenBefore.{taken_before}
 use Rattle.profile_check.specs.Uses.{Use, uses, typed_by, bounded_by, dimensioned_by, defined_by, declarator_names, definition_names, program_named_by, is_intrinsic, is_among, is_call, has_its_arguments, names_used, names_mentioned}
@@ -124,7 +125,7 @@ is_larger statements opened k names elements =
 
 abbrev pub is_too_large : Context → Statement → Bool
 is_too_large c s =
-    is_larger c.statements c.opened s.kind (and_then_declared c.declared s).names (c.elements + total_elements (arrays_by c.declared.constants (bounded_by s.kind)))
+    is_larger c.statements c.opened s.kind (insert_all same_name c.declared.names (names_mentioned s.kind)) (c.elements + total_elements (arrays_by c.declared.constants (bounded_by s.kind)))
 
 -- ---- 42: a constant expression without a value
 

@@ -118,7 +118,8 @@ impl Declarations {
     ghost use Rattle.std.specs.Prelude.{◌≡◌, IfOk, None, map};
     ghost use Rattle.ast.specs.View as view;
     ghost use Rattle.profile_check.specs.Counted.{counted};
-    ghost use Rattle.profile_check.specs.Declarations.{and_then_declared, arrays_by, nothing};
+    ghost use Rattle.profile_check.specs.Checking.{and_then_declared, nothing};
+    ghost use Rattle.profile_check.specs.Declarations.{arrays_by};
     ghost use Rattle.profile_check.specs.DeclarationsView.{context, declared};
     ghost use Rattle.profile_check.specs.Rules as spec;
     ghost use Rattle.profile_check.specs.DeclaredView.{constants_of};
