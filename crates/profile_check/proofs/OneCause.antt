@@ -1,6 +1,5 @@
 -- A text that reads as no program has one cause for it.
-use Rattle.std.proofs.Common.{◌≡◌, ◌∙◌, ℕ, List, [], ◌∷◌, ◌++◌, ap, sym, subst, inl, inr, Option, Some, None, Result, Ok, Err, IfErr}
-use Rattle.std.specs.Prelude.{◌⊎◌}
+use Rattle.std.proofs.Common.{◌≡◌, ◌∙◌, ℕ, List, [], ◌∷◌, ◌++◌, ap, sym, subst, inl, inr, Some, None, Result, Ok, Err, IfErr}
 use Rattle.std.specs.Result.{IsErrAnd}
 use Rattle.ast.specs.Answers.{Break, Gives, Says}
 use Rattle.ast.specs.Program.{ProgramTree}
@@ -12,12 +11,12 @@ use Rattle.ast.specs.declared.refusal.Refusal.TheVariants.{Memory, Refused}
 use Rattle.fixed_form.proofs.Laws.{one_list, not_both, one_refusal}
 use Rattle.fixed_form.proofs.Splits.{Places, places}
 use Rattle.fixed_form.specs.Lines.{Entry, Lines, lines_in}
-use Rattle.syntax.proofs.Public.{IsCut, cut_so, uncut, is_cut}
+use Rattle.syntax.proofs.Public.{cut_so, uncut, is_cut}
 use Rattle.syntax.specs.Statements.{IsStatement}
 use Rattle.profile_check.proofs.WholeText.{one-spelling}
 use Rattle.profile_check.specs.Causes.{IsFault, IsNoStatement, UnspelledAt, IsUnread, IsOutOfProfile, Refuses}
 use Rattle.profile_check.specs.Reads.{Reads, Spelled}
-use Rattle.profile_check.specs.Rules.{InProfile, KeepRules, BreaksFirst, rule_broken, typed_in_whole}
+use Rattle.profile_check.specs.Rules.{KeepRules, BreaksFirst, rule_broken, typed_in_whole}
 
 abbrev Same : ℕ → ℕ → ℕ → ℕ → Type 0
 Same n l m k = (n ≡ m) × (l ≡ k)
