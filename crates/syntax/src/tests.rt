@@ -5,18 +5,30 @@ use fixed_form::Labelled;
 use std::alloc::{AllocError, Global};
 use std::test::Fail;
 
-fn read(alloc: Global, text: &[u8]) -> Result<Stmt, SyntaxRefusal> {
-    match Vec::from_slice(alloc, text) {
-        Ok(text) => statement(
-            alloc,
-            &Labelled {
-                label: Some(30),
-                line: 7,
-                text,
-            },
-        ),
-        Err(_) => Err(SyntaxRefusal::Memory),
+/// A text filled with blanks to whole lines of a statement.
+fn filled(alloc: Global, text: &[u8]) -> Result<Vec<u8>, AllocError> {
+    let mut filled = Vec::from_slice(alloc, text)?;
+    let lines = match text.len() {
+        0 => 1,
+        length => (length - 1) / 66 + 1,
+    };
+    for _ in text.len()..lines * 66 {
+        filled.push(b' ')?;
     }
+    Ok(filled)
+}
+
+fn read(alloc: Global, text: &[u8]) -> Result<Stmt, SyntaxRefusal> {
+    let text = filled(alloc, text)?;
+    if text.len() % 66 != 0 || text.len() < 66 || text.len() > 1320 {
+        return Err(SyntaxRefusal::Memory);
+    }
+    let labelled = Labelled {
+        label: Some(30),
+        line: 7,
+        text,
+    };
+    statement(alloc, &labelled)
 }
 
 /// The number and the line of a refusal, 0 and 0 for a statement.
