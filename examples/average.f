@@ -8,6 +8,6 @@ C     Reads how many numbers follow, and the numbers, and prints their sum and t
       MAXIM=A(1)
       DO 20 I=2,N
    20 MAXIM=MAX(MAXIM,A(I))
-      PRINT *,'NUMBERS',N,'SUM',SUM,'GREATEST',MAXIM
+      PRINT *,'NUMBERS',N,' SUM',SUM,' GREATEST',MAXIM
       WRITE(*,*) 'AVERAGE, CUT OFF',SUM/N
       END
