@@ -1,0 +1,8 @@
+pub mod Agreed
+pub mod Alike
+pub mod Distances
+pub mod Divides
+pub mod Divisors
+pub mod Meeting
+pub mod Promise
+mod Table

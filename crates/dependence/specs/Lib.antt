@@ -1,0 +1,5 @@
+pub mod Kept
+pub mod Meets
+pub mod Plan
+pub mod PlanView
+pub mod Tests

@@ -1,0 +1,56 @@
+-- The plain plan that a plan stands for.
+use Rattle.std.specs.Prelude.{ℕ, List, [], ◌∷◌, map, Option, Some, None}
+use Rattle.ast.specs.Tree.{Term}
+use Rattle.ast.specs.View.{head, letters, optional_term, statement}
+use Rattle.dependence.specs.Plan as plan
+use Rattle.dependence.specs.Plan.{PlanNode, PlanBlock, PlanArms, PlanTree, no_nodes, then_node, no_arms, made_else, then_arm}
+use Rattle.dependence.specs.declared.plan.LoopPlan.{LoopPlan}
+use Rattle.dependence.specs.declared.plan.LoopPlan.TheVariants.{Serial, Body}
+use Rattle.dependence.specs.declared.plan.PlanStmt.{PlanStmt, fold-PlanStmt}
+use Rattle.dependence.specs.declared.plan.PlanStmt.TheOpen.{PlanStmt-F, PlanArm-F}
+
+pub record ArmOf : Type 0 where
+  pub line : ℕ
+  pub condition : Option Term
+  pub body : PlanBlock
+
+abbrev pub block : List PlanNode → PlanBlock
+block [] = no_nodes
+block (n ∷ ns) = then_node n (block ns)
+
+abbrev pub last_arm : Option (List PlanNode) → PlanArms
+last_arm None = no_arms
+last_arm (Some ns) = made_else (block ns)
+
+abbrev pub arms : List ArmOf → PlanArms → PlanArms
+arms [] last = last
+arms (a ∷ more) last = then_arm a.line a.condition a.body (arms more last)
+
+abbrev pub nodes_of : {X : Type 0} → (X → List PlanNode) → Option X → Option (List PlanNode)
+nodes_of view None = None
+nodes_of view (Some x) = Some (view x)
+
+abbrev pub node_step : PlanStmt-F PlanNode ArmOf → PlanNode
+node_step (PlanStmt-F.Await e d) = plan.awaits e d
+node_step (PlanStmt-F.Advance e) = plan.advances e
+node_step (PlanStmt-F.Plain s) = plan.plain (statement s)
+node_step (PlanStmt-F.Loop l h b) = plan.loop l (head h) (block b.items)
+node_step (PlanStmt-F.Choice a made) = plan.choose (arms a.items (last_arm (nodes_of (λ v. v.items) made)))
+
+abbrev pub arm_step : PlanArm-F PlanNode ArmOf → ArmOf
+arm_step a = record { line = a.line; condition = optional_term a.condition; body = block a.body.items }
+
+abbrev pub plan_node : PlanStmt → PlanNode
+plan_node = fold-PlanStmt PlanNode ArmOf node_step arm_step
+
+abbrev pub plan_block : List PlanStmt → PlanBlock
+plan_block ns = block (map plan_node ns)
+
+-- the plan with a body, if it is one
+abbrev pub plan_of : LoopPlan → Option PlanTree
+plan_of (Serial reason) = None
+plan_of (Body body privates relations) = Some (record {
+  body = plan_block body.items;
+  privates = map letters privates.names.items;
+  relations = map (λ p. (p.0.0, p.1.0, p.2)) relations.items;
+})

@@ -1,0 +1,11 @@
+pub mod Collecting
+pub mod Constants
+pub mod ConstantsView
+pub mod Loops
+pub mod Marks
+pub mod Occurrences
+pub mod Paths
+pub mod Private
+pub mod ScalarsView
+pub mod TreeView
+pub mod View

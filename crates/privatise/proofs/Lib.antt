@@ -1,0 +1,3 @@
+pub mod Exactly
+pub mod Flows
+pub mod Joins

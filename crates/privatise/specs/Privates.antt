@@ -1,0 +1,24 @@
+-- The private scalars of a loop, as a list of names.
+use Rattle.std.specs.Prelude.{◌≡◌, ◌⊎◌, ℕ, List, [], ◌∷◌, map, filter}
+use Rattle.ast.specs.Tree.{Ref, Block}
+use Rattle.loop_tree.specs.Loops.{Loop}
+use Rattle.loop_tree.specs.Private.{Private}
+use Rattle.privatise.specs.Flow.{block_walk, is_never_early}
+
+-- Those of a list for which a claim holds, in order.
+abbrev pub Picked : (Ref → Type 0) → List Ref → List Ref → Type 0
+Picked P [] ps = ps ≡ []
+Picked P (r ∷ rs) ps = (P r × (qs : List Ref) × (ps ≡ r ∷ qs) × Picked P rs qs) ⊎ ((P r → ⊥) × Picked P rs ps)
+
+-- The names are those of the private scalars among those that the range gives values.
+pub record ArePrivate (l : Loop) (names : List (List ℕ)) : Type 0 where
+  pub scalars : List Ref
+  pub picked : Picked (λ r. Private l r.cell) l.assigned scalars
+  pub named : names ≡ map (λ (r : Ref). r.name) scalars
+
+abbrev pub private_refs : Block → List Ref → List Ref
+private_refs b rs = filter (λ (r : Ref). is_never_early (block_walk r.cell b)) rs
+
+-- an account of the code
+abbrev pub private_names : Block → List Ref → List (List ℕ)
+private_names b rs = map (λ (r : Ref). r.name) (private_refs b rs)

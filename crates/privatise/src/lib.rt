@@ -1,0 +1,8 @@
+//! Scalars of which each iteration of a loop may have one of its own.
+#![tactic(auto)]
+
+mod flow;
+mod uses;
+mod walk;
+
+pub use flow::private_scalars;

@@ -1,0 +1,4 @@
+pub mod Meaning
+pub mod Products
+pub mod Rooms
+pub mod Sums

@@ -1,0 +1,6 @@
+-- What a share of the code stands for.
+use Rattle.subscripts.specs.Forms as spec
+use Rattle.subscripts.specs.declared.shares.Share.{Share}
+
+abbrev pub share : Share → spec.Share
+share s = record { cell = s.cell; factor = s.factor }
