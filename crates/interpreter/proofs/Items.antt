@@ -11,7 +11,7 @@ use Rattle.ast.specs.declared.fault.End.{End}
 use Rattle.ast.specs.declared.fault.End.TheVariants.{Done, Fault as Faulted}
 use Rattle.ast.specs.declared.fault.Fault.{Fault}
 use Rattle.interpreter.specs.Placed.{PlacedItems}
-use Rattle.interpreter.specs.Printing.{shown, items_onto, record_onto}
+use Rattle.interpreter.specs.Printing.{all_shown, shown, items_onto, record_onto}
 use Rattle.interpreter.specs.Runs.{Gives, Reaches, closed}
 use Rattle.interpreter.specs.declared.stop.Stop.{Stop}
 use Rattle.interpreter.specs.declared.stop.Stop.TheVariants.{Memory, Fault as Fails, Stopped as Stops}
@@ -24,16 +24,11 @@ pub placed_rest : (ss : List Symbol) (i : PrintItem) (is : List PrintItem) → P
 placed_rest ss (value_item e) is h = h.1
 placed_rest ss (text_item t) is h = h
 
--- the bytes of what items printed, from the first item on or from a later one
-abbrev all_shown : Bool → List Printed → List ℕ
-all_shown true ps = items_printed ps
-all_shown false ps = rest_printed ps
-
-shown_on : (first : Bool) (p : Printed) (ps : List Printed) → all_shown first (p ∷ ps) ≡ shown first p ++ rest_printed ps
+pub shown_on : (first : Bool) (p : Printed) (ps : List Printed) → all_shown first (p ∷ ps) ≡ shown first p ++ rest_printed ps
 shown_on true p ps = refl
 shown_on false p ps = refl
 
-nothing_shown : (first : Bool) → all_shown first [] ≡ []
+pub nothing_shown : (first : Bool) → all_shown first [] ≡ []
 nothing_shown true = refl
 nothing_shown false = refl
 

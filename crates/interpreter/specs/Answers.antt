@@ -1,8 +1,9 @@
 -- Answers of a run.
-use Rattle.std.specs.Prelude.{◌≡◌, ℕ, List, Result, Ok, Err}
+use Rattle.std.specs.Prelude.{◌≡◌, ℕ, ℤ, nat_lt, if◌then◌else◌, List, [], ◌∷◌, Option, Some, None, Result, Ok, Err}
 use Rattle.ast.specs.Meaning.{Run, seq}
 use Rattle.ast.specs.Program.{ProgramTree}
-use Rattle.ast.specs.Symbols.{Symbol, cells_of}
+use Rattle.ast.specs.Store.{StoreOf, same_name, value_at}
+use Rattle.ast.specs.Symbols.{Symbol, cells_of, size}
 use Rattle.ast.specs.View.{cells}
 use Rattle.ast.specs.declared.answer.Answer.{Answer}
 use Rattle.ast.specs.declared.fault.End.{End}
@@ -20,6 +21,17 @@ pub record Tells (symbols : List Symbol) (run : Run) (answer : Answer) : Type 0 
 -- The answer is that of the program's meaning on an input, the store at a fault or a STOP included.
 abbrev pub IsAnswer : ProgramTree → List ℕ → Answer → Type 0
 IsAnswer program input answer = Tells program.symbols (seq program input) answer
+
+-- what a store has for a name at a place, where one of the symbols has that name and such an element
+abbrev pub element_value : List Symbol → StoreOf → List ℕ → ℕ → Option ℤ
+element_value [] store name place = None
+element_value (s ∷ symbols) store name place =
+    if same_name s.name name then (if nat_lt place (size s.sort) then Some (store name place) else None) else element_value symbols store name place
+
+-- The store of the answer holds, for each name at each place, what the program's meaning leaves there.
+abbrev pub HoldsValues : ProgramTree → List ℕ → Answer → Type 0
+HoldsValues program input answer =
+    (name : List ℕ) (place : ℕ) → value_at (cells answer.store) name place ≡ element_value program.symbols (seq program input).store name place
 
 -- how a run ended whose statements answered so
 abbrev pub ended : Result (Unit {0}) Stop → Result End AllocError

@@ -1,8 +1,15 @@
 //! The sequential run of a program: one statement after another, as the meaning of `ast` says.
 #![tactic(auto)]
 
+mod code;
+mod execute;
 mod expressions;
+mod fast;
+mod fits;
+mod frame;
 mod input;
+mod layout;
+mod lower;
 mod machine;
 mod memory;
 mod places;

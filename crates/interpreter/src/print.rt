@@ -20,7 +20,7 @@ use itoa::Buffer;
 use std::alloc::AllocError;
 
 /// Appends an integer, with a blank before it unless it is the first item.
-fn append_number(output: &mut Vec<u8>, is_first: bool, n: i64) -> Result<(), AllocError>
+pub fn append_number(output: &mut Vec<u8>, is_first: bool, n: i64) -> Result<(), AllocError>
     ensures appended { OnOk result (output.new.items ≡ output.old.items ++ shown is_first (number n)) }
     ensures kept { Keeps output.old.items output.new.items }
 {

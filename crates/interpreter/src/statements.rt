@@ -165,7 +165,7 @@ fn is_end(node: &Node) -> bool
 
 /// Whether nodes are a STOP and the END that follows it.
 #[tactic(auto, using(crate::proofs::Blocks::two_nodes, crate::proofs::Blocks::other_nodes))]
-fn is_last_stop(nodes: &[Node]) -> bool
+pub fn is_last_stop(nodes: &[Node]) -> bool
     ensures { result ≡ is_last_stop_of (block_view nodes.now) }
 {
     match nodes {

@@ -4,7 +4,7 @@ use Rattle.ast.specs.View.{block_view, symbol}
 use Rattle.ast.specs.declared.tree.Node.{Node}
 use Rattle.interpreter.specs.Placed.{PlacedBlock}
 use Rattle.interpreter.proofs.Placing.{placed}
-use Rattle.interpreter.proofs.run.run_seq.Goals as goal
+use Rattle.interpreter.proofs.run.run_plain.Goals as goal
 
 pub exec_block-answered-requires : goal.exec_block-answered-requires
 exec_block-answered-requires c =
