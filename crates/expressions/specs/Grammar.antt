@@ -8,6 +8,7 @@
 use Rattle.std.specs.Prelude.{◌≡◌, ℕ, ℤ, pos, ◌<◌, ◌≤◌, true, List, [], ◌++◌, length, codes}
 use Rattle.std.specs.List.{list_all}
 use Rattle.ast.specs.Name.{padded}
+use Rattle.ast.specs.Program.{greatest_depth}
 use Rattle.ast.specs.Tree.{Ref, Term, constant, truth, parameter, element, call, parentheses, unary, binary, Terms, no_terms, then_term, Access, accessed, depth}
 use Rattle.expressions.specs.Characters.{is_digit, is_alphanumeric, begins_letter, value, constant_limit, longest_name}
 use Rattle.expressions.specs.Levels.{primary, top, spelling, level_of, left_level, right_level, prefix_spelling, prefix_level, operand_level, truth_spelling}
@@ -56,9 +57,9 @@ abbrev mutual
 abbrev pub IsAccess : Access → List ℕ → Type 0
 IsAccess a t = Spells primary (accessed a) t
 
--- the greatest depth of an expression
+-- the greatest depth of an expression, that of those of a program
 abbrev pub depth_limit : ℕ
-depth_limit = 128
+depth_limit = greatest_depth
 
 -- the whole text is an expression
 abbrev pub IsExpression : List ℕ → Term → Type 0

@@ -143,7 +143,7 @@ pub fn rank(arrays: &Arrays, name: Name) -> usize
 }
 
 /// The most elements that the arrays of a program have together.
-const MOST_ELEMENTS: u128 = 1_048_576;
+pub const MOST_ELEMENTS: u128 = 1_048_576;
 
 /// A count, no further than one more than the most.
 fn few_or_more(count: u128) -> u128

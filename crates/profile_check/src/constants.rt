@@ -59,7 +59,8 @@ fn name_value(constants: &Constants, name: Name, list: &[Expr]) -> Option<i64>
     }
 }
 
-/// The value of a constant expression as its text has it, if it has one.
+/// The value of a constant expression as its text has it, if it has one. In the tree of a text a call
+/// is an element still; the clause speaks of every tree, so one with a call is answered too.
 #[tactic(auto, using(crate::proofs::ConstantValues::name_law, crate::proofs::ConstantValues::prefixed_law, crate::proofs::ConstantValues::binary_law))]
 pub fn constant_value(constants: &Constants, expression: &Expr) -> Option<i64>
     ensures { result ≡ spec.constant_value (constants_of constants.now.entries) (view.term expression.now) }

@@ -10,7 +10,7 @@ ghost use Rattle.profile_check.specs.Uses.{declarator_names, defined_by, names_m
 ghost use Rattle.structure.specs.Standing.{standing};
 ghost use Rattle.profile_check.specs.Rules as spec;
 
-use crate::arrays::{Arrays, add_arrays, crosses_bounds, lacks_bounds};
+use crate::arrays::{Arrays, MOST_ELEMENTS, add_arrays, crosses_bounds, lacks_bounds};
 use crate::constants::{Constants, define};
 use crate::kinds::is_well_kinded;
 use crate::names::{
@@ -34,9 +34,6 @@ const MOST_NESTED: usize = 16;
 
 /// The most names of a program.
 const MOST_NAMES: usize = 512;
-
-/// The most elements that the arrays of a program have together.
-const MOST_ELEMENTS: u128 = 1_048_576;
 
 /// What is declared.
 #[derive(Drop)]

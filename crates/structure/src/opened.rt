@@ -19,46 +19,46 @@ pub enum Open {
     Block(bool),
 }
 
-pub fn is_range_of(open: &Open, label: Label) -> bool
-    ensures { result ≡ is_range_of label (opened open.now) }
+pub fn is_range_of(structure: &Open, label: Label) -> bool
+    ensures { result ≡ is_range_of label (opened structure.now) }
 {
-    match open {
+    match structure {
         Open::Range(terminal, _) => *terminal == label,
         Open::Block(_) => false,
     }
 }
 
-fn is_other_range(open: &Open, label: Label) -> bool
-    ensures { result ≡ is_other_range label (opened open.now) }
+fn is_other_range(structure: &Open, label: Label) -> bool
+    ensures { result ≡ is_other_range label (opened structure.now) }
 {
-    match open {
+    match structure {
         Open::Range(terminal, _) => *terminal != label,
         Open::Block(_) => false,
     }
 }
 
-fn is_block(open: &Open) -> bool
-    ensures { result ≡ is_block (opened open.now) }
+fn is_block(structure: &Open) -> bool
+    ensures { result ≡ is_block (opened structure.now) }
 {
-    matches!(open, Open::Block(_))
+    matches!(structure, Open::Block(_))
 }
 
 /// Whether a range of the label is open.
 pub fn has_range_of(structures: &[Open], label: Label) -> bool
     ensures { result ≡ list_any (is_range_of label) (map opened structures.now) }
 {
-    for open in structures {
-        if is_range_of(open, label) {
+    for structure in structures {
+        if is_range_of(structure, label) {
             return true;
         }
     }
     false
 }
 
-fn is_variable_of(open: &Open, name: Name) -> bool
-    ensures { result ≡ spec.is_variable_of name.letters (opened open.now) }
+fn is_variable_of(structure: &Open, name: Name) -> bool
+    ensures { result ≡ spec.is_variable_of name.letters (opened structure.now) }
 {
-    match open {
+    match structure {
         Open::Range(_, variable) => name == *variable,
         Open::Block(_) => false,
     }
@@ -68,8 +68,8 @@ fn is_variable_of(open: &Open, name: Name) -> bool
 pub fn has_variable(structures: &[Open], name: Name) -> bool
     ensures { result ≡ spec.is_active (map opened structures.now) name.letters }
 {
-    for open in structures {
-        if is_variable_of(open, name) {
+    for structure in structures {
+        if is_variable_of(structure, name) {
             return true;
         }
     }
@@ -82,8 +82,8 @@ pub fn is_around_range(structures: &[Open], label: Label) -> bool
 {
     match structures {
         [] => false,
-        [open, outer @ ..] => {
-            is_other_range(open, label) && has_range_of(outer, label)
+        [structure, outer @ ..] => {
+            is_other_range(structure, label) && has_range_of(outer, label)
                 || is_around_range(outer, label)
         }
     }
@@ -95,8 +95,8 @@ pub fn is_around_block(structures: &[Open], label: Label) -> bool
 {
     match structures {
         [] => false,
-        [open, outer @ ..] => {
-            is_block(open) && has_range_of(outer, label) || is_around_block(outer, label)
+        [structure, outer @ ..] => {
+            is_block(structure) && has_range_of(outer, label) || is_around_block(outer, label)
         }
     }
 }
@@ -121,10 +121,10 @@ fn begins_with_block(structures: &[Open]) -> bool
     }
 }
 
-fn may_go_on(open: &Open) -> bool
-    ensures { result ≡ may_go_on (opened open.now) }
+fn may_go_on(structure: &Open) -> bool
+    ensures { result ≡ may_go_on (opened structure.now) }
 {
-    match open {
+    match structure {
         Open::Range(_, _) => false,
         Open::Block(is_last) => !*is_last,
     }

@@ -1,3 +1,4 @@
+pub mod DoTexts
 pub mod Labels
 pub mod Public
 pub mod Rest

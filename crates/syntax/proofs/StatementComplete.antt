@@ -288,12 +288,12 @@ do_again line h t d =
     let rest = d.2 ++ 61 ∷ d.3 in
     let first = name_begins d.2 (61 ∷ d.3) named.0 in
     let comma = comma_passed d.1 rest d.6 first.1 first.0 in
-    let run : prefix_len is_digit (u ++ (d.1 ++ rest)) ≡ length u = front_is is_digit u (d.1 ++ rest) d.5.0 comma.1 in
+    let run : prefix_len is_digit (u ++ (d.1 ++ rest)) ≡ length u = front_is is_digit u (d.1 ++ rest) d.5.1 comma.1 in
     let next : ℕ → List ℕ × List ℕ → Result DoHead Break = λ label y. wanted_at line (codes "=") y.1 >>= λ w. head_of line label y.0 w in
     let last : (label : ℕ) → label ≡ h.terminal → (name_at line rest >>= next label) ≡ Ok h =
     λ label is. then_reads (name_at line rest) (next label) (x, 61 ∷ d.3) (name_again line x d.2 (61 ∷ d.3) named refl) ∙ ap (λ (l : ℕ). head_of line l x d.3) is ∙ head_again line h x d.3 d.7.2 d.8 in
     ap (do_at line) d.4
-    ∙ rw (run, take_at u (d.1 ++ rest) (length u) refl, drop_at u (d.1 ++ rest) (length u) refl, le-leb (length u) most_digits d.5.1, comma.0) (last (value u) (sym d.5.2))
+    ∙ rw (run, take_at u (d.1 ++ rest) (length u) refl, drop_at u (d.1 ++ rest) (length u) refl, le-leb (length u) most_digits d.5.2, comma.0) (last (value u) (sym d.5.3))
 
 -- ---- statements
 

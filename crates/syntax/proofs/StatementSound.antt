@@ -8,7 +8,7 @@ use Rattle.ast.specs.Answers.{Break}
 use Rattle.ast.specs.Results.{◌>>=◌}
 use Rattle.ast.specs.Tree.{Term, Access, PrintItem, value_item, text_item, Bounds, Declarator, Definition, DoHead, Kind, program, integer, dimension, parameters, assign, do_loop, go_on, block_if, else_if, else_arm, end_if, logical_if, print, read, stop, end, Statement}
 use Rattle.expressions.specs.Answers.{refuse}
-use Rattle.expressions.specs.Characters.{is_digit, after, value}
+use Rattle.expressions.specs.Characters.{is_digit, begins_digit, after, value}
 use Rattle.expressions.specs.Grammar.{IsName, IsAccess, reference_to, Spells, depth_limit}
 use Rattle.expressions.specs.Levels.{top}
 use Rattle.expressions.specs.Reading.{name_at, wanted_at, end_at, front_at, whole_at, ended, element_at}
@@ -21,6 +21,7 @@ use Rattle.syntax.specs.Classes.{Class, class_of, without_comma, is_word}
 use Rattle.syntax.specs.Depths.{depth_of_kind}
 use Rattle.syntax.specs.Statements.{AreFurther, AreParts, AreOptional, AreBehindComma, closing, nothing, IsBounds, IsDeclarator, IsArray, IsDefinition, most_digits, IsLabel, IsStep, IsComma, AreParameters, IsDoHead, IsItem, AreFurtherItems, AreItems, is_stop_text, IsKind, is_initial}
 use Rattle.syntax.specs.ReadingStatements.{parts_at, closed_list, open_list, listed, list_behind_unit, list_behind_star, upper_at, bounds_at, array_of, array_at, declared_at, declarator_at, definition_at, next_constant, item_at, items_from, items_at, step_at, head_of, do_at, assigned_at, definitions_at, arm_at, else_if_at, whole_name_at, alone, worded_at, class_at, kind_at, initial, shallow, checked_at, statement_at}
+use Rattle.syntax.proofs.DoTexts.{do_begins, some_digits}
 
 -- ---- lists
 
@@ -291,8 +292,8 @@ comma_law t = go (after (codes ",") t) refl
     go None is = ([], refl, inl refl)
     go (Some u) is = (codes ",", after_law (codes ",") t u is, inr refl)
 
-do_sound : (line : ℕ) (t : List ℕ) (h : DoHead) → do_at line t ≡ Ok h → IsDoHead h t
-do_sound line t h e =
+do_sound : (line : ℕ) (t : List ℕ) (h : DoHead) → begins_digit t ≡ true → do_at line t ≡ Ok h → IsDoHead h t
+do_sound line t h digit e =
     let n = prefix_len is_digit t in
     let rest = drop n t in
     let next : List ℕ × List ℕ → Result DoHead Break = λ x. wanted_at line (codes "=") x.1 >>= λ u. head_of line (value (take n t)) x.0 u in
@@ -305,7 +306,7 @@ do_sound line t h e =
           let c = comma_law rest in
           let named : without_comma rest ≡ s.0 ++ 61 ∷ w.0 = s.1 ∙ ap (λ (l : List ℕ). s.0 ++ l) (wanted_law line (codes "=") b.0.1 w.0 w.1) in
           let cut : t ≡ take n t ++ (c.0 ++ (s.0 ++ 61 ∷ w.0)) = sym (take-append-drop n t) ∙ ap (λ (l : List ℕ). take n t ++ l) (c.1 ∙ ap (λ (l : List ℕ). c.0 ++ l) named) in
-          let label : IsLabel h.terminal (take n t) = (front_passes is_digit t, omega (arith, leb-true n most_digits few, length-take n t), p.0) in
+          let label : IsLabel h.terminal (take n t) = (some_digits t digit, front_passes is_digit t, omega (arith, leb-true n most_digits few, length-take n t), p.0) in
           (take n t, c.0, s.0, w.0, cut, label, c.2, (b.0.0, s.2, p.1), p.2)
       | on_false many f ↦ absurd cc
     ]
@@ -435,7 +436,7 @@ class_sound line inner (classes.logical_if u v) t cs k sound is e =
     moved (logical_if b.0 c.0) k t cs (ok_is (logical_if b.0 c.0) k c.2) (u, v, is, whole_sound line u b.0 b.1, sound v c.0 c.1)
 class_sound line inner (classes.do_loop u) t cs k sound is e =
     let b = bind_ok (do_at line u) (λ h. done (do_loop h)) k e in
-    moved (do_loop b.0) k t cs (ok_is (do_loop b.0) k b.2) (u, is, do_sound line u b.0 b.1)
+    moved (do_loop b.0) k t cs (ok_is (do_loop b.0) k b.2) (u, is, do_sound line u b.0 (do_begins t u is) b.1)
 class_sound line inner (classes.assignment u) t cs k sound is e =
     let s = assigned_sound line u k e in
     moved (assign s.0 s.1) k t cs (sym s.4) (s.2, s.3, is ∙ ap (λ (w : List ℕ). classes.assignment w) s.5, s.6, s.7)

@@ -1,6 +1,7 @@
 -- The grammar of statements.
 use Rattle.std.specs.Prelude.{◌≡◌, ℕ, ◌<◌, ◌≤◌, Bool, true, false, ◌&&◌, ◌||◌, ◌==◌, nat_le, ◌⊎◌, List, [], ◌∷◌, ◌++◌, length, take, Option, Some, None, codes}
 use Rattle.std.specs.List.{list_all}
+use Rattle.fixed_form.specs.Limits.{text_width}
 use Rattle.fixed_form.specs.Line.{is_end}
 use Rattle.ast.specs.Tree.{Term, PrintItem, value_item, text_item, Bounds, Declarator, Definition, DoHead, Kind, program, integer, dimension, parameters, assign, do_loop, go_on, block_if, else_if, else_arm, end_if, logical_if, print, read, stop, end, Statement}
 use Rattle.expressions.specs.Characters.{is_digit, value}
@@ -73,9 +74,9 @@ IsDefinition d t = (u : List ℕ) × (v : List ℕ) × (t ≡ u ++ (codes "=" ++
 abbrev pub most_digits : ℕ
 most_digits = 5
 
--- a label: digits, five at most; the class of a DO says that there is one
+-- a label: one to five digits
 abbrev pub IsLabel : ℕ → List ℕ → Type 0
-IsLabel n t = (list_all is_digit t ≡ true) × (length t ≤ most_digits) × (n ≡ value t)
+IsLabel n t = (0 < length t) × (list_all is_digit t ≡ true) × (length t ≤ most_digits) × (n ≡ value t)
 
 -- nothing, or a comma and an expression
 abbrev pub IsStep : Option Term → List ℕ → Type 0
@@ -146,13 +147,9 @@ IsKind (read es) t cs = (u : List ℕ) × ((Begins keywords.Read u t × AreBehin
 IsKind stop t cs = (u : List ℕ) × Begins keywords.Stop u t × (is_stop_text u cs ≡ true)
 IsKind end t cs = Begins keywords.End [] t
 
--- columns 7 to 72 of the initial line
-abbrev pub initial_length : ℕ
-initial_length = 66
-
 -- END stands on its initial line alone
 abbrev pub is_initial : Kind → List ℕ → Bool
-is_initial end text = is_end (take initial_length text)
+is_initial end text = is_end (take text_width text)
 is_initial k text = true
 
 -- the text, with this label and at this line, is the statement

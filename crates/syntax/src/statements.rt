@@ -1,7 +1,6 @@
 //! Statements.
 
 ghost use Rattle.std.specs.Prelude.{◌≡◌, List, map, IfOk, IfErr, Ok, take};
-ghost use Rattle.fixed_form.specs.Line.{is_end};
 ghost use Rattle.ast.specs.Answers.{Gives, Says};
 ghost use Rattle.ast.specs.Tree.{Statement, logical_if};
 ghost use Rattle.ast.specs.View.{kind, statement, term};
@@ -19,12 +18,9 @@ use crate::loops::do_head;
 use crate::pieces::{Squeezed, squeeze};
 use ast::{Expr, Kind, Line, Refusal, Stmt};
 use expressions::{DEPTH_LIMIT, access, wanted, whole};
-use fixed_form::Labelled;
+use fixed_form::{Labelled, TEXT_WIDTH, is_end};
 use std::alloc::{AllocError, Global};
 use std::vec::IntoIter;
-
-/// The columns of a line that a statement's text takes.
-const INITIAL_LENGTH: usize = 66;
 
 fn assignment(alloc: Global, text: &[u8], line: Line) -> Result<Kind, Refusal>
     ensures { Gives kind result (assigned_at line text.now) }
@@ -71,22 +67,6 @@ fn kind(
 
 // ---- whole statements
 
-/// Whether a text is END, blanks and case aside.
-fn is_end(text: &[u8]) -> bool
-    ensures { result ≡ is_end text.now }
-{
-    let mut left: &[u8] = b"END";
-    for character in text {
-        if *character != b' ' {
-            match left {
-                [first, others @ ..] if *first == character.to_ascii_uppercase() => left = others,
-                _ => return false,
-            }
-        }
-    }
-    left.is_empty()
-}
-
 /// The first characters of a text, `count` of them where there are as many.
 fn front(text: &[u8], count: usize) -> &[u8]
     ensures { result.now ≡ take count text.now }
@@ -99,7 +79,7 @@ fn is_initial(does: &Kind, text: &[u8]) -> bool
     ensures { result ≡ is_initial (kind does.now) text.now }
 {
     match does {
-        Kind::End => is_end(front(text, INITIAL_LENGTH)),
+        Kind::End => is_end(front(text, TEXT_WIDTH)),
         _ => true,
     }
 }

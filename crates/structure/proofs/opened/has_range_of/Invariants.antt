@@ -4,5 +4,5 @@ use Rattle.structure.specs.Rules.{is_range_of}
 use Rattle.structure.specs.View.{opened}
 use Rattle.structure.proofs.opened.has_range_of.Given as goal
 
-abbrev pub invariant-loop-open : goal.invariant-loop-open
-invariant-loop-open l = list_any (is_range_of l.label) (map opened (drop l.open-index l.structures)) ≡ list_any (is_range_of l.label) (map opened l.structures)
+abbrev pub invariant-loop-structure : goal.invariant-loop-structure
+invariant-loop-structure l = list_any (is_range_of l.label) (map opened (drop l.structure-index l.structures)) ≡ list_any (is_range_of l.label) (map opened l.structures)
