@@ -12,8 +12,8 @@ use Rattle.ast.specs.declared.refusal.Refusal.TheVariants.{Refused as RefusedAt}
 use Rattle.interpreter.specs.Answers.{IsAnswer}
 use Rattle.profile_check.specs.Causes.{Refuses}
 use Rattle.profile_check.specs.Reads.{Reads}
-use Rattle.doac.specs.Engines.{IsRefused, ShowsRun, outcome_of}
-use Rattle.doac.specs.Shown.{EndShown, Extends, Row, refused, row_of}
+use Rattle.doac.specs.Engines.{IsRefusal, ShowsRun, outcome_of}
+use Rattle.doac.specs.Shown.{EndShown, Extends, Row, row_of}
 use Rattle.doac.specs.View.{rows_from}
 use Rattle.doac.specs.declared.outcome.Outcome.{Outcome}
 use Rattle.doac.proofs.StoreRows.{rows_whole}
@@ -44,11 +44,10 @@ shown_of_run wanted program input answer outcome text tells ended more =
 abbrev pub Answers : ℕ → ℕ → ProgramTree → Type 0
 Answers number line tree = Fails (RefusedAt number line) (Ok tree)
 
--- the text of a source that is refused
-pub refused_text : (source : List ℕ) (number line : ℕ) (text : List ℕ)
-    → ((tree : ProgramTree) → Reads source tree → Answers number line tree) → Refuses source number line
-    → text ≡ refused number line → IsRefused source number text
-refused_text source number line text unread truly shown = record { at = line; unread = λ tree reads. none (unread tree reads); cause = truly; line = shown }
+-- a source that is refused: no tree reads it, and the number has its cause
+pub refusal : (source : List ℕ) (number line : ℕ) → ((tree : ProgramTree) → Reads source tree → Answers number line tree) → Refuses source number line
+    → IsRefusal source number line
+refusal source number line unread truly = record { unread = λ tree reads. none (unread tree reads); cause = truly }
   where
     none : {tree : ProgramTree} → Answers number line tree → ⊥
     none h = cc

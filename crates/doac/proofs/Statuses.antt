@@ -1,18 +1,40 @@
--- Exit statuses.
-use Rattle.std.proofs.Common.{◌≡◌, ℕ, Bool, List, Option, Result, Ok, Err, IfOk, inl, inr}
-use Rattle.doac.specs.Engines.{EndsAs, HasStatus, OfText, Runs, Wrote, exit_of}
+-- Exit statuses, and what is written of a verdict.
+use Rattle.std.proofs.Common.{◌≡◌, ℕ, List, Option, Result, Ok, Err, inl, inr, subst, sym}
+use Rattle.ast.specs.ProgramView.{program as program_of}
+use Rattle.doac.specs.Engines.{Checks, EndsAs, HasStatus, IsAccepted, IsRefused, IsVerdict, Tells, Works, Wrote, WrotePart, exit_of}
 use Rattle.doac.specs.declared.fault.EngineFault.{EngineFault}
 use Rattle.doac.specs.declared.fault.EngineFault.TheVariants.{Source, Input, Writing, Memory}
 use Rattle.doac.specs.declared.outcome.Outcome.{Outcome}
+use Rattle.doac.specs.declared.outcome.Outcome.TheVariants.{Completed, Refused, Faulted}
+use Rattle.doac.specs.declared.verdict.Verdict.{Verdict}
+use Rattle.doac.specs.declared.verdict.Verdict.TheVariants as verdict
 
--- the status of a run, by what it wrote
-pub of_run : (store : Bool) (source input old new : Option (List ℕ)) (r : Result Outcome EngineFault) (status : ℕ) → status ≡ exit_of r
-    → IfOk r (λ outcome. OfText source (λ text. OfText input (λ given. Wrote (Runs store text given) old new outcome)))
-    → EndsAs status (OfText source (λ text. OfText input (λ given. HasStatus (Runs store text given) status)))
-of_run store source input old new (Ok outcome) status is wrote =
-    let w = wrote.2.2 in
-    inr (inr (wrote.0, wrote.1, (wrote.2.0, wrote.2.1, record { outcome = outcome; text = w.text; allowed = w.allowed; is = is })))
-of_run store source input old new (Err (Source e)) status is wrote = inl is
-of_run store source input old new (Err (Input e)) status is wrote = inl is
-of_run store source input old new (Err (Writing e)) status is wrote = inl is
-of_run store source input old new (Err Memory) status is wrote = inr (inl is)
+-- the status of work on texts
+pub of_works : (allows : Outcome → List ℕ → Type 0) (old new : Option (List ℕ)) (r : Result Outcome EngineFault) (status : ℕ)
+    → status ≡ exit_of r → Works allows old new r → EndsAs status (HasStatus allows status)
+of_works allows old new (Ok outcome) status is wrote = inr (inr (record { outcome = outcome; text = wrote.text; allowed = wrote.allowed; is = is }))
+of_works allows old new (Err (Source e)) status is wrote = inl is
+of_works allows old new (Err (Input e)) status is wrote = inl is
+of_works allows old new (Err (Writing e)) status is wrote = inl is
+of_works allows old new (Err Memory) status is wrote = inr (inl is)
+
+-- what is told of a source's verdict is what `check` may write of the source
+allowed_by : (source : List ℕ) (v : Verdict) (outcome : Outcome) (text : List ℕ) → IsVerdict source v → Tells v outcome text → Checks source outcome text
+allowed_by source (verdict.Accepted program) Completed text judged told = record { tree = program_of program; reads = judged; line = told }
+allowed_by source (verdict.Accepted program) (Refused number line) text judged told = absurd told
+allowed_by source (verdict.Accepted program) (Faulted fault line) text judged told = absurd told
+allowed_by source (verdict.Refused number line) Completed text judged told = absurd told
+allowed_by source (verdict.Refused number line) (Refused n l) text judged told =
+    let shown : IsRefused source number line text = record { refusal = judged; shown = told.2 } in
+    subst (λ m. IsRefused source m l text) (sym told.0) (subst (λ m. IsRefused source number m text) (sym told.1) shown)
+allowed_by source (verdict.Refused number line) (Faulted fault l) text judged told = absurd told
+
+pub of_verdict : (source : List ℕ) (v : Verdict) (old new : Option (List ℕ)) (r : Result Outcome EngineFault) → IsVerdict source v
+    → Works (Tells v) old new r → Works (Checks source) old new r
+of_verdict source v old new (Ok outcome) judged wrote =
+    record { text = wrote.text; allowed = allowed_by source v outcome wrote.text judged wrote.allowed; grown = wrote.grown }
+of_verdict source v old new (Err (Source e)) judged wrote = wrote
+of_verdict source v old new (Err (Input e)) judged wrote = wrote
+of_verdict source v old new (Err (Writing e)) judged wrote =
+    record { outcome = wrote.outcome; text = wrote.text; allowed = allowed_by source v wrote.outcome wrote.text judged wrote.allowed; grown = wrote.grown }
+of_verdict source v old new (Err Memory) judged wrote = wrote

@@ -1,10 +1,9 @@
 -- The command lines of the program, as clap reads them.
-use Rattle.std.specs.Prelude.{◌≡◌, ◌≢◌, ⊤, ◌⊎◌, ◌==◌, ℕ, Bool, true, false, codes, List, [], ◌∷◌, Option, Some, None, option_map}
-use Rattle.std.specs.List.{list_any}
+use Rattle.std.specs.Prelude.{◌≡◌, ◌≢◌, ⊤, ◌⊎◌, ◌&&◌, ◌||◌, nat_le, ℕ, Bool, true, false, codes, List, [], ◌∷◌, Option, Some, None, option_map}
 use Rattle.std.specs.Str.Parse.{IsNumeral, digits_value, without_leading_plus}
 use Rattle.clap.specs.Words.{App, IsAmong, Row, Rule, Text, fault_of, first_of, kind_of, new_app, new_rule, one_of, subcommand_of, with_rule, with_subcommand}
 use Rattle.clap.specs.declared.error.Error.{Error}
-use Rattle.clap.specs.declared.error.kind.ErrorKind.TheVariants.{DisplayHelp, OutOfMemory}
+use Rattle.clap.specs.declared.error.kind.ErrorKind.TheVariants.{DisplayHelp, DisplayVersion, OutOfMemory}
 use Rattle.clap.specs.declared.builder.action.ArgAction.TheVariants.{Set, SetTrue}
 use Rattle.doac.specs.declared.command.Command.{Command}
 use Rattle.doac.specs.declared.command.Command.TheVariants.{Check, Seq, Explain}
@@ -25,7 +24,7 @@ store = record (new_rule (codes "store")) { long = Some (codes "store"); action 
 
 -- N, the number of a refusal or a fault
 abbrev pub number : Rule
-number = record (new_rule (codes "N")) { required = true; action = Some Set }
+number = record (new_rule (codes "N")) { action = Some Set }
 
 abbrev pub check : App
 check = with_rule (new_app (codes "check")) source
@@ -36,9 +35,9 @@ seq = with_rule (with_rule (with_rule (new_app (codes "seq")) source) input) sto
 abbrev pub explain : App
 explain = with_rule (new_app (codes "explain")) number
 
--- a command that wants one of its subcommands, of which `help` is none
+-- a command that wants one of its subcommands, and has a version
 abbrev pub wants_subcommand : App → App
-wants_subcommand a = record a { top = record a.top { subcommand_required = true; disable_help_subcommand = true } }
+wants_subcommand a = record a { top = record a.top { subcommand_required = true; has_version = true } }
 
 abbrev pub doac : App
 doac = with_subcommand (with_subcommand (with_subcommand (wants_subcommand (new_app (codes "doac"))) check.top) seq.top) explain.top
@@ -47,16 +46,13 @@ doac = with_subcommand (with_subcommand (with_subcommand (wants_subcommand (new_
 abbrev pub IsFlag : Bool → Option Text → Type 0
 IsFlag flag given = (given ≡ Some (codes "true") → flag ≡ true) × (given ≡ Some (codes "false") → flag ≡ false) × (given ≡ None → flag ≡ false)
 
--- the numbers that are explained: of the rules for lines, for statements and for the profile, and
--- of the faults
-abbrev pub explained : List ℕ
-explained =
-    1 ∷ 2 ∷ 3 ∷ 4 ∷ 5 ∷ 6 ∷ 7 ∷ 8
-    ∷ 20 ∷ 21 ∷ 22 ∷ 23 ∷ 24 ∷ 25 ∷ 26 ∷ 27
-    ∷ 30 ∷ 31 ∷ 32 ∷ 33 ∷ 34 ∷ 35 ∷ 36 ∷ 37 ∷ 38 ∷ 39 ∷ 40 ∷ 41 ∷ 42 ∷ 43 ∷ []
+abbrev pub is_within : ℕ → ℕ → ℕ → Bool
+is_within least most n = nat_le least n && nat_le n most
 
+-- the numbers that are explained: of the rules for lines, for statements and for the profile; those of
+-- the faults, 1 to 6, are among them
 abbrev pub is_explained : ℕ → Bool
-is_explained n = list_any (λ m. m == n) explained
+is_explained n = is_within 1 8 n || is_within 20 27 n || is_within 30 43 n
 
 -- a text writes an explained number, where a plus sign may stand first
 abbrev pub IsNumber : ℕ → Text → Type 0
@@ -69,7 +65,8 @@ Holds name values (Check source) = (name ≡ codes "check") × (first_of (codes 
 Holds name values (Seq source input store) =
     (name ≡ codes "seq") × (first_of (codes "F") values ≡ Some source.now)
     × (first_of (codes "INPUT") values ≡ option_map (λ i. i.now) input) × IsFlag store (one_of (codes "store") values)
-Holds name values (Explain number) =
+Holds name values (Explain None) = (name ≡ codes "explain") × (first_of (codes "N") values ≡ None)
+Holds name values (Explain (Some number)) =
     (name ≡ codes "explain") × (text : Text) × (first_of (codes "N") values ≡ Some text) × IsNumber number text
 
 -- what clap found, a subcommand's name and the values of its arguments, is a command
@@ -81,11 +78,11 @@ HeldIn (Some found) command = Holds found.0 found.1 command
 abbrev pub Names : List Text → Command → Type 0
 Names words command = (fault_of doac words ≡ []) × HeldIn (subcommand_of doac words) command
 
--- the subcommand is none of the program's, or lacks the value that it can't do without
+-- the subcommand is none of the program's, or lacks the file that it can't do without
 abbrev pub Lacks : Text → List Row → Type 0
 Lacks name values =
     (((name ≡ codes "check") ⊎ (name ≡ codes "seq")) → first_of (codes "F") values ≡ None)
-    × (name ≡ codes "explain" → first_of (codes "N") values ≡ None)
+    × (name ≡ codes "explain" → ⊥)
 
 -- the subcommand asks to explain what is no explained number
 abbrev pub AsksInVain : Text → List Row → Type 0
@@ -105,18 +102,22 @@ abbrev pub HeldInNone : Option (Text × List Row) → LineFault → Type 0
 HeldInNone None fault = fault ≡ NoCommand
 HeldInNone (Some found) fault = HoldsNone found.0 found.1 fault
 
+-- an error of clap's that is none: what help or the version says
+abbrev pub IsHelp : Error → Type 0
+IsHelp e = (kind_of e ≡ DisplayHelp) ⊎ (kind_of e ≡ DisplayVersion)
+
 -- what is made of an error of clap's
 abbrev pub MadeOf : Error → LineFault → Type 0
-MadeOf error (Help e) = (e ≡ error) × (kind_of error ≡ DisplayHelp)
-MadeOf error (Mistake e) = (e ≡ error) × (kind_of error ≢ DisplayHelp) × (kind_of error ≢ OutOfMemory)
+MadeOf error (Help e) = (e ≡ error) × IsHelp error
+MadeOf error (Mistake e) = (e ≡ error) × (IsHelp error → ⊥) × (kind_of error ≢ OutOfMemory)
 MadeOf error NoCommand = ⊥
 MadeOf error NoSuchNumber = ⊥
 MadeOf error Memory = kind_of error ≡ OutOfMemory
 
 -- why words name no command; want of memory is always allowed
 abbrev pub NamesNone : List Text → LineFault → Type 0
-NamesNone words (Help e) = (kind_of e ≡ DisplayHelp) × IsAmong DisplayHelp (fault_of doac words)
-NamesNone words (Mistake e) = (kind_of e ≢ DisplayHelp) × IsAmong (kind_of e) (fault_of doac words)
+NamesNone words (Help e) = IsHelp e × IsAmong (kind_of e) (fault_of doac words)
+NamesNone words (Mistake e) = (IsHelp e → ⊥) × IsAmong (kind_of e) (fault_of doac words)
 NamesNone words NoCommand = (fault_of doac words ≡ []) × HeldInNone (subcommand_of doac words) NoCommand
 NamesNone words NoSuchNumber = (fault_of doac words ≡ []) × HeldInNone (subcommand_of doac words) NoSuchNumber
 NamesNone words Memory = ⊤

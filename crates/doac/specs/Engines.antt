@@ -1,8 +1,10 @@
 -- What the engines do: which bytes they may write of a source text, and with which outcome.
-use Rattle.std.specs.Prelude.{◌≡◌, ◌⊎◌, ℕ, ◌<◌, Bool, IfSome, List, length, take, ⊤, Option, Result, Ok, Err}
+use Rattle.std.specs.Prelude.{◌≡◌, ◌⊎◌, ℕ, ◌<◌, Bool, IfSome, List, length, take, ⊤, Option, Result, Ok, Err, Vec}
+use Rattle.std.specs.Global.{Global}
 use Rattle.std.specs.Io.KnownBytes.{Appends, IsAtEnd, Keeps}
 use Rattle.ast.specs.Meaning.{seq}
 use Rattle.ast.specs.Program.{ProgramTree}
+use Rattle.ast.specs.ProgramView.{program as program_of}
 use Rattle.ast.specs.declared.fault.End.{End}
 use Rattle.ast.specs.declared.fault.End.TheVariants.{Done, Stopped, Fault as FaultedAt}
 use Rattle.profile_check.specs.Causes.{Refuses}
@@ -10,16 +12,23 @@ use Rattle.profile_check.specs.Reads.{Reads}
 use Rattle.doac.specs.Shown.{accepted, refused, Shown}
 use Rattle.doac.specs.declared.fault.EngineFault.{EngineFault}
 use Rattle.doac.specs.declared.fault.EngineFault.TheVariants.{Source, Input, Writing, Memory}
+use Rattle.doac.specs.declared.command.Command.{Command}
+use Rattle.doac.specs.declared.command.Command.TheVariants.{Check, Seq, Explain}
+use Rattle.doac.specs.declared.files.FileFault.{FileFault}
+use Rattle.doac.specs.declared.files.FileFault.TheVariants as files
+use Rattle.doac.specs.declared.files.FileFault.TheVariants.{Opening, Reading}
 use Rattle.doac.specs.declared.fault.ReadFault.{ReadFault}
 use Rattle.doac.specs.declared.fault.ReadFault.TheVariants as reading
 use Rattle.doac.specs.declared.outcome.Outcome.{Outcome}
 use Rattle.doac.specs.declared.outcome.Outcome.TheVariants.{Completed, Refused, Faulted}
+use Rattle.doac.specs.declared.verdict.Verdict.{Verdict}
+use Rattle.doac.specs.declared.verdict.Verdict.TheVariants as verdict
 
 -- the exit status of an outcome
 abbrev pub status_of : Outcome → ℕ
 status_of Completed = 0
-status_of (Refused number) = 1
-status_of (Faulted fault) = 2
+status_of (Refused number line) = 1
+status_of (Faulted fault line) = 2
 
 -- the exit status of an engine's fault
 abbrev pub fault_status : EngineFault → ℕ
@@ -27,6 +36,12 @@ fault_status (Source e) = 4
 fault_status (Input e) = 4
 fault_status (Writing e) = 4
 fault_status Memory = 5
+
+-- the exit status of a file whose bytes can't be had
+abbrev pub file_status : FileFault → ℕ
+file_status (Opening e) = 4
+file_status (Reading e) = 4
+file_status files.Memory = 5
 
 -- the exit status of the program
 abbrev pub exit_of : Result Outcome EngineFault → ℕ
@@ -39,24 +54,42 @@ pub record IsAccepted (source text : List ℕ) : Type 0 where
   pub reads : Reads source tree
   pub line : text ≡ accepted tree
 
--- the source reads as no program, the number has its cause, and this is its line
-pub record IsRefused (source : List ℕ) (number : ℕ) (text : List ℕ) : Type 0 where
-  pub at : ℕ
+-- the source reads as no program, and the number has its cause at the line
+pub record IsRefusal (source : List ℕ) (number line : ℕ) : Type 0 where
   pub unread : (tree : ProgramTree) → Reads source tree → ⊥
-  pub cause : Refuses source number at
-  pub line : text ≡ refused number at
+  pub cause : Refuses source number line
+
+-- a source is what its verdict says
+abbrev pub IsVerdict : List ℕ → Verdict → Type 0
+IsVerdict source (verdict.Accepted program) = Reads source (program_of program)
+IsVerdict source (verdict.Refused number line) = IsRefusal source number line
+
+-- some source has the verdict
+abbrev pub IsJudged : Verdict → Type 0
+IsJudged v = (source : List ℕ) × IsVerdict source v
+
+-- what `check` may write of a verdict
+abbrev pub Tells : Verdict → Outcome → List ℕ → Type 0
+Tells (verdict.Accepted program) Completed text = text ≡ accepted (program_of program)
+Tells (verdict.Refused number line) (Refused n l) text = (n ≡ number) × (l ≡ line) × (text ≡ refused number line)
+Tells _ _ text = ⊥
+
+-- the source is refused so, and this is its line
+pub record IsRefused (source : List ℕ) (number line : ℕ) (text : List ℕ) : Type 0 where
+  pub refusal : IsRefusal source number line
+  pub shown : text ≡ refused number line
 
 -- what `check` may write of a source text
 abbrev pub Checks : List ℕ → Outcome → List ℕ → Type 0
 Checks source Completed text = IsAccepted source text
-Checks source (Refused number) text = IsRefused source number text
-Checks source (Faulted fault) text = ⊥
+Checks source (Refused number line) text = IsRefused source number line text
+Checks source (Faulted fault line) text = ⊥
 
 -- the outcome of a run that ended so
 abbrev pub outcome_of : End → Outcome
 outcome_of Done = Completed
 outcome_of (Stopped line) = Completed
-outcome_of (FaultedAt fault line) = Faulted fault
+outcome_of (FaultedAt fault line) = Faulted fault line
 
 -- the program's run on the input has this outcome, and this is shown of it
 pub record ShowsRun (store : Bool) (tree : ProgramTree) (input : List ℕ) (outcome : Outcome) (text : List ℕ) : Type 0 where
@@ -72,8 +105,8 @@ pub record IsRun (store : Bool) (source input : List ℕ) (outcome : Outcome) (t
 -- what `seq` may write of a source text and an input
 abbrev pub Runs : Bool → List ℕ → List ℕ → Outcome → List ℕ → Type 0
 Runs store source input Completed text = IsRun store source input Completed text
-Runs store source input (Refused number) text = IsRefused source number text
-Runs store source input (Faulted fault) text = IsRun store source input (Faulted fault) text
+Runs store source input (Refused number line) text = IsRefused source number line text
+Runs store source input (Faulted fault line) text = IsRun store source input (Faulted fault line) text
 
 -- a reader gives a text: all that it has left, where that is known
 abbrev pub Gives : Option (List ℕ) → List ℕ → Type 0
@@ -134,6 +167,28 @@ abbrev pub LeavesReader : EngineFault → Option (List ℕ) → Type 0
 LeavesReader (Writing e) source = IsAtEnd source
 LeavesReader fault source = ⊤
 
+-- what work on texts that were read comes to: an outcome with an allowed text written; part of one
+-- where writing failed; nothing where memory was refused. No fault of reading comes of it.
+abbrev pub Works : (Outcome → List ℕ → Type 0) → Option (List ℕ) → Option (List ℕ) → Result Outcome EngineFault → Type 0
+Works allows old new (Ok outcome) = Wrote allows old new outcome
+Works allows old new (Err (Writing e)) = WrotePart allows old new
+Works allows old new (Err Memory) = Keeps old new
+Works allows old new (Err _) = ⊥
+
+-- the same of work that reads an input first, of which nothing is written where that fails
+abbrev pub WorksWith : Option (List ℕ) → (List ℕ → Outcome → List ℕ → Type 0) → Option (List ℕ) → Option (List ℕ) → Result Outcome EngineFault → Type 0
+WorksWith input allows old new (Ok outcome) = OfText input (λ given. Wrote (allows given) old new outcome)
+WorksWith input allows old new (Err (Source e)) = ⊥
+WorksWith input allows old new (Err (Input e)) = Keeps old new
+WorksWith input allows old new (Err (Writing e)) = OfText input (λ given. WrotePart (allows given) old new)
+WorksWith input allows old new (Err Memory) = Keeps old new
+
+-- what comes after a read: where it failed its fault, with nothing written; otherwise what is made
+-- of its bytes
+abbrev pub AfterRead : Result (Vec ℕ Global) ReadFault → (ReadFault → EngineFault) → Option (List ℕ) → Option (List ℕ) → Result Outcome EngineFault → (List ℕ → Type 0) → Type 0
+AfterRead (Err fault) comes_to old new result made = (result ≡ Err (comes_to fault)) × Keeps old new
+AfterRead (Ok bytes) comes_to old new result made = made bytes.items
+
 -- what a failed read of the source comes to, and of the input
 abbrev pub of_source : ReadFault → EngineFault
 of_source (reading.Reader e) = Source e
@@ -157,3 +212,13 @@ pub record HasStatus (allows : Outcome → List ℕ → Type 0) (status : ℕ) :
 -- the status of a file or of writing, of memory, or one that is allowed
 abbrev pub EndsAs : ℕ → Type 0 → Type 0
 EndsAs status allowed = (status ≡ 4) ⊎ ((status ≡ 5) ⊎ allowed)
+
+-- the status of a text that was printed: 0, or that of writing
+abbrev pub OfPrint : ℕ → Type 0
+OfPrint status = (status ≡ 0) ⊎ (status ≡ 4)
+
+-- the exit status of a command, by texts that its files may hold
+abbrev pub Obeys : Command → ℕ → Type 0
+Obeys (Check file) status = EndsAs status ((text : List ℕ) × HasStatus (Checks text) status)
+Obeys (Seq file input store) status = EndsAs status ((text : List ℕ) × (given : List ℕ) × HasStatus (Runs store text given) status)
+Obeys (Explain number) status = OfPrint status

@@ -23,14 +23,14 @@ pub enum Command<'a> {
         input: Option<&'a str>,
         store: bool,
     },
-    /// `explain N`: what this refusal or fault means.
-    Explain(u8),
+    /// `explain [N]`: what this refusal or fault means; without a number, which numbers there are.
+    Explain(Option<u8>),
 }
 
 /// Why the words of a command line name no command.
 #[derive(Debug, Drop, Error)]
 pub enum LineFault {
-    /// They ask for help, which is no mistake.
+    /// They ask for help or for the version, which is no mistake.
     #[error("{0}")]
     Help(clap::Error),
     /// They are none of the program's command lines.
@@ -40,7 +40,7 @@ pub enum LineFault {
     #[error("error: no command was given\n\nUsage: doac <COMMAND>\n\nFor more information, try '--help'.\n")]
     NoCommand,
     /// They ask to explain a number that is no refusal's and no fault's.
-    #[error("error: no refusal and no fault has this number\n\nUsage: doac explain <N>\n\nFor more information, try '--help'.\n")]
+    #[error("error: no refusal and no fault has this number\n\nUsage: doac explain [N]\n\nFor more information, try '--help'.\n")]
     NoSuchNumber,
     /// Memory was refused.
     #[error("out of memory\n")]
@@ -79,6 +79,7 @@ impl From<clap::Error> for LineFault {
     fn from(error: clap::Error) -> Self {
         match error.kind() {
             ErrorKind::DisplayHelp => LineFault::Help(error),
+            ErrorKind::DisplayVersion => LineFault::Help(error),
             ErrorKind::OutOfMemory => LineFault::Memory,
             _ => LineFault::Mistake(error),
         }
@@ -149,8 +150,8 @@ fn explaining<'a>(given: &ArgMatches<'a>) -> Result<Command<'a>, LineFault>
     ensures refused { IfErr result (HoldsNone (codes "explain") (rows_of (found_of given.now))) }
 {
     match text(given, "N") {
-        Some(number) => Ok(Command::Explain(explained(number)?)),
-        None => Err(LineFault::NoCommand),
+        Some(number) => Ok(Command::Explain(Some(explained(number)?))),
+        None => Ok(Command::Explain(None)),
     }
 }
 

@@ -42,10 +42,9 @@ fn number<'a>(alloc: Global) -> Arg<'a>
     ensures rule { rule_of result ≡ number }
     ensures local { result.global ≡ false }
 {
-    Arg::new(alloc, "N")
-        .required(true)
-        .action(ArgAction::Set)
-        .help("The number behind REFUSED or FAULT")
+    Arg::new(alloc, "N").action(ArgAction::Set).help(
+        "The number behind REFUSED or FAULT; without it all are listed",
+    )
 }
 
 /// The program's command lines.
@@ -66,7 +65,7 @@ fn parser<'a>(alloc: Global) -> Result<clap::Command<'a>, AllocError>
     clap::Command::new(alloc, "doac")
         .about("Checks and runs FORTRAN 77 programs")
         .subcommand_required(true)
-        .disable_help_subcommand(true)
+        .version("0.1.0")
         .subcommand(check)?
         .subcommand(seq)?
         .subcommand(explain)

@@ -6,15 +6,24 @@ mod command_line;
 mod engines;
 mod explain;
 mod fault;
+mod faults;
+mod files;
+mod hints;
 mod loops;
+mod message;
 mod outcome;
 mod page;
 mod program;
+mod refusals;
 mod row;
 mod rows;
 mod shown;
 mod store;
 mod streams;
+mod usage;
+mod verdict;
+mod visible;
+mod warnings;
 
 use std::process::ExitCode;
 

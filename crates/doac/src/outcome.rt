@@ -3,17 +3,18 @@
 ghost use Rattle.std.specs.Prelude.{◌≡◌};
 ghost use Rattle.doac.specs.Engines.{status_of};
 
-use ast::Fault;
+use ast::{Fault, Line};
 
-/// How an engine's work on a source ended.
+/// How an engine's work on a source ended. Lines are counted from 1; a refusal for what an empty
+/// file lacks has line 0.
 #[derive(Clone, Copy, Debug, PartialEq, Eq)]
 pub enum Outcome {
     /// The source was accepted, and its run, if it was wanted, came to END or to a STOP.
     Completed,
-    /// The source was refused by this number.
-    Refused(u8),
-    /// The run faulted.
-    Faulted(Fault),
+    /// The source was refused by this number, at this line.
+    Refused { number: u8, line: Line },
+    /// The run faulted at this line.
+    Faulted { fault: Fault, line: Line },
 }
 
 impl Outcome {
@@ -26,8 +27,8 @@ impl Outcome {
     {
         match self {
             Outcome::Completed => 0,
-            Outcome::Refused(_) => 1,
-            Outcome::Faulted(_) => 2,
+            Outcome::Refused { .. } => 1,
+            Outcome::Faulted { .. } => 2,
         }
     }
 }

@@ -4,7 +4,7 @@ ghost use Rattle.std.specs.Prelude.{◌≡◌, ◌++◌, ◌≤◌, IfOk, OnOk, 
 ghost use Rattle.ast.specs.Program.{loops_in};
 ghost use Rattle.ast.specs.ProgramView.{program as program_of};
 ghost use Rattle.ast.specs.View.{cells, symbol as symbol_of};
-ghost use Rattle.doac.specs.Engines.{Checks, Runs, ShowsRun, outcome_of};
+ghost use Rattle.doac.specs.Engines.{IsJudged, Runs, ShowsRun, Tells, outcome_of};
 ghost use Rattle.doac.specs.Shown.{EndShown, Extends, accepted, refused};
 ghost use Rattle.doac.specs.View.{row_view, rows_from};
 
@@ -16,9 +16,9 @@ use crate::rows::rows;
 use crate::shown::{append_accepted, append_fault, append_refused, append_stopped};
 use crate::store::append_store;
 use crate::streams::write_all;
-use ast::{Answer, End, Line, Program, Refusal};
+use crate::verdict::{Verdict, judged};
+use ast::{Answer, End, Line, Program};
 use interpreter::run_seq;
-use profile_check::program;
 use std::alloc::{AllocError, Global};
 use std::io::Write;
 
@@ -29,14 +29,14 @@ pub struct Page {
     pub outcome: Outcome,
 }
 
-/// What `check` writes of a source.
-pub fn checked(alloc: Global, source: &[u8]) -> Result<Page, AllocError>
-    ensures { IfOk result (λ page. Checks source.now page.outcome page.text.items) }
+/// What `check` writes of a verdict.
+pub fn told(alloc: Global, verdict: &Verdict) -> Result<Page, AllocError>
+    requires { IsJudged verdict.now }
+    ensures { IfOk result (λ page. Tells verdict.now page.outcome page.text.items) }
 {
-    match program(alloc, source) {
-        Ok(program) => accepted(alloc, &program),
-        Err(Refusal::Refused { number, line }) => refused(alloc, number, line),
-        Err(Refusal::Memory) => Err(AllocError),
+    match verdict {
+        Verdict::Accepted(program) => accepted(alloc, program),
+        Verdict::Refused { number, line } => refused(alloc, *number, *line),
     }
 }
 
@@ -44,10 +44,9 @@ pub fn checked(alloc: Global, source: &[u8]) -> Result<Page, AllocError>
 pub fn run(alloc: Global, source: &[u8], input: &[u8], store: bool) -> Result<Page, AllocError>
     ensures { IfOk result (λ page. Runs store source.now input.now page.outcome page.text.items) }
 {
-    match program(alloc, source) {
-        Ok(program) => ran(alloc, &program, input, store),
-        Err(Refusal::Refused { number, line }) => refused(alloc, number, line),
-        Err(Refusal::Memory) => Err(AllocError),
+    match judged(alloc, source)? {
+        Verdict::Accepted(program) => ran(alloc, &program, input, store),
+        Verdict::Refused { number, line } => refused(alloc, number, line),
     }
 }
 
@@ -65,14 +64,14 @@ fn accepted(alloc: Global, program: &Program) -> Result<Page, AllocError>
 }
 
 fn refused(alloc: Global, number: u8, line: Line) -> Result<Page, AllocError>
-    ensures { IfOk result (λ page. (page.outcome ≡ Outcome.Refused number)
+    ensures { IfOk result (λ page. (page.outcome ≡ Outcome.Refused number line)
         × (page.text.items ≡ refused number line)) }
 {
     let mut text = Vec::new(alloc);
     append_refused(&mut text, number, line)?;
     Ok(Page {
         text,
-        outcome: Outcome::Refused(number),
+        outcome: Outcome::Refused { number, line },
     })
 }
 
@@ -103,7 +102,7 @@ fn outcome(end: End) -> Outcome
     match end {
         End::Done => Outcome::Completed,
         End::Stopped(_) => Outcome::Completed,
-        End::Fault(fault, _) => Outcome::Faulted(fault),
+        End::Fault(fault, line) => Outcome::Faulted { fault, line },
     }
 }
 

@@ -1,18 +1,20 @@
 //! The program: its words, its files, and what it says on standard error.
 
-ghost use Rattle.std.specs.Prelude.{◌≡◌};
-ghost use Rattle.doac.specs.Engines.{EndsAs, HasStatus, OfText, Runs, exit_of};
+ghost use Rattle.std.specs.Prelude.{◌≡◌, ℕ, List};
+ghost use Rattle.doac.specs.Engines.{Checks, EndsAs, HasStatus, Obeys, OfPrint, Runs, exit_of, file_status};
 
 use crate::command::{Command, LineFault};
 use crate::command_line::command;
-use crate::engines::{check_outcome, seq_outcome};
-use crate::explain::explain;
+use crate::engines::{seq_texts, tell_verdict};
+use crate::explain;
 use crate::fault::EngineFault;
+use crate::files::{FileFault, read_file};
+use crate::message::{Message, Place};
 use crate::outcome::Outcome;
-use crate::shown::fault_number;
-use std::io::{self, Read};
+use crate::verdict::{Verdict, judged};
+use crate::warnings::warn;
 use std::rt::{Env, Files};
-use std::{env, fs};
+use std::{env, io};
 
 /// Does what the words of the command line ask for, and gives the exit status.
 pub fn run<R: Env + Files + Print + Eprint + AllocGlobal>(rt: &R) -> u8 {
@@ -34,24 +36,40 @@ fn words<R: Env + AllocGlobal>(rt: &R) -> io::Result<Vec<String>> {
 }
 
 fn refuse_words<R: Eprint>(rt: &R, error: &io::Error) -> u8 {
-    let _ = eprintln!(rt; "doac: reading the command line failed: {error}");
     match error.kind() {
-        io::ErrorKind::OutOfMemory => 5,
-        _ => 3,
+        io::ErrorKind::OutOfMemory => {
+            let _ = eprintln!(rt; "doac: out of memory");
+            5
+        }
+        io::ErrorKind::InvalidData => {
+            let _ = eprintln!(rt; "doac: a word of the command line is not UTF-8");
+            3
+        }
+        _ => {
+            let _ = eprintln!(rt; "doac: reading the command line failed: {error}");
+            3
+        }
     }
 }
 
 fn refuse_line<R: Print + Eprint>(rt: &R, fault: &LineFault) -> u8 {
     match fault {
         LineFault::Help(text) => status_of_print(rt, rt.print(text)),
+        LineFault::Memory => {
+            let _ = eprintln!(rt; "doac: out of memory");
+            fault.status()
+        }
         _ => {
             let _ = rt.eprint(fault);
+            let _ = eprintln!(rt; "The commands are check, seq and explain.");
             fault.status()
         }
     }
 }
 
-fn status_of_print<R: Eprint>(rt: &R, printed: io::Result<()>) -> u8 {
+fn status_of_print<R: Eprint>(rt: &R, printed: io::Result<()>) -> u8
+    ensures { OfPrint result }
+{
     match printed {
         Ok(()) => 0,
         Err(error) => {
@@ -61,74 +79,100 @@ fn status_of_print<R: Eprint>(rt: &R, printed: io::Result<()>) -> u8 {
     }
 }
 
-fn obey<R: Files + Print + Eprint + AllocGlobal>(rt: &R, command: Command<'_>) -> u8 {
+fn obey<R: Files + Print + Eprint + AllocGlobal>(rt: &R, command: Command<'_>) -> u8
+    ensures { Obeys command.entry result }
+{
     match command {
         Command::Check(source) => check_file(rt, source),
         Command::Seq {
             source,
             input,
             store,
-        } => seq_file(rt, source, input, store),
-        Command::Explain(number) => status_of_print(rt, explain(rt, number)),
+        } => seq_files(rt, source, input, store),
+        Command::Explain(Some(number)) => status_of_print(rt, explain::explain(rt, number)),
+        Command::Explain(None) => status_of_print(rt, explain::list(rt)),
     }
 }
 
-fn check_file<R: Files + Print + Eprint + AllocGlobal>(rt: &R, source: &str) -> u8 {
-    let mut text = match fs::open(rt, source) {
-        Ok(file) => file,
-        Err(error) => return refuse_file(rt, source, &error),
-    };
-    let outcome = check_outcome(rt.alloc(), &mut text, &mut io::writer(rt));
-    tell(rt, outcome)
+fn check_file<R: Files + Print + Eprint + AllocGlobal>(rt: &R, name: &str) -> u8
+    ensures { EndsAs result ((text : List ℕ) × HasStatus (Checks text) result) }
+{
+    match read_file(rt, name) {
+        Ok(text) => check_source(rt, name, &text),
+        Err(fault) => refuse_file(rt, name, &fault),
+    }
 }
 
-fn seq_file<R: Files + Print + Eprint + AllocGlobal>(
+/// Checks the text of a file; standard error has its warnings or its message.
+fn check_source<R: Print + Eprint + AllocGlobal>(rt: &R, name: &str, text: &[u8]) -> u8
+    ensures { EndsAs result (HasStatus (Checks text.now) result) }
+{
+    match judged(rt.alloc(), text) {
+        Ok(verdict) => {
+            let outcome = tell_verdict(rt.alloc(), &verdict, &mut io::writer(rt));
+            if let Verdict::Accepted(program) = &verdict {
+                warn(rt, name, text, program);
+            }
+            tell(rt, name, text, outcome)
+        }
+        Err(_) => tell(rt, name, text, Err(EngineFault::Memory)),
+    }
+}
+
+fn seq_files<R: Files + Print + Eprint + AllocGlobal>(
     rt: &R,
-    source: &str,
+    name: &str,
     input: Option<&str>,
     store: bool,
-) -> u8 {
-    let mut text = match fs::open(rt, source) {
-        Ok(file) => file,
-        Err(error) => return refuse_file(rt, source, &error),
+) -> u8
+    ensures { EndsAs result ((text : List ℕ) × (given : List ℕ) × HasStatus (Runs store text given) result) }
+{
+    let text = match read_file(rt, name) {
+        Ok(text) => text,
+        Err(fault) => return refuse_file(rt, name, &fault),
     };
     let Some(input) = input else {
-        let mut nothing: &[u8] = &[];
-        return seq_readers(rt, &mut text, &mut nothing, store);
+        return seq_source(rt, name, &text, &[], store);
     };
-    match fs::open(rt, input) {
-        Ok(mut given) => seq_readers(rt, &mut text, &mut given, store),
-        Err(error) => refuse_file(rt, input, &error),
+    match read_file(rt, input) {
+        Ok(given) => seq_source(rt, name, &text, &given, store),
+        Err(fault) => refuse_file(rt, input, &fault),
     }
 }
 
-fn seq_readers<R: Print + Eprint + AllocGlobal, S: Read, I: Read>(
+/// Runs the text of a file on an input; standard error has its message.
+fn seq_source<R: Print + Eprint + AllocGlobal>(
     rt: &R,
-    source: &mut S,
-    input: &mut I,
+    name: &str,
+    text: &[u8],
+    input: &[u8],
     store: bool,
 ) -> u8
-    ensures { EndsAs result (OfText (S.remaining source.old) (λ text. OfText (I.remaining input.old) (λ given. HasStatus (Runs store text given) result))) }
+    ensures { EndsAs result (HasStatus (Runs store text.now input.now) result) }
 {
-    let outcome = seq_outcome(rt.alloc(), source, input, store, &mut io::writer(rt));
-    tell(rt, outcome)
+    let outcome = seq_texts(rt.alloc(), text, input, store, &mut io::writer(rt));
+    tell(rt, name, text, outcome)
 }
 
-/// Says on standard error why a file can't be opened; the exit status is 4, whatever the reason.
-fn refuse_file<R: Eprint>(rt: &R, name: &str, error: &io::Error) -> u8
-    ensures { result ≡ 4 }
+/// Says on standard error why a file's bytes can't be had, and gives the exit status.
+fn refuse_file<R: Eprint>(rt: &R, name: &str, fault: &FileFault) -> u8
+    ensures { result ≡ file_status fault.now }
 {
-    let _ = eprintln!(rt; "doac: {name}: {error}");
-    4
+    let file = name;
+    let _ = eprintln!(rt; "{}{fault}", Place { file, line: 0 });
+    fault.status()
 }
 
-/// Says on standard error what failed, or where a number is explained, and gives the exit status.
-fn tell<R: Eprint>(rt: &R, outcome: Result<Outcome, EngineFault>) -> u8
+/// Says on standard error what is wrong with a file's text, or what failed, and gives the exit
+/// status.
+fn tell<R: Eprint>(rt: &R, name: &str, text: &[u8], outcome: Result<Outcome, EngineFault>) -> u8
     ensures { result ≡ exit_of outcome }
 {
     match outcome {
         Ok(outcome) => {
-            point_to_explanation(rt, outcome);
+            if let Some(message) = Message::of(name, text, outcome) {
+                let _ = rt.eprint(message);
+            }
             outcome.status()
         }
         Err(fault) => {
@@ -136,13 +180,4 @@ fn tell<R: Eprint>(rt: &R, outcome: Result<Outcome, EngineFault>) -> u8
             fault.status()
         }
     }
-}
-
-fn point_to_explanation<R: Eprint>(rt: &R, outcome: Outcome) {
-    let number = match outcome {
-        Outcome::Completed => return,
-        Outcome::Refused(number) => number,
-        Outcome::Faulted(fault) => fault_number(fault),
-    };
-    let _ = eprintln!(rt; "doac: for what this means, try 'doac explain {number}'");
 }

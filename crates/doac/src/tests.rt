@@ -1,13 +1,18 @@
 use crate::command::{Command, LineFault};
 use crate::command_line::command;
-use crate::engines::{check, seq};
+use crate::engines::{check, check_text, seq, seq_texts};
+use crate::explain::{Explanation, Origin, fault, is_explained, refusal};
 use crate::fault::EngineFault;
+use crate::faults::FAULTS;
+use crate::message::Message;
+use crate::outcome::Outcome;
+use crate::refusals::REFUSALS;
 use std::alloc::{AllocError, Global};
 use std::io::{self, Error, ErrorKind, Read, Write};
 use std::process::Abort;
 use std::test::Fail;
 
-const FAULTS: &[u8] = b"      PRINT *,1\n      PRINT *,2,1/0\n      END\n";
+const DIVIDES: &[u8] = b"      PRINT *,1\n      PRINT *,2,1/0\n      END\n";
 
 /// A reader that fails at once.
 #[derive(Drop)]
@@ -127,7 +132,7 @@ fn stores(rt: HostRuntime) -> Result<(), Fail> {
 fn ends(rt: HostRuntime) -> Result<(), Fail> {
     let stops: &[u8] = b"      PRINT *,1\n      IF (K.EQ.0) STOP\n      PRINT *,2\n      END\n";
     runs(&rt, stops, b"", b" 1\nSTOPPED LINE 2\n", 0)?;
-    runs(&rt, FAULTS, b"", b" 1\nFAULT 3 ZERO DIVISOR LINE 2\n", 2)?;
+    runs(&rt, DIVIDES, b"", b" 1\nFAULT 3 ZERO DIVISOR LINE 2\n", 2)?;
     let rows: [(&[u8], &[u8], &[u8]); 5] = [
         (
             b"      K=-9223372036854775807-2\n      END\n",
@@ -166,7 +171,7 @@ fn checks(rt: HostRuntime) -> Result<(), Fail> {
     let nested: &[u8] =
         b"      DO 10 I=1,2\n      IF (I.EQ.1) THEN\n      DO 20 J=1,2\n   20 PRINT *,J\n      ELSE\n      K=1\n      END IF\n   10 CONTINUE\n      END\n";
     let rows: [(&[u8], &[u8], u8); 4] = [
-        (FAULTS, b"ACCEPTED STATEMENTS 3 LOOPS 0\n", 0),
+        (DIVIDES, b"ACCEPTED STATEMENTS 3 LOOPS 0\n", 0),
         (nested, b"ACCEPTED STATEMENTS 9 LOOPS 2\n", 0),
         (b"", b"REFUSED 7 LINE 0\n", 1),
         (
@@ -274,7 +279,7 @@ fn writers_that_fail(rt: HostRuntime) -> Result<(), Fail> {
         (0, false, 4),
     ];
     for (room, fails, status) in rows {
-        let mut source = FAULTS;
+        let mut source = DIVIDES;
         let mut input: &[u8] = b"";
         let mut out = Narrow {
             taken: Vec::new(rt.alloc()),
@@ -285,7 +290,7 @@ fn writers_that_fail(rt: HostRuntime) -> Result<(), Fail> {
         assert_eq!(rt; status_of(given), status);
         assert_eq!(rt; out.taken.as_slice(), &whole[..room]);
     }
-    let mut source = FAULTS;
+    let mut source = DIVIDES;
     let mut out = with_room(rt.alloc(), 5)?;
     assert_eq!(rt; status_of(check(rt.alloc(), &mut source, &mut out)), 4);
     assert_eq!(rt; out.taken.as_slice(), b"ACCEP".as_slice());
@@ -308,7 +313,7 @@ fn readers_that_fail(rt: HostRuntime) -> Result<(), Fail> {
     let mut input: &[u8] = b"";
     let unread = seq(rt.alloc(), &mut cut, &mut input, false, &mut out);
     assert!(rt; matches!(&unread, Err(EngineFault::Source(_))));
-    let mut source = FAULTS;
+    let mut source = DIVIDES;
     let mut cut = Interrupted { bytes: b"5\n" };
     let unread = seq(rt.alloc(), &mut source, &mut cut, false, &mut out);
     assert!(rt; matches!(&unread, Err(EngineFault::Input(_))));
@@ -348,9 +353,15 @@ fn command_lines(rt: HostRuntime) -> Result<(), Fail> {
     );
     assert_eq!(rt;
         command(rt.alloc(), &["doac", "explain", "22"])?,
-        Command::Explain(22)
+        Command::Explain(Some(22))
+    );
+    assert_eq!(rt;
+        command(rt.alloc(), &["doac", "explain"])?,
+        Command::Explain(None)
     );
     refused(&rt, &["doac", "--help"], 0);
+    refused(&rt, &["doac", "--version"], 0);
+    refused(&rt, &["doac", "help"], 0);
     refused(&rt, &["doac", "seq", "--help"], 0);
     refused(&rt, &["doac"], 3);
     refused(&rt, &["doac", "list", "F"], 3);
@@ -424,6 +435,258 @@ fn want_of_memory_in_command_lines(rt: HostRuntime) -> Result<(), Fail> {
             return Err(AllocError)?;
         }
         given => assert_eq!(rt; given?, wanted),
+    }
+    Ok(())
+}
+
+/// The message of a source that is refused, for a file of this name.
+fn message_of(rt: &(impl Abort + AllocGlobal), file: &str, source: &[u8]) -> Result<String, Fail> {
+    let mut out = Vec::new(rt.alloc());
+    let outcome = check_text(rt.alloc(), source, &mut out)?;
+    match Message::of(file, source, outcome) {
+        Some(message) => Ok(format!(in rt.alloc(); "{message}")?),
+        None => panic!(rt; "a mistake was accepted"),
+    }
+}
+
+/// What users of other compilers write most often, with the sentence that they see.
+#[test]
+fn mistakes(rt: HostRuntime) -> Result<(), Fail> {
+    let rows: [(&[u8], &str); 42] = [
+        (
+            b"\tK=1\n      END\n",
+            "f:1: refused: a character that may not stand in columns 1 to 72\n\\tK=1\nhint: a tab",
+        ),
+        (
+            b"\xEF\xBB\xBF      K=1\n      END\n",
+            "f:1: refused: a character that may not stand in columns 1 to 72\n",
+        ),
+        (
+            b"      K=2\xE2\x88\x921\n      END\n",
+            "f:1: refused: a character that may not stand in columns 1 to 72\n",
+        ),
+        (
+            b"K=1\n      END\n",
+            "f:1: refused: columns 1 to 5 hold something that is no label\nK=1\nhint: a statement begins in column 7",
+        ),
+        (
+            b"     K=1\n      END\n",
+            "f:1: refused: a continuation line that continues nothing\n     K=1\nhint: a statement begins in column 7",
+        ),
+        (
+            b"      K=1\nPRINT*,K\n      END\n",
+            "f:2: refused: something stands before a continuation line\nPRINT*,K\nhint: a statement begins in column 7",
+        ),
+        (
+            b"! a note\n      END\n",
+            "f:1: refused: something stands before a continuation line\n! a note\n",
+        ),
+        (
+            b"      K=2**3\n      END\n",
+            "f:1: refused: the statement is not well formed\n      K=2**3\nhint: there is no power; write a product\n",
+        ),
+        (
+            b"      K=1 ! one\n      END\n",
+            "f:1: refused: the statement is not well formed\n      K=1 ! one\nhint: '!' begins no comment",
+        ),
+        (
+            b"      PRINT *,\"HI\"\n      END\n",
+            "f:1: refused: the statement is not well formed\n      PRINT *,\"HI\"\nhint: a text stands between apostrophes\n",
+        ),
+        (
+            b"      MY_K=1\n      END\n",
+            "f:1: refused: the statement is not well formed\n      MY_K=1\nhint: a name has letters and digits alone\n",
+        ),
+        (
+            b"      INTEGER :: K\n      END\n",
+            "f:1: refused: the statement is not well formed\n      INTEGER :: K\nhint: a declaration has no '::'",
+        ),
+        (
+            b"      K=1; L=2\n      END\n",
+            "f:1: refused: the statement is not well formed\n      K=1; L=2\nhint: a line holds one statement\n",
+        ),
+        (
+            b"      DO I=1,3\n      END\n",
+            "f:1: refused: the statement is not well formed\n      DO I=1,3\nhint: a DO names the label",
+        ),
+        (
+            b"      DO 10 I=1.10\n   10 CONTINUE\n      END\n",
+            "f:1: refused: a real constant\n      DO 10 I=1.10\nhint: commas stand between",
+        ),
+        (
+            b"      END DO\n      END\n",
+            "f:1: refused: a statement that is left out for good\n",
+        ),
+        (
+            b"      GO TO 10\n      END\n",
+            "f:1: refused: a statement that is left out for good\n",
+        ),
+        (
+            b"      REAL X\n      END\n",
+            "f:1: refused: a statement that is left out for good\n",
+        ),
+        (
+            b"      CALL S(K)\n      END\n",
+            "f:1: refused: a statement that is left out for good\n",
+        ),
+        (
+            b"      PRINT 'HI'\n      END\n",
+            "f:1: refused: a statement that is left out for good\n",
+        ),
+        (
+            b"      WRITE(6,*) K\n      END\n",
+            "f:1: refused: a statement that is left out for good\n",
+        ),
+        (
+            b"      READ(5,*) K\n      END\n",
+            "f:1: refused: a statement that is left out for good\n",
+        ),
+        (
+            b"      X=1\n      END\n",
+            "f:1: refused: a name is not an integer\n",
+        ),
+        (
+            b"      IF (K=1) L=2\n      END\n",
+            "f:1: refused: the statement is not well formed\n",
+        ),
+        (
+            b"      IF (K==1) L=2\n      END\n",
+            "f:1: refused: the statement is not well formed\n      IF (K==1) L=2\nhint: write .EQ. in the place of '=='\n",
+        ),
+        (
+            b"      IF (K<1) L=2\n      END\n",
+            "f:1: refused: the statement is not well formed\n      IF (K<1) L=2\nhint: write .LT. or .LE.",
+        ),
+        (
+            b"      IF (K.GT.1) THEN\n      END\n",
+            "f:2: refused: the parts of an IF don't fit together\n",
+        ),
+        (
+            b"      ELSE\n      END\n",
+            "f:1: refused: the parts of an IF don't fit together\n",
+        ),
+        (
+            b"      DO 10 I=1,3\n      K=I\n      END\n",
+            "f:3: refused: a loop has no end, or two loops cross\n",
+        ),
+        (
+            b"      K=1.5\n      END\n",
+            "f:1: refused: a real constant\n",
+        ),
+        (
+            b"      PRINT *,'IT'S'\n      END\n",
+            "f:1: refused: a character constant has no end\n",
+        ),
+        (
+            b"      K=1+(2+3+4+5+6+7+8+9+10+11+12+13+14+15+16+17+18+19+20+21+22+23+24+25)\n      END\n",
+            "f:1: refused: the statement is not well formed\n",
+        ),
+        (
+            b"      K(1)=0\n      END\n",
+            "f:1: refused: subscripts or arguments that don't fit\n",
+        ),
+        (
+            b"      INTEGER A(N)\n      END\n",
+            "f:1: refused: a bound or a constant has no value before the run\n",
+        ),
+        (
+            b"      PARAMETER N=3\n      END\n",
+            "f:1: refused: a name is too long\n",
+        ),
+        (
+            b"      K=1\n      INTEGER L\n      END\n",
+            "f:2: refused: statements are in the wrong order\n",
+        ),
+        (
+            b"      K=99999999999999999999\n      END\n",
+            "f:1: refused: a constant is too large\n",
+        ),
+        (b"      K=1\n", "f:1: refused: the source has no END\n"),
+        (b"", "f: refused: the source has no END\n"),
+        (
+            b"      END\n      SUBROUTINE S\n",
+            "f:2: refused: a line after END\n",
+        ),
+        (
+            b"      PRNT *,K\n      END\n",
+            "f:1: refused: no statement begins so\n",
+        ),
+        (
+            b"      IF (K) L=1\n      END\n",
+            "f:1: refused: a number where a truth value belongs, or the other way round\n",
+        ),
+    ];
+    for (source, wanted) in rows {
+        let text = message_of(&rt, "f", source)?;
+        assert!(rt; text.as_str().starts_with(wanted), "{text}");
+    }
+    Ok(())
+}
+
+/// Control characters of a name and of a line don't reach the terminal, and a line is cut.
+#[test]
+fn strange_texts(rt: HostRuntime) -> Result<(), Fail> {
+    let text = message_of(&rt, "a\nb\x1B", b"      K=\x1B[2J\xFF\n      END\n")?;
+    assert_eq!(rt;
+        text.as_str(),
+        "a\\nb\\u{1b}:1: refused: a character that may not stand in columns 1 to 72\n      K=\\u{1b}[2J\u{FFFD}\nFor what this means, try 'doac explain 1'.\n"
+    );
+    let long = [b'='; 300];
+    let text = message_of(&rt, "f", &long)?;
+    assert!(rt; text.as_str().len() < 300);
+    Ok(())
+}
+
+fn example_ends(rt: &(impl Abort + AllocGlobal), entry: &Explanation) -> Result<Outcome, Fail> {
+    trial(rt, entry.origin, entry.example.source, entry.example.input)
+}
+
+fn trial(
+    rt: &(impl Abort + AllocGlobal),
+    origin: Origin,
+    source: &str,
+    input: &str,
+) -> Result<Outcome, Fail> {
+    let mut out = Vec::new(rt.alloc());
+    let source = source.as_bytes();
+    let outcome = match origin {
+        Origin::Refusal => check_text(rt.alloc(), source, &mut out)?,
+        Origin::Fault(_) => seq_texts(rt.alloc(), source, input.as_bytes(), false, &mut out)?,
+    };
+    Ok(outcome)
+}
+
+/// An example of an explanation has its number, and its cure has none.
+fn explained(rt: &(impl Abort + AllocGlobal), entry: &Explanation) -> Result<(), Fail> {
+    if !entry.example.source.is_empty() {
+        match (example_ends(rt, entry)?, entry.origin) {
+            (Outcome::Refused { number, .. }, Origin::Refusal) => {
+                assert_eq!(rt; number, entry.number);
+            }
+            (Outcome::Faulted { fault: kind, .. }, Origin::Fault(wanted)) => {
+                assert_eq!(rt; kind, wanted);
+            }
+            _ => panic!(rt; "the example of {} ends otherwise", entry.number),
+        }
+    }
+    if !entry.cure.source.is_empty() {
+        let cured = trial(rt, entry.origin, entry.cure.source, entry.cure.input)?;
+        assert_eq!(rt; cured, Outcome::Completed, "the cure of {}", entry.number);
+    }
+    Ok(())
+}
+
+#[test]
+fn explanations(rt: HostRuntime) -> Result<(), Fail> {
+    for number in 0..=u8::MAX {
+        assert_eq!(rt; is_explained(number), refusal(number).is_some());
+        assert_eq!(rt; (1..=6).contains(&number), fault(number).is_some());
+    }
+    for entry in &REFUSALS {
+        explained(&rt, entry)?;
+    }
+    for entry in &FAULTS {
+        explained(&rt, entry)?;
     }
     Ok(())
 }

@@ -9,7 +9,7 @@ returns c =
     let check_new : app_of c.about.result ≡ new_app (codes "check") = search (rules, c.about.ensures, c.new.ensures.app) in
     let seq_new : app_of c.about-2.result ≡ new_app (codes "seq") = search (rules, c.about-2.ensures, c.new-2.ensures.app) in
     let explain_new : app_of c.about-3.result ≡ new_app (codes "explain") = search rules in
-    let doac_new : app_of c.disable_help_subcommand.result ≡ wants_subcommand (new_app (codes "doac")) = search rules in
+    let doac_new : app_of c.version.result ≡ wants_subcommand (new_app (codes "doac")) = search rules in
     let check_is : app_of c.in_ok-check.check ≡ check =
     c.in_ok-check.ensures.shape c.source.ensures.local ∙ ap₂ with_rule check_new c.source.ensures.rule in
     let seq_source : app_of c.in_ok-arg.field-0 ≡ with_rule (new_app (codes "seq")) source =

@@ -8,10 +8,10 @@ use Rattle.doac.proofs.page.ran.Goals as goal
 
 pub shown-requires : goal.shown-requires
 shown-requires c =
-    cells_fit (program c.args.program.now) c.args.input.now c.in_ok-answer.answer c.in_ok-answer.ensures ∙ length-map c.args.program.now.symbols.items symbol
+    cells_fit (program c.args.program.now) c.args.input.now c.in_ok-answer.answer c.in_ok-answer.ensures.answer ∙ length-map c.args.program.now.symbols.items symbol
 
 pub returns : goal.returns
 returns c =
     IfOk-weaker c.shown.result _ _
-    (λ page h. shown_of_run c.args.store (program c.args.program.now) c.args.input.now c.in_ok-answer.answer page.outcome page.text.items c.in_ok-answer.ensures h.0 h.1)
+    (λ page h. shown_of_run c.args.store (program c.args.program.now) c.args.input.now c.in_ok-answer.answer page.outcome page.text.items c.in_ok-answer.ensures.answer h.0 h.1)
     c.shown.ensures

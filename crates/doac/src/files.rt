@@ -1,0 +1,50 @@
+//! The files that the program reads.
+
+use crate::fault::ReadFault;
+use crate::streams::read_all;
+use std::rt::Files;
+use std::{fs, io};
+use thiserror::Error;
+
+/// Why the bytes of a file couldn't be had.
+#[derive(Debug, Drop, Error)]
+pub enum FileFault {
+    /// The file couldn't be opened, whatever the reason.
+    #[error("opening failed: {0}")]
+    Opening(io::Error),
+    /// The file was opened, and reading it failed.
+    #[error("reading failed: {0}")]
+    Reading(io::Error),
+    /// Memory for the bytes was refused.
+    #[error("out of memory")]
+    Memory,
+}
+
+impl FileFault {
+    ghost use Rattle.std.specs.Prelude.{◌≡◌};
+    ghost use Rattle.doac.specs.Engines.{file_status};
+
+    /// The exit status: 4 for the file, 5 for memory.
+    pub fn status(&self) -> u8
+        ensures { result ≡ file_status self.now }
+    {
+        match self {
+            FileFault::Opening(_) => 4,
+            FileFault::Reading(_) => 4,
+            FileFault::Memory => 5,
+        }
+    }
+}
+
+/// All bytes of a file.
+pub fn read_file<R: Files + AllocGlobal>(rt: &R, name: &str) -> Result<Vec<u8>, FileFault> {
+    let mut file = match fs::open(rt, name) {
+        Ok(file) => file,
+        Err(error) => return Err(FileFault::Opening(error)),
+    };
+    match read_all(rt.alloc(), &mut file) {
+        Ok(bytes) => Ok(bytes),
+        Err(ReadFault::Reader(error)) => Err(FileFault::Reading(error)),
+        Err(ReadFault::Memory) => Err(FileFault::Memory),
+    }
+}

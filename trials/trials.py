@@ -1,0 +1,226 @@
+#!/usr/bin/env python3
+"""Compares `doac seq` with gfortran on random programs, and makes what differs small.
+
+trials.py [--count N] [--seed S] [--doac PROGRAM] [--batch N] [--jobs N] [--keep FOLDER]
+"""
+
+import argparse
+import concurrent.futures
+import os
+import re
+import subprocess
+import sys
+import tempfile
+
+from programs import Maker, Writer, smaller
+
+FLAGS = ["-std=legacy", "-fdefault-integer-8", "-fcheck=all", "-ftrapv", "-ffixed-form",
+         "-finit-local-zero", "-fno-range-check", "-fmax-errors=0", "-O0", "-w"]
+SECONDS = 20
+
+
+class Answer:
+    """What a run gave: its records without blanks, and how it ended."""
+
+    def __init__(self, records, end):
+        self.records = records
+        self.end = end
+
+    def __eq__(self, other):
+        return self.records == other.records and self.end == other.end
+
+    def __str__(self):
+        return "\n".join(self.records + [f"({self.end})"])
+
+
+def records_of(output):
+    return [line.replace(" ", "") for line in output.split("\n")[:-1]]
+
+
+# ---- doac
+
+FAULT = re.compile(r"^FAULT\d[A-Z]+LINE\d+$")
+
+
+def run_doac(doac, source, data, folder):
+    path = os.path.join(folder, "doac.f")
+    given = os.path.join(folder, "doac.in")
+    with open(path, "w") as file:
+        file.write(source)
+    with open(given, "w") as file:
+        file.write(data)
+    run = subprocess.run([doac, "seq", path, given], capture_output=True, text=True, timeout=SECONDS)
+    records = records_of(run.stdout)
+    if run.returncode == 0:
+        if records and re.match(r"^STOPPEDLINE\d+$", records[-1]):
+            return Answer(records[:-1], "STOP")
+        return Answer(records, "END")
+    if run.returncode == 2 and records and FAULT.match(records[-1]):
+        kind = re.sub(r"^FAULT\d([A-Z]+)LINE\d+$", r"\1", records[-1])
+        return Answer(records[:-1], kind)
+    return Answer(records, f"status {run.returncode}: {run.stderr.strip()}")
+
+
+# ---- gfortran
+
+MAIN = """      PROGRAM TRIALS
+      CHARACTER*8 WORD
+      INTEGER*8 NUMBER
+      CALL GETARG(1,WORD)
+      READ(WORD,'(I8)') NUMBER
+{calls}
+      END
+"""
+
+CALL = """      IF (NUMBER.EQ.{number}) THEN
+      CALL T{number}
+      WRITE(0,'(A)') 'ENDED'
+      END IF
+"""
+
+
+def compile_batch(programs, folder):
+    """One binary of several programs, each a subroutine; None where gfortran refuses."""
+    path = os.path.join(folder, "batch.f")
+    binary = os.path.join(folder, "batch")
+    with open(path, "w") as file:
+        for number, program in enumerate(programs):
+            file.write(Writer(program).source(f"SUBROUTINE T{number}"))
+        calls = "".join(CALL.format(number=number) for number in range(len(programs)))
+        file.write(MAIN.format(calls=calls.rstrip("\n")))
+    made = subprocess.run(["gfortran", *FLAGS, "-o", binary, path], capture_output=True, text=True)
+    return binary if made.returncode == 0 else None
+
+
+def end_of(code, complaint):
+    if "ENDED" in complaint.split("\n"):
+        return "END"
+    if "End of file" in complaint:
+        return "ENDOFINPUT"
+    if "Bad integer" in complaint or "Bad repeat" in complaint:
+        return "BADINPUT"
+    if "bound" in complaint and "runtime error" in complaint:
+        return "INDEX"
+    if "DO step" in complaint or "step" in complaint and "runtime error" in complaint:
+        return "ZEROSTEP"
+    if code == -6:
+        return "OVERFLOW"
+    if code == -8:
+        return "ZERODIVISOR"
+    if code < 0 or "runtime error" in complaint:
+        return f"code {code}: {complaint.strip()}"
+    return "STOP"
+
+
+def run_gfortran(binary, number, data):
+    environment = {**os.environ, "GFORTRAN_UNBUFFERED_PRECONNECTED": "y", "GFORTRAN_ERROR_BACKTRACE": "0"}
+    run = subprocess.run([binary, str(number)], input=data, capture_output=True, text=True,
+                         timeout=SECONDS, env=environment)
+    return Answer(records_of(run.stdout), end_of(run.returncode, run.stderr))
+
+
+# ---- trials
+
+def data_of(program):
+    return "".join(line + "\n" for line in program["input"])
+
+
+def differs(doac, program, folder):
+    """The two answers where they differ; None where they agree or gfortran refuses the program."""
+    binary = compile_batch([program], folder)
+    if binary is None:
+        return None
+    try:
+        theirs = run_gfortran(binary, 0, data_of(program))
+        ours = run_doac(doac, Writer(program).source(), data_of(program), folder)
+    except subprocess.TimeoutExpired:
+        return None
+    return None if ours == theirs else (ours, theirs)
+
+
+def sort_of(answers):
+    """What sort of difference two answers show: a refusal of doac's by its number, or another."""
+    ours, _ = answers
+    refused = re.match(r"^REFUSED\d+", ours.records[0]) if ours.end.startswith("status 1") else None
+    return refused.group() if refused else "answers"
+
+
+def shrunk(doac, program, folder):
+    """The program, made smaller as long as the two answers differ in the same way."""
+    answers = differs(doac, program, folder)
+    found = answers is not None
+    while found:
+        found = False
+        for less in smaller(program):
+            now = differs(doac, less, folder)
+            if now and sort_of(now) == sort_of(answers):
+                program, found = less, True
+                break
+    return program
+
+
+def try_batch(doac, seeds):
+    """Tries the programs of the seeds: how many were judged, and those that differ."""
+    programs = [Maker(seed).program() for seed in seeds]
+    with tempfile.TemporaryDirectory() as folder:
+        binary = compile_batch(programs, folder)
+        if binary is None:
+            if len(seeds) == 1:
+                return 0, []
+            half = len(seeds) // 2
+            first, second = try_batch(doac, seeds[:half]), try_batch(doac, seeds[half:])
+            return first[0] + second[0], first[1] + second[1]
+        judged, different = 0, []
+        for number, program in enumerate(programs):
+            try:
+                theirs = run_gfortran(binary, number, data_of(program))
+                ours = run_doac(doac, Writer(program).source(), data_of(program), folder)
+            except subprocess.TimeoutExpired:
+                continue
+            judged += 1
+            if ours != theirs:
+                different.append(program)
+        return judged, different
+
+
+def report(doac, program, keep):
+    with tempfile.TemporaryDirectory() as folder:
+        small = shrunk(doac, program, folder)
+        ours, theirs = differs(doac, small, folder) or ("(agrees again)", "(agrees again)")
+        source = Writer(small).source()
+        print(f"--- a difference\n{source}", end="")
+        if small["input"]:
+            print(f"--- with the input\n{data_of(small)}", end="")
+        print(f"--- doac\n{ours}\n--- gfortran\n{theirs}\n")
+        if keep:
+            os.makedirs(keep, exist_ok=True)
+            number = len(os.listdir(keep))
+            with open(os.path.join(keep, f"{number}.f"), "w") as file:
+                file.write(source)
+
+
+def main():
+    here = os.path.dirname(os.path.abspath(__file__))
+    parser = argparse.ArgumentParser(description=__doc__.split("\n")[0])
+    parser.add_argument("--count", type=int, default=1000, help="how many programs (1,000)")
+    parser.add_argument("--seed", type=int, default=1, help="the first program's seed (1)")
+    parser.add_argument("--doac", default=os.path.join(here, "..", "doac"), help="the binary to try")
+    parser.add_argument("--batch", type=int, default=50, help="programs in one compilation (50)")
+    parser.add_argument("--jobs", type=int, default=os.cpu_count(), help="batches at once")
+    parser.add_argument("--keep", help="a folder for the programs that differ")
+    options = parser.parse_args()
+    seeds = list(range(options.seed, options.seed + options.count))
+    batches = [seeds[at:at + options.batch] for at in range(0, len(seeds), options.batch)]
+    judged, different = 0, []
+    with concurrent.futures.ThreadPoolExecutor(options.jobs) as pool:
+        for count, found in pool.map(lambda batch: try_batch(options.doac, batch), batches):
+            judged += count
+            different += found
+    for program in different[:10]:
+        report(options.doac, program, options.keep)
+    print(f"{options.count} programs: {judged} compared, {options.count - judged} not, {len(different)} differ")
+    return 1 if different else 0
+
+
+if __name__ == "__main__":
+    sys.exit(main())
