@@ -1,6 +1,6 @@
 //! What the numbers of refusals and faults mean, and how that is printed.
 
-ghost use Rattle.std.specs.Prelude.{◌≡◌};
+ghost use Rattle.std.specs.Prelude.{◌≡◌, IfSome};
 ghost use Rattle.doac.specs.CommandLine as line;
 
 use crate::faults::FAULTS;
@@ -99,7 +99,9 @@ fn is_within(least: u8, most: u8, number: u8) -> bool
 }
 
 /// What a refusal's number means.
-pub fn refusal(number: u8) -> Option<Explanation> {
+pub fn refusal(number: u8) -> Option<Explanation>
+    ensures { IfSome result (λ explanation. explanation.number ≡ number) }
+{
     for entry in REFUSALS {
         if entry.number == number {
             return Some(entry);
@@ -109,7 +111,9 @@ pub fn refusal(number: u8) -> Option<Explanation> {
 }
 
 /// What a fault's number means.
-pub fn fault(number: u8) -> Option<Explanation> {
+pub fn fault(number: u8) -> Option<Explanation>
+    ensures { IfSome result (λ explanation. explanation.number ≡ number) }
+{
     for entry in FAULTS {
         if entry.number == number {
             return Some(entry);

@@ -1,6 +1,7 @@
 //! `doac`: checks and runs FORTRAN 77 programs.
 #![tactic(auto)]
 
+mod columns;
 mod command;
 mod command_line;
 mod engines;
