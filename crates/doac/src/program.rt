@@ -1,6 +1,6 @@
 //! The program: its words, its files, and what it says on standard error.
 
-ghost use Rattle.std.specs.Prelude.{◌≡◌, ℕ, List};
+ghost use Rattle.std.specs.Prelude.{◌≡◌, ℕ, List, option_map};
 ghost use Rattle.doac.specs.Engines.{AfterFile, Checks, EndsAs, HasStatus, Obeys, OfGiven, OfPrint, Runs, exit_of, file_status};
 
 use crate::command::{Command, LineFault};
@@ -137,7 +137,7 @@ fn seq_files<R: Files + Print + Eprint + AllocGlobal>(
     input: Option<&str>,
     store: bool,
 ) -> u8
-    ensures { EndsAs result ((text : List ℕ) × OfGiven input (λ given. HasStatus (Runs store text given) result)) }
+    ensures { EndsAs result ((text : List ℕ) × OfGiven (option_map (λ i. i.now) input.entry) (λ given. HasStatus (Runs store text given) result)) }
 {
     let text = read_file(rt, name);
     seq_given(rt, name, text, input, store)
@@ -151,7 +151,7 @@ fn seq_given<R: Files + Print + Eprint + AllocGlobal>(
     input: Option<&str>,
     store: bool,
 ) -> u8
-    ensures { AfterFile text result (λ text. EndsAs result (OfGiven input (λ given. HasStatus (Runs store text given) result))) }
+    ensures { AfterFile text result (λ text. EndsAs result (OfGiven (option_map (λ i. i.now) input.entry) (λ given. HasStatus (Runs store text given) result))) }
 {
     match text {
         Ok(text) => seq_file(rt, name, &text, input, store),
@@ -167,7 +167,7 @@ fn seq_file<R: Files + Print + Eprint + AllocGlobal>(
     input: Option<&str>,
     store: bool,
 ) -> u8
-    ensures { EndsAs result (OfGiven input (λ given. HasStatus (Runs store text.now given) result)) }
+    ensures { EndsAs result (OfGiven (option_map (λ i. i.now) input.entry) (λ given. HasStatus (Runs store text.now given) result)) }
 {
     let Some(input) = input else {
         return seq_source(rt, name, text, &[], store);
