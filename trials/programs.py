@@ -278,7 +278,8 @@ class Writer:
             self.lines.append(self.random.choice(("C a comment", "* another", "")))
         first = 66
         # (an initial line of END alone ends the program, whatever continues it)
-        if self.chance(0.1) and len(text) > 4 and "'" not in text and text[:3].upper() != "END":
+        begins_end = text.replace(" ", "").upper().startswith("END")
+        if self.chance(0.1) and len(text) > 4 and "'" not in text and not begins_end:
             first = self.random.randrange(2, min(len(text), 66))
         self.lines.append(head + text[:first])
         text = text[first:]
