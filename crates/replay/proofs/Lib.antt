@@ -1,0 +1,6 @@
+pub mod Keeping
+pub mod Lists
+pub mod Numbers
+pub mod Parsing
+pub mod Texts
+pub mod Wholes

@@ -1,0 +1,107 @@
+-- Whole texts: schedules with entries added, and texts that are of one schedule or of none.
+use Rattle.std.proofs.Common.{◌≡◌, ◌≢◌, ℕ, ◌<◌, ◌≤◌, List, [], ◌∷◌, ◌++◌, Option, Some, None, Result, Ok, Err, refl, sym, ap, subst, ◌∙◌, ◌⊎◌, inl, inr, arith}
+use Rattle.replay.specs.Reading.{entry_at, entry_by, header_at, in_range, sizes_at}
+use Rattle.replay.specs.Refusals.{BeginsEntry, GoesOn, NoHeader, NoSizes, Refuses}
+use Rattle.replay.specs.Schedules.{AreEntries, Entry, IsAct, SchedText, Schedule, entries_before, entry_text, header, line_before, most_processors, sizes_text, text_before, text_of, with_entry}
+use Rattle.replay.specs.declared.entry.Version.{Version}
+use Rattle.replay.specs.declared.reading.NoEntry.{NoEntry}
+use Rattle.replay.specs.declared.reading.NoEntry.TheVariants.{Processor}
+use Rattle.replay.proofs.Lists.{ok_is, some_is}
+use Rattle.std.proofs.lemmas.Bool.{le-ltb}
+use Rattle.replay.proofs.Numbers.{in_range_small}
+use Rattle.replay.proofs.Texts.{begins, entry_again, entry_is_read, header_again, sizes_again}
+
+-- ---- one entry more
+
+entries_pushed : (es : List Entry) (e : Entry) (rest : List ℕ) → entries_before (es ++ e ∷ []) rest ≡ entries_before es (line_before (entry_text e) rest)
+entries_pushed [] e rest = refl
+entries_pushed (x ∷ es) e rest = ap (line_before (entry_text x)) (entries_pushed es e rest)
+
+pub text_pushed : (x : Schedule) (e : Entry) (rest : List ℕ) → text_before (with_entry x e) rest ≡ text_before x (line_before (entry_text e) rest)
+text_pushed x e rest = ap (λ (t : List ℕ). line_before (header x.version) (line_before (sizes_text x.processors x.slots) t)) (entries_pushed x.entries e rest)
+
+pub are_pushed : (v : Version) (p : ℕ) (es : List Entry) (e : Entry) → AreEntries v p es → e.processor < p → IsAct v e.act → AreEntries v p (es ++ e ∷ [])
+are_pushed v p [] e h below allowed = ((below, allowed), tt)
+are_pushed v p (x ∷ es) e h below allowed = (h.0, are_pushed v p es e h.1 below allowed)
+
+-- ---- one text, one schedule
+
+never_empty : (u w : List ℕ) → line_before u w ≢ []
+never_empty [] w e = cc
+never_empty (c ∷ cs) w e = cc
+
+pub record Left (v : Version) (p : ℕ) (rest : List ℕ) : Type 0 where
+  pub entries : List Entry
+  pub are : AreEntries v p entries
+  pub is : rest ≡ entries_before entries []
+
+-- what is left of lines of entries behind some of them
+left_over : (v : Version) (p : ℕ) (es fs : List Entry) (rest : List ℕ) → p ≤ most_processors → AreEntries v p es → AreEntries v p fs
+    → entries_before es rest ≡ entries_before fs [] → Left v p rest
+left_over v p [] fs rest few a b e = record { entries = fs; are = b; is = e }
+left_over v p (x ∷ es) [] rest few a b e = absurd (never_empty (entry_text x) (entries_before es rest) e)
+left_over v p (x ∷ es) (y ∷ fs) rest few a b e =
+    let one = entry_is_read v p x (entries_before es rest) few a.0.0 a.0.1 in
+    let two = entry_is_read v p y (entries_before fs []) few b.0.0 b.0.1 in
+    let same : ◌≡◌ {A = Result (Entry × List ℕ) NoEntry} (Ok (x, entries_before es rest)) (Ok (y, entries_before fs [])) = sym one ∙ ap (entry_at v p) e ∙ two in
+    left_over v p es fs rest few a.1 b.1 (ap (λ (z : Entry × List ℕ). z.1) (ok_is (x, entries_before es rest) (y, entries_before fs []) same))
+
+-- a text that goes on behind a schedule and is a schedule's goes on with entries
+goes_on_left : (bytes : List ℕ) (x : Schedule) (rest : List ℕ) (line : ℕ) → GoesOn bytes x rest line → (y : Schedule) → SchedText y bytes → Left x.version x.processors rest
+goes_on_left bytes x rest line g y s =
+    let same : text_before x rest ≡ text_of y = sym g.is ∙ s.spelled in
+    let heads : ◌≡◌ {A = Option (Version × List ℕ)} (Some (x.version, line_before (sizes_text x.processors x.slots) (entries_before x.entries rest)))
+    (Some (y.version, line_before (sizes_text y.processors y.slots) (entries_before y.entries []))) =
+    sym (header_again x.version _) ∙ ap header_at same ∙ header_again y.version _ in
+    let behind = some_is (x.version, line_before (sizes_text x.processors x.slots) (entries_before x.entries rest))
+    (y.version, line_before (sizes_text y.processors y.slots) (entries_before y.entries [])) heads in
+    let version : x.version ≡ y.version = ap (λ (z : Version × List ℕ). z.0) behind in
+    let tail : line_before (sizes_text x.processors x.slots) (entries_before x.entries rest) ≡ line_before (sizes_text y.processors y.slots) (entries_before y.entries []) =
+    ap (λ (z : Version × List ℕ). z.1) behind in
+    let sizes = some_is (x.processors, x.slots, entries_before x.entries rest) (y.processors, y.slots, entries_before y.entries [])
+    (sym (sizes_again x.processors x.slots (entries_before x.entries rest) g.schedule.0) ∙ ap sizes_at tail ∙ sizes_again y.processors y.slots (entries_before y.entries []) s.schedule.0) in
+    let processors : x.processors ≡ y.processors = ap (λ (z : ℕ × ℕ × List ℕ). z.0) sizes in
+    let entries : entries_before x.entries rest ≡ entries_before y.entries [] = ap (λ (z : ℕ × ℕ × List ℕ). z.2) sizes in
+    let are : AreEntries x.version x.processors y.entries =
+    subst (λ (p : ℕ). AreEntries x.version p y.entries) (sym processors) (subst (λ (v : Version). AreEntries v y.processors y.entries) (sym version) s.schedule.1) in
+    left_over x.version x.processors x.entries y.entries rest g.schedule.0.0.1 g.schedule.1 are entries
+
+no_entry_left : (v : Version) (p : ℕ) (rest : List ℕ) → p ≤ most_processors → rest ≢ [] → Left v p rest → ((q : ℕ) → BeginsEntry v q rest → ⊥) → ⊥
+no_entry_left v p rest few some l none = go l.entries l.are l.is
+  where
+    go : (es : List Entry) → AreEntries v p es → rest ≡ entries_before es [] → ⊥
+    go [] a e = some e
+    go (x ∷ es) a e = none x.processor (subst (λ (t : List ℕ). BeginsEntry v x.processor t) (sym e) (begins v p x (entries_before es []) few a.0.0 a.0.1))
+
+all_present : (v : Version) (p q : ℕ) (rest : List ℕ) → p ≤ most_processors → rest ≢ [] → Left v p rest → BeginsEntry v q rest → p ≤ q → ⊥
+all_present v p q rest few some l b absent = go l.entries l.are l.is
+  where
+    refused : (o : Option ℕ) → in_range q ≡ o → entry_by p o b.act b.rest ≡ Err Processor
+    refused None e = refl
+    refused (Some n) e = rw (le-ltb n p (omega (arith, absent, (in_range_small q n e).0))) refl
+
+    go : (es : List Entry) → AreEntries v p es → rest ≡ entries_before es [] → ⊥
+    go [] a e = some e
+    go (x ∷ es) a e =
+        let read : entry_at v p rest ≡ Ok (x, entries_before es []) = ap (entry_at v p) e ∙ entry_is_read v p x (entries_before es []) few a.0.0 a.0.1 in
+        let not : entry_at v p rest ≡ Err Processor = entry_again v p q rest b ∙ refused (in_range q) refl in
+        cc
+
+no_sizes_left : (bytes : List ℕ) → NoSizes bytes → (y : Schedule) → SchedText y bytes → ⊥
+no_sizes_left bytes n y s =
+    let behind = some_is (n.version, n.rest) (y.version, line_before (sizes_text y.processors y.slots) (entries_before y.entries []))
+    (sym (header_again n.version n.rest) ∙ ap header_at (sym n.headed ∙ s.spelled) ∙ header_again y.version _) in
+    n.none y.processors y.slots (entries_before y.entries []) s.schedule.0 (ap (λ (z : Version × List ℕ). z.1) behind)
+
+no_lines_left : (bytes : List ℕ) (line : ℕ) → ((line ≡ 1) × NoHeader bytes) ⊎ ((line ≡ 2) × NoSizes bytes) → (y : Schedule) → SchedText y bytes → ⊥
+no_lines_left bytes line (inl c) y s = c.1 y.version _ s.spelled
+no_lines_left bytes line (inr c) y s = no_sizes_left bytes c.1 y s
+
+-- a text with a cause of refusal is no schedule's
+pub refused_only : (bytes : List ℕ) (number line : ℕ) → Refuses bytes number line → (y : Schedule) → SchedText y bytes → ⊥
+refused_only bytes number line (inl c) y s = no_lines_left bytes line c.1 y s
+refused_only bytes number line (inr (inl c)) y s =
+    no_entry_left c.1.before.version c.1.before.processors c.1.rest c.1.goes_on.schedule.0.0.1 c.1.goes_on.some (goes_on_left bytes c.1.before c.1.rest line c.1.goes_on y s) c.1.none
+refused_only bytes number line (inr (inr c)) y s =
+    all_present c.1.before.version c.1.before.processors c.1.processor c.1.rest c.1.goes_on.schedule.0.0.1 c.1.goes_on.some
+    (goes_on_left bytes c.1.before c.1.rest line c.1.goes_on y s) c.1.entry c.1.absent

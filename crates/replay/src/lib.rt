@@ -1,0 +1,17 @@
+//! Schedules of runs: what each processor did, turn by turn, in memory and as text.
+#![tactic(auto)]
+
+mod entry;
+mod number;
+mod reading;
+mod refusal;
+mod schedule;
+mod short;
+mod writing;
+
+pub use entry::{Act, Entry, Version};
+pub use refusal::ReplayRefusal;
+pub use schedule::Schedule;
+
+#[cfg(test)]
+mod tests;

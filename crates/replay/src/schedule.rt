@@ -1,0 +1,185 @@
+//! Schedules.
+
+ghost use Rattle.std.specs.Prelude.{◌≡◌, ◌≢◌, ◌<◌, ◌++◌, ◌∷◌, [], IfOk, IfErr, OnOk, OnErr, length};
+ghost use Rattle.replay.specs.Kept.{entry_of, taken};
+ghost use Rattle.replay.specs.Refusals.{Explains, Refuses, number_of};
+ghost use Rattle.replay.specs.Schedules.{AreSizes, IsAct, IsSchedule, SchedText, Schedule as ScheduleOf, text_before, text_of, picks, with_entry};
+ghost use Rattle.replay.specs.View.{act as act_view, entry as entry_view};
+
+use crate::entry::{Act, Entry, Version};
+use crate::reading::{NoEntry, entry, header, sizes};
+use crate::refusal::ReplayRefusal;
+use crate::short::{Entries, Short};
+use crate::writing::{append_entries, append_header, append_sizes};
+use std::alloc::{AllocError, Global};
+use std::marker::Model;
+
+/// What each processor of a run did, turn by turn.
+#[derive(Drop)]
+pub struct Schedule {
+    version: Version,
+    processors: u16,
+    slots: u16,
+    shorts: Vec<Short>,
+    picked: Vec<u128>,
+}
+
+impl Model for Schedule {
+    ghost use Rattle.replay.specs.Schedules.{Schedule as ScheduleOf};
+
+    ghost Value = { ScheduleOf };
+
+    ghost use Rattle.replay.specs.Kept.{IsKept, seen};
+
+    ghost view = { λ a. seen a.version a.processors a.slots a.shorts.items a.picked.items };
+
+    ghost invariant = { λ a. IsKept a.version a.processors a.slots a.shorts.items a.picked.items };
+}
+
+/// The number that says why a line is no entry.
+fn number_of(fault: NoEntry) -> u8
+    ensures { result ≡ number_of fault }
+{
+    match fault {
+        NoEntry::Form => 52,
+        NoEntry::Processor => 53,
+    }
+}
+
+impl Schedule {
+    /// The schedule of a run that has not begun, of so many processors, 1 to 64, and slots, 1 to 256.
+    pub fn new(alloc: Global, version: Version, processors: u16, slots: u16) -> Schedule
+        requires sizes { AreSizes processors slots }
+        ensures new { result ≡ record { version = version; processors = processors; slots = slots; entries = [] } }
+        ensures kept { IsSchedule result }
+    {
+        Schedule {
+            version,
+            processors,
+            slots,
+            shorts: Vec::new(alloc),
+            picked: Vec::new(alloc),
+        }
+    }
+
+    /// Adds an entry at the end. Where memory is refused nothing has changed.
+    pub fn push(&mut self, entry: Entry) -> Result<(), AllocError>
+        requires below { entry.processor < self.old.processors }
+        requires allowed { IsAct self.old.version (act_view entry.act) }
+        ensures ok { OnOk result (self.new ≡ with_entry self.old (entry_view entry)) }
+        ensures kept { IsSchedule self.new }
+        ensures err { OnErr result (self.new ≡ self.old) }
+    {
+        let processor = entry.processor;
+        match entry.act {
+            Act::Work(count) => self.keep(Short::Work { processor, count }),
+            Act::Share => self.keep(Short::Share { processor }),
+            Act::PickMain => self.keep(Short::PickMain { processor }),
+            Act::PickIteration(iteration) => self.push_pick(processor, iteration),
+            Act::TakeTicket => self.keep(Short::TakeTicket { processor }),
+        }
+    }
+
+    fn keep(&mut self, short: Short) -> Result<(), AllocError>
+        requires plain { taken short ≡ 0 }
+        requires below { (entry_of short []).processor < self.old.processors }
+        requires allowed { IsAct self.old.version (entry_of short []).act }
+        ensures ok { OnOk result (self.new ≡ with_entry self.old (entry_of short [])) }
+        ensures kept { IsSchedule self.new }
+        ensures err { OnErr result (self.new ≡ self.old) }
+    {
+        self.shorts.push(short)?;
+        Ok(())
+    }
+
+    fn push_pick(&mut self, processor: u8, iteration: u128) -> Result<(), AllocError>
+        requires below { processor < self.old.processors }
+        requires allowed { IsAct self.old.version (picks iteration) }
+        ensures ok { OnOk result (self.new ≡ with_entry self.old (record { processor = processor; act = picks iteration })) }
+        ensures kept { IsSchedule self.new }
+        ensures err { OnErr result (self.new ≡ self.old) }
+    {
+        self.picked.push(iteration)?;
+        match self.shorts.push(Short::PickIteration { processor }) {
+            Ok(()) => Ok(()),
+            Err(error) => {
+                self.picked.pop();
+                Err(error.into())
+            }
+        }
+    }
+
+    /// Reads the entry that a text begins with, adds it, and gives what stands after its line.
+    fn read_entry<'a>(&mut self, text: &'a [u8]) -> Result<&'a [u8], ReplayRefusal>
+        requires some { text.now ≢ [] }
+        ensures ok { IfOk result (λ rest. (length rest.now < length text.now) × (text_before self.new rest.now ≡ text_before self.old text.now)) }
+        ensures err { IfErr result (λ fault. Explains fault (λ number line. Refuses (text_before self.old text.now) number line)) }
+        ensures kept { IsSchedule self.new }
+    {
+        match entry(self.version, self.processors, text) {
+            Ok((entry, rest)) => {
+                self.push(entry)?;
+                Ok(rest)
+            }
+            Err(fault) => Err(ReplayRefusal::Refused {
+                number: number_of(fault),
+                line: 3 + self.shorts.len(),
+            }),
+        }
+    }
+
+    /// Reads the entries of a text, and adds them.
+    fn read(&mut self, text: &[u8]) -> Result<(), ReplayRefusal>
+        requires kept { IsSchedule self.old }
+        ensures ok { OnOk result (text_of self.new ≡ text_before self.old text.now) }
+        ensures err { IfErr result (λ fault. Explains fault (λ number line. Refuses (text_before self.old text.now) number line)) }
+        ensures kept { IsSchedule self.new }
+    {
+        let mut rest = text;
+        while !rest.is_empty() {
+            rest = self.read_entry(rest)?;
+        }
+        Ok(())
+    }
+
+    /// The schedule that a text is.
+    ///
+    /// # Errors
+    ///
+    /// 51 where line 1 or 2 is absent or not of its form or range, 52 at a line that is no entry, 53 at
+    /// an entry of a processor that isn't there; and want of memory.
+    pub fn parse(alloc: Global, bytes: &[u8]) -> Result<Schedule, ReplayRefusal>
+        ensures found { IfOk result (λ x. SchedText x bytes.now) }
+        ensures refused { IfErr result (λ fault. Explains fault (λ number line. Refuses bytes.now number line)) }
+        ensures only { IfErr result (λ fault. Explains fault (λ number line. (x : ScheduleOf) → SchedText x bytes.now → ⊥)) }
+    {
+        let Some((version, rest)) = header(bytes) else {
+            return Err(ReplayRefusal::Refused {
+                number: 51,
+                line: 1,
+            });
+        };
+        let Some((processors, slots, rest)) = sizes(rest) else {
+            return Err(ReplayRefusal::Refused {
+                number: 51,
+                line: 2,
+            });
+        };
+        let mut schedule = Schedule::new(alloc, version, processors, slots);
+        match schedule.read(rest) {
+            Ok(()) => Ok(schedule),
+            Err(refusal) => Err(refusal),
+        }
+    }
+
+    /// The text of the schedule.
+    pub fn text(&self, alloc: Global) -> Result<Vec<u8>, AllocError>
+        ensures { IfOk result (λ text. SchedText self.now text.items) }
+    {
+        let mut out = Vec::new(alloc);
+        append_header(&mut out, self.version)?;
+        append_sizes(&mut out, self.processors, self.slots)?;
+        append_entries(&mut out, Entries::new(&self.shorts, &self.picked))?;
+        Ok(out)
+    }
+}
