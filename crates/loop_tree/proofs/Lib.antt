@@ -1,2 +1,4 @@
+pub mod ConstantValues
 pub mod Ends
 pub mod Gathered
+pub mod Marked

@@ -356,7 +356,7 @@ impl<'p> LoopTree<'p> {
 }
 
 impl<'t, 'p> LoopView<'t, 'p> {
-    ghost use Rattle.std.specs.Prelude.{◌≡◌, map, option_map};
+    ghost use Rattle.std.specs.Prelude.{◌≡◌, ◌<◌, map, option_map, true, ℕ};
     ghost use Rattle.ast.specs.View.{block_view, head as head_of, ref};
     ghost use Rattle.loop_tree.specs.Loops.{has_cell, loop_around};
     ghost use Rattle.loop_tree.specs.Occurrences.{numbered};
@@ -434,6 +434,13 @@ impl<'t, 'p> LoopView<'t, 'p> {
         ensures { result ≡ has_cell cell (seen self.now).assigned }
     {
         self.info.assigned.contains(cell)
+    }
+
+    /// A number that is greater than the cell of each of these scalars.
+    pub fn cells(&self) -> usize
+        ensures { (c : ℕ) → has_cell c (seen self.now).assigned ≡ true → c < result }
+    {
+        self.info.assigned.cells()
     }
 
     /// The allocator of the tree.

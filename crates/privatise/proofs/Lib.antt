@@ -1,3 +1,4 @@
+pub mod ByCell
 pub mod Exactly
 pub mod Flows
-pub mod Joins
+pub mod Forward
