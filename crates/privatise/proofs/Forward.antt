@@ -1,8 +1,9 @@
 -- The list that goes through a part has, for each cell, what the paths before have done and then what
 -- those through the part do.
-use Rattle.std.proofs.Common.{◌≡◌, ◌∙◌, ap, sym, refl, ℕ, List, [], ◌∷◌, ◌<◌, arith}
+use Rattle.std.proofs.Common.{◌≡◌, ◌∙◌, ap, sym, refl, ℕ, List, [], ◌∷◌, length, ◌<◌, arith}
+use Rattle.std.proofs.lemmas.Bool.{eqb-true, eqb-false}
 use Rattle.std.proofs.lemmas.List.{map-append}
-use Rattle.std.specs.Prelude.{zero, suc, ◌++◌, ◌==◌, Option, Some, None, replicate}
+use Rattle.std.specs.Prelude.{zero, suc, ◌++◌, ◌==◌, Bool, true, false, Option, Some, None, replicate}
 use Rattle.ast.specs.References.{term_references, terms_references, optional, expressions_references, items_expressions}
 use Rattle.ast.specs.Tree.{Ref, Term, Terms, constant, truth, parameter, element, call, parentheses, unary, binary, no_terms, then_term, Access, PrintItem, value_item, text_item, DoHead, Kind, program, integer, dimension, parameters, assign, do_loop, go_on, block_if, else_if, else_arm, end_if, logical_if, print, read, stop, end, Node, plain, loop, choose, Block, no_nodes, then_node, Arms, no_arms, then_arm}
 use Rattle.loop_tree.specs.Paths.{Token, uses, defines, used, term_tokens, target_tokens, targets_tokens, head_tokens}
@@ -21,26 +22,33 @@ then_missed Early = refl
 
 -- ---- one step of a list
 
+went_here : (ws : List Walk) (c : ℕ) (w : Walk) → walk_at (gone_on ws c w) c ≡ then_walk (walk_at ws c) w
+went_here [] c w = refl
+went_here (v ∷ vs) zero w = refl
+went_here (v ∷ vs) (suc c) w = went_here vs c w
+
+went_elsewhere : (ws : List Walk) (d c : ℕ) (w : Walk) → (d ≡ c → ⊥) → walk_at (gone_on ws d w) c ≡ walk_at ws c
+went_elsewhere [] d c w n = refl
+went_elsewhere (v ∷ vs) zero zero w n = absurd (n refl)
+went_elsewhere (v ∷ vs) zero (suc c) w n = refl
+went_elsewhere (v ∷ vs) (suc d) zero w n = refl
+went_elsewhere (v ∷ vs) (suc d) (suc c) w n = went_elsewhere vs d c w (λ e. n (ap suc e))
+
 went_on : (ws : List Walk) (d c : ℕ) (w : Walk) → walk_at (gone_on ws d w) c ≡ then_walk (walk_at ws c) (if_so (d == c) w)
-went_on [] d c w = refl
-went_on (v ∷ vs) zero zero w = refl
-went_on (v ∷ vs) zero (suc c) w = then_missed (walk_at vs c)
-went_on (v ∷ vs) (suc d) zero w = then_missed v
-went_on (v ∷ vs) (suc d) (suc c) w = went_on vs d c w
+went_on ws d c w = by (d == c) refl
+  where
+    by : (b : Bool) → (d == c) ≡ b → walk_at (gone_on ws d w) c ≡ then_walk (walk_at ws c) (if_so b w)
+    by true e = ap (λ n. walk_at (gone_on ws n w) c) (eqb-true d c e) ∙ went_here ws c w
+    by false e = went_elsewhere ws d c w (eqb-false d c e) ∙ then_missed (walk_at ws c)
 
 at_stop : (ws : List Walk) (c : ℕ) → walk_at (stopped ws) c ≡ then_walk (walk_at ws c) Defined
 at_stop [] c = refl
 at_stop (w ∷ ws) zero = refl
 at_stop (w ∷ ws) (suc c) = at_stop ws c
 
-more_early : (w : Walk) → Early ≡ more w Early
-more_early Defined = refl
-more_early Missed = refl
-more_early Early = refl
-
 at_join : (vs ws : List Walk) (c : ℕ) → walk_at (joined vs ws) c ≡ more (walk_at vs c) (walk_at ws c)
 at_join [] ws c = refl
-at_join (v ∷ vs) [] zero = more_early v
+at_join (v ∷ vs) [] zero = refl
 at_join (v ∷ vs) [] (suc c) = at_join vs [] c
 at_join (v ∷ vs) (w ∷ ws) zero = refl
 at_join (v ∷ vs) (w ∷ ws) (suc c) = at_join vs ws c
@@ -100,7 +108,7 @@ none_more (r ∷ rs) = ap (λ ss. r ∷ ss) (none_more rs)
 
 by_optional : (c : ℕ) (e : Option Term) → Uses c (λ ws. after_optional e ws) (expressions_references (optional e))
 by_optional c None = nothing c
-by_optional c (Some e) ws = by_term c e ws ∙ ap (λ rs. then_walk (walk_at ws c) (walk c (used rs))) (sym (none_more (term_references e)))
+by_optional c (Some e) = λ ws. by_term c e ws ∙ ap (λ rs. then_walk (walk_at ws c) (walk c (used rs))) (sym (none_more (term_references e)))
 
 by_items : (c : ℕ) (is : List PrintItem) → Uses c (λ ws. after_items is ws) (expressions_references (items_expressions is))
 by_items c [] = nothing c
@@ -164,6 +172,7 @@ more_after Defined u v = refl
 more_after Missed u v = refl
 more_after Early u v = refl
 
+-- paths by the part of a loop's range that is left out
 does_either : (c : ℕ) (f g : List Walk → List Walk) (u v : Walk) → Does c f u → Does c g v → Does c (λ ws. joined (g ws) (f ws)) (more u v)
 does_either c f g u v h k ws =
     at_join (g ws) (f ws) c
@@ -172,23 +181,45 @@ does_either c f g u v h k ws =
     ∙ more_after (walk_at ws c) v u
     ∙ ap (λ w. then_walk (walk_at ws c) w) (more_other v u)
 
+more_assoc : (u v w : Walk) → more (more u v) w ≡ more u (more v w)
+more_assoc Defined v w = refl
+more_assoc Missed Defined w = refl
+more_assoc Missed Missed Defined = refl
+more_assoc Missed Missed Missed = refl
+more_assoc Missed Missed Early = refl
+more_assoc Missed Early w = refl
+more_assoc Early v w = refl
+
+-- no paths
+from_nowhere : (ws : List Walk) (c : ℕ) (w : Walk) → more (walk_at (replicate (length ws) Defined) c) (then_walk (walk_at ws c) w) ≡ then_walk (walk_at ws c) w
+from_nowhere [] c w = refl
+from_nowhere (v ∷ vs) zero w = refl
+from_nowhere (v ∷ vs) (suc c) w = from_nowhere vs c w
+
 mutual
   by_node : (c : ℕ) (n : Node) → Does c (λ ws. after_node n ws) (node_walk c n)
   by_node c (plain s) = by_kind c s.kind
   by_node c (loop l h b) = does_both c (λ ws. after_head h ws) (λ ws. joined (after_block b ws) ws) (walk c (head_tokens h)) (more Missed (block_walk c b)) (by_head c h)
       (does_either c (λ ws. ws) (λ ws. after_block b ws) Missed (block_walk c b) (unchanged c) (by_block c b))
-  by_node c (choose a) = by_arms c a
+  by_node c (choose a) = λ ws. by_arms c a (replicate (length ws) Defined) ws ∙ from_nowhere ws c (arms_walk c a)
 
   by_block : (c : ℕ) (b : Block) → Does c (λ ws. after_block b ws) (block_walk c b)
   by_block c no_nodes = unchanged c
   by_block c (then_node n b) = does_both c (λ ws. after_node n ws) (λ ws. after_block b ws) (node_walk c n) (block_walk c b) (by_node c n) (by_block c b)
 
-  by_arms : (c : ℕ) (a : Arms) → Does c (λ ws. after_arms a ws) (arms_walk c a)
-  by_arms c no_arms = unchanged c
-  by_arms c (then_arm l None b rest) = by_block c b
-  by_arms c (then_arm l (Some e) b rest) =
-      does_both c (λ ws. after_term e ws) (λ ws. joined (after_arms rest ws) (after_block b ws)) (walk c (term_tokens e)) (more (block_walk c b) (arms_walk c rest)) (by_term c e)
-      (does_either c (λ ws. after_block b ws) (λ ws. after_arms rest ws) (block_walk c b) (arms_walk c rest) (by_block c b) (by_arms c rest))
+  by_arms : (c : ℕ) (a : Arms) (ended ws : List Walk) → walk_at (after_arms a ended ws) c ≡ more (walk_at ended c) (then_walk (walk_at ws c) (arms_walk c a))
+  by_arms c no_arms ended ws = at_join ws ended c ∙ more_other (walk_at ws c) (walk_at ended c) ∙ ap (λ w. more (walk_at ended c) w) (then_missed (walk_at ws c))
+  by_arms c (then_arm l None b rest) ended ws =
+      at_join (after_block b ws) ended c ∙ more_other (walk_at (after_block b ws) c) (walk_at ended c) ∙ ap (λ w. more (walk_at ended c) w) (by_block c b ws)
+  by_arms c (then_arm l (Some e) b rest) ended ws =
+      let vs = after_term e ws in
+      let here = walk_at ended c in
+      let branch = block_walk c b in
+      let others = arms_walk c rest in
+      by_arms c rest (joined ended (after_block b vs)) vs
+      ∙ ap (λ w. more w (then_walk (walk_at vs c) others)) (at_join ended (after_block b vs) c ∙ ap (λ w. more here w) (by_block c b vs))
+      ∙ more_assoc here (then_walk (walk_at vs c) branch) (then_walk (walk_at vs c) others)
+      ∙ ap (λ w. more here w) (more_after (walk_at vs c) branch others ∙ ap (λ w. then_walk w (more branch others)) (by_term c e ws) ∙ then_assoc (walk_at ws c) (walk c (term_tokens e)) (more branch others))
 
 -- ---- from nothing done
 

@@ -26,5 +26,5 @@ stopped (w ∷ ws) = then_walk w Defined ∷ stopped ws
 -- other paths come to the same place
 abbrev pub joined : List Walk → List Walk → List Walk
 joined [] ws = []
-joined (v ∷ vs) [] = Early ∷ joined vs []
+joined (v ∷ vs) [] = more v Early ∷ joined vs []
 joined (v ∷ vs) (w ∷ ws) = more v w ∷ joined vs ws

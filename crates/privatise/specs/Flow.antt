@@ -1,6 +1,6 @@
 -- An account of the code: what paths have done with scalars when they come out of a part of a
 -- program, by what they had done when they came to it.
-use Rattle.std.specs.Prelude.{ℕ, Bool, true, false, List, [], ◌∷◌, Option, Some, None}
+use Rattle.std.specs.Prelude.{ℕ, Bool, true, false, List, [], ◌∷◌, length, replicate, Option, Some, None}
 use Rattle.ast.specs.Tree.{Term, Terms, element, call, parentheses, unary, binary, no_terms, then_term, Access, PrintItem, value_item, text_item, DoHead, Kind, assign, print, read, stop, Node, plain, loop, choose, Block, no_nodes, then_node, Arms, no_arms, then_arm}
 use Rattle.privatise.specs.Cells.{walk_at, gone_on, stopped, joined}
 use Rattle.privatise.specs.declared.walk.Walk.{Walk}
@@ -52,16 +52,17 @@ abbrev mutual
   pub after_node : Node → List Walk → List Walk
   after_node (plain s) ws = after_kind s.kind ws
   after_node (loop l h b) ws = joined (after_block b (after_head h ws)) (after_head h ws)
-  after_node (choose a) ws = after_arms a ws
+  after_node (choose a) ws = after_arms a (replicate (length ws) Defined) ws
 
   pub after_block : Block → List Walk → List Walk
   after_block no_nodes ws = ws
   after_block (then_node n b) ws = after_block b (after_node n ws)
 
-  pub after_arms : Arms → List Walk → List Walk
-  after_arms no_arms ws = ws
-  after_arms (then_arm l None b more) ws = after_block b ws
-  after_arms (then_arm l (Some e) b more) ws = joined (after_arms more (after_term e ws)) (after_block b (after_term e ws))
+  -- by the arms that are left, or by those before, of which this is known
+  pub after_arms : Arms → List Walk → List Walk → List Walk
+  after_arms no_arms ended ws = joined ws ended
+  after_arms (then_arm l None b more) ended ws = joined (after_block b ws) ended
+  after_arms (then_arm l (Some e) b more) ended ws = after_arms more (joined ended (after_block b (after_term e ws))) (after_term e ws)
 
 abbrev pub is_never_early : Walk → Bool
 is_never_early Early = false

@@ -29,12 +29,10 @@ pub fn go_on(walks: &mut [Walk], cell: usize, walk: Walk)
 pub fn stop(walks: &mut [Walk])
     ensures { walks.new ≡ spec.stopped walks.old }
 {
-    match walks {
-        [] => {}
-        [walk, others @ ..] => {
-            *walk = walk.and_after(Walk::Defined);
-            stop(others);
-        }
+    let mut cell = 0;
+    while cell < walks.len() {
+        walks[cell] = walks[cell].and_after(Walk::Defined);
+        cell += 1;
     }
 }
 
@@ -42,17 +40,9 @@ pub fn stop(walks: &mut [Walk])
 pub fn join(walks: &mut [Walk], others: &[Walk])
     ensures { walks.new ≡ spec.joined walks.old others.now }
 {
-    match walks {
-        [] => {}
-        [walk, rest @ ..] => match others {
-            [] => {
-                *walk = Walk::Early;
-                join(rest, &[]);
-            }
-            [other, more @ ..] => {
-                *walk = walk.or(*other);
-                join(rest, more);
-            }
-        },
+    let mut cell = 0;
+    while cell < walks.len() {
+        walks[cell] = walks[cell].or(walk_at(others, cell));
+        cell += 1;
     }
 }

@@ -1,10 +1,9 @@
 //! What the paths through a loop's range do with its scalars, in one pass.
 
 ghost use Rattle.std.specs.Prelude.{◌≡◌, IfOk, OnOk, map, replicate};
-ghost use Rattle.ast.specs.Tree.{arms as arms_of, loop};
+ghost use Rattle.ast.specs.Tree.{arms as arms_of, choose, loop};
 ghost use Rattle.ast.specs.View.{arm as arm_of, block_view, head as head_of, letters, node as node_of, ref};
 ghost use Rattle.loop_tree.specs.TreeView.{seen};
-ghost use Rattle.privatise.specs.Cells.{joined};
 ghost use Rattle.privatise.specs.Flow as spec;
 ghost use Rattle.privatise.specs.Privates.{ArePrivate, private_names};
 ghost use Rattle.privatise.specs.declared.walk.Walk.TheVariants.{Missed};
@@ -33,38 +32,29 @@ fn pass_loop(
     Ok(())
 }
 
-/// An arm of an IF or, where its condition doesn't hold, the arms behind it.
-#[cycle(flow)]
-fn pass_either(
-    alloc: Global,
-    walks: &mut [Walk],
-    body: &[Node],
-    others: &[Arm],
-) -> Result<(), AllocError>
-    ensures { OnOk result (walks.new ≡ joined (spec.after_arms (arms_of (map arm_of others.now)) walks.old) (spec.after_block (block_view body.now) walks.old)) }
-{
-    let mut branch = Vec::from_slice(alloc, walks)?;
-    pass_block(alloc, &mut branch, body)?;
-    pass_arms(alloc, walks, others)?;
-    join(walks, &branch);
-    Ok(())
-}
-
 /// The arms of an IF: by one of them, or by none where there is no ELSE.
 #[cycle(flow)]
 fn pass_arms(alloc: Global, walks: &mut [Walk], arms: &[Arm]) -> Result<(), AllocError>
-    ensures { OnOk result (walks.new ≡ spec.after_arms (arms_of (map arm_of arms.now)) walks.old) }
+    ensures { OnOk result (walks.new ≡ spec.after_node (choose (arms_of (map arm_of arms.now))) walks.old) }
 {
-    match arms {
-        [] => Ok(()),
-        [first, others @ ..] => match &first.condition {
-            None => pass_block(alloc, walks, &first.body),
+    let mut ended = vec![in alloc; Walk::Defined; walks.len()]?;
+    for arm in arms {
+        match &arm.condition {
+            None => {
+                pass_block(alloc, walks, &arm.body)?;
+                join(walks, &ended);
+                return Ok(());
+            }
             Some(condition) => {
                 pass_term(walks, condition);
-                pass_either(alloc, walks, &first.body, others)
+                let mut branch = Vec::from_slice(alloc, walks)?;
+                pass_block(alloc, &mut branch, &arm.body)?;
+                join(&mut ended, &branch);
             }
-        },
+        }
     }
+    join(walks, &ended);
+    Ok(())
 }
 
 #[cycle(flow)]

@@ -9,7 +9,7 @@ use std::process::Abort;
 use std::test::Fail;
 
 /// How many pairs are tried, each either way round.
-const PAIRS: u32 = 10_000;
+const PAIRS: u32 = 1_000;
 
 /// Numbers that look random, the same ones in each run.
 #[derive(Drop)]
@@ -69,42 +69,66 @@ fn add_term(text: &mut Vec<u8>, numbers: &mut Numbers) -> Result<(), AllocError>
     Ok(())
 }
 
-fn add_subscript(text: &mut Vec<u8>, numbers: &mut Numbers) -> Result<(), AllocError> {
-    text.extend_from_slice(numbers.choice(&CONSTANTS))?;
+/// The terms of a subscript, two at most.
+fn terms(alloc: Global, numbers: &mut Numbers) -> Result<Vec<u8>, AllocError> {
+    let mut text = Vec::new(alloc);
     for _ in 0..numbers.next() % 3 {
-        add_term(text, numbers)?;
+        add_term(&mut text, numbers)?;
+    }
+    Ok(text)
+}
+
+/// Appends subscripts of two elements that often differ in their constants alone.
+fn add_subscripts(
+    alloc: Global,
+    numbers: &mut Numbers,
+    (first, second): (&mut Vec<u8>, &mut Vec<u8>),
+) -> Result<(), AllocError> {
+    let shared = terms(alloc, numbers)?;
+    first.extend_from_slice(numbers.choice(&CONSTANTS))?;
+    first.extend_from_slice(&shared)?;
+    second.extend_from_slice(numbers.choice(&CONSTANTS))?;
+    if numbers.next() % 2 == 0 {
+        second.extend_from_slice(&shared)?;
+    } else {
+        second.extend_from_slice(&terms(alloc, numbers)?)?;
     }
     Ok(())
 }
 
-/// An assignment to an element of an array of one dimension, or of two.
-fn add_assignment(
-    text: &mut Vec<u8>,
-    numbers: &mut Numbers,
-    two: bool,
-) -> Result<(), AllocError> {
-    text.extend_from_slice(if two { b"      B(" } else { b"      A(" })?;
-    add_subscript(text, numbers)?;
+/// Two elements of an array of one dimension, or of two.
+fn elements(alloc: Global, numbers: &mut Numbers) -> Result<(Vec<u8>, Vec<u8>), AllocError> {
+    let two = numbers.next() % 3 == 0;
+    let array: &[u8] = if two { b"B(" } else { b"A(" };
+    let mut first = Vec::from_slice(alloc, array)?;
+    let mut second = Vec::from_slice(alloc, array)?;
+    add_subscripts(alloc, numbers, (&mut first, &mut second))?;
     if two {
-        text.extend_from_slice(b",")?;
-        add_subscript(text, numbers)?;
+        first.extend_from_slice(b",")?;
+        second.extend_from_slice(b",")?;
+        add_subscripts(alloc, numbers, (&mut first, &mut second))?;
     }
-    text.extend_from_slice(b")=0\n")?;
-    Ok(())
+    Ok((first, second))
 }
 
 /// A program with a loop whose range assigns two elements of an array, J and K.
 fn source(alloc: Global, numbers: &mut Numbers) -> Result<Vec<u8>, AllocError> {
+    let (first, second) = elements(alloc, numbers)?;
+    let parts: [&[u8]; 9] = [
+        b"      INTEGER A(9),B(9,9),C(9)\n      DO 10 ",
+        numbers.choice(&FIRSTS),
+        numbers.choice(&LASTS),
+        numbers.choice(&STEPS),
+        b"\n      ",
+        &first,
+        b")=0\n      ",
+        &second,
+        b")=0\n      J=0\n   10 K=0\n      END\n",
+    ];
     let mut text = Vec::new(alloc);
-    text.extend_from_slice(b"      INTEGER A(9),B(9,9),C(9)\n      DO 10 ")?;
-    text.extend_from_slice(numbers.choice(&FIRSTS))?;
-    text.extend_from_slice(numbers.choice(&LASTS))?;
-    text.extend_from_slice(numbers.choice(&STEPS))?;
-    text.extend_from_slice(b"\n")?;
-    let two = numbers.next() % 3 == 0;
-    add_assignment(&mut text, numbers, two)?;
-    add_assignment(&mut text, numbers, two)?;
-    text.extend_from_slice(b"      J=0\n   10 K=0\n      END\n")?;
+    for part in parts {
+        text.extend_from_slice(part)?;
+    }
     Ok(text)
 }
 
@@ -278,19 +302,18 @@ struct Pair<'p> {
 impl<'p> Pair<'p> {
     /// Whether they are seen to meet in iterations k and j, with this step.
     fn meets(&self, alloc: Global, step: i64, k: u32, j: u32) -> Result<bool, AllocError> {
-        for number in 0..27_u32 {
+        for number in 0..9_u32 {
             let start = i64::from(number % 3);
-            let m = i64::from(number / 3 % 3) - 1;
-            let n = i64::from(number / 9) - 1;
+            let m = i64::from(number / 3) - 1;
             let here = Standing {
                 variable: start.wrapping_add(step.wrapping_mul(i64::from(k))),
                 m,
-                n,
+                n: 1,
             };
             let there = Standing {
                 variable: start.wrapping_add(step.wrapping_mul(i64::from(j))),
                 m,
-                n,
+                n: 1,
             };
             if may_agree(alloc, (self.first, &here), (self.second, &there))? {
                 return Ok(true);
@@ -306,35 +329,27 @@ impl<'p> Pair<'p> {
         }
     }
 
-    /// Whether they are seen to meet where a relation says that they don't, with this step.
-    fn refutes(&self, alloc: Global, step: i64, relation: Relation) -> Result<bool, AllocError> {
-        for number in 0..24_u32 {
-            let k = number % 4;
-            let distance = number / 4 + 1;
+    /// The distances up to 6, a bit for each, at which they are seen to meet with this step.
+    fn distances(&self, alloc: Global, step: i64) -> Result<u32, AllocError> {
+        let mut met = 0;
+        for number in 0..12_u32 {
+            let k = number % 2;
+            let distance = number / 2 + 1;
             let j = k + distance;
-            if self.has_iteration(j)
-                && !allows(relation, distance)
-                && self.meets(alloc, step, k, j)?
-            {
-                return Ok(true);
+            if self.has_iteration(j) && self.meets(alloc, step, k, j)? {
+                met |= 1 << distance;
             }
         }
-        Ok(false)
+        Ok(met)
     }
 
     /// The same with some of the steps that the loop may have.
-    fn is_refuting(
-        &self,
-        alloc: Global,
-        steps: &[i64],
-        relation: Relation,
-    ) -> Result<bool, AllocError> {
+    fn all_distances(&self, alloc: Global, steps: &[i64]) -> Result<u32, AllocError> {
+        let mut met = 0;
         for step in steps {
-            if self.refutes(alloc, *step, relation)? {
-                return Ok(true);
-            }
+            met |= self.distances(alloc, *step)?;
         }
-        Ok(false)
+        Ok(met)
     }
 }
 
@@ -345,6 +360,16 @@ fn allows(relation: Relation, distance: u32) -> bool {
         Relation::Distance(_, only) => only == u128::from(distance),
         Relation::Any => true,
     }
+}
+
+/// Whether references that meet at these distances refute a relation.
+fn refute(met: u32, relation: Relation) -> bool {
+    for distance in 1..7_u32 {
+        if (met >> distance) & 1 == 1 && !allows(relation, distance) {
+            return true;
+        }
+    }
+    false
 }
 
 /// How many relations of each kind were found.
@@ -390,7 +415,7 @@ const CLAIMS: [Relation; 14] = [
 ];
 
 /// The steps that are tried where none is known.
-const ALL_STEPS: [i64; 7] = [-3, -2, -1, 0, 1, 2, 3];
+const ANY_STEP: [i64; 3] = [-2, 1, 3];
 
 /// Tries what is said of a reference and one in a later iteration.
 fn try_pair(
@@ -409,11 +434,10 @@ fn try_pair(
     let relation = relate(view, first, second);
     assert!(rt; verify(view, first, second, relation));
     assert!(rt; verify(view, first, second, Relation::Any));
-    assert!(rt; !pair.is_refuting(rt.alloc(), steps, relation)?, "{relation:?}");
+    let met = pair.all_distances(rt.alloc(), steps)?;
+    assert!(rt; !refute(met, relation), "{relation:?}");
     for claim in CLAIMS {
-        if verify(view, first, second, claim) {
-            assert!(rt; !pair.is_refuting(rt.alloc(), steps, claim)?, "{claim:?}");
-        }
+        assert!(rt; !verify(view, first, second, claim) || !refute(met, claim), "{claim:?}");
     }
     if let Relation::Distance(1, distance) = relation
         && pair.first.len() == 1
@@ -452,7 +476,7 @@ fn try_source(
     let elements = assigned_elements(rt.alloc(), &view)?;
     assert_eq!(rt; elements.len(), 2);
     let known = [view.step().unwrap_or(0)];
-    let steps: &[i64] = if known[0] == 0 { &ALL_STEPS } else { &known };
+    let steps: &[i64] = if known[0] == 0 { &ANY_STEP } else { &known };
     tally.count(try_pair(rt, &view, &elements[0], &elements[1], steps)?);
     tally.count(try_pair(rt, &view, &elements[1], &elements[0], steps)?);
     Ok(())
