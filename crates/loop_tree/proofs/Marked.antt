@@ -1,6 +1,6 @@
 -- What is marked is within the list of marks.
 use Rattle.std.proofs.Common.{◌≡◌, ℕ, List, [], ◌∷◌, length, ◌<◌, zero, suc, true≢false, sym, ◌∙◌, arith}
-use Rattle.std.specs.Prelude.{Bool, true, false}
+use Rattle.std.specs.Prelude.{Bool, true}
 use Rattle.ast.specs.Tree.{Ref}
 use Rattle.loop_tree.specs.Loops.{has_cell}
 use Rattle.loop_tree.specs.Marks.{mark_at}

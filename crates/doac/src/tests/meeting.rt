@@ -9,7 +9,7 @@ use std::process::Abort;
 use std::test::Fail;
 
 /// How many pairs are tried, each either way round.
-const PAIRS: u32 = 1_000;
+const PAIRS: u32 = 10_000;
 
 /// Numbers that look random, the same ones in each run.
 #[derive(Drop)]
@@ -43,7 +43,9 @@ const STEPS: [&[u8]; 8] = [b"", b",2", b",3", b",-1", b",-2", b",-3", b",0", b",
 
 const CONSTANTS: [&[u8]; 9] = [b"-4", b"-3", b"-2", b"-1", b"0", b"1", b"2", b"3", b"4"];
 
-const FACTORS: [&[u8]; 9] = [b"-4*", b"-3*", b"-2*", b"-", b"+0*", b"+", b"+2*", b"+3*", b"+4*"];
+const FACTORS: [&[u8]; 9] = [
+    b"-4*", b"-3*", b"-2*", b"-", b"+0*", b"+", b"+2*", b"+3*", b"+4*",
+];
 
 /// The range assigns J and K, and neither M nor N.
 const SCALARS: [&[u8]; 8] = [b"I", b"I", b"I", b"I", b"M", b"N", b"J", b"K"];
@@ -219,11 +221,7 @@ fn signed(alloc: Global, prefix: Prefix, operand: &[i64]) -> Result<Vec<i64>, Al
 
 /// The values that an expression may have, each place in it of which nothing is known holding any
 /// number of its own.
-fn values_of(
-    alloc: Global,
-    expression: &Expr,
-    at: &Standing,
-) -> Result<Vec<i64>, AllocError> {
+fn values_of(alloc: Global, expression: &Expr, at: &Standing) -> Result<Vec<i64>, AllocError> {
     match expression {
         Expr::Constant(number) | Expr::Parameter(_, number) => Vec::from_slice(alloc, &[*number]),
         Expr::Truth(_) => Ok(Vec::new(alloc)),
@@ -437,7 +435,10 @@ fn try_pair(
     let met = pair.all_distances(rt.alloc(), steps)?;
     assert!(rt; !refute(met, relation), "{relation:?}");
     for claim in CLAIMS {
-        assert!(rt; !verify(view, first, second, claim) || !refute(met, claim), "{claim:?}");
+        assert!(rt;
+            !verify(view, first, second, claim) || !refute(met, claim),
+            "{claim:?}"
+        );
     }
     if let Relation::Distance(1, distance) = relation
         && pair.first.len() == 1
@@ -464,11 +465,7 @@ fn assigned_elements<'p>(
 }
 
 /// Tries the two elements of a program, either way round.
-fn try_source(
-    rt: &(impl Abort + AllocGlobal),
-    text: &[u8],
-    tally: &mut Tally,
-) -> Result<(), Fail> {
+fn try_source(rt: &(impl Abort + AllocGlobal), text: &[u8], tally: &mut Tally) -> Result<(), Fail> {
     let program = program(rt.alloc(), text)?;
     let tree = loops(rt.alloc(), &program)?;
     assert_eq!(rt; tree.count(), 1);

@@ -470,13 +470,23 @@ fn relations_in_programs(rt: HostRuntime) -> Result<(), Fail> {
         (EVEN_AND_ODD, 1, (0, 1), Relation::Apart(1, Reason::Divisor)),
         (EVEN_AND_ODD, 1, (1, 0), Relation::Apart(1, Reason::Divisor)),
         (EVEN_AND_ODD, 2, (0, 1), Relation::Apart(1, Reason::Range)),
-        (EVEN_AND_ODD, 2, (1, 0), Relation::Apart(1, Reason::Distance)),
+        (
+            EVEN_AND_ODD,
+            2,
+            (1, 0),
+            Relation::Apart(1, Reason::Distance),
+        ),
         (INDEX_ARRAY, 1, (0, 0), Relation::Apart(1, Reason::Distance)),
         (INDEX_ARRAY, 2, (1, 3), Relation::Any),
         (INDEX_ARRAY, 2, (3, 1), Relation::Any),
         (INDEX_ARRAY, 2, (0, 2), Relation::Apart(1, Reason::Distance)),
         (NEGATIVE_STEP, 1, (1, 0), Relation::Distance(1, 1)),
-        (NEGATIVE_STEP, 1, (0, 1), Relation::Apart(1, Reason::Distance)),
+        (
+            NEGATIVE_STEP,
+            1,
+            (0, 1),
+            Relation::Apart(1, Reason::Distance),
+        ),
         (AHEAD, 1, (0, 1), Relation::Distance(1, 1)),
         (AHEAD, 1, (1, 0), Relation::Apart(1, Reason::Distance)),
     ];
@@ -606,11 +616,7 @@ fn privates(rt: HostRuntime) -> Result<(), Fail> {
             1,
             &[b"K", b"L"],
         ),
-        (
-            b"      DO 10 I=1,4\n   10 K=K+1\n      END\n",
-            1,
-            &[],
-        ),
+        (b"      DO 10 I=1,4\n   10 K=K+1\n      END\n", 1, &[]),
         (
             b"      DO 10 I=1,4\n      IF (K.GT.0) K=1\n   10 L=M\n      END\n",
             1,

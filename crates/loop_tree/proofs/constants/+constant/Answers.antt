@@ -12,7 +12,7 @@ constant_value-returns-in_ok-b-in-Binary t c =
     let left = c.in-Binary.left in
     let right = c.in-Binary.right in
     let e : term c.args.expression.now ≡ binary c.in-Binary.operator (term left.value) (term right.value) =
-        ap term c.in-Binary.is ∙ ap term (sym (rolls-Binary c.in-Binary.operator left right)) ∙ fold-roll-Expr Term Access term_step access_step _ in
+    ap term c.in-Binary.is ∙ ap term (sym (rolls-Binary c.in-Binary.operator left right)) ∙ fold-roll-Expr Term Access term_step access_step _ in
     let a : c.in_ok-a-in-Binary.a ≡ constant_value (term left.value) = search rules in
     let b : c.in_ok-b-in-Binary.b ≡ constant_value (term right.value) = search rules in
     operation_law c.in-Binary.operator (term c.args.expression.now) (term left.value) (term right.value) c.in_ok-a-in-Binary.a c.in_ok-b-in-Binary.b c.operation_value.result e a b c.operation_value.ensures

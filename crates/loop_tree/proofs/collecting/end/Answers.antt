@@ -1,10 +1,10 @@
 use Rattle.std.proofs.Common.{ap, sym, map, arith}
 use Rattle.std.proofs.lemmas.List.{length-map}
 use Rattle.loop_tree.specs.Collecting.{with_end}
-use Rattle.loop_tree.specs.TreeView.{span}
-use Rattle.loop_tree.specs.declared.tree.Info.{Info}
+use Rattle.loop_tree.specs.CollectedView.{span}
+use Rattle.loop_tree.specs.declared.collecting.Info.{Info}
 use Rattle.loop_tree.proofs.Ends.{set_end, no_end}
-use Rattle.loop_tree.proofs.tree.end.Goals as goal
+use Rattle.loop_tree.proofs.collecting.end.Goals as goal
 
 pub returns-then-place-len : goal.returns-then-place-len
 returns-then-place-len c =
