@@ -116,21 +116,16 @@ fn elements(alloc: Global, numbers: &mut Numbers) -> Result<(Vec<u8>, Vec<u8>), 
 /// A program with a loop whose range assigns two elements of an array, J and K.
 fn source(alloc: Global, numbers: &mut Numbers) -> Result<Vec<u8>, AllocError> {
     let (first, second) = elements(alloc, numbers)?;
-    let parts: [&[u8]; 9] = [
-        b"      INTEGER A(9),B(9,9),C(9)\n      DO 10 ",
-        numbers.choice(&FIRSTS),
-        numbers.choice(&LASTS),
-        numbers.choice(&STEPS),
-        b"\n      ",
-        &first,
-        b")=0\n      ",
-        &second,
-        b")=0\n      J=0\n   10 K=0\n      END\n",
-    ];
     let mut text = Vec::new(alloc);
-    for part in parts {
-        text.extend_from_slice(part)?;
-    }
+    text.extend_from_slice(b"      INTEGER A(9),B(9,9),C(9)\n      DO 10 ")?;
+    text.extend_from_slice(numbers.choice(&FIRSTS))?;
+    text.extend_from_slice(numbers.choice(&LASTS))?;
+    text.extend_from_slice(numbers.choice(&STEPS))?;
+    text.extend_from_slice(b"\n      ")?;
+    text.extend_from_slice(&first)?;
+    text.extend_from_slice(b")=0\n      ")?;
+    text.extend_from_slice(&second)?;
+    text.extend_from_slice(b")=0\n      J=0\n   10 K=0\n      END\n")?;
     Ok(text)
 }
 
@@ -274,18 +269,14 @@ fn may_agree(
     (first, here): (&[Expr], &Standing),
     (second, there): (&[Expr], &Standing),
 ) -> Result<bool, AllocError> {
-    match (first, second) {
-        ([a, more @ ..], [b, rest @ ..]) => {
-            let left = values_of(alloc, a, here)?;
-            let right = values_of(alloc, b, there)?;
-            if share(&left, &right) {
-                may_agree(alloc, (more, here), (rest, there))
-            } else {
-                Ok(false)
-            }
+    for (a, b) in first.iter().zip(second) {
+        let left = values_of(alloc, a, here)?;
+        let right = values_of(alloc, b, there)?;
+        if !share(&left, &right) {
+            return Ok(false);
         }
-        _ => Ok(true),
     }
+    Ok(true)
 }
 
 /// Two references of a loop's range, by their subscripts.

@@ -92,7 +92,11 @@ fn is_nest(rt: &(impl Abort + AllocGlobal), tree: &LoopTree<'_>) -> Result<(), F
         (5, Some(4), Some(1), None, &[], &[6, 6, 6, 6, 6]),
         (9, None, Some(-2), Some(3), &[b"K"], &[10, 10, 10]),
     ];
-    for (number, wanted) in (1..=4).zip(wanted) {
+    let mut number: usize = 0;
+    for wanted in wanted {
+        number = number.wrapping_add(1);
+        assert!(rt; 1 <= number);
+        assert!(rt; number <= tree.count());
         looks_as(rt, tree, &tree.view(number), wanted)?;
     }
     Ok(())
