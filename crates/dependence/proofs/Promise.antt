@@ -6,7 +6,8 @@ use Rattle.std.specs.Prelude.{ℤ, pos, zero, suc, ◌-◌, ◌+ℤ◌, ◌*ℤ�
 use Rattle.ast.specs.Tree.{Term, Terms, no_terms, then_term}
 use Rattle.loop_tree.specs.Loops.{Loop}
 use Rattle.loop_tree.specs.Occurrences.{Occurrence}
-use Rattle.subscripts.specs.Forms.{Form, form_of, if_some}
+use Rattle.loop_tree.specs.Constants.{if_some}
+use Rattle.subscripts.specs.Forms.{Form, form_of}
 use Rattle.subscripts.specs.Values.{MayBe}
 use Rattle.subscripts.proofs.Meaning.{meant, none_some}
 use Rattle.dependence.specs.Meets.{IfYes, IsStep, IsWithin, MayAgree, Meets, Promises, PromisesIf}

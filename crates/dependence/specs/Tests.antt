@@ -12,7 +12,8 @@ use Rattle.dependence.specs.declared.relation.Found.{Found}
 use Rattle.dependence.specs.declared.relation.Found.TheVariants.{Nothing, Nowhere, Only}
 use Rattle.loop_tree.specs.Loops.{Loop}
 use Rattle.loop_tree.specs.Occurrences.{Occurrence, numbered}
-use Rattle.subscripts.specs.Forms.{Form, Share, factor_in, form_of, if_some, others, varies}
+use Rattle.loop_tree.specs.Constants.{if_some}
+use Rattle.subscripts.specs.Forms.{Form, Share, factor_in, form_of, others, varies}
 
 -- The greatest common divisor, by Euclid; n bounds the steps.
 abbrev pub gcd_within : ℕ → ℕ → ℕ → ℕ

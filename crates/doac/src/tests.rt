@@ -1,3 +1,6 @@
+mod meeting;
+mod overlap;
+
 use crate::command::{Command, LineFault};
 use crate::command_line::command;
 use crate::engines::{check, check_text, seq, seq_texts};

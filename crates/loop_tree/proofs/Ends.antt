@@ -1,20 +1,19 @@
 -- A loop's end, in the list of what is known of loops.
-use Rattle.std.proofs.Common.{◌≡◌, ◌∙◌, ap, sym, refl, ℕ, List, [], ◌∷◌, map, length, get_or, ◌≤◌, ◌<◌, zero, suc, arith}
+use Rattle.std.specs.List.{list_all}
+use Rattle.std.proofs.lemmas.Bool.{and_parts}
+use Rattle.std.proofs.Common.{subst, ◌≡◌, ◌∙◌, ap, sym, refl, ℕ, List, [], ◌∷◌, map, length, get_or, ◌≤◌, ◌<◌, zero, suc, arith}
 use Rattle.std.proofs.Math.ListN.{set}
 use Rattle.std.proofs.lemmas.List.{length-map, take-map, drop-map}
-use Rattle.std.specs.Prelude.{◌-◌, take, drop, Bool, true, false, nat_le, ◌&&◌, if◌then◌else◌, slice_get, slice_index_or, Some, None, Result, Ok, Err, IfOk, Option, option_map}
+use Rattle.std.specs.Prelude.{◌-◌, take, drop, Bool, true, false, nat_le, ◌&&◌, if◌then◌else◌, slice_get, slice_index_or, Some, Option, option_map}
 use Rattle.std.proofs.lemmas.Option.{slice_get-map}
-use Rattle.std.specs.declared.alloc.AllocError.{AllocError}
-use Rattle.ast.specs.Tree.{Block}
-use Rattle.loop_tree.specs.Collecting.{Span, with_end, ended_at, part, loop_by, after_block, no_collected}
-use Rattle.loop_tree.specs.Loops.{loop_numbered, loops_of}
+use Rattle.loop_tree.specs.Collecting.{Span, with_end, ended_at, part, loop_by}
+use Rattle.loop_tree.specs.Loops.{Loop, loop_numbered}
 use Rattle.loop_tree.specs.Occurrences as spec
 use Rattle.loop_tree.specs.View.{occurrence}
 use Rattle.loop_tree.specs.declared.occurrence.Occurrence.{Occurrence}
-use Rattle.loop_tree.specs.TreeView.{collected, loops_seen, span}
-use Rattle.loop_tree.specs.declared.tree.LoopTree.{LoopTree}
-use Rattle.loop_tree.proofs.Gathered.{loops_gathered}
-use Rattle.loop_tree.specs.declared.tree.Info.{Info}
+use Rattle.loop_tree.specs.CollectedView.{span}
+use Rattle.loop_tree.specs.Told.{are_told, known}
+use Rattle.loop_tree.specs.declared.collecting.Info.{Info}
 
 pub set_end : (is : List Info) (p n : ℕ) (i d : Info) → span i ≡ with_end n (span (get_or is p d)) → p < length is → map span (set is p i) ≡ ended_at p n (map span is)
 set_end [] p n i d e h = refl
@@ -46,9 +45,11 @@ loop_found rs is (suc m) d h k =
     let e : m ≡ suc m - 1 = omega arith in
     at_place rs is m d (omega (arith, k)) ∙ ap (λ j. Some (loop_by rs (span (slice_index_or is j d)))) e
 
-pub all_shown : (r : Result LoopTree AllocError) (b : Block) → IfOk r (λ t. collected t ≡ after_block None b no_collected) → IfOk r (λ t. loops_seen t ≡ loops_of b)
-all_shown (Ok t) b h = loops_gathered (collected t) b h
-all_shown (Err e) b h = tt
+pub told_at : (ls : List Loop) (n : ℕ) (l : Loop) → list_all (λ (m : Loop). are_told (known m)) ls ≡ true → loop_numbered ls n ≡ Some l → are_told (known l) ≡ true
+told_at ls zero l h e = cc
+told_at [] (suc n) l h e = cc
+told_at (m ∷ ls) (suc zero) l h e = let d : m ≡ l = cc in subst (λ (x : Loop). are_told (known x) ≡ true) d (and_parts (are_told (known m)) (list_all (λ (x : Loop). are_told (known x)) ls) h).0
+told_at (m ∷ ls) (suc (suc n)) l h e = told_at ls (suc n) l (and_parts (are_told (known m)) (list_all (λ (x : Loop). are_told (known x)) ls) h).1 e
 
 pub seen_at : (xs : List Occurrence) (n : ℕ) (o : Option Occurrence) → o ≡ slice_get xs n → option_map occurrence o ≡ slice_get (map occurrence xs) n
 seen_at xs n o e = ap (λ (x : Option Occurrence). option_map occurrence x) e ∙ sym (slice_get-map occurrence xs n)

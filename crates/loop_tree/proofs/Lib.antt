@@ -1,2 +1,9 @@
+pub mod ConstantValues
 pub mod Ends
 pub mod Gathered
+pub mod Known
+pub mod Marked
+pub mod Numbers
+pub mod Placed
+pub mod Program
+pub mod References

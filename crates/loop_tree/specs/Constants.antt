@@ -1,44 +1,34 @@
 -- Expressions whose value doesn't depend on variables: of constants, names of constants, operators and
 -- intrinsics.
-use Rattle.std.specs.Prelude.{ℕ, ℤ, pos, if◌then◌else◌, List, [], ◌∷◌, ◌++◌, Option, Some, None, Result, Ok, Err}
+use Rattle.std.specs.Prelude.{ℕ, ℤ, pos, if◌then◌else◌, List, Option, Some, None, Err}
 use Rattle.std.specs.Ordering.{int_eq}
-use Rattle.ast.specs.Exact.{trips, truth_value, prefixed_value, intrinsic_value, value_of}
-use Rattle.ast.specs.Tree.{Term, Terms, constant, truth, parameter, element, call, parentheses, unary, binary, no_terms, then_term, DoHead}
-use Rattle.ast.specs.declared.fault.Fault.{Fault}
+use Rattle.std.specs.Result.{result_ok}
+use Rattle.ast.specs.Exact.{trips}
+use Rattle.ast.specs.Meaning.{LookUp, value, values, step_value}
+use Rattle.ast.specs.Tree.{Term, Terms, DoHead}
+use Rattle.ast.specs.declared.fault.Fault.TheVariants.{Index}
 
 -- goes on where something is there
 abbrev pub if_some : {X Y : Type 0} → Option X → (X → Option Y) → Option Y
 if_some None next = None
 if_some (Some x) next = next x
 
-abbrev pub if_ok : {X : Type 0} → Result X Fault → Option X
-if_ok (Ok x) = Some x
-if_ok (Err f) = None
+-- A look-up that knows no variable; which fault it gives counts for nothing.
+abbrev pub no_variables : LookUp
+no_variables r xs = Err Index
 
--- The value of a constant expression; None of one with a variable, or that faults.
-abbrev mutual
-  pub constant_value : Term → Option ℤ
-  constant_value (constant n) = Some n
-  constant_value (truth b) = Some (truth_value b)
-  constant_value (parameter x n) = Some n
-  constant_value (element r es) = None
-  constant_value (call f es) = if_some (constant_values [] es) (λ xs. if_ok (intrinsic_value f xs))
-  constant_value (parentheses e) = constant_value e
-  constant_value (unary p e) = if_some (constant_value e) (λ a. if_ok (prefixed_value p a))
-  constant_value (binary o a b) = if_some (constant_value a) (λ u. if_some (constant_value b) (λ v. if_ok (value_of o u v)))
+-- The value of a constant expression, which is that of the meaning; None of one with a variable, or
+-- that faults.
+abbrev pub constant_value : Term → Option ℤ
+constant_value e = result_ok (value no_variables e)
 
-  -- the values of arguments, behind others
-  pub constant_values : List ℤ → Terms → Option (List ℤ)
-  constant_values xs no_terms = Some xs
-  constant_values xs (then_term e es) = if_some (constant_value e) (λ x. constant_values (xs ++ x ∷ []) es)
-
-abbrev pub step_value : Option Term → Option ℤ
-step_value None = Some (pos 1)
-step_value (Some e) = constant_value e
+-- the values of arguments
+abbrev pub constant_values : Terms → Option (List ℤ)
+constant_values es = result_ok (values no_variables es)
 
 -- the step of a loop where it is constant; 1 where it is absent
 abbrev pub step_of : DoHead → Option ℤ
-step_of h = step_value h.step
+step_of h = result_ok (step_value no_variables h.step)
 
 abbrev pub trips_by : ℤ → ℤ → ℤ → Option ℕ
 trips_by m1 m2 m3 = if int_eq m3 (pos 0) then None else Some (trips m1 m2 m3)

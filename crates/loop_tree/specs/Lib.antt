@@ -1,3 +1,4 @@
+pub mod CollectedView
 pub mod Collecting
 pub mod Constants
 pub mod ConstantsView
@@ -7,5 +8,6 @@ pub mod Occurrences
 pub mod Paths
 pub mod Private
 pub mod ScalarsView
+pub mod Told
 pub mod TreeView
 pub mod View

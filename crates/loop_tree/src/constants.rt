@@ -1,25 +1,16 @@
 //! Expressions whose value doesn't depend on variables.
 
-ghost use Rattle.std.specs.Prelude.{◌≡◌, [], IfOk, map, option_map};
-ghost use Rattle.ast.specs.Exact.{greatest, intrinsic_value, least};
+ghost use Rattle.std.specs.Prelude.{◌≡◌, IfOk, map, option_map};
+ghost use Rattle.std.specs.Result.{result_ok};
+ghost use Rattle.ast.specs.Exact.{greatest, intrinsic_value, least, value_of};
 ghost use Rattle.ast.specs.Tree.{call, terms};
 ghost use Rattle.ast.specs.View.{head as head_of, optional_term, term};
 ghost use Rattle.loop_tree.specs.Constants as spec;
 ghost use Rattle.loop_tree.specs.ConstantsView.{listed};
 
-use ast::{DoHead, Expr, Fault, Intrinsic};
+use ast::{DoHead, Expr, Fault, Intrinsic, Operator};
 use std::alloc::{AllocError, Global};
 use values::{abs, apply_operator, apply_prefix, modulo, trips, truth};
-
-/// The value, unless there is a fault in its place.
-fn known(value: Result<i64, Fault>) -> Option<i64>
-    ensures { result ≡ spec.if_ok value }
-{
-    match value {
-        Ok(value) => Some(value),
-        Err(_) => None,
-    }
-}
 
 /// The greatest of a number and others.
 fn greatest(first: i64, others: &[i64]) -> i64
@@ -73,10 +64,18 @@ fn intrinsic_value(intrinsic: Intrinsic, arguments: &[i64]) -> Result<i64, Fault
     }
 }
 
+/// The value of an operation, if both operands have one.
+fn operation_value(operator: Operator, a: Option<i64>, b: Option<i64>) -> Option<i64>
+    ensures { result ≡ spec.if_some a (λ u. spec.if_some b (λ v. result_ok (value_of operator u v))) }
+{
+    apply_operator(operator, a?, b?).ok()
+}
+
 /// The values of arguments, `None` where one has none.
 #[cycle(constant)]
+#[tactic(auto, using(crate::proofs::ConstantValues::from_none, crate::proofs::ConstantValues::next_value, crate::proofs::ConstantValues::no_values))]
 fn values_of(alloc: Global, arguments: &[Expr]) -> Result<Option<Vec<i64>>, AllocError>
-    ensures { IfOk result (λ values. listed values ≡ spec.constant_values [] (terms (map term arguments.now))) }
+    ensures { IfOk result (λ values. listed values ≡ spec.constant_values (terms (map term arguments.now))) }
 {
     let mut values = Vec::new(alloc);
     for argument in arguments {
@@ -89,6 +88,7 @@ fn values_of(alloc: Global, arguments: &[Expr]) -> Result<Option<Vec<i64>>, Allo
 }
 
 #[cycle(constant)]
+#[tactic(auto, using(crate::proofs::ConstantValues::call_law))]
 fn call_value(
     alloc: Global,
     intrinsic: Intrinsic,
@@ -97,13 +97,14 @@ fn call_value(
     ensures { IfOk result (λ value. value ≡ spec.constant_value (call intrinsic (terms (map term arguments.now)))) }
 {
     match values_of(alloc, arguments)? {
-        Some(values) => Ok(known(intrinsic_value(intrinsic, &values))),
+        Some(values) => Ok(intrinsic_value(intrinsic, &values).ok()),
         None => Ok(None),
     }
 }
 
 /// The value of a constant expression; `None` of one with a variable, or that faults.
 #[cycle(constant)]
+#[tactic(auto, using(crate::proofs::ConstantValues::element_law, crate::proofs::ConstantValues::prefixed_law))]
 pub fn constant_value(alloc: Global, expression: &Expr) -> Result<Option<i64>, AllocError>
     ensures { IfOk result (λ value. value ≡ spec.constant_value (term expression.now)) }
 {
@@ -115,16 +116,14 @@ pub fn constant_value(alloc: Global, expression: &Expr) -> Result<Option<i64>, A
         Expr::Call(intrinsic, arguments) => call_value(alloc, *intrinsic, arguments),
         Expr::Parentheses(inner) => constant_value(alloc, inner),
         Expr::Unary(prefix, operand) => match constant_value(alloc, operand)? {
-            Some(a) => Ok(known(apply_prefix(*prefix, a))),
+            Some(a) => Ok(apply_prefix(*prefix, a).ok()),
             None => Ok(None),
         },
-        Expr::Binary(operator, left, right) => match constant_value(alloc, left)? {
-            Some(a) => match constant_value(alloc, right)? {
-                Some(b) => Ok(known(apply_operator(*operator, a, b))),
-                None => Ok(None),
-            },
-            None => Ok(None),
-        },
+        Expr::Binary(operator, left, right) => {
+            let a = constant_value(alloc, left)?;
+            let b = constant_value(alloc, right)?;
+            Ok(operation_value(*operator, a, b))
+        }
     }
 }
 

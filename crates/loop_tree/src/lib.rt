@@ -2,11 +2,15 @@
 #![tactic(auto)]
 
 mod assigned;
+mod collecting;
 mod constants;
+mod finding;
 mod occurrence;
 mod scalars;
 mod tree;
+mod whole;
 
 pub use occurrence::Occurrence;
 pub use scalars::{ScalarSet, Scalars};
-pub use tree::{LoopTree, LoopView, loops};
+pub use tree::{LoopTree, LoopView};
+pub use whole::loops;

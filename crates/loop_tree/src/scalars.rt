@@ -57,7 +57,7 @@ fn set(marks: &mut Vec<bool>, cell: usize)
 }
 
 impl Scalars {
-    ghost use Rattle.std.specs.Prelude.{◌≡◌, [], OnOk, map};
+    ghost use Rattle.std.specs.Prelude.{◌≡◌, ◌<◌, [], OnOk, map, true, ℕ};
     ghost use Rattle.ast.specs.View.{ref};
     ghost use Rattle.loop_tree.specs.Loops.{has_cell, with_scalar};
     ghost use Rattle.loop_tree.specs.ScalarsView.{scalars};
@@ -84,6 +84,14 @@ impl Scalars {
         ensures { result ≡ has_cell cell (scalars self.now) }
     {
         is_marked(&self.marks, cell)
+    }
+
+    /// A number that is greater than the cell of each.
+    #[tactic(auto, using(crate::proofs::Marked::all_within))]
+    pub fn cells(&self) -> usize
+        ensures { (c : ℕ) → has_cell c (scalars self.now) ≡ true → c < result }
+    {
+        self.marks.len()
     }
 
     /// Adds a scalar, unless it is among them.

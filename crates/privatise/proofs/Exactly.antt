@@ -2,18 +2,21 @@
 use Rattle.std.proofs.Common.{◌≡◌, ◌∙◌, ap, sym, refl, ℕ, List, [], ◌∷◌, subst, true≢false, inl, inr}
 use Rattle.std.proofs.lemmas.List.{append_assoc}
 use Rattle.std.proofs.lemmas.Bool.Decides.{Decides-eqb}
-use Rattle.std.specs.Prelude.{◌++◌, ◌⊎◌, Bool, true, false, ◌||◌, ◌==◌, if◌then◌else◌}
+use Rattle.std.specs.Prelude.{◌<◌, ◌++◌, ◌⊎◌, Bool, true, false, ◌||◌, ◌==◌, if◌then◌else◌, replicate}
 use Rattle.std.specs.List.{list_any}
 use Rattle.ast.specs.Tree.{Ref}
 use Rattle.loop_tree.specs.Loops.{Loop, has_cell}
 use Rattle.loop_tree.specs.Paths.{Token, uses, defines, await, advance, Ending, at_end, at_stop, Paths}
 use Rattle.loop_tree.specs.Private.{UsesEarly, Private, defines_cell}
-use Rattle.privatise.specs.Flow.{block_walk, is_never_early}
+use Rattle.privatise.specs.Cells.{walk_at}
+use Rattle.privatise.specs.Flow.{after_block, is_never_early, is_never_early_at}
 use Rattle.privatise.specs.Privates.{Picked, ArePrivate, private_refs, private_names}
-use Rattle.privatise.specs.Walks.{then_walk, if_used, if_defined, walk}
+use Rattle.privatise.specs.Walks.{then_walk, if_so, walk}
 use Rattle.privatise.specs.declared.walk.Walk.{Walk}
 use Rattle.privatise.specs.declared.walk.Walk.TheVariants.{Defined, Missed, Early}
+use Rattle.privatise.proofs.ByCell.{block_walk}
 use Rattle.privatise.proofs.Flows.{AtMost, result, walk_append, block_is}
+use Rattle.privatise.proofs.Forward.{from_nothing}
 
 is_early : Walk → Type 0
 is_early Early = Unit {0}
@@ -33,12 +36,12 @@ early_found : (c : ℕ) (t : List Token) → walk c t ≡ Early → UsesEarly c 
 early_found c [] e = absurd (missed_is_early e)
 early_found c (uses r ∷ t) e = by (r.cell == c) refl (λ f. early_found c t f) e
   where
-    by : (b : Bool) → (r.cell == c) ≡ b → (walk c t ≡ Early → UsesEarly c t) → then_walk (if_used b) (walk c t) ≡ Early → UsesEarly c (uses r ∷ t)
+    by : (b : Bool) → (r.cell == c) ≡ b → (walk c t ≡ Early → UsesEarly c t) → then_walk (if_so b Early) (walk c t) ≡ Early → UsesEarly c (uses r ∷ t)
     by true f more g = record { front = []; back = t; ref = r; at = refl; of = f; before = refl }
     by false f more g = let h = more g in record { front = uses r ∷ h.front; back = h.back; ref = h.ref; at = ap (λ s. uses r ∷ s) h.at; of = h.of; before = h.before }
 early_found c (defines r ∷ t) e = by (r.cell == c) refl (λ f. early_found c t f) e
   where
-    by : (b : Bool) → (r.cell == c) ≡ b → (walk c t ≡ Early → UsesEarly c t) → then_walk (if_defined b) (walk c t) ≡ Early → UsesEarly c (defines r ∷ t)
+    by : (b : Bool) → (r.cell == c) ≡ b → (walk c t ≡ Early → UsesEarly c t) → then_walk (if_so b Defined) (walk c t) ≡ Early → UsesEarly c (defines r ∷ t)
     by true f more g = absurd (defined_is_early g)
     by false f more g = let h = more g in record { front = defines r ∷ h.front; back = h.back; ref = h.ref; at = ap (λ s. defines r ∷ s) h.at; of = h.of; before = ap (λ (b : Bool). b || list_any (defines_cell c) h.front) f ∙ h.before }
 early_found c (await n d ∷ t) e = let h = early_found c t e in record { front = await n d ∷ h.front; back = h.back; ref = h.ref; at = ap (λ s. await n d ∷ s) h.at; of = h.of; before = h.before }
@@ -48,12 +51,12 @@ stays_missed : (c : ℕ) (front : List Token) → list_any (defines_cell c) fron
 stays_missed c [] e = refl
 stays_missed c (uses r ∷ t) e = by (r.cell == c) (stays_missed c t e)
   where
-    by : (b : Bool) → then_walk (walk c t) Early ≡ Early → then_walk (then_walk (if_used b) (walk c t)) Early ≡ Early
+    by : (b : Bool) → then_walk (walk c t) Early ≡ Early → then_walk (then_walk (if_so b Early) (walk c t)) Early ≡ Early
     by true more = refl
     by false more = more
 stays_missed c (defines r ∷ t) e = by (r.cell == c) (λ f. stays_missed c t f) e
   where
-    by : (b : Bool) → (list_any (defines_cell c) t ≡ false → then_walk (walk c t) Early ≡ Early) → (b || list_any (defines_cell c) t) ≡ false → then_walk (then_walk (if_defined b) (walk c t)) Early ≡ Early
+    by : (b : Bool) → (list_any (defines_cell c) t ≡ false → then_walk (walk c t) Early ≡ Early) → (b || list_any (defines_cell c) t) ≡ false → then_walk (then_walk (if_so b Defined) (walk c t)) Early ≡ Early
     by true more f = absurd (true≢false f)
     by false more f = more f
 stays_missed c (await n d ∷ t) e = stays_missed c t e
@@ -63,7 +66,7 @@ found_early : (c : ℕ) (t : List Token) → UsesEarly c t → walk c t ≡ Earl
 found_early c t u =
     ap (λ s. walk c s) u.at
     ∙ walk_append c u.front (uses u.ref ∷ u.back)
-    ∙ ap (λ (b : Bool). then_walk (walk c u.front) (then_walk (if_used b) (walk c u.back))) u.of
+    ∙ ap (λ (b : Bool). then_walk (walk c u.front) (then_walk (if_so b Early) (walk c u.back))) u.of
     ∙ stays_missed c u.front u.before
 
 -- ---- all paths
@@ -115,19 +118,31 @@ among (s ∷ front) r rs = by (s.cell == r.cell) (among front r rs)
     by true more = refl
     by false more = more
 
-picked_from : (l : Loop) (front rs : List Ref) → l.assigned ≡ front ++ rs → Picked (λ r. Private l r.cell) rs (private_refs l.body rs)
-picked_from l front [] e = refl
-picked_from l front (r ∷ rs) e =
-    by (is_never_early (block_walk r.cell l.body)) refl (picked_from l (front ++ r ∷ []) rs (e ∙ sym (append_assoc front (r ∷ []) rs)))
+-- a list of walks tells what the paths through the range do with each scalar that it assigns
+abbrev Tells : Loop → List Walk → Type 0
+Tells l ws = (c : ℕ) → has_cell c l.assigned ≡ true → walk_at ws c ≡ block_walk c l.body
+
+picked_from : (l : Loop) (ws : List Walk) (front rs : List Ref) → Tells l ws → l.assigned ≡ front ++ rs → Picked (λ r. Private l r.cell) rs (private_refs ws rs)
+picked_from l ws front [] t e = refl
+picked_from l ws front (r ∷ rs) t e =
+    by (is_never_early_at ws r.cell) (sym (ap (λ w. is_never_early w) (t r.cell here))) (picked_from l ws (front ++ r ∷ []) rs t (e ∙ sym (append_assoc front (r ∷ []) rs)))
   where
     here : has_cell r.cell l.assigned ≡ true
     here = ap (λ xs. has_cell r.cell xs) e ∙ among front r rs
 
-    by : (b : Bool) → is_never_early (block_walk r.cell l.body) ≡ b → Picked (λ s. Private l s.cell) rs (private_refs l.body rs)
-        → (Private l r.cell × (qs : List Ref) × ((if b then r ∷ private_refs l.body rs else private_refs l.body rs) ≡ r ∷ qs) × Picked (λ s. Private l s.cell) rs qs)
-        ⊎ ((Private l r.cell → ⊥) × Picked (λ s. Private l s.cell) rs (if b then r ∷ private_refs l.body rs else private_refs l.body rs))
-    by true f more = inl (is_private l r.cell here f, private_refs l.body rs, refl, more)
+    by : (b : Bool) → is_never_early (block_walk r.cell l.body) ≡ b → Picked (λ s. Private l s.cell) rs (private_refs ws rs)
+        → (Private l r.cell × (qs : List Ref) × ((if b then r ∷ private_refs ws rs else private_refs ws rs) ≡ r ∷ qs) × Picked (λ s. Private l s.cell) rs qs)
+        ⊎ ((Private l r.cell → ⊥) × Picked (λ s. Private l s.cell) rs (if b then r ∷ private_refs ws rs else private_refs ws rs))
+    by true f more = inl (is_private l r.cell here f, private_refs ws rs, refl, more)
     by false f more = inr (isnt_private l r.cell f, more)
 
-pub are_private : (l : Loop) (names : List (List ℕ)) → names ≡ private_names l.body l.assigned → ArePrivate l names
-are_private l names e = record { scalars = private_refs l.body l.assigned; picked = picked_from l [] l.assigned refl; named = e }
+-- so many cells are enough for the scalars that the range assigns
+abbrev pub AreEnough : Loop → ℕ → Type 0
+AreEnough l n = (c : ℕ) → has_cell c l.assigned ≡ true → c < n
+
+pub are_private : (l : Loop) (n : ℕ) (names : List (List ℕ)) → AreEnough l n → names ≡ private_names (after_block l.body (replicate n Missed)) l.assigned → ArePrivate l names
+are_private l n names h e = record {
+  scalars = private_refs (after_block l.body (replicate n Missed)) l.assigned;
+  picked = picked_from l (after_block l.body (replicate n Missed)) [] l.assigned (λ c k. from_nothing n c l.body (h c k)) refl;
+  named = e;
+}

@@ -1,3 +1,5 @@
+pub mod ByCell
+pub mod Changes
 pub mod Exactly
 pub mod Flows
-pub mod Joins
+pub mod Forward

@@ -1,73 +1,72 @@
--- An account of the code: what the paths through a part do with a scalar, by the tree.
-use Rattle.std.specs.Prelude.{ℕ, Bool, true, false, ◌||◌, ◌==◌, if◌then◌else◌, List, [], ◌∷◌, Option, Some, None}
+-- An account of the code: what paths have done with scalars when they come out of a part of a
+-- program, by what they had done when they came to it.
+use Rattle.std.specs.Prelude.{ℕ, Bool, true, false, List, [], ◌∷◌, length, replicate, Option, Some, None}
 use Rattle.ast.specs.Tree.{Term, Terms, element, call, parentheses, unary, binary, no_terms, then_term, Access, PrintItem, value_item, text_item, DoHead, Kind, assign, print, read, stop, Node, plain, loop, choose, Block, no_nodes, then_node, Arms, no_arms, then_arm}
-use Rattle.privatise.specs.Walks.{if_defined, if_used, more, then_walk}
+use Rattle.privatise.specs.Cells.{walk_at, gone_on, stopped, joined}
 use Rattle.privatise.specs.declared.walk.Walk.{Walk}
-use Rattle.privatise.specs.declared.walk.Walk.TheVariants.{Defined, Missed, Early}
+use Rattle.privatise.specs.declared.walk.Walk.TheVariants.{Defined, Early}
 
 abbrev mutual
-  pub term_uses : ℕ → Term → Bool
-  term_uses c (element r es) = terms_use c es || r.cell == c
-  term_uses c (call f es) = terms_use c es
-  term_uses c (parentheses e) = term_uses c e
-  term_uses c (unary p e) = term_uses c e
-  term_uses c (binary o a b) = term_uses c a || term_uses c b
-  term_uses c _ = false
+  pub after_term : Term → List Walk → List Walk
+  after_term (element r es) ws = gone_on (after_terms es ws) r.cell Early
+  after_term (call f es) ws = after_terms es ws
+  after_term (parentheses e) ws = after_term e ws
+  after_term (unary p e) ws = after_term e ws
+  after_term (binary o a b) ws = after_term b (after_term a ws)
+  after_term _ ws = ws
 
-  pub terms_use : ℕ → Terms → Bool
-  terms_use c no_terms = false
-  terms_use c (then_term e es) = term_uses c e || terms_use c es
+  pub after_terms : Terms → List Walk → List Walk
+  after_terms no_terms ws = ws
+  after_terms (then_term e es) ws = after_terms es (after_term e ws)
 
-abbrev pub optional_uses : ℕ → Option Term → Bool
-optional_uses c None = false
-optional_uses c (Some e) = term_uses c e
+abbrev pub after_optional : Option Term → List Walk → List Walk
+after_optional None ws = ws
+after_optional (Some e) ws = after_term e ws
 
-abbrev pub item_uses : ℕ → PrintItem → Bool
-item_uses c (value_item e) = term_uses c e
-item_uses c (text_item t) = false
+abbrev pub after_item : PrintItem → List Walk → List Walk
+after_item (value_item e) ws = after_term e ws
+after_item (text_item t) ws = ws
 
-abbrev pub items_use : ℕ → List PrintItem → Bool
-items_use c [] = false
-items_use c (i ∷ more) = item_uses c i || items_use c more
+abbrev pub after_items : List PrintItem → List Walk → List Walk
+after_items [] ws = ws
+after_items (i ∷ more) ws = after_items more (after_item i ws)
 
-abbrev pub target_walk : ℕ → Access → Walk
-target_walk c a = if terms_use c a.subscripts then Early else if_defined (a.ref.cell == c)
+abbrev pub after_target : Access → List Walk → List Walk
+after_target a ws = gone_on (after_terms a.subscripts ws) a.ref.cell Defined
 
-abbrev pub targets_walk : ℕ → List Access → Walk
-targets_walk c [] = Missed
-targets_walk c (a ∷ rest) = then_walk (target_walk c a) (targets_walk c rest)
+abbrev pub after_targets : List Access → List Walk → List Walk
+after_targets [] ws = ws
+after_targets (a ∷ more) ws = after_targets more (after_target a ws)
 
-abbrev pub assignment_walk : ℕ → Access → Term → Walk
-assignment_walk c a e = if term_uses c e then Early else target_walk c a
+abbrev pub after_kind : Kind → List Walk → List Walk
+after_kind (assign a e) ws = after_target a (after_term e ws)
+after_kind (print items) ws = after_items items ws
+after_kind (read elements) ws = after_targets elements ws
+after_kind stop ws = stopped ws
+after_kind _ ws = ws
 
-abbrev pub kind_walk : ℕ → Kind → Walk
-kind_walk c (assign a e) = assignment_walk c a e
-kind_walk c (print items) = if_used (items_use c items)
-kind_walk c (read elements) = targets_walk c elements
-kind_walk c stop = Defined
-kind_walk c _ = Missed
-
-abbrev pub head_walk : ℕ → DoHead → Walk
-head_walk c h = if term_uses c h.first || (term_uses c h.last || optional_uses c h.step) then Early else if_defined (h.variable.cell == c)
-
-abbrev pub tested_walk : ℕ → Term → Walk → Walk → Walk
-tested_walk c e body others = if term_uses c e then Early else more body others
+abbrev pub after_head : DoHead → List Walk → List Walk
+after_head h ws = gone_on (after_optional h.step (after_term h.last (after_term h.first ws))) h.variable.cell Defined
 
 abbrev mutual
-  pub node_walk : ℕ → Node → Walk
-  node_walk c (plain s) = kind_walk c s.kind
-  node_walk c (loop l h b) = then_walk (head_walk c h) (more Missed (block_walk c b))
-  node_walk c (choose a) = arms_walk c a
+  pub after_node : Node → List Walk → List Walk
+  after_node (plain s) ws = after_kind s.kind ws
+  after_node (loop l h b) ws = joined (after_block b (after_head h ws)) (after_head h ws)
+  after_node (choose a) ws = after_arms a (replicate (length ws) Defined) ws
 
-  pub block_walk : ℕ → Block → Walk
-  block_walk c no_nodes = Missed
-  block_walk c (then_node n b) = then_walk (node_walk c n) (block_walk c b)
+  pub after_block : Block → List Walk → List Walk
+  after_block no_nodes ws = ws
+  after_block (then_node n b) ws = after_block b (after_node n ws)
 
-  pub arms_walk : ℕ → Arms → Walk
-  arms_walk c no_arms = Missed
-  arms_walk c (then_arm l None b rest) = block_walk c b
-  arms_walk c (then_arm l (Some e) b rest) = tested_walk c e (block_walk c b) (arms_walk c rest)
+  -- by the arms that are left, or by those before, of which this is known
+  pub after_arms : Arms → List Walk → List Walk → List Walk
+  after_arms no_arms ended ws = joined ws ended
+  after_arms (then_arm l None b more) ended ws = joined (after_block b ws) ended
+  after_arms (then_arm l (Some e) b more) ended ws = after_arms more (joined ended (after_block b (after_term e ws))) (after_term e ws)
 
 abbrev pub is_never_early : Walk → Bool
 is_never_early Early = false
 is_never_early _ = true
+
+abbrev pub is_never_early_at : List Walk → ℕ → Bool
+is_never_early_at ws c = is_never_early (walk_at ws c)

@@ -1,3 +1,4 @@
+pub mod Cells
 pub mod Flow
 pub mod Privates
 pub mod Walks

@@ -16,16 +16,14 @@ more Missed Early = Early
 more Missed w = Missed
 more Defined w = w
 
-abbrev pub if_used : Bool → Walk
-if_used u = if u then Early else Missed
-
-abbrev pub if_defined : Bool → Walk
-if_defined d = if d then Defined else Missed
+-- a part that does this, where it is of the scalar
+abbrev pub if_so : Bool → Walk → Walk
+if_so b w = if b then w else Missed
 
 -- what one path does
 abbrev pub walk : ℕ → List Token → Walk
 walk c [] = Missed
-walk c (uses r ∷ t) = then_walk (if_used (r.cell == c)) (walk c t)
-walk c (defines r ∷ t) = then_walk (if_defined (r.cell == c)) (walk c t)
+walk c (uses r ∷ t) = then_walk (if_so (r.cell == c) Early) (walk c t)
+walk c (defines r ∷ t) = then_walk (if_so (r.cell == c) Defined) (walk c t)
 walk c (await e d ∷ t) = walk c t
 walk c (advance e ∷ t) = walk c t

@@ -31,18 +31,14 @@ impl Walk {
             Walk::Defined => other,
         }
     }
-}
 
-/// Of a part that uses the scalar, or else does nothing with it.
-pub fn if_used(uses: bool) -> Walk
-    ensures { result ≡ spec.if_used uses }
-{
-    if uses { Walk::Early } else { Walk::Missed }
-}
-
-/// Of a part that defines the scalar, or else does nothing with it.
-pub fn if_defined(defines: bool) -> Walk
-    ensures { result ≡ spec.if_defined defines }
-{
-    if defines { Walk::Defined } else { Walk::Missed }
+    /// Of paths by one part and then by another.
+    pub fn and_after(self, other: Walk) -> Walk
+        ensures { result ≡ spec.then_walk self other }
+    {
+        match self {
+            Walk::Missed => other,
+            Walk::Defined | Walk::Early => self,
+        }
+    }
 }

@@ -7,7 +7,8 @@ use Rattle.std.specs.Prelude.{ℤ, pos, ◌+◌, ◌≤◌, ◌<◌, ◌*ℤ◌,
 use Rattle.std.specs.List.{list_all}
 use Rattle.std.specs.Ordering.{int_eq}
 use Rattle.ast.specs.Exact.{fits}
-use Rattle.subscripts.specs.Forms.{Form, Share, if_some, nonzero, most_shares, share_fits, shares_fit, in_room, total, total_share, new_share, others, total_form, times_share, times}
+use Rattle.loop_tree.specs.Constants.{if_some}
+use Rattle.subscripts.specs.Forms.{Form, Share, nonzero, most_shares, share_fits, shares_fit, in_room, total, total_share, new_share, others, total_form, times_share, times}
 use Rattle.subscripts.specs.Steps.{fitted, form_by, form_with, put, put_each, total_step, times_step}
 
 -- what is put behind others, as a whole

@@ -9,6 +9,7 @@ use Rattle.ast.specs.declared.expression.Operator.{Operator}
 use Rattle.ast.specs.declared.expression.Operator.TheVariants.{Add, Subtract, Multiply}
 use Rattle.ast.specs.declared.expression.Prefix.{Prefix}
 use Rattle.ast.specs.declared.expression.Prefix.TheVariants.{Plus, Minus, Not}
+use Rattle.loop_tree.specs.Constants.{if_some}
 use Rattle.loop_tree.specs.Loops.{Loop, has_cell}
 
 -- so many times a scalar, which is told by its cell
@@ -130,10 +131,6 @@ binary_form l Add f g = total_of l false f g
 binary_form l Subtract f g = total_of l true f g
 binary_form l Multiply f g = product f g
 binary_form l _ f g = None
-
-abbrev pub if_some : {X Y : Type 0} → Option X → (X → Option Y) → Option Y
-if_some None next = None
-if_some (Some x) next = next x
 
 abbrev pub element_form : Loop → Ref → Terms → Option Form
 element_form l r no_terms = Some (scalar_form l r.cell)

@@ -2,7 +2,8 @@
 use Rattle.std.specs.Prelude.{◌≡◌, ℕ, ℤ, pos, ◌*ℤ◌, nat_lt, Bool, if◌then◌else◌, List, [], ◌∷◌, ◌++◌, map, length, Option, Some, None}
 use Rattle.std.specs.Ordering.{int_eq}
 use Rattle.ast.specs.Exact.{fits}
-use Rattle.subscripts.specs.Forms.{Form, Share, if_some, most_shares, total, total_share, new_share, others, times_share}
+use Rattle.loop_tree.specs.Constants.{if_some}
+use Rattle.subscripts.specs.Forms.{Form, Share, most_shares, total, total_share, new_share, others, times_share}
 
 abbrev pub fitted : ℤ → Option ℤ
 fitted z = if fits z then Some z else None

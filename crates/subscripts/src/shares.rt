@@ -2,7 +2,8 @@
 
 ghost use Rattle.std.specs.Prelude.{◌≡◌, map, ◌*ℤ◌};
 ghost use Rattle.loop_tree.specs.TreeView.{seen};
-ghost use Rattle.subscripts.specs.Forms.{factor_in, has_share, if_some, new_share, others, share_varying, times_share, total, total_share};
+ghost use Rattle.loop_tree.specs.Constants.{if_some};
+ghost use Rattle.subscripts.specs.Forms.{factor_in, has_share, new_share, others, share_varying, times_share, total, total_share};
 ghost use Rattle.subscripts.specs.SharesView.{share as share_of};
 ghost use Rattle.subscripts.specs.Steps.{Left, fitted, put, put_each, put_fitted};
 

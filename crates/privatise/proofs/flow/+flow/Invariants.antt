@@ -1,12 +1,15 @@
-use Rattle.std.proofs.Common.{◌≡◌, drop, map}
+use Rattle.std.proofs.Common.{◌≡◌, drop, length, map}
+use Rattle.std.specs.Prelude.{replicate}
 use Rattle.ast.specs.Tree.{arms}
 use Rattle.ast.specs.View.{arm, block_view}
-use Rattle.privatise.specs.Flow.{arms_walk, block_walk}
-use Rattle.privatise.specs.Walks.{more}
+use Rattle.privatise.specs.Flow.{after_arms, after_block}
+use Rattle.privatise.specs.declared.walk.Walk.TheVariants.{Defined}
 use Rattle.privatise.proofs.flow.+flow.Given as goal
 
-abbrev pub invariant-block_walk-loop-node : goal.invariant-block_walk-loop-node
-invariant-block_walk-loop-node l = block_walk l.cell (block_view (drop l.node-index l.nodes)) ≡ block_walk l.cell (block_view l.nodes)
+abbrev pub invariant-pass_block-loop-node : goal.invariant-pass_block-loop-node
+invariant-pass_block-loop-node l = after_block (block_view (drop l.node-index l.nodes)) l.walks ≡ after_block (block_view l.nodes) l.fn.walks
 
-abbrev pub invariant-arms_walk-loop-arm : goal.invariant-arms_walk-loop-arm
-invariant-arms_walk-loop-arm l = more l.joined (arms_walk l.cell (arms (map arm (drop l.arm-index l.arms)))) ≡ arms_walk l.cell (arms (map arm l.arms))
+abbrev pub invariant-pass_arms-loop-arm : goal.invariant-pass_arms-loop-arm
+invariant-pass_arms-loop-arm l =
+    after_arms (arms (map arm (drop l.arm-index l.arms))) l.ended.items l.walks
+    ≡ after_arms (arms (map arm l.arms)) (replicate (length l.fn.walks) Defined) l.fn.walks

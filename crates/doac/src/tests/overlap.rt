@@ -1,0 +1,651 @@
+//! Loops, affine forms, relations and private scalars of sources.
+
+use ast::{Line, RefId};
+use dependence::{Reason, Relation, relate, verify};
+use loop_tree::{LoopTree, LoopView, loops};
+use privatise::private_scalars;
+use profile_check::program;
+use std::alloc::{AllocError, Global};
+use std::process::Abort;
+use std::test::Fail;
+use subscripts::{Affine, affine};
+
+/// Loops in loops, and one that reads.
+const NEST: &[u8] = b"      INTEGER A(10),B(3,3)
+      DO 30 I=1,3
+      IF (I.LT.2) K=K+1
+      DO 20 J=3,1,-1
+      DO 10 L=1,J
+   10 B(L,J)=A(I)
+   20 CONTINUE
+   30 CONTINUE
+      DO 40 I=5,1,MAX(-2,-3)
+   40 READ *,A(I),K
+      END
+";
+
+/// What is wanted of a loop: its line, that of the loop around it, its step, its number of trips,
+/// the scalars that it assigns, and the lines of the references of its range.
+type Wanted<'a> = (
+    Line,
+    Option<Line>,
+    Option<i64>,
+    Option<u128>,
+    &'a [&'a [u8]],
+    &'a [Line],
+);
+
+/// The lines of the statements to which the references of a loop's range belong.
+fn lines_of(
+    alloc: Global,
+    tree: &LoopTree<'_>,
+    view: &LoopView<'_, '_>,
+) -> Result<Vec<Line>, AllocError> {
+    let mut lines = Vec::new(alloc);
+    for occurrence in view.references() {
+        if let Some(line) = tree.lines().get(occurrence.statement) {
+            lines.push(*line)?;
+        }
+    }
+    Ok(lines)
+}
+
+fn looks_as(
+    rt: &(impl Abort + AllocGlobal),
+    tree: &LoopTree<'_>,
+    view: &LoopView<'_, '_>,
+    wanted: Wanted<'_>,
+) -> Result<(), Fail> {
+    let (line, around, step, trips, assigned, lines) = wanted;
+    assert_eq!(rt; view.line(), line);
+    assert_eq!(rt; view.around().map(|view| view.line()), around);
+    assert_eq!(rt; view.step(), step);
+    assert_eq!(rt; view.trips(), trips);
+    assert_eq!(rt; view.assigned().len(), assigned.len());
+    for (reference, name) in view.assigned().iter().zip(assigned) {
+        assert_eq!(rt; reference.name.trimmed(), *name);
+    }
+    let found = lines_of(rt.alloc(), tree, view)?;
+    assert_eq!(rt; found.as_slice(), lines);
+    Ok(())
+}
+
+fn is_nest(rt: &(impl Abort + AllocGlobal), tree: &LoopTree<'_>) -> Result<(), Fail> {
+    assert_eq!(rt; tree.count(), 4);
+    let wanted: [Wanted<'_>; 4] = [
+        (
+            2,
+            None,
+            Some(1),
+            Some(3),
+            &[b"K", b"J", b"L"],
+            &[3, 3, 3, 4, 5, 5, 6, 6, 6, 6, 6],
+        ),
+        (
+            4,
+            Some(2),
+            Some(-1),
+            Some(3),
+            &[b"L"],
+            &[5, 5, 6, 6, 6, 6, 6],
+        ),
+        (5, Some(4), Some(1), None, &[], &[6, 6, 6, 6, 6]),
+        (9, None, Some(-2), Some(3), &[b"K"], &[10, 10, 10]),
+    ];
+    let mut number: usize = 0;
+    for wanted in wanted {
+        number = number.wrapping_add(1);
+        assert!(rt; 1 <= number);
+        assert!(rt; number <= tree.count());
+        looks_as(rt, tree, &tree.view(number), wanted)?;
+    }
+    Ok(())
+}
+
+#[test]
+fn nested_loops(rt: HostRuntime) -> Result<(), Fail> {
+    let program = program(rt.alloc(), NEST)?;
+    is_nest(&rt, &loops(rt.alloc(), &program)?)
+}
+
+#[test]
+fn want_of_memory_in_loops(rt: HostRuntime) -> Result<(), Fail> {
+    let program = program(rt.alloc(), NEST)?;
+    match loops(rt.alloc(), &program) {
+        Ok(tree) => is_nest(&rt, &tree),
+        Err(error) => {
+            is_nest(&rt, &loops(rt.alloc(), &program)?)?;
+            Err(error.into())
+        }
+    }
+}
+
+fn joined(alloc: Global, parts: &[&[u8]]) -> Result<Vec<u8>, AllocError> {
+    let mut text = Vec::new(alloc);
+    for part in parts {
+        text.extend_from_slice(part)?;
+    }
+    Ok(text)
+}
+
+/// The constant, the coefficient of the loop's variable and the factors of other scalars that the
+/// form of a subscript has, if it has one.
+fn has_form(
+    rt: &(impl Abort + AllocGlobal),
+    subscript: &[u8],
+    wanted: Option<(i64, i64, &[i64])>,
+) -> Result<(), Fail> {
+    let source = joined(
+        rt.alloc(),
+        &[
+            b"      PARAMETER (N=3)\n      INTEGER A(9)\n      DO 10 I=1,2\n      A(",
+            subscript,
+            b")=0\n   10 J=0\n      END\n",
+        ],
+    )?;
+    let program = program(rt.alloc(), &source)?;
+    let tree = loops(rt.alloc(), &program)?;
+    assert_eq!(rt; tree.count(), 1);
+    let view = tree.view(1);
+    for occurrence in view.references() {
+        if let [subscript] = occurrence.subscripts
+            && occurrence.defines
+        {
+            let mut factors = Vec::new(rt.alloc());
+            let found = match affine(subscript, &view) {
+                Affine::Form(form) => {
+                    for share in form.shares.as_slice() {
+                        factors.push(share.factor)?;
+                    }
+                    Some((form.constant, form.coefficient, factors.as_slice()))
+                }
+                Affine::NotAffine => None,
+            };
+            assert_eq!(rt; found, wanted);
+            return Ok(());
+        }
+    }
+    panic!(rt; "no element is assigned")
+}
+
+/// J is assigned by the range, N is a constant, and all others are neither.
+#[test]
+fn forms(rt: HostRuntime) -> Result<(), Fail> {
+    let rows: [(&[u8], Option<(i64, i64, &[i64])>); 28] = [
+        (b"I", Some((0, 1, &[]))),
+        (b"2*I-3", Some((-3, 2, &[]))),
+        (b"-(I+1)", Some((-1, -1, &[]))),
+        (b"+I-I", Some((0, 0, &[]))),
+        (b"N*(I-2)", Some((-6, 3, &[]))),
+        (b"(I+M)*N+M", Some((0, 3, &[4]))),
+        (b"(I-I+2)*J", Some((0, 0, &[2]))),
+        (b"M-2*L+M", Some((0, 0, &[2, -2]))),
+        (b"M-M", Some((0, 0, &[]))),
+        (b"0*J+J", Some((0, 0, &[1]))),
+        (b"J-J", None),
+        (b"J+J", None),
+        (b"2*J+I+J", None),
+        (b"I*I", None),
+        (b"I*M", None),
+        (b"0*(I*I)", None),
+        (b"I/1", None),
+        (b"MOD(I,2)", None),
+        (b"A(I)", None),
+        (b"9223372036854775807", Some((i64::MAX, 0, &[]))),
+        (b"9223372036854775807+1+I", None),
+        (b"9223372036854775807+I+1-1", None),
+        (b"4611686018427387904*(I+I)", None),
+        (b"-9223372036854775807*M-M", Some((0, 0, &[i64::MIN]))),
+        (
+            b"M1+M2+M3+M4+M5+M6+M7+M8",
+            Some((0, 0, &[1, 1, 1, 1, 1, 1, 1, 1])),
+        ),
+        (b"M1+M2+M3+M4+M5+M6+M7+M8+M9", None),
+        (b"M1+M2+M3+M4+M5+M6+M7+M8+M9-M9", None),
+        (
+            b"M1+M2+M3+M4+M5+M6+M7+M8+(M9-M8)",
+            Some((0, 0, &[1, 1, 1, 1, 1, 1, 1, 1])),
+        ),
+    ];
+    for (subscript, wanted) in rows {
+        has_form(&rt, subscript, wanted)?;
+    }
+    Ok(())
+}
+
+/// The elements of arrays in a loop's range, in order of evaluation; the assigned ones alone where
+/// that is asked.
+fn elements(
+    alloc: Global,
+    view: &LoopView<'_, '_>,
+    assigned: bool,
+) -> Result<Vec<RefId>, AllocError> {
+    let mut ids = Vec::new(alloc);
+    for occurrence in view.references() {
+        if !occurrence.subscripts.is_empty() && (occurrence.defines || !assigned) {
+            ids.push(occurrence.reference.id)?;
+        }
+    }
+    Ok(ids)
+}
+
+/// The relation of two elements that a loop's range assigns, and whether a claim of them is
+/// verified. The range assigns J too.
+fn tried(
+    rt: &(impl Abort + AllocGlobal),
+    (first, second, head): (&[u8], &[u8], &[u8]),
+    claim: Relation,
+) -> Result<(Relation, bool), Fail> {
+    let source = joined(
+        rt.alloc(),
+        &[
+            b"      INTEGER A(9),B(9,9)\n      DO 10 ",
+            head,
+            b"\n      ",
+            first,
+            b"=0\n      ",
+            second,
+            b"=0\n   10 J=0\n      END\n",
+        ],
+    )?;
+    let program = program(rt.alloc(), &source)?;
+    let tree = loops(rt.alloc(), &program)?;
+    assert_eq!(rt; tree.count(), 1);
+    let view = tree.view(1);
+    let ids = elements(rt.alloc(), &view, true)?;
+    assert_eq!(rt; ids.len(), 2);
+    let relation = relate(&view, ids[0], ids[1]);
+    assert!(rt; verify(&view, ids[0], ids[1], relation));
+    assert!(rt; verify(&view, ids[0], ids[1], Relation::Any));
+    Ok((relation, verify(&view, ids[0], ids[1], claim)))
+}
+
+const TEN_TRIPS: &[u8] = b"I=1,10";
+
+#[test]
+fn relations(rt: HostRuntime) -> Result<(), Fail> {
+    let rows: [(&[u8], &[u8], &[u8], Relation); 17] = [
+        (b"A(I+M)", b"A(I+M-3)", TEN_TRIPS, Relation::Distance(1, 3)),
+        (
+            b"A(I+M-3)",
+            b"A(I+M)",
+            TEN_TRIPS,
+            Relation::Apart(1, Reason::Distance),
+        ),
+        (
+            b"A(2*I)",
+            b"A(2*I+3)",
+            TEN_TRIPS,
+            Relation::Apart(1, Reason::Divisor),
+        ),
+        (
+            b"B(3,I)",
+            b"B(4,I)",
+            TEN_TRIPS,
+            Relation::Apart(1, Reason::Constant),
+        ),
+        (b"B(I,J)", b"B(I-2,J)", TEN_TRIPS, Relation::Distance(1, 2)),
+        (
+            b"A(2*J)",
+            b"A(2*J+1)",
+            TEN_TRIPS,
+            Relation::Apart(1, Reason::Divisor),
+        ),
+        (
+            b"A(3*M)",
+            b"A(M+1)",
+            TEN_TRIPS,
+            Relation::Apart(1, Reason::Divisor),
+        ),
+        (b"A(M)", b"A(M)", TEN_TRIPS, Relation::Any),
+        (b"A(J)", b"A(J)", TEN_TRIPS, Relation::Any),
+        (b"A(J+J)", b"A(2*J+1)", TEN_TRIPS, Relation::Any),
+        (b"A(I*I)", b"A(I)", TEN_TRIPS, Relation::Any),
+        (
+            b"A(I)",
+            b"A(I-3)",
+            b"I=1,10,2",
+            Relation::Apart(1, Reason::Distance),
+        ),
+        (b"A(I)", b"A(I)", b"I=1,10,0", Relation::Any),
+        (
+            b"A(2*I)",
+            b"A(2*I+1)",
+            TEN_TRIPS,
+            Relation::Apart(1, Reason::Divisor),
+        ),
+        (
+            b"A(2*I+1)",
+            b"A(2*I)",
+            TEN_TRIPS,
+            Relation::Apart(1, Reason::Divisor),
+        ),
+        (
+            b"A(I+20)",
+            b"A(I)",
+            TEN_TRIPS,
+            Relation::Apart(1, Reason::Range),
+        ),
+        (
+            b"A(I)",
+            b"A(I+20)",
+            TEN_TRIPS,
+            Relation::Apart(1, Reason::Distance),
+        ),
+    ];
+    for (first, second, head, wanted) in rows {
+        let (found, verified) = tried(&rt, (first, second, head), wanted)?;
+        assert_eq!(rt; found, wanted, "{first:?} {second:?}");
+        assert!(rt; verified);
+    }
+    Ok(())
+}
+
+/// Claims, and whether the test that each names gives it.
+#[test]
+fn claims(rt: HostRuntime) -> Result<(), Fail> {
+    let rows: [(&[u8], &[u8], Relation, bool); 17] = [
+        (b"A(I+M)", b"A(I+M-3)", Relation::Distance(1, 4), false),
+        (b"A(I+M)", b"A(I+M-3)", Relation::Distance(1, 3), true),
+        (b"A(I+M)", b"A(I+M-3)", Relation::Distance(0, 3), false),
+        (b"A(I+M)", b"A(I+M-3)", Relation::Distance(2, 3), false),
+        (
+            b"A(I+M)",
+            b"A(I+M-3)",
+            Relation::Apart(1, Reason::Distance),
+            false,
+        ),
+        (
+            b"A(I+M)",
+            b"A(I+M-3)",
+            Relation::Apart(1, Reason::Range),
+            false,
+        ),
+        (b"A(I+M)", b"A(I-3)", Relation::Distance(1, 3), false),
+        (
+            b"A(2*I)",
+            b"A(2*I+3)",
+            Relation::Apart(1, Reason::Distance),
+            true,
+        ),
+        (
+            b"A(2*I)",
+            b"A(2*I+3)",
+            Relation::Apart(1, Reason::Constant),
+            false,
+        ),
+        (
+            b"A(2*I)",
+            b"A(2*I+4)",
+            Relation::Apart(1, Reason::Divisor),
+            false,
+        ),
+        (b"A(I+20)", b"A(I)", Relation::Distance(1, 20), true),
+        (
+            b"B(3,I)",
+            b"B(4,I)",
+            Relation::Apart(2, Reason::Constant),
+            false,
+        ),
+        (
+            b"B(3,I)",
+            b"B(4,I)",
+            Relation::Apart(2, Reason::Distance),
+            true,
+        ),
+        (b"B(I,J)", b"B(I-2,J)", Relation::Distance(2, 2), false),
+        (
+            b"A(J)",
+            b"A(J+1)",
+            Relation::Apart(1, Reason::Constant),
+            false,
+        ),
+        (
+            b"A(M)",
+            b"A(M+1)",
+            Relation::Apart(1, Reason::Constant),
+            true,
+        ),
+        (
+            b"A(I*I)",
+            b"A(I*I+1)",
+            Relation::Apart(1, Reason::Divisor),
+            false,
+        ),
+    ];
+    for (first, second, claim, wanted) in rows {
+        let (_, verified) = tried(&rt, (first, second, TEN_TRIPS), claim)?;
+        assert_eq!(rt; verified, wanted, "{first:?} {second:?} {claim:?}");
+    }
+    Ok(())
+}
+
+/// The relation of the elements at two places among those of a loop's range.
+fn relation_in(
+    rt: &(impl Abort + AllocGlobal),
+    source: &[u8],
+    number: usize,
+    (first, second): (usize, usize),
+) -> Result<Relation, Fail> {
+    let program = program(rt.alloc(), source)?;
+    let tree = loops(rt.alloc(), &program)?;
+    assert!(rt; 1 <= number);
+    assert!(rt; number <= tree.count());
+    let view = tree.view(number);
+    let ids = elements(rt.alloc(), &view, false)?;
+    assert!(rt; first < ids.len());
+    assert!(rt; second < ids.len());
+    Ok(relate(&view, ids[first], ids[second]))
+}
+
+const EVEN_AND_ODD: &[u8] = b"      INTEGER A(31)
+      DO 10 I=1,10
+   10 A(2*I)=A(2*I+1)+1
+      DO 20 I=1,10
+   20 A(I)=A(I+20)+1
+      PRINT *,A(20),A(1),A(10)
+      END
+";
+
+const INDEX_ARRAY: &[u8] = b"      INTEGER A(3),IX(6)
+      DO 10 I=1,6
+   10 IX(I)=1+MOD(I*I,3)
+      DO 20 I=1,6
+   20 A(IX(I))=A(IX(I))+1
+      END
+";
+
+const NEGATIVE_STEP: &[u8] = b"      INTEGER A(7)
+      DO 30 I=5,1,-2
+   30 A(I)=A(I+2)+1
+      END
+";
+
+const AHEAD: &[u8] = b"      INTEGER A(11)
+      DO 20 I=1,10
+   20 A(I)=A(I+1)
+      END
+";
+
+/// Elements by their places in order of evaluation, in which a right side goes first.
+#[test]
+fn relations_in_programs(rt: HostRuntime) -> Result<(), Fail> {
+    let rows: [(&[u8], usize, (usize, usize), Relation); 12] = [
+        (EVEN_AND_ODD, 1, (0, 1), Relation::Apart(1, Reason::Divisor)),
+        (EVEN_AND_ODD, 1, (1, 0), Relation::Apart(1, Reason::Divisor)),
+        (EVEN_AND_ODD, 2, (0, 1), Relation::Apart(1, Reason::Range)),
+        (
+            EVEN_AND_ODD,
+            2,
+            (1, 0),
+            Relation::Apart(1, Reason::Distance),
+        ),
+        (INDEX_ARRAY, 1, (0, 0), Relation::Apart(1, Reason::Distance)),
+        (INDEX_ARRAY, 2, (1, 3), Relation::Any),
+        (INDEX_ARRAY, 2, (3, 1), Relation::Any),
+        (INDEX_ARRAY, 2, (0, 2), Relation::Apart(1, Reason::Distance)),
+        (NEGATIVE_STEP, 1, (1, 0), Relation::Distance(1, 1)),
+        (
+            NEGATIVE_STEP,
+            1,
+            (0, 1),
+            Relation::Apart(1, Reason::Distance),
+        ),
+        (AHEAD, 1, (0, 1), Relation::Distance(1, 1)),
+        (AHEAD, 1, (1, 0), Relation::Apart(1, Reason::Distance)),
+    ];
+    for (source, number, places, wanted) in rows {
+        assert_eq!(rt; relation_in(&rt, source, number, places)?, wanted);
+    }
+    Ok(())
+}
+
+/// Looks for the names of a loop's private scalars.
+fn has_privates(
+    rt: &(impl Abort + AllocGlobal),
+    view: &LoopView<'_, '_>,
+    wanted: &[&[u8]],
+) -> Result<(), Fail> {
+    let found = private_scalars(rt.alloc(), view)?;
+    assert_eq!(rt; found.names.len(), wanted.len(), "{wanted:?}");
+    for (name, wanted) in found.names.iter().zip(wanted) {
+        assert_eq!(rt; name.trimmed(), *wanted);
+    }
+    Ok(())
+}
+
+/// A loop in a program of these statements, by its number.
+fn privates_in(
+    rt: &(impl Abort + AllocGlobal),
+    source: &[u8],
+    number: usize,
+    wanted: &[&[u8]],
+) -> Result<(), Fail> {
+    let program = program(rt.alloc(), source)?;
+    let tree = loops(rt.alloc(), &program)?;
+    assert!(rt; 1 <= number);
+    assert!(rt; number <= tree.count());
+    has_privates(rt, &tree.view(number), wanted)
+}
+
+/// K is assigned in an arm that not all paths go through.
+const ARMS: &[u8] = b"      DO 10 I=1,4
+      IF (I.LT.3) THEN
+      K=I
+      ELSE IF (I.EQ.3) THEN
+      K=0
+      END IF
+      L=1
+      PRINT *,L
+   10 CONTINUE
+      PRINT *,K
+      END
+";
+
+#[test]
+fn privates(rt: HostRuntime) -> Result<(), Fail> {
+    let rows: [(&[u8], usize, &[&[u8]]); 18] = [
+        (
+            b"      INTEGER A(0:4)\n      DO 10 I=1,4\n      A(I)=A(I-1)+1\n      PRINT *,A(I)\n   10 K=10/(2-I)\n      END\n",
+            1,
+            &[b"K"],
+        ),
+        (
+            b"      DO 10 I=1,5\n   10 IF (MOD(I,2).EQ.0) KT=I*10\n      PRINT *,KT\n      END\n",
+            1,
+            &[b"KT"],
+        ),
+        (
+            b"      INTEGER B(3,3)\n      DO 10 I=1,3\n      DO 10 J=1,3\n   10 B(I,J)=10*I+J\n      END\n",
+            1,
+            &[b"J"],
+        ),
+        (
+            b"      DO 10 I=1,2\n      K=J\n      DO 10 J=1,2\n   10 CONTINUE\n      PRINT *,K,J\n      END\n",
+            1,
+            &[b"K"],
+        ),
+        (
+            b"      DO 10 I=1,4\n      IF (I.LT.3) THEN\n      K=I\n      ELSE\n      PRINT *,K\n      END IF\n   10 CONTINUE\n      END\n",
+            1,
+            &[],
+        ),
+        (
+            b"      DO 10 I=1,4\n      K=0\n      IF (I.LT.3) THEN\n      K=I\n      ELSE\n      PRINT *,K\n      END IF\n   10 CONTINUE\n      END\n",
+            1,
+            &[b"K"],
+        ),
+        (
+            b"      DO 10 I=1,4\n      IF (I.LT.3) THEN\n      K=I\n      ELSE\n      K=0\n      END IF\n   10 PRINT *,K\n      END\n",
+            1,
+            &[b"K"],
+        ),
+        (
+            b"      DO 10 I=1,4\n      IF (I.LT.3) THEN\n      K=I\n      ELSE IF (I.LT.4) THEN\n      K=0\n      END IF\n   10 PRINT *,K\n      END\n",
+            1,
+            &[],
+        ),
+        (
+            b"      DO 10 I=1,4\n      IF (I.LT.3) THEN\n      STOP\n      ELSE\n      K=0\n      END IF\n   10 PRINT *,K\n      END\n",
+            1,
+            &[b"K"],
+        ),
+        (
+            b"      DO 10 I=1,4\n      STOP\n      PRINT *,K\n   10 K=1\n      END\n",
+            1,
+            &[b"K"],
+        ),
+        (
+            b"      DO 10 I=1,4\n      DO 20 J=1,I\n   20 K=J\n   10 PRINT *,J,K\n      END\n",
+            1,
+            &[b"J"],
+        ),
+        (
+            b"      DO 10 I=1,4\n      DO 20 J=1,I\n      PRINT *,K\n   20 K=J\n   10 CONTINUE\n      END\n",
+            1,
+            &[b"J"],
+        ),
+        (
+            b"      DO 10 I=1,4\n      DO 20 J=1,J\n   20 CONTINUE\n   10 CONTINUE\n      END\n",
+            1,
+            &[],
+        ),
+        (
+            b"      INTEGER A(4)\n      DO 10 I=1,4\n      A(K)=1\n   10 K=2\n      END\n",
+            1,
+            &[],
+        ),
+        (
+            b"      INTEGER A(4)\n      DO 10 I=1,4\n      READ *,K,A(K),L\n   10 PRINT *,K,L\n      END\n",
+            1,
+            &[b"K", b"L"],
+        ),
+        (b"      DO 10 I=1,4\n   10 K=K+1\n      END\n", 1, &[]),
+        (
+            b"      DO 10 I=1,4\n      IF (K.GT.0) K=1\n   10 L=M\n      END\n",
+            1,
+            &[b"L"],
+        ),
+        (ARMS, 1, &[b"K", b"L"]),
+    ];
+    for (source, number, wanted) in rows {
+        privates_in(&rt, source, number, wanted)?;
+    }
+    Ok(())
+}
+
+#[test]
+fn want_of_memory_in_private_scalars(rt: HostRuntime) -> Result<(), Fail> {
+    let program = program(rt.alloc(), ARMS)?;
+    let tree = loops(rt.alloc(), &program)?;
+    assert_eq!(rt; tree.count(), 1);
+    let view = tree.view(1);
+    match private_scalars(rt.alloc(), &view) {
+        Ok(found) => assert_eq!(rt; found.names.len(), 2),
+        Err(error) => {
+            has_privates(&rt, &view, &[b"K", b"L"])?;
+            return Err(error.into());
+        }
+    }
+    Ok(())
+}
