@@ -1,0 +1,4 @@
+pub mod Actions
+pub mod Stacks
+pub mod Runs
+pub mod Views

@@ -1,0 +1,297 @@
+use super::*;
+use ast::{Fault, Name, Operator};
+use std::alloc::AllocError;
+use std::process::Abort;
+use std::test::Fail;
+
+/// Code of these instructions, each of a line of its own from line 1 on, over a scalar K and an
+/// array A of two elements, with room for three operands and one serial loop.
+fn assembled(rt: &(impl Abort + AllocGlobal), acts: &[Act]) -> Result<Code, Fail> {
+    let alloc = rt.alloc();
+    let mut instructions = Vec::new(alloc);
+    let mut line = 1;
+    for act in acts {
+        instructions.push(Instr { line, act: *act })?;
+        line += 1;
+    }
+    let mut variables = Vec::new(alloc);
+    variables.push(variable(b"K     ", 0, 1))?;
+    variables.push(variable(b"A     ", 1, 2))?;
+    let parts = Parts {
+        instructions,
+        records: Vec::new(alloc),
+        awaits: Vec::new(alloc),
+        variables,
+        loops: Vec::new(alloc),
+        operands: 3,
+        counters: 1,
+        reports: Vec::new(alloc),
+    };
+    match Code::new(parts) {
+        Some(code) => Ok(code),
+        None => panic!(*rt; "the code is laid"),
+    }
+}
+
+fn variable(letters: &[u8; 6], start: usize, size: usize) -> Variable {
+    Variable {
+        name: Name { letters: *letters },
+        start,
+        size,
+    }
+}
+
+/// A frame at place 0 with so many private scalars.
+fn begun(rt: &(impl Abort + AllocGlobal), code: &Code, privates: usize) -> Result<Frame, Fail> {
+    Ok(Frame::at(rt.alloc(), code, 0, privates, Some(7), 40)?)
+}
+
+fn operands(frame: &Frame) -> &[i64] {
+    let slots = frame.slots.as_slice();
+    if frame.top <= slots.len() {
+        &slots[frame.top..]
+    } else {
+        &[]
+    }
+}
+
+/// `x = MOD(x * 1103515245 + 12345, 2147483648)`, so many times from 1 on.
+fn generated(times: u32) -> i64 {
+    let mut x: i64 = 1;
+    for _ in 0..times {
+        x = x.wrapping_mul(1_103_515_245).wrapping_add(12_345) & 2_147_483_647;
+    }
+    x
+}
+
+/// The same as code, with x private scalar 0 and the DO variable private scalar 1.
+fn generator(times: i64) -> [Act; 21] {
+    [
+        Act::Constant(1),
+        Act::SetPrivate(0),
+        Act::Constant(1),
+        Act::Constant(times),
+        Act::Constant(1),
+        Act::SetUp,
+        Act::SetPrivate(1),
+        Act::CountDown(12),
+        Act::Private(0),
+        Act::Constant(1_103_515_245),
+        Act::Binary(Operator::Multiply),
+        Act::Constant(12_345),
+        Act::Binary(Operator::Add),
+        Act::Constant(2_147_483_648),
+        Act::Modulo,
+        Act::SetPrivate(0),
+        Act::Private(1),
+        Act::Step,
+        Act::Binary(Operator::Add),
+        Act::SetPrivate(1),
+        Act::Back(13),
+    ]
+}
+
+/// Bursts of any length come to the same place, after as many instructions.
+#[test]
+fn bursts(rt: HostRuntime) -> Result<(), Fail> {
+    let code = assembled(&rt, &generator(1000))?;
+    for burst in [1, 2, 3, 5, 8, 1024] {
+        let mut frame = begun(&rt, &code, 2)?;
+        let mut made = 0;
+        while stands_local(&code, &frame) {
+            made += u64::from(local(&code, &mut frame, burst).made);
+        }
+        assert_eq!(rt; made, 7 + 1000 * 14 + 1);
+        assert_eq!(rt; frame.privates[0], Some(generated(1000)));
+        assert_eq!(rt; frame.privates[1], Some(1001));
+        assert_eq!(rt; operands(&frame), &[]);
+        assert_eq!(rt; frame.iteration(), Some(7));
+    }
+    Ok(())
+}
+
+#[test]
+fn shared_steps_are_not_taken(rt: HostRuntime) -> Result<(), Fail> {
+    let acts = [Act::Index, Act::Constant(5), Act::Store(0), Act::Constant(6)];
+    let code = assembled(&rt, &acts)?;
+    let mut frame = begun(&rt, &code, 0)?;
+    assert!(rt; stands_local(&code, &frame));
+    assert_eq!(rt; local(&code, &mut frame, 1024), Stop { made: 2 });
+    assert!(rt; !stands_local(&code, &frame));
+    assert_eq!(rt; local(&code, &mut frame, 1024), Stop { made: 0 });
+    assert_eq!(rt; operands(&frame), &[5, 40]);
+    Ok(())
+}
+
+#[test]
+fn a_fault_has_its_line(rt: HostRuntime) -> Result<(), Fail> {
+    let acts = [
+        Act::Constant(5),
+        Act::Constant(0),
+        Act::Binary(Operator::Divide),
+        Act::Constant(6),
+    ];
+    let code = assembled(&rt, &acts)?;
+    let mut frame = begun(&rt, &code, 0)?;
+    assert_eq!(rt; local(&code, &mut frame, 1024), Stop { made: 3 });
+    assert_eq!(rt; frame.fault, Some((Fault::ZeroDivisor, 3)));
+    assert!(rt; !stands_local(&code, &frame));
+    assert_eq!(rt; local(&code, &mut frame, 1024), Stop { made: 0 });
+    Ok(())
+}
+
+/// Subscripts are checked in order, each part of the place in the place of its subscript.
+#[test]
+fn subscripts(rt: HostRuntime) -> Result<(), Fail> {
+    let first = Axis {
+        lower: 1,
+        width: 3,
+        stride: 1,
+    };
+    let second = Axis {
+        lower: -1,
+        width: 2,
+        stride: 3,
+    };
+    let place = |i: i64, j: i64| {
+        [
+            Act::Constant(i),
+            Act::Constant(j),
+            Act::Check(1, first),
+            Act::Check(0, second),
+            Act::Binary(Operator::Add),
+        ]
+    };
+    let code = assembled(&rt, &place(3, 0))?;
+    let mut frame = begun(&rt, &code, 0)?;
+    assert_eq!(rt; local(&code, &mut frame, 1024), Stop { made: 5 });
+    assert_eq!(rt; operands(&frame), &[5]);
+    for (i, j, made) in [(4, 0, 3), (0, 0, 3), (1, 1, 4), (1, -2, 4), (4, 1, 3)] {
+        let code = assembled(&rt, &place(i, j))?;
+        let mut frame = begun(&rt, &code, 0)?;
+        assert_eq!(rt; local(&code, &mut frame, 1024), Stop { made });
+        assert_eq!(rt; frame.fault, Some((Fault::Index, made)));
+    }
+    Ok(())
+}
+
+/// What doesn't fit the frame is no local instruction.
+#[test]
+fn misfits(rt: HostRuntime) -> Result<(), Fail> {
+    let misfits: [&[Act]; 12] = [
+        &[],
+        &[Act::Binary(Operator::Add)],
+        &[Act::Constant(1), Act::Modulo],
+        &[Act::Absolute],
+        &[Act::Private(1)],
+        &[Act::Constant(1), Act::SetPrivate(1)],
+        &[Act::Constant(1), Act::Constant(1), Act::Constant(1), Act::Index],
+        &[Act::Constant(1), Act::Constant(1), Act::SetUp],
+        &[Act::CountDown(0)],
+        &[Act::Step],
+        &[Act::Skip(5)],
+        &[Act::SkipUnless(0)],
+    ];
+    let made = [0, 0, 1, 0, 0, 1, 3, 2, 0, 0, 1, 0];
+    let mut number = 0;
+    for acts in misfits {
+        let code = assembled(&rt, acts)?;
+        let mut frame = begun(&rt, &code, 1)?;
+        assert_eq!(rt; local(&code, &mut frame, 1024), Stop { made: made[number] });
+        assert!(rt; !stands_local(&code, &frame));
+        number += 1;
+    }
+    Ok(())
+}
+
+#[test]
+fn jumps(rt: HostRuntime) -> Result<(), Fail> {
+    let acts = [
+        Act::Constant(0),
+        Act::SkipUnless(1),
+        Act::Halt,
+        Act::Constant(1),
+        Act::SkipUnless(1),
+        Act::Skip(1),
+        Act::Halt,
+        Act::Constant(0),
+        Act::Constant(3),
+        Act::Constant(0),
+        Act::SetUp,
+    ];
+    let code = assembled(&rt, &acts)?;
+    let mut frame = begun(&rt, &code, 0)?;
+    assert_eq!(rt; local(&code, &mut frame, 1024), Stop { made: 9 });
+    assert_eq!(rt; frame.fault, Some((Fault::ZeroStep, 11)));
+    Ok(())
+}
+
+#[test]
+fn done(rt: HostRuntime) -> Result<(), Fail> {
+    let code = assembled(&rt, &generator(3))?;
+    let frame = begun(&rt, &code, 2)?;
+    if stands_local(&code, &frame) {
+        let done = Done::work(&code, frame, 10)?;
+        assert_eq!(rt; done.made(), 10);
+        assert_eq!(rt; done.from().place, 0);
+        assert_eq!(rt; operands(done.to()), &[1_103_515_245, 1]);
+        let mut frame = done.into_frame();
+        assert_eq!(rt; local(&code, &mut frame, 1024), Stop { made: 7 + 3 * 14 + 1 - 10 });
+        assert_eq!(rt; frame.privates[0], Some(generated(3)));
+    }
+    Ok(())
+}
+
+/// Names come once, and cells lie one variable behind the other.
+#[test]
+fn variables(rt: HostRuntime) -> Result<(), Fail> {
+    let alloc = rt.alloc();
+    let k = variable(b"K     ", 0, 1);
+    let a = variable(b"A     ", 1, 2);
+    let cases = [
+        ([k, a], true),
+        ([a, k], false),
+        ([k, variable(b"K     ", 1, 1)], false),
+        ([k, variable(b"A     ", 2, 1)], false),
+        ([k, variable(b"A     ", 1, usize::MAX)], false),
+    ];
+    for (two, laid) in cases {
+        let mut variables = Vec::new(alloc);
+        variables.extend_from_slice(&two)?;
+        let parts = Parts {
+            instructions: Vec::new(alloc),
+            records: Vec::new(alloc),
+            awaits: Vec::new(alloc),
+            variables,
+            loops: Vec::new(alloc),
+            operands: 0,
+            counters: 0,
+            reports: Vec::new(alloc),
+        };
+        assert_eq!(rt; Code::new(parts).is_some(), laid);
+    }
+    Ok(())
+}
+
+/// Whether a copy of a frame of many private scalars goes on as the frame would.
+fn copy_goes_on(rt: &(impl Abort + AllocGlobal), code: &Code, frame: &Frame) -> Result<bool, AllocError> {
+    let mut copy = frame.try_copy()?;
+    let done = Done::work(code, frame.try_copy()?, 5)?;
+    Ok(local(code, &mut copy, 5).made == done.made() && copy.place == done.to().place)
+}
+
+/// With memory refused a copy is an error, and a copy that is made again is right.
+#[test]
+fn want_of_memory_in_copies(rt: HostRuntime) -> Result<(), Fail> {
+    let code = assembled(&rt, &generator(3))?;
+    let mut frame = begun(&rt, &code, 20)?;
+    local(&code, &mut frame, 9);
+    match copy_goes_on(&rt, &code, &frame) {
+        Ok(right) => assert!(rt; right),
+        Err(error) => {
+            assert!(rt; copy_goes_on(&rt, &code, &frame)?);
+            return Err(error.into());
+        }
+    }
+    Ok(())
+}
