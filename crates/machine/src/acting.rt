@@ -1,6 +1,7 @@
 //! Local instructions, on the parts of a frame.
 
-ghost use Rattle.std.specs.Prelude.{◌≡◌, ◌+◌, ◌-◌, ◌<◌, ◌^◌, ℕ, ℤ, List, Option, drop, slice_get};
+ghost use Rattle.std.specs.Prelude.{◌≡◌, ◌+◌, ◌-◌, ◌<◌, ◌^◌, ℕ, ℤ, List, Option, drop, if◌then◌else◌, slice_get};
+ghost use Rattle.ast.specs.Exact.{is_true};
 ghost use Rattle.machine.specs.FrameView.{stack_of};
 ghost use Rattle.machine.specs.Local.{counted_down, defined, if_pushed, if_replaced, local_act, loop_set_up, one_of, one_replaced, part_of, private_pushed, private_set, pushed, replaced_at, skipping, skipping_unless, step_pushed, three_of, two_replaced};
 ghost use Rattle.machine.specs.Working.{IsNot, frame_at, made_of_one, made_of_two, went, went_by};
@@ -96,7 +97,6 @@ fn push_private(slots: &mut [i64], privates: &[Option<i64>], cursor: Cursor, x: 
 }
 
 #[inline(always)]
-#[tactic(auto, using(crate::proofs::Stacks::without_law))]
 fn set_private(slots: &[i64], privates: &mut [Option<i64>], cursor: Cursor, x: u32) -> Went
     requires { cursor.place < 2 ^ 63 }
     ensures next { (line : ℕ) (cs : List Loop) (number : Option ℕ) (index : ℤ) → went result line cursor slots.now privates.new cs number index ≡ private_set x (one_of (drop cursor.top slots.now)) (frame_at cursor slots.now privates.old cs number index) }
@@ -162,8 +162,15 @@ fn check(slots: &mut [i64], cursor: Cursor, above: u32, axis: Axis) -> Went
     replaced(cursor, answer)
 }
 
+/// How many instructions are skipped where a truth value is false.
 #[inline(always)]
-#[tactic(auto, using(crate::proofs::Stacks::without_law))]
+fn skipped(value: i64, n: u32) -> u32
+    ensures { result ≡ (if is_true value then 0 else n) }
+{
+    if value != 0 { 0 } else { n }
+}
+
+#[inline(always)]
 fn skip_unless(slots: &[i64], cursor: Cursor, n: u32) -> Went
     requires { cursor.place < 2 ^ 63 }
     ensures { (line : ℕ) (ps : List (Option ℤ)) (cs : List Loop) (number : Option ℕ) (index : ℤ) → went result line cursor slots.now ps cs number index ≡ skipping_unless n (one_of (drop cursor.top slots.now)) (frame_at cursor slots.now ps cs number index) }
@@ -171,14 +178,13 @@ fn skip_unless(slots: &[i64], cursor: Cursor, n: u32) -> Went
     match one(slots, cursor.top) {
         Some(value) => Went::On(Cursor {
             top: cursor.top + 1,
-            ..skip(cursor, if value == 0 { n } else { 0 })
+            ..skip(cursor, skipped(value, n))
         }),
         None => Went::Not,
     }
 }
 
 #[inline(always)]
-#[tactic(auto, using(crate::proofs::Stacks::without_law))]
 fn set_up(slots: &[i64], counters: &mut [Counter], cursor: Cursor) -> Went
     requires { cursor.place < 2 ^ 63 }
     ensures next { (line : ℕ) (ps : List (Option ℤ)) (number : Option ℕ) (index : ℤ) → went result line cursor slots.now ps counters.new number index ≡ loop_set_up line (three_of (drop cursor.top slots.now)) (frame_at cursor slots.now ps counters.old number index) }
@@ -207,7 +213,7 @@ fn set_up(slots: &[i64], counters: &mut [Counter], cursor: Cursor) -> Went
 }
 
 #[inline(always)]
-#[tactic(auto, using(crate::proofs::Stacks::without_law, crate::proofs::Stacks::replace_law))]
+#[tactic(auto, using(crate::proofs::Stacks::replace_law))]
 fn count_down(counters: &mut [Counter], cursor: Cursor, n: u32) -> Went
     requires { cursor.place < 2 ^ 63 }
     ensures next { (line : ℕ) (xs : List ℤ) (ps : List (Option ℤ)) (number : Option ℕ) (index : ℤ) → went result line cursor xs ps counters.new number index ≡ counted_down (one_of (drop cursor.inner counters.old)) n (frame_at cursor xs ps counters.old number index) }
@@ -262,11 +268,11 @@ pub fn act(
     slots: &mut [i64],
     privates: &mut [Option<i64>],
     counters: &mut [Counter],
-    index: i64,
+    index: &i64,
     cursor: Cursor,
 ) -> Went
     requires { cursor.place < 2 ^ 63 }
-    ensures next { (line : ℕ) (number : Option ℕ) → went result line cursor slots.new privates.new counters.new number index ≡ local_act act.now line (frame_at cursor slots.old privates.old counters.old number index) }
+    ensures next { (line : ℕ) (number : Option ℕ) → went result line cursor slots.new privates.new counters.new number index.now ≡ local_act act.now line (frame_at cursor slots.old privates.old counters.old number index.now) }
     ensures slots { IsNot result → slots.new ≡ slots.old }
     ensures privates { IsNot result → privates.new ≡ privates.old }
     ensures counters { IsNot result → counters.new ≡ counters.old }
@@ -275,7 +281,7 @@ pub fn act(
         Act::Constant(value) => push_value(slots, cursor, *value),
         Act::Private(x) => push_private(slots, privates, cursor, *x),
         Act::SetPrivate(x) => set_private(slots, privates, cursor, *x),
-        Act::Index => push_value(slots, cursor, index),
+        Act::Index => push_value(slots, cursor, *index),
         Act::Binary(operator) => make_two(slots, cursor, Pair::Plain(*operator)),
         Act::Modulo => make_two(slots, cursor, Pair::Modulo),
         Act::Greatest => make_two(slots, cursor, Pair::Greatest),
