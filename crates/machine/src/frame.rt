@@ -1,8 +1,8 @@
 //! Frames.
 
-ghost use Rattle.std.specs.Prelude.{◌≡◌, IfOk, List, replicate, length};
+ghost use Rattle.std.specs.Prelude.{◌≡◌, IfOk, None, replicate};
 
-use crate::code::Code;
+use crate::code::{Code, Open};
 use ast::{Fault, Line};
 use smallvec::SmallVec;
 use std::alloc::{AllocError, Global};
@@ -37,7 +37,6 @@ pub struct Frame {
 }
 
 /// So many private scalars, none of them defined.
-#[tactic(auto)]
 fn undefined(alloc: Global, count: usize) -> Result<SmallVec<Option<i64>, 8>, AllocError>
     ensures { IfOk result (λ v. v.items ≡ replicate count None) }
 {
@@ -48,7 +47,7 @@ impl Frame {
     ghost use Rattle.std.specs.Prelude.{◌≡◌, IfOk};
     ghost use Rattle.machine.specs.CodeView.{code_of};
     ghost use Rattle.machine.specs.FrameView.{frame_of};
-    ghost use Rattle.machine.specs.View.{entry, main_frame};
+    ghost use Rattle.machine.specs.View.{begin, entry, index_at, main_frame};
 
     /// A frame at a place of the code, with room for all that the code can push.
     #[tactic(auto, using(crate::proofs::Stacks::empty_law))]
@@ -80,6 +79,27 @@ impl Frame {
         ensures { IfOk result (λ frame. frame_of frame ≡ main_frame (code_of code.now)) }
     {
         Frame::at(alloc, code, 0, 0, None, 0)
+    }
+
+    /// The frame of iteration `k` of an open loop as it begins; `index` is the value that the loop's
+    /// variable has in it.
+    pub fn begin(
+        alloc: Global,
+        code: &Code,
+        opened: Open,
+        k: u128,
+        index: i64,
+    ) -> Result<Frame, AllocError>
+        requires { index ≡ index_at (code_of code.now) opened k }
+        ensures { IfOk result (λ frame. frame_of frame ≡ begin (code_of code.now) opened k) }
+    {
+        let number = opened.number as usize;
+        if number < code.loops.len() {
+            let one = &code.loops[number];
+            Frame::at(alloc, code, one.body, one.privates.len(), Some(k), index)
+        } else {
+            Frame::at(alloc, code, code.instructions.len(), 0, Some(k), index)
+        }
     }
 
     /// An equal frame, with the same room, or `AllocError` where memory is refused.
