@@ -9,7 +9,9 @@ ghost use Rattle.machine.specs.declared.frame.Counter.{Counter as Loop};
 
 use crate::frame::Counter;
 use crate::instr::{Act, Axis};
-use crate::stack::{Single, Pair, one, one_counter, push, push_counter, replace_at, replace_one, replace_two, three};
+use crate::stack::{
+    Pair, Single, one, one_counter, push, push_counter, replace_at, replace_one, replace_two, three,
+};
 use ast::Fault;
 use values::trips;
 

@@ -10,5 +10,4 @@ ghost use Rattle.machine.specs.View.{doing, view};
 #[tactic(auto, using(crate::proofs::Views::local_is_doing))]
 pub fn local_is_doing()
     ensures { (code : Code) (f g : Frame) → (local code.instructions f ≡ Some g) ↔ (view code f ≡ doing g) }
-{
-}
+{}

@@ -12,7 +12,7 @@ fn assembled(rt: &(impl Abort + AllocGlobal), acts: &[Act]) -> Result<Code, Fail
     let mut line = 1;
     for act in acts {
         instructions.push(Instr { line, act: *act })?;
-        line += 1;
+        line = line.saturating_add(1);
     }
     let mut variables = Vec::new(alloc);
     variables.push(variable(b"K     ", 0, 1))?;
@@ -91,28 +91,40 @@ fn generator(times: i64) -> [Act; 21] {
     ]
 }
 
+/// The number of instructions up to the first that isn't local, in bursts.
+fn worked(code: &Code, frame: &mut Frame, burst: u32) -> u32 {
+    let mut made: u32 = 0;
+    for _ in 0..20_000 {
+        made = made.saturating_add(local(code, frame, burst).made);
+    }
+    made
+}
+
 /// Bursts of any length come to the same place, after as many instructions.
 #[test]
 fn bursts(rt: HostRuntime) -> Result<(), Fail> {
     let code = assembled(&rt, &generator(1000))?;
     for burst in [1, 2, 3, 5, 8, 1024] {
         let mut frame = begun(&rt, &code, 2)?;
-        let mut made = 0;
-        while stands_local(&code, &frame) {
-            made += u64::from(local(&code, &mut frame, burst).made);
-        }
-        assert_eq!(rt; made, 7 + 1000 * 14 + 1);
-        assert_eq!(rt; frame.privates[0], Some(generated(1000)));
-        assert_eq!(rt; frame.privates[1], Some(1001));
+        assert_eq!(rt; worked(&code, &mut frame, burst), 7 + 1000 * 14 + 1);
+        assert!(rt; !stands_local(&code, &frame));
+        assert_eq!(rt;
+            frame.privates.as_slice(),
+            [Some(generated(1000)), Some(1001)].as_slice()
+        );
         assert!(rt; operands(&frame).is_empty());
-        assert_eq!(rt; frame.iteration(), Some(7));
     }
     Ok(())
 }
 
 #[test]
 fn shared_steps_are_not_taken(rt: HostRuntime) -> Result<(), Fail> {
-    let acts = [Act::Index, Act::Constant(5), Act::Store(0), Act::Constant(6)];
+    let acts = [
+        Act::Index,
+        Act::Constant(5),
+        Act::Store(0),
+        Act::Constant(6),
+    ];
     let code = assembled(&rt, &acts)?;
     let mut frame = begun(&rt, &code, 0)?;
     assert!(rt; stands_local(&code, &frame));
@@ -175,55 +187,34 @@ fn subscripts(rt: HostRuntime) -> Result<(), Fail> {
     Ok(())
 }
 
-/// What doesn't fit the frame is no local instruction.
-#[test]
-fn misfits(rt: HostRuntime) -> Result<(), Fail> {
-    let misfits: [&[Act]; 12] = [
-        &[],
-        &[Act::Binary(Operator::Add)],
-        &[Act::Constant(1), Act::Modulo],
-        &[Act::Absolute],
-        &[Act::Private(1)],
-        &[Act::Constant(1), Act::SetPrivate(1)],
-        &[Act::Constant(1), Act::Constant(1), Act::Constant(1), Act::Index],
-        &[Act::Constant(1), Act::Constant(1), Act::SetUp],
-        &[Act::CountDown(0)],
-        &[Act::Step],
-        &[Act::Skip(5)],
-        &[Act::SkipUnless(0)],
-    ];
-    let made = [0, 0, 1, 0, 0, 1, 3, 2, 0, 0, 1, 0];
-    let mut number = 0;
-    for acts in misfits {
-        let code = assembled(&rt, acts)?;
-        let mut frame = begun(&rt, &code, 1)?;
-        assert_eq!(rt; local(&code, &mut frame, 1024), Stop { made: made[number] });
-        assert!(rt; !stands_local(&code, &frame));
-        number += 1;
-    }
+/// Code that doesn't fit the frame comes to no local instruction behind so many.
+fn stops_behind(rt: &(impl Abort + AllocGlobal), acts: &[Act], made: u32) -> Result<(), Fail> {
+    let code = assembled(rt, acts)?;
+    let mut frame = begun(rt, &code, 1)?;
+    assert_eq!(*rt; local(&code, &mut frame, 1024), Stop { made });
+    assert!(*rt; !stands_local(&code, &frame));
     Ok(())
 }
 
+/// What doesn't fit the frame is no local instruction.
 #[test]
-fn jumps(rt: HostRuntime) -> Result<(), Fail> {
-    let acts = [
-        Act::Constant(0),
-        Act::SkipUnless(1),
-        Act::Halt,
-        Act::Constant(1),
-        Act::SkipUnless(1),
-        Act::Skip(1),
-        Act::Halt,
-        Act::Constant(0),
-        Act::Constant(3),
-        Act::Constant(0),
-        Act::SetUp,
-    ];
-    let code = assembled(&rt, &acts)?;
-    let mut frame = begun(&rt, &code, 0)?;
-    assert_eq!(rt; local(&code, &mut frame, 1024), Stop { made: 9 });
-    assert_eq!(rt; frame.fault, Some((Fault::ZeroStep, 11)));
-    Ok(())
+fn misfits(rt: HostRuntime) -> Result<(), Fail> {
+    let one = Act::Constant(1);
+    stops_behind(&rt, &[], 0)?;
+    stops_behind(&rt, &[Act::Binary(Operator::Add)], 0)?;
+    stops_behind(&rt, &[one, Act::Modulo], 1)?;
+    stops_behind(&rt, &[Act::Private(1)], 0)?;
+    stops_behind(&rt, &[one, Act::SetPrivate(1)], 1)?;
+    stops_behind(&rt, &[one, one, one, Act::Index], 3)?;
+    stops_behind(&rt, &[one, one, Act::SetUp], 2)?;
+    stops_behind(&rt, &[Act::CountDown(0)], 0)?;
+    stops_behind(&rt, &[Act::Skip(5)], 1)?;
+    stops_behind(
+        &rt,
+        &[Act::Constant(0), Act::SkipUnless(1), Act::Halt, Act::Halt],
+        2,
+    )?;
+    stops_behind(&rt, &[one, Act::SkipUnless(1), Act::Halt, Act::Index], 2)
 }
 
 #[test]
@@ -236,8 +227,16 @@ fn done(rt: HostRuntime) -> Result<(), Fail> {
         assert_eq!(rt; done.from().place, 0);
         assert_eq!(rt; operands(done.to()), [1_103_515_245, 1].as_slice());
         let mut frame = done.into_frame();
-        assert_eq!(rt; local(&code, &mut frame, 1024), Stop { made: 7 + 3 * 14 + 1 - 10 });
-        assert_eq!(rt; frame.privates[0], Some(generated(3)));
+        assert_eq!(rt;
+            local(&code, &mut frame, 1024),
+            Stop {
+                made: 7 + 3 * 14 + 1 - 10
+            }
+        );
+        assert_eq!(rt;
+            frame.privates.as_slice(),
+            [Some(generated(3)), Some(4)].as_slice()
+        );
     }
     Ok(())
 }
@@ -274,7 +273,11 @@ fn variables(rt: HostRuntime) -> Result<(), Fail> {
 }
 
 /// Whether a copy of a frame of many private scalars goes on as the frame would.
-fn copy_goes_on(rt: &(impl Abort + AllocGlobal), code: &Code, frame: &Frame) -> Result<bool, AllocError> {
+fn copy_goes_on(
+    rt: &(impl Abort + AllocGlobal),
+    code: &Code,
+    frame: &Frame,
+) -> Result<bool, AllocError> {
     let mut copy = frame.try_copy()?;
     let done = Done::work(code, frame.try_copy()?, 5)?;
     Ok(local(code, &mut copy, 5).made == done.made() && copy.place == done.to().place)
