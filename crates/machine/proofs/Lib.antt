@@ -2,3 +2,4 @@ pub mod Actions
 pub mod Stacks
 pub mod Runs
 pub mod Views
+pub mod Example

@@ -278,8 +278,12 @@ fn copy_goes_on(
     code: &Code,
     frame: &Frame,
 ) -> Result<bool, AllocError> {
+    let from = frame.try_copy()?;
+    if !stands_local(code, &from) {
+        return Ok(false);
+    }
     let mut copy = frame.try_copy()?;
-    let done = Done::work(code, frame.try_copy()?, 5)?;
+    let done = Done::work(code, from, 5)?;
     Ok(local(code, &mut copy, 5).made == done.made() && copy.place == done.to().place)
 }
 
