@@ -3,3 +3,4 @@ pub mod Stacks
 pub mod Runs
 pub mod Views
 pub mod Example
+pub mod Equal
