@@ -1,10 +1,10 @@
 -- Solo steps: how many steps a run with one processor and one open iteration has that ends, not
 -- counting parks and the taking up of what was parked.
-use Rattle.std.specs.Prelude.{◌≡◌, ℕ, ◌+◌, ◌<◌, List, [], ◌∷◌, Some, ◌⊎◌}
+use Rattle.std.specs.Prelude.{◌≡◌, ℕ, ◌+◌, List, [], ◌∷◌, Some, ◌⊎◌}
 use Rattle.ast.specs.declared.fault.End.{End}
 use Rattle.machine.specs.Code.{Code}
 use Rattle.machine.specs.Frame.{Frame}
-use Rattle.machine.specs.State.{State, Machine, Step, Run, CodeRun, Init}
+use Rattle.machine.specs.State.{State, Machine, Run, CodeRun, Init}
 use Rattle.machine.specs.View.{View, view, trips_of, begin}
 use Rattle.machine.specs.declared.code.Open.{Open}
 

@@ -11,7 +11,11 @@ use ast::{Fault, Line};
 fn used<T>(slots: &[T], top: usize) -> &[T]
     ensures { result.now ≡ drop top slots.now }
 {
-    if top <= slots.len() { &slots[top..] } else { &[] }
+    if top <= slots.len() {
+        &slots[top..]
+    } else {
+        &[]
+    }
 }
 
 /// What a stack has room for.
@@ -124,7 +128,12 @@ fn same_values(a: &Frame, b: &Frame) -> bool
 {
     same_operands(a.slots.as_slice(), a.top, b.slots.as_slice(), b.top)
         && same_privates(a.privates.as_slice(), b.privates.as_slice())
-        && same_loops(a.counters.as_slice(), a.inner, b.counters.as_slice(), b.inner)
+        && same_loops(
+            a.counters.as_slice(),
+            a.inner,
+            b.counters.as_slice(),
+            b.inner,
+        )
 }
 
 impl Frame {

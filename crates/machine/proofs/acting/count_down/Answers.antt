@@ -1,4 +1,3 @@
-use Rattle.std.proofs.Common.{◌≡◌, sym}
 use Rattle.machine.proofs.Actions.{count_out_law}
 use Rattle.machine.proofs.acting.count_down.Goals as goal
 

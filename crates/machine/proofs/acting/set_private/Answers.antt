@@ -1,4 +1,4 @@
-use Rattle.std.proofs.Common.{rules, ◌≡◌, sym, w64, to_z, of_z}
+use Rattle.std.proofs.Common.{rules, ◌≡◌, w64, to_z, of_z}
 use Rattle.machine.proofs.Actions.{set_private_law}
 use Rattle.machine.proofs.acting.set_private.Goals as goal
 

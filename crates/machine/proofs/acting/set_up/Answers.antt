@@ -1,4 +1,4 @@
-use Rattle.std.proofs.Common.{rules, ◌≡◌, sym, w64, to_z, of_z}
+use Rattle.std.proofs.Common.{rules, ◌≡◌, w64, to_z, of_z}
 use Rattle.machine.proofs.Actions.{nonzero_law, set_up_law}
 use Rattle.machine.proofs.acting.set_up.Goals as goal
 

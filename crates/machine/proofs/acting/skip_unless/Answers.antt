@@ -1,6 +1,4 @@
-use Rattle.std.proofs.Common.{rules, ◌≡◌, ◌∙◌, ap, sym, w64, to_z, of_z, ℤ}
-use Rattle.std.specs.Prelude.{if◌then◌else◌}
-use Rattle.ast.specs.Exact.{is_true}
+use Rattle.std.proofs.Common.{rules, ◌≡◌, w64, to_z, of_z}
 use Rattle.machine.proofs.Actions.{skip_unless_law}
 use Rattle.machine.proofs.acting.skip_unless.Goals as goal
 

@@ -1,4 +1,4 @@
-use Rattle.std.proofs.Common.{arith, ◌≡◌, sym}
+use Rattle.std.proofs.Common.{arith}
 use Rattle.machine.specs.CodeView.{code_of}
 use Rattle.machine.specs.FrameView.{frame_of}
 use Rattle.machine.specs.Local.{Works}
