@@ -7,6 +7,7 @@ mod done;
 mod frame;
 mod instr;
 pub mod laws;
+mod parts;
 mod same;
 mod stack;
 mod working;
