@@ -1,13 +1,15 @@
 //! What whoever makes an activity's shared steps sees of its frame, and how the frame goes on.
 
 use crate::frame::Frame;
+use crate::stack::push;
 use ast::{Fault, Line};
 
 impl Frame {
-    ghost use Rattle.std.specs.Prelude.{◌≡◌, ◌<◌, ◌≤◌, ◌^◌, length};
-    ghost use Rattle.machine.specs.Frame.{has_room};
+    ghost use Rattle.std.specs.Prelude.{◌≡◌, ◌<◌, ◌≤◌, ◌^◌, ◌∷◌, length, true};
+    ghost use Rattle.machine.specs.Frame.{has_room, with_items};
     ghost use Rattle.machine.specs.FrameView.{frame_of};
     ghost use Rattle.machine.specs.Local.{faulted, going_on, without};
+    ghost use Rattle.machine.specs.View.{with_operand};
 
     /// The place in the code.
     pub fn place(&self) -> usize
@@ -61,6 +63,27 @@ impl Frame {
             self.top += popped;
         }
         self.place += 1;
+    }
+
+    /// Pushes an operand.
+    fn push(&mut self, value: i64)
+        requires { has_room (frame_of self.old).operands ≡ true }
+        ensures { frame_of self.new ≡ record (frame_of self.old) { operands = with_items (value ∷ (frame_of self.old).operands.items) (frame_of self.old).operands } }
+    {
+        if let Some(top) = push(self.slots.as_mut_slice(), self.top, value) {
+            self.top = top;
+        }
+    }
+
+    /// Goes on with the next instruction, so many operands fewer and then one more.
+    pub fn go_on_with(&mut self, popped: usize, value: i64)
+        requires place { (frame_of self.old).place < 2 ^ 63 }
+        requires popped { popped ≤ length (frame_of self.old).operands.items }
+        requires room { has_room (without popped (frame_of self.old).operands) ≡ true }
+        ensures { frame_of self.new ≡ with_operand popped (frame_of self.old) value }
+    {
+        self.go_on(popped);
+        self.push(value);
     }
 
     /// Stands at the report of a fault from now on.
