@@ -1,0 +1,11 @@
+pub mod Code
+pub mod CodeView
+pub mod Frame
+pub mod FrameView
+pub mod Laid
+pub mod Local
+pub mod Solo
+pub mod State
+pub mod View
+pub mod Worked
+pub mod Working

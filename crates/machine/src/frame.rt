@@ -1,0 +1,129 @@
+//! Frames.
+
+ghost use Rattle.std.specs.Prelude.{◌≡◌, IfOk, None, replicate};
+
+use crate::code::{Code, Open};
+use ast::{Fault, Line};
+use smallvec::SmallVec;
+use std::alloc::{AllocError, Global};
+
+/// A serial loop under way: the trips that it has left, and its step.
+#[derive(Clone, Copy, Debug, Default, PartialEq, Eq)]
+pub struct Counter {
+    pub left: u128,
+    pub step: i64,
+}
+
+/// What an activity has of its own: its place in the code, its operands, private scalars and serial
+/// loops under way, and, of an iteration, its number and the value of the open loop's variable.
+///
+/// Operands and serial loops stand on stacks of a fixed number of slots, which grow from the last
+/// slot to the first.
+#[derive(Drop)]
+pub struct Frame {
+    pub(crate) place: usize,
+    pub(crate) slots: SmallVec<i64, 16>,
+    /// The slot of the operand that was pushed last; the number of slots where there is none.
+    pub(crate) top: usize,
+    /// `None` where it wasn't defined.
+    pub(crate) privates: SmallVec<Option<i64>, 8>,
+    pub(crate) counters: SmallVec<Counter, 4>,
+    /// The slot of the innermost serial loop.
+    pub(crate) inner: usize,
+    pub(crate) number: Option<u128>,
+    pub(crate) index: i64,
+    /// The fault that is to be reported, and the line of its statement.
+    pub(crate) fault: Option<(Fault, Line)>,
+}
+
+/// So many private scalars, none of them defined.
+fn undefined(alloc: Global, count: usize) -> Result<SmallVec<Option<i64>, 8>, AllocError>
+    ensures { IfOk result (λ v. v.items ≡ replicate count None) }
+{
+    SmallVec::from_elem(alloc, None, count)
+}
+
+impl Frame {
+    ghost use Rattle.std.specs.Prelude.{◌≡◌, IfOk};
+    ghost use Rattle.machine.specs.CodeView.{code_of};
+    ghost use Rattle.machine.specs.FrameView.{frame_of};
+    ghost use Rattle.machine.specs.View.{begin, entry, index_at, main_frame};
+
+    /// A frame at a place of the code, with room for all that the code can push.
+    #[tactic(auto, using(crate::proofs::Stacks::empty_law))]
+    pub(crate) fn at(
+        alloc: Global,
+        code: &Code,
+        place: usize,
+        privates: usize,
+        number: Option<u128>,
+        index: i64,
+    ) -> Result<Frame, AllocError>
+        ensures { IfOk result (λ frame. frame_of frame ≡ entry (code_of code.now) place privates number index) }
+    {
+        Ok(Frame {
+            place,
+            slots: SmallVec::from_elem(alloc, 0, code.operands)?,
+            top: code.operands,
+            privates: undefined(alloc, privates)?,
+            counters: SmallVec::from_elem(alloc, Counter::default(), code.counters)?,
+            inner: code.counters,
+            number,
+            index,
+            fault: None,
+        })
+    }
+
+    /// Main's frame as it begins.
+    pub fn main(alloc: Global, code: &Code) -> Result<Frame, AllocError>
+        ensures { IfOk result (λ frame. frame_of frame ≡ main_frame (code_of code.now)) }
+    {
+        Frame::at(alloc, code, 0, 0, None, 0)
+    }
+
+    /// The frame of iteration `k` of an open loop as it begins; `index` is the value that the loop's
+    /// variable has in it.
+    pub fn begin(
+        alloc: Global,
+        code: &Code,
+        opened: Open,
+        k: u128,
+        index: i64,
+    ) -> Result<Frame, AllocError>
+        requires { index ≡ index_at (code_of code.now) opened k }
+        ensures { IfOk result (λ frame. frame_of frame ≡ begin (code_of code.now) opened k) }
+    {
+        let number = opened.number as usize;
+        if number < code.loops.len() {
+            let one = &code.loops[number];
+            Frame::at(alloc, code, one.body, one.privates.len(), Some(k), index)
+        } else {
+            Frame::at(alloc, code, code.instructions.len(), 0, Some(k), index)
+        }
+    }
+
+    /// An equal frame, with the same room, or `AllocError` where memory is refused.
+    pub fn try_copy(&self) -> Result<Frame, AllocError>
+        ensures { IfOk result (λ copy. frame_of copy ≡ frame_of self.now) }
+    {
+        let alloc = *self.slots.allocator();
+        Ok(Frame {
+            place: self.place,
+            slots: SmallVec::from_slice(alloc, self.slots.as_slice())?,
+            top: self.top,
+            privates: SmallVec::from_slice(alloc, self.privates.as_slice())?,
+            counters: SmallVec::from_slice(alloc, self.counters.as_slice())?,
+            inner: self.inner,
+            number: self.number,
+            index: self.index,
+            fault: self.fault,
+        })
+    }
+
+    /// The number of the iteration whose frame it is; `None` of main.
+    pub fn iteration(&self) -> Option<u128>
+        ensures { result ≡ (frame_of self.now).number }
+    {
+        self.number
+    }
+}

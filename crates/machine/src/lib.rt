@@ -1,0 +1,22 @@
+//! The machine: code, the frames of what runs it, and, in `specs/`, its states, steps and runs.
+#![tactic(auto)]
+
+mod acting;
+mod code;
+mod done;
+mod frame;
+mod instr;
+pub mod laws;
+mod parts;
+mod same;
+mod stack;
+mod working;
+
+pub use code::{Await, Code, Loop, LoopReport, Open, Parts, Piece, Variable};
+pub use done::Done;
+pub use frame::{Counter, Frame};
+pub use instr::{Act, Axis, Instr};
+pub use working::{Stop, local, stands_local};
+
+#[cfg(test)]
+mod tests;

@@ -1,0 +1,151 @@
+//! Whether two frames are equal.
+
+ghost use Rattle.std.specs.Prelude.{◌≡◌, ℤ, ℕ, List, Option, drop, length};
+ghost use Rattle.std.specs.Bool.{Decides};
+ghost use Rattle.machine.specs.FrameView.{frame_of, room_of, stack_of};
+
+use crate::frame::{Counter, Frame};
+use ast::{Fault, Line};
+
+/// What stands on a stack.
+fn used<T>(slots: &[T], top: usize) -> &[T]
+    ensures { result.now ≡ drop top slots.now }
+{
+    if top <= slots.len() {
+        &slots[top..]
+    } else {
+        &[]
+    }
+}
+
+/// What a stack has room for.
+fn room(top: usize, slots: usize) -> usize
+    ensures { result ≡ room_of top slots }
+{
+    if top <= slots { slots } else { 0 }
+}
+
+/// Whether two numbers, or two that aren't there, are equal.
+fn same_private(a: Option<i64>, b: Option<i64>) -> bool
+    ensures { Decides result (a ≡ b) }
+{
+    match (a, b) {
+        (Some(a), Some(b)) => a == b,
+        (None, None) => true,
+        (Some(_), None) | (None, Some(_)) => false,
+    }
+}
+
+fn same_counter(a: Counter, b: Counter) -> bool
+    ensures { Decides result (a ≡ b) }
+{
+    a.left == b.left && a.step == b.step
+}
+
+fn same_numbers(a: &[i64], b: &[i64]) -> bool
+    ensures { Decides result (a.now ≡ b.now) }
+{
+    a == b
+}
+
+fn same_privates(a: &[Option<i64>], b: &[Option<i64>]) -> bool
+    ensures { Decides result (a.now ≡ b.now) }
+{
+    if a.len() != b.len() {
+        return false;
+    }
+    for i in 0..a.len() {
+        if !same_private(a[i], b[i]) {
+            return false;
+        }
+    }
+    true
+}
+
+fn same_counters(a: &[Counter], b: &[Counter]) -> bool
+    ensures { Decides result (a.now ≡ b.now) }
+{
+    if a.len() != b.len() {
+        return false;
+    }
+    for i in 0..a.len() {
+        if !same_counter(a[i], b[i]) {
+            return false;
+        }
+    }
+    true
+}
+
+/// Whether two stacks are equal.
+#[tactic(auto, using(crate::proofs::Equal::stack_law))]
+fn same_operands(a: &[i64], top_a: usize, b: &[i64], top_b: usize) -> bool
+    ensures { Decides result (stack_of top_a a.now ≡ stack_of top_b b.now) }
+{
+    room(top_a, a.len()) == room(top_b, b.len()) && same_numbers(used(a, top_a), used(b, top_b))
+}
+
+/// Whether two stacks are equal.
+#[tactic(auto, using(crate::proofs::Equal::stack_law))]
+fn same_loops(a: &[Counter], top_a: usize, b: &[Counter], top_b: usize) -> bool
+    ensures { Decides result (stack_of top_a a.now ≡ stack_of top_b b.now) }
+{
+    room(top_a, a.len()) == room(top_b, b.len()) && same_counters(used(a, top_a), used(b, top_b))
+}
+
+fn same_number(a: Option<u128>, b: Option<u128>) -> bool
+    ensures { Decides result (a ≡ b) }
+{
+    match (a, b) {
+        (Some(a), Some(b)) => a == b,
+        (None, None) => true,
+        (Some(_), None) | (None, Some(_)) => false,
+    }
+}
+
+fn same_fault(a: Option<(Fault, Line)>, b: Option<(Fault, Line)>) -> bool
+    ensures { Decides result (a ≡ b) }
+{
+    match (a, b) {
+        (Some((a, l)), Some((b, m))) => a == b && l == m,
+        (None, None) => true,
+        (Some(_), None) | (None, Some(_)) => false,
+    }
+}
+
+/// Whether what frames have beside stacks and private scalars is equal.
+fn same_rest(a: &Frame, b: &Frame) -> bool
+    ensures { Decides result ((a.now.place ≡ b.now.place) × (a.now.index ≡ b.now.index) × (a.now.number ≡ b.now.number) × (a.now.fault ≡ b.now.fault)) }
+{
+    a.place == b.place
+        && a.index == b.index
+        && same_number(a.number, b.number)
+        && same_fault(a.fault, b.fault)
+}
+
+/// Whether stacks and private scalars of frames are equal.
+fn same_values(a: &Frame, b: &Frame) -> bool
+    ensures { Decides result (((frame_of a.now).operands ≡ (frame_of b.now).operands) × ((frame_of a.now).privates ≡ (frame_of b.now).privates) × ((frame_of a.now).counters ≡ (frame_of b.now).counters)) }
+{
+    same_operands(a.slots.as_slice(), a.top, b.slots.as_slice(), b.top)
+        && same_privates(a.privates.as_slice(), b.privates.as_slice())
+        && same_loops(
+            a.counters.as_slice(),
+            a.inner,
+            b.counters.as_slice(),
+            b.inner,
+        )
+}
+
+impl Frame {
+    ghost use Rattle.std.specs.Prelude.{◌≡◌};
+    ghost use Rattle.std.specs.Bool.{Decides};
+    ghost use Rattle.machine.specs.FrameView.{frame_of};
+
+    /// Whether two frames are equal.
+    #[tactic(auto, using(crate::proofs::Equal::frame_law))]
+    pub fn is_same(&self, other: &Frame) -> bool
+        ensures { Decides result (frame_of self.now ≡ frame_of other.now) }
+    {
+        same_rest(self, other) && same_values(self, other)
+    }
+}
