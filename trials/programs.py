@@ -34,8 +34,8 @@ class Maker:
         declarations = self.declarations()
         count = self.random.randint(2, 9)
         body = [self.statement(0) for _ in range(count)]
-        return {"declarations": declarations, "body": body, "input": self.input(),
-                "style": self.random.randrange(1 << 30)}
+        return {"declarations": declarations, "body": body, "shown": shown(declarations),
+                "input": self.input(), "style": self.random.randrange(1 << 30)}
 
     def declarations(self):
         result = []
@@ -293,7 +293,8 @@ class Writer:
             self.declaration(declaration)
         for statement in self.program["body"]:
             self.statement(statement)
-        self.show_all()
+        for items in self.program["shown"]:
+            self.put("PRINT *," + items)
         self.lines.append("      END")
         return "\n".join(self.lines) + "\n"
 
@@ -306,17 +307,6 @@ class Writer:
         else:
             bounds = ",".join(str(high) if low == 1 else f"{low}:{high}" for low, high in one["bounds"])
             self.put(("INTEGER " if one["typed"] else "DIMENSION ") + f"{one['name']}({bounds})")
-
-    def show_all(self):
-        """Prints every scalar and every element, as the store shows them."""
-        names = ["I", "J", "K", "L", "M", "N", "NEXT", "KOUNT"]
-        self.put("PRINT *," + ",".join(names))
-        for one in self.program["declarations"]:
-            if one["kind"] == "integer":
-                self.put("PRINT *," + ",".join(one["names"]))
-            if one["kind"] == "array":
-                for place in places(one["bounds"]):
-                    self.put(f"PRINT *,{one['name']}({','.join(map(str, place))})")
 
     def block(self, statements):
         for statement in statements:
@@ -383,6 +373,17 @@ class Writer:
         self.put("END IF" if not self.chance(0.3) else "ENDIF")
 
 
+def shown(declarations):
+    """What is printed before END: every scalar and every element, as the store shows them."""
+    lists = ["I,J,K,L,M,N,NEXT,KOUNT"]
+    for one in declarations:
+        if one["kind"] == "integer":
+            lists.append(",".join(one["names"]))
+        if one["kind"] == "array":
+            lists += [f"{one['name']}({','.join(map(str, place))})" for place in places(one["bounds"])]
+    return lists
+
+
 def places(bounds):
     """The subscripts of all elements, in storage order."""
     if not bounds:
@@ -397,12 +398,25 @@ def smaller(program):
     """Programs that are smaller by one step."""
     if not program.get("plain"):
         yield {**program, "plain": True}
+    for part in parts(program["shown"]):
+        yield {**program, "shown": part}
     for at in range(len(program["declarations"])):
         yield {**program, "declarations": without(program["declarations"], at)}
     for at in range(len(program["input"])):
         yield {**program, "input": without(program["input"], at)}
     for body in smaller_blocks(program["body"]):
         yield {**program, "body": body}
+
+
+def parts(items):
+    """Shorter lists of the items: none, each half, and each but one."""
+    if items:
+        yield []
+    if len(items) > 2:
+        yield items[:len(items) // 2]
+        yield items[len(items) // 2:]
+    for at in range(len(items)):
+        yield without(items, at)
 
 
 def without(items, at):

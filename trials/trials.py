@@ -5,6 +5,7 @@ trials.py [--count N] [--seed S] [--doac PROGRAM] [--batch N] [--jobs N] [--keep
 """
 
 import argparse
+import bisect
 import concurrent.futures
 import os
 import re
@@ -79,17 +80,46 @@ CALL = """      IF (NUMBER.EQ.{number}) THEN
 """
 
 
-def compile_batch(programs, folder):
-    """One binary of several programs, each a subroutine; None where gfortran refuses."""
+def compiled(programs, folder):
+    """One binary of several programs, each a subroutine, and what gfortran says of them."""
     path = os.path.join(folder, "batch.f")
     binary = os.path.join(folder, "batch")
+    ends = []
+    lines = 0
     with open(path, "w") as file:
-        for number, program in enumerate(programs):
-            file.write(Writer(program).source(f"SUBROUTINE T{number}"))
-        calls = "".join(CALL.format(number=number) for number in range(len(programs)))
+        for number, program in programs:
+            text = Writer(program).source(f"SUBROUTINE T{number}")
+            file.write(text)
+            lines += text.count("\n")
+            ends.append(lines)
+        calls = "".join(CALL.format(number=number) for number, _ in programs)
         file.write(MAIN.format(calls=calls.rstrip("\n")))
     made = subprocess.run(["gfortran", *FLAGS, "-o", binary, path], capture_output=True, text=True)
-    return binary if made.returncode == 0 else None
+    return (binary if made.returncode == 0 else None), refused_lines(made.stderr), ends
+
+
+def refused_lines(complaints):
+    """The lines of batch.f at which gfortran says 'Error'."""
+    lines, at = set(), None
+    for complaint in complaints.split("\n"):
+        place = re.match(r"^\S*batch\.f:(\d+):", complaint)
+        if place:
+            at = int(place.group(1))
+        elif complaint.startswith("Error:") and at is not None:
+            lines.add(at)
+    return lines
+
+
+def compile_batch(programs, folder):
+    """A binary of the programs that gfortran takes, and their numbers; None where it takes none."""
+    left = list(enumerate(programs))
+    while left:
+        binary, refused, ends = compiled(left, folder)
+        if binary:
+            return binary, [number for number, _ in left]
+        at_fault = {bisect.bisect_left(ends, line) for line in refused}
+        left = [one for at, one in enumerate(left) if at not in at_fault] if at_fault else left[:-1]
+    return None, []
 
 
 def end_of(code, complaint):
@@ -127,7 +157,7 @@ def data_of(program):
 
 def differs(doac, program, folder):
     """The two answers where they differ; None where they agree or gfortran refuses the program."""
-    binary = compile_batch([program], folder)
+    binary, _ = compile_batch([program], folder)
     if binary is None:
         return None
     try:
@@ -160,27 +190,22 @@ def shrunk(doac, program, folder):
 
 
 def try_batch(doac, seeds):
-    """Tries the programs of the seeds: how many were judged, and those that differ."""
+    """Tries the programs of the seeds: how many were compared, and those that differ."""
     programs = [Maker(seed).program() for seed in seeds]
+    compared, different = 0, []
     with tempfile.TemporaryDirectory() as folder:
-        binary = compile_batch(programs, folder)
-        if binary is None:
-            if len(seeds) == 1:
-                return 0, []
-            half = len(seeds) // 2
-            first, second = try_batch(doac, seeds[:half]), try_batch(doac, seeds[half:])
-            return first[0] + second[0], first[1] + second[1]
-        judged, different = 0, []
-        for number, program in enumerate(programs):
+        binary, numbers = compile_batch(programs, folder)
+        for number in numbers:
+            program = programs[number]
             try:
                 theirs = run_gfortran(binary, number, data_of(program))
                 ours = run_doac(doac, Writer(program).source(), data_of(program), folder)
             except subprocess.TimeoutExpired:
                 continue
-            judged += 1
+            compared += 1
             if ours != theirs:
                 different.append(program)
-        return judged, different
+    return compared, different
 
 
 def report(doac, program, keep):
@@ -211,14 +236,14 @@ def main():
     options = parser.parse_args()
     seeds = list(range(options.seed, options.seed + options.count))
     batches = [seeds[at:at + options.batch] for at in range(0, len(seeds), options.batch)]
-    judged, different = 0, []
+    compared, different = 0, []
     with concurrent.futures.ThreadPoolExecutor(options.jobs) as pool:
         for count, found in pool.map(lambda batch: try_batch(options.doac, batch), batches):
-            judged += count
+            compared += count
             different += found
     for program in different[:10]:
         report(options.doac, program, options.keep)
-    print(f"{options.count} programs: {judged} compared, {options.count - judged} not, {len(different)} differ")
+    print(f"{options.count} programs: {compared} compared, {options.count - compared} not, {len(different)} differ")
     return 1 if different else 0
 
 

@@ -1,9 +1,13 @@
 -- Exit statuses, and what is written of a verdict.
-use Rattle.std.proofs.Common.{◌≡◌, ℕ, List, Option, Result, Ok, Err, inl, inr, subst, sym}
+use Rattle.std.proofs.Common.{◌≡◌, ℕ, List, Option, Result, Ok, Err, Vec, inl, inr, subst, sym}
 use Rattle.ast.specs.ProgramView.{program as program_of}
-use Rattle.doac.specs.Engines.{Checks, EndsAs, HasStatus, IsAccepted, IsRefused, IsVerdict, Tells, Works, Wrote, WrotePart, exit_of}
+use Rattle.std.specs.Global.{Global}
+use Rattle.doac.specs.Engines.{AfterFile, Checks, EndsAs, HasStatus, IsAccepted, IsRefused, IsVerdict, Tells, Works, Wrote, WrotePart, exit_of}
 use Rattle.doac.specs.declared.fault.EngineFault.{EngineFault}
 use Rattle.doac.specs.declared.fault.EngineFault.TheVariants.{Source, Input, Writing, Memory}
+use Rattle.doac.specs.declared.files.FileFault.{FileFault}
+use Rattle.doac.specs.declared.files.FileFault.TheVariants as files
+use Rattle.doac.specs.declared.files.FileFault.TheVariants.{Opening, Reading}
 use Rattle.doac.specs.declared.outcome.Outcome.{Outcome}
 use Rattle.doac.specs.declared.outcome.Outcome.TheVariants.{Completed, Refused, Faulted}
 use Rattle.doac.specs.declared.verdict.Verdict.{Verdict}
@@ -38,3 +42,16 @@ of_verdict source v old new (Err (Input e)) judged wrote = wrote
 of_verdict source v old new (Err (Writing e)) judged wrote =
     record { outcome = wrote.outcome; text = wrote.text; allowed = allowed_by source v wrote.outcome wrote.text judged wrote.allowed; grown = wrote.grown }
 of_verdict source v old new (Err Memory) judged wrote = wrote
+
+-- the status after a file was read, of some bytes
+told_of : (status : ℕ) (P : List ℕ → Type 0) (text : List ℕ) → EndsAs status (P text) → EndsAs status ((t : List ℕ) × P t)
+told_of status P text (inl is) = inl is
+told_of status P text (inr (inl is)) = inr (inl is)
+told_of status P text (inr (inr made)) = inr (inr (text, made))
+
+pub after_file : (r : Result (Vec ℕ Global) FileFault) (status : ℕ) (P : List ℕ → Type 0) → AfterFile r status (λ text. EndsAs status (P text))
+    → EndsAs status ((text : List ℕ) × P text)
+after_file (Err (Opening e)) status P is = inl is
+after_file (Err (Reading e)) status P is = inl is
+after_file (Err files.Memory) status P is = inr (inl is)
+after_file (Ok bytes) status P made = told_of status P bytes.items made

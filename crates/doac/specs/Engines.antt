@@ -1,5 +1,5 @@
 -- What the engines do: which bytes they may write of a source text, and with which outcome.
-use Rattle.std.specs.Prelude.{◌≡◌, ◌⊎◌, ℕ, ◌<◌, Bool, IfSome, List, length, take, ⊤, Option, Result, Ok, Err, Vec}
+use Rattle.std.specs.Prelude.{◌≡◌, ◌⊎◌, ℕ, ◌<◌, Bool, IfSome, List, [], length, take, ⊤, Option, Some, None, option_map, Result, Ok, Err, Vec}
 use Rattle.std.specs.Global.{Global}
 use Rattle.std.specs.Io.KnownBytes.{Appends, IsAtEnd, Keeps}
 use Rattle.ast.specs.Meaning.{seq}
@@ -217,8 +217,19 @@ EndsAs status allowed = (status ≡ 4) ⊎ ((status ≡ 5) ⊎ allowed)
 abbrev pub OfPrint : ℕ → Type 0
 OfPrint status = (status ≡ 0) ⊎ (status ≡ 4)
 
+-- the exit status after a file was read: that of its fault, or what is made of its bytes
+abbrev pub AfterFile : Result (Vec ℕ Global) FileFault → ℕ → (List ℕ → Type 0) → Type 0
+AfterFile (Err fault) status made = status ≡ file_status fault
+AfterFile (Ok bytes) status made = made bytes.items
+
+-- this holds of some input where a file is named, and of the empty one where none is
+abbrev pub OfGiven : Option (List ℕ) → (List ℕ → Type 0) → Type 0
+OfGiven None P = P []
+OfGiven (Some file) P = (given : List ℕ) × P given
+
 -- the exit status of a command, by texts that its files may hold
 abbrev pub Obeys : Command → ℕ → Type 0
 Obeys (Check file) status = EndsAs status ((text : List ℕ) × HasStatus (Checks text) status)
-Obeys (Seq file input store) status = EndsAs status ((text : List ℕ) × (given : List ℕ) × HasStatus (Runs store text given) status)
+Obeys (Seq file input store) status =
+    EndsAs status ((text : List ℕ) × OfGiven (option_map (λ i. i.now) input) (λ given. HasStatus (Runs store text given) status))
 Obeys (Explain number) status = OfPrint status

@@ -1,15 +1,21 @@
 //! What the numbers of refusals and faults mean, and how that is printed.
 
-ghost use Rattle.std.specs.Prelude.{◌≡◌};
+ghost use Rattle.std.specs.Prelude.{◌≡◌, IfSome};
 ghost use Rattle.doac.specs.CommandLine as line;
 
-use crate::faults::FAULTS;
-use crate::refusals::REFUSALS;
+mod faults;
+mod lines;
+mod profile;
+mod statements;
+
 use crate::shown::fault_name;
 use crate::visible::Visible;
 use ast::Fault;
 use std::fmt::{Display, Formatter, Result as FmtResult, Write};
 use std::io;
+
+/// The greatest number that is explained.
+const GREATEST: u8 = 43;
 
 /// What a number is that of.
 #[derive(Clone, Copy, Debug, PartialEq, Eq)]
@@ -99,23 +105,21 @@ fn is_within(least: u8, most: u8, number: u8) -> bool
 }
 
 /// What a refusal's number means.
-pub fn refusal(number: u8) -> Option<Explanation> {
-    for entry in REFUSALS {
-        if entry.number == number {
-            return Some(entry);
-        }
+pub fn refusal(number: u8) -> Option<Explanation>
+    ensures { IfSome result (λ explanation. explanation.number ≡ number) }
+{
+    match number {
+        0..=19 => lines::page(number),
+        20..=29 => statements::page(number),
+        _ => profile::page(number),
     }
-    None
 }
 
 /// What a fault's number means.
-pub fn fault(number: u8) -> Option<Explanation> {
-    for entry in FAULTS {
-        if entry.number == number {
-            return Some(entry);
-        }
-    }
-    None
+pub fn fault(number: u8) -> Option<Explanation>
+    ensures { IfSome result (λ explanation. explanation.number ≡ number) }
+{
+    faults::page(number)
 }
 
 /// Prints what a number means, as a refusal and as a fault.
@@ -131,11 +135,19 @@ pub fn explain<P: Print>(rt: &P, number: u8) -> io::Result<()> {
 
 /// Prints the numbers, each with its sentence.
 pub fn list<P: Print>(rt: &P) -> io::Result<()> {
-    for explanation in &REFUSALS {
-        println!(rt; "{}", Heading { explanation })?;
+    for number in 0..=GREATEST {
+        if let Some(explanation) = &refusal(number) {
+            println!(rt; "{}", Heading { explanation })?;
+        }
     }
-    for explanation in &FAULTS {
-        println!(rt; "{}", Heading { explanation })?;
+    list_faults(rt)
+}
+
+fn list_faults<P: Print>(rt: &P) -> io::Result<()> {
+    for number in 0..=GREATEST {
+        if let Some(explanation) = &fault(number) {
+            println!(rt; "{}", Heading { explanation })?;
+        }
     }
     Ok(())
 }

@@ -1,9 +1,7 @@
 //! Hints at the commonest causes of a refusal, by what stands in its line.
 
+use crate::columns::unread;
 use bstr::ByteSlice;
-
-/// The column up to which a line is read.
-const LAST_COLUMN: usize = 72;
 
 /// A sign in a line that tells what was meant, and what to say of it.
 struct Cause {
@@ -119,12 +117,10 @@ fn of_statement(line: &[u8]) -> Option<&'static str> {
 }
 
 fn is_cut(line: &[u8]) -> Option<&'static str> {
-    match line.get(LAST_COLUMN..) {
-        Some(rest) if !rest.trim().is_empty() => {
-            Some("the line goes past column 72, and what stands there is not read")
-        }
-        _ => None,
+    if unread(line).trim().is_empty() {
+        return None;
     }
+    Some("the line goes past column 72, and what stands there is not read")
 }
 
 fn point_of_do(line: &[u8]) -> Option<&'static str> {

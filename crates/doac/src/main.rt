@@ -1,12 +1,12 @@
 //! `doac`: checks and runs FORTRAN 77 programs.
 #![tactic(auto)]
 
+mod columns;
 mod command;
 mod command_line;
 mod engines;
 mod explain;
 mod fault;
-mod faults;
 mod files;
 mod hints;
 mod loops;
@@ -14,7 +14,6 @@ mod message;
 mod outcome;
 mod page;
 mod program;
-mod refusals;
 mod row;
 mod rows;
 mod shown;

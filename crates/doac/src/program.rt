@@ -1,7 +1,7 @@
 //! The program: its words, its files, and what it says on standard error.
 
-ghost use Rattle.std.specs.Prelude.{◌≡◌, ℕ, List};
-ghost use Rattle.doac.specs.Engines.{Checks, EndsAs, HasStatus, Obeys, OfPrint, Runs, exit_of, file_status};
+ghost use Rattle.std.specs.Prelude.{◌≡◌, ℕ, List, option_map};
+ghost use Rattle.doac.specs.Engines.{AfterFile, Checks, EndsAs, HasStatus, Obeys, OfGiven, OfPrint, Runs, exit_of, file_status};
 
 use crate::command::{Command, LineFault};
 use crate::command_line::command;
@@ -97,7 +97,19 @@ fn obey<R: Files + Print + Eprint + AllocGlobal>(rt: &R, command: Command<'_>) -
 fn check_file<R: Files + Print + Eprint + AllocGlobal>(rt: &R, name: &str) -> u8
     ensures { EndsAs result ((text : List ℕ) × HasStatus (Checks text) result) }
 {
-    match read_file(rt, name) {
+    let text = read_file(rt, name);
+    check_given(rt, name, text)
+}
+
+/// What `check` makes of the bytes of its file.
+fn check_given<R: Print + Eprint + AllocGlobal>(
+    rt: &R,
+    name: &str,
+    text: Result<Vec<u8>, FileFault>,
+) -> u8
+    ensures { AfterFile text result (λ text. EndsAs result (HasStatus (Checks text) result)) }
+{
+    match text {
         Ok(text) => check_source(rt, name, &text),
         Err(fault) => refuse_file(rt, name, &fault),
     }
@@ -125,17 +137,43 @@ fn seq_files<R: Files + Print + Eprint + AllocGlobal>(
     input: Option<&str>,
     store: bool,
 ) -> u8
-    ensures { EndsAs result ((text : List ℕ) × (given : List ℕ) × HasStatus (Runs store text given) result) }
+    ensures { EndsAs result ((text : List ℕ) × OfGiven (option_map (λ i. i.now) input.entry) (λ given. HasStatus (Runs store text given) result)) }
 {
-    let text = match read_file(rt, name) {
-        Ok(text) => text,
-        Err(fault) => return refuse_file(rt, name, &fault),
-    };
+    let text = read_file(rt, name);
+    seq_given(rt, name, text, input, store)
+}
+
+/// What `seq` makes of the bytes of its source's file: only where they were had is an input read.
+fn seq_given<R: Files + Print + Eprint + AllocGlobal>(
+    rt: &R,
+    name: &str,
+    text: Result<Vec<u8>, FileFault>,
+    input: Option<&str>,
+    store: bool,
+) -> u8
+    ensures { AfterFile text result (λ text. EndsAs result (OfGiven (option_map (λ i. i.now) input.entry) (λ given. HasStatus (Runs store text given) result))) }
+{
+    match text {
+        Ok(text) => seq_file(rt, name, &text, input, store),
+        Err(fault) => refuse_file(rt, name, &fault),
+    }
+}
+
+/// Runs the text of a file on the input that a file holds, or on an empty one where none is named.
+fn seq_file<R: Files + Print + Eprint + AllocGlobal>(
+    rt: &R,
+    name: &str,
+    text: &[u8],
+    input: Option<&str>,
+    store: bool,
+) -> u8
+    ensures { EndsAs result (OfGiven (option_map (λ i. i.now) input.entry) (λ given. HasStatus (Runs store text.now given) result)) }
+{
     let Some(input) = input else {
-        return seq_source(rt, name, &text, &[], store);
+        return seq_source(rt, name, text, &[], store);
     };
     match read_file(rt, input) {
-        Ok(given) => seq_source(rt, name, &text, &given, store),
+        Ok(given) => seq_source(rt, name, text, &given, store),
         Err(fault) => refuse_file(rt, input, &fault),
     }
 }

@@ -3,10 +3,8 @@ use crate::command_line::command;
 use crate::engines::{check, check_text, seq, seq_texts};
 use crate::explain::{Explanation, Origin, fault, is_explained, refusal};
 use crate::fault::EngineFault;
-use crate::faults::FAULTS;
 use crate::message::Message;
 use crate::outcome::Outcome;
-use crate::refusals::REFUSALS;
 use std::alloc::{AllocError, Global};
 use std::io::{self, Error, ErrorKind, Read, Write};
 use std::process::Abort;
@@ -449,10 +447,18 @@ fn message_of(rt: &(impl Abort + AllocGlobal), file: &str, source: &[u8]) -> Res
     }
 }
 
-/// What users of other compilers write most often, with the sentence that they see.
+/// What users of other compilers write most often is refused with the sentence that they see.
+fn are_refused(rt: &(impl Abort + AllocGlobal), mistakes: &[(&[u8], &str)]) -> Result<(), Fail> {
+    for (source, wanted) in mistakes {
+        let text = message_of(rt, "f", source)?;
+        assert!(rt; text.as_str().starts_with(wanted), "{text}");
+    }
+    Ok(())
+}
+
 #[test]
-fn mistakes(rt: HostRuntime) -> Result<(), Fail> {
-    let rows: [(&[u8], &str); 42] = [
+fn mistakes_of_columns(rt: HostRuntime) -> Result<(), Fail> {
+    let rows: [(&[u8], &str); 10] = [
         (
             b"\tK=1\n      END\n",
             "f:1: refused: a character that may not stand in columns 1 to 72\n\\tK=1\nhint: a tab",
@@ -481,6 +487,19 @@ fn mistakes(rt: HostRuntime) -> Result<(), Fail> {
             b"! a note\n      END\n",
             "f:1: refused: something stands before a continuation line\n! a note\n",
         ),
+        (b"      K=1\n", "f:1: refused: the source has no END\n"),
+        (b"", "f: refused: the source has no END\n"),
+        (
+            b"      END\n      SUBROUTINE S\n",
+            "f:2: refused: a line after END\n",
+        ),
+    ];
+    are_refused(&rt, &rows)
+}
+
+#[test]
+fn mistakes_of_signs(rt: HostRuntime) -> Result<(), Fail> {
+    let rows: [(&[u8], &str); 9] = [
         (
             b"      K=2**3\n      END\n",
             "f:1: refused: the statement is not well formed\n      K=2**3\nhint: there is no power; write a product\n",
@@ -505,6 +524,25 @@ fn mistakes(rt: HostRuntime) -> Result<(), Fail> {
             b"      K=1; L=2\n      END\n",
             "f:1: refused: the statement is not well formed\n      K=1; L=2\nhint: a line holds one statement\n",
         ),
+        (
+            b"      IF (K==1) L=2\n      END\n",
+            "f:1: refused: the statement is not well formed\n      IF (K==1) L=2\nhint: write .EQ. in the place of '=='\n",
+        ),
+        (
+            b"      IF (K<1) L=2\n      END\n",
+            "f:1: refused: the statement is not well formed\n      IF (K<1) L=2\nhint: write .LT. or .LE.",
+        ),
+        (
+            b"      PRINT *,'IT'S'\n      END\n",
+            "f:1: refused: a character constant has no end\n",
+        ),
+    ];
+    are_refused(&rt, &rows)
+}
+
+#[test]
+fn mistakes_of_statements(rt: HostRuntime) -> Result<(), Fail> {
+    let rows: [(&[u8], &str); 10] = [
         (
             b"      DO I=1,3\n      END\n",
             "f:1: refused: the statement is not well formed\n      DO I=1,3\nhint: a DO names the label",
@@ -542,20 +580,54 @@ fn mistakes(rt: HostRuntime) -> Result<(), Fail> {
             "f:1: refused: a statement that is left out for good\n",
         ),
         (
+            b"      PRNT *,K\n      END\n",
+            "f:1: refused: no statement begins so\n",
+        ),
+    ];
+    are_refused(&rt, &rows)
+}
+
+#[test]
+fn mistakes_of_numbers(rt: HostRuntime) -> Result<(), Fail> {
+    let rows: [(&[u8], &str); 7] = [
+        (
             b"      X=1\n      END\n",
             "f:1: refused: a name is not an integer\n",
         ),
         (
-            b"      IF (K=1) L=2\n      END\n",
+            b"      K=1.5\n      END\n",
+            "f:1: refused: a real constant\n",
+        ),
+        (
+            b"      K=1+(2+3+4+5+6+7+8+9+10+11+12+13+14+15+16+17+18+19+20+21+22+23+24+25)\n      END\n",
             "f:1: refused: the statement is not well formed\n",
         ),
         (
-            b"      IF (K==1) L=2\n      END\n",
-            "f:1: refused: the statement is not well formed\n      IF (K==1) L=2\nhint: write .EQ. in the place of '=='\n",
+            b"      PARAMETER N=3\n      END\n",
+            "f:1: refused: a name is too long\n",
         ),
         (
-            b"      IF (K<1) L=2\n      END\n",
-            "f:1: refused: the statement is not well formed\n      IF (K<1) L=2\nhint: write .LT. or .LE.",
+            b"      K=99999999999999999999\n      END\n",
+            "f:1: refused: a constant is too large\n",
+        ),
+        (
+            b"      INTEGER A(N)\n      END\n",
+            "f:1: refused: a bound or a constant has no value before the run\n",
+        ),
+        (
+            b"      K(1)=0\n      END\n",
+            "f:1: refused: subscripts or arguments that don't fit\n",
+        ),
+    ];
+    are_refused(&rt, &rows)
+}
+
+#[test]
+fn mistakes_of_nests(rt: HostRuntime) -> Result<(), Fail> {
+    let rows: [(&[u8], &str); 6] = [
+        (
+            b"      IF (K=1) L=2\n      END\n",
+            "f:1: refused: the statement is not well formed\n",
         ),
         (
             b"      IF (K.GT.1) THEN\n      END\n",
@@ -570,57 +642,15 @@ fn mistakes(rt: HostRuntime) -> Result<(), Fail> {
             "f:3: refused: a loop has no end, or two loops cross\n",
         ),
         (
-            b"      K=1.5\n      END\n",
-            "f:1: refused: a real constant\n",
-        ),
-        (
-            b"      PRINT *,'IT'S'\n      END\n",
-            "f:1: refused: a character constant has no end\n",
-        ),
-        (
-            b"      K=1+(2+3+4+5+6+7+8+9+10+11+12+13+14+15+16+17+18+19+20+21+22+23+24+25)\n      END\n",
-            "f:1: refused: the statement is not well formed\n",
-        ),
-        (
-            b"      K(1)=0\n      END\n",
-            "f:1: refused: subscripts or arguments that don't fit\n",
-        ),
-        (
-            b"      INTEGER A(N)\n      END\n",
-            "f:1: refused: a bound or a constant has no value before the run\n",
-        ),
-        (
-            b"      PARAMETER N=3\n      END\n",
-            "f:1: refused: a name is too long\n",
-        ),
-        (
             b"      K=1\n      INTEGER L\n      END\n",
             "f:2: refused: statements are in the wrong order\n",
-        ),
-        (
-            b"      K=99999999999999999999\n      END\n",
-            "f:1: refused: a constant is too large\n",
-        ),
-        (b"      K=1\n", "f:1: refused: the source has no END\n"),
-        (b"", "f: refused: the source has no END\n"),
-        (
-            b"      END\n      SUBROUTINE S\n",
-            "f:2: refused: a line after END\n",
-        ),
-        (
-            b"      PRNT *,K\n      END\n",
-            "f:1: refused: no statement begins so\n",
         ),
         (
             b"      IF (K) L=1\n      END\n",
             "f:1: refused: a number where a truth value belongs, or the other way round\n",
         ),
     ];
-    for (source, wanted) in rows {
-        let text = message_of(&rt, "f", source)?;
-        assert!(rt; text.as_str().starts_with(wanted), "{text}");
-    }
-    Ok(())
+    are_refused(&rt, &rows)
 }
 
 /// Control characters of a name and of a line don't reach the terminal, and a line is cut.
@@ -682,11 +712,25 @@ fn explanations(rt: HostRuntime) -> Result<(), Fail> {
         assert_eq!(rt; is_explained(number), refusal(number).is_some());
         assert_eq!(rt; (1..=6).contains(&number), fault(number).is_some());
     }
-    for entry in &REFUSALS {
-        explained(&rt, entry)?;
+    Ok(())
+}
+
+#[test]
+fn examples_of_refusals(rt: HostRuntime) -> Result<(), Fail> {
+    for number in 0..=u8::MAX {
+        if let Some(entry) = &refusal(number) {
+            explained(&rt, entry)?;
+        }
     }
-    for entry in &FAULTS {
-        explained(&rt, entry)?;
+    Ok(())
+}
+
+#[test]
+fn examples_of_faults(rt: HostRuntime) -> Result<(), Fail> {
+    for number in 0..=u8::MAX {
+        if let Some(entry) = &fault(number) {
+            explained(&rt, entry)?;
+        }
     }
     Ok(())
 }

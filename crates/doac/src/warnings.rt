@@ -1,13 +1,11 @@
 //! What `check` warns of on standard error. No warning changes its answer.
 
+use crate::columns::unread;
 use crate::message::Place;
 use crate::usage::Usage;
 use crate::visible::Visible;
 use ast::{Kind, Label, Line, Name, Node, Program, SymbolKind};
 use bstr::ByteSlice;
-
-/// The column up to which a line is read.
-const LAST_COLUMN: usize = 72;
 
 /// How many columns a label may stand in; the next one tells a continuation line.
 const LABEL_COLUMNS: usize = 5;
@@ -27,7 +25,7 @@ fn warn_of_columns<R: Eprint>(rt: &R, file: &str, source: &[u8]) {
     let mut line: Line = 0;
     for text in source.lines() {
         line = line.saturating_add(1);
-        if is_cut(text) {
+        if !is_comment(text) && unread(text).iter().any(is_telling) {
             let place = Place { file, line };
             let _ = eprintln!(rt; "{place}warning: what stands past column 72 is not read");
             return;
@@ -35,15 +33,13 @@ fn warn_of_columns<R: Eprint>(rt: &R, file: &str, source: &[u8]) {
     }
 }
 
-/// Whether a line that is no comment has more than blanks and digits past the last column.
-fn is_cut(line: &[u8]) -> bool {
-    match (line.first(), line.get(LAST_COLUMN..)) {
-        (Some(b'C' | b'c' | b'*'), _) => false,
-        (_, Some(rest)) => !rest
-            .iter()
-            .all(|byte| *byte == b' ' || byte.is_ascii_digit()),
-        (_, None) => false,
-    }
+fn is_comment(line: &[u8]) -> bool {
+    matches!(line.first(), Some(b'C' | b'c' | b'*'))
+}
+
+/// Whether a character past the last column is none of a card's number.
+fn is_telling(byte: &u8) -> bool {
+    *byte != b' ' && !byte.is_ascii_digit()
 }
 
 fn warn_of_names<R: Eprint>(rt: &R, file: &str, program: &Program, usage: &Usage) {

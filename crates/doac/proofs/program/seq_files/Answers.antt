@@ -1,0 +1,9 @@
+use Rattle.std.proofs.Common.{List, option_map}
+use Rattle.doac.specs.Engines.{HasStatus, OfGiven, Runs}
+use Rattle.doac.proofs.Statuses.{after_file}
+use Rattle.doac.proofs.program.seq_files.Goals as goal
+
+pub returns : goal.returns
+returns c =
+    after_file c.read_file.result c.seq_given.result
+    (λ text. OfGiven (option_map (λ i. i.now) c.args.input) (λ given. HasStatus (Runs c.args.store text given) c.seq_given.result)) c.seq_given.ensures
