@@ -4,6 +4,6 @@ use Rattle.doac.proofs.Statuses.{after_file}
 use Rattle.doac.proofs.program.seq_files.Goals as goal
 
 pub returns : goal.returns
-returns c =
-    after_file c.read_file.result c.seq_given.result
+returns g c =
+    after_file c.read_file-text.result c.seq_given.result
     (λ text. OfGiven (option_map (λ i. i.now) c.args.input) (λ given. HasStatus (Runs c.args.store text given) c.seq_given.result)) c.seq_given.ensures
