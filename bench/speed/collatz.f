@@ -3,7 +3,7 @@ C     The longest Collatz sequence.
       INTEGER N,K,L,I,BEST,AT
       BEST=0
       AT=0
-      DO 30 I=1,60000
+      DO 30 I=1,250000
       N=I
       L=0
       DO 20 K=1,400

@@ -1,5 +1,5 @@
 local best, at = 0, 0
-for i = 1, 60000 do
+for i = 1, 250000 do
   local n, l = i, 0
   for k = 1, 400 do
     if n == 1 then

@@ -1,4 +1,4 @@
-local n = 160
+local n = 320
 local a, b, c = {}, {}, {}
 for i = 1, n do
   a[i], b[i], c[i] = {}, {}, {}

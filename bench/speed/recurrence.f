@@ -5,7 +5,7 @@ C     A tridiagonal recurrence.
       A(I)=MOD(I*37,101)
       B(I)=MOD(I*53,103)
    10 C(I)=MOD(I*71,107)
-      DO 30 R=1,400
+      DO 30 R=1,3000
       X(1)=R
       X(2)=1
       DO 20 I=3,10000

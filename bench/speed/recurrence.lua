@@ -5,7 +5,7 @@ for i = 1, n do
   b[i] = i * 53 % 103
   c[i] = i * 71 % 107
 end
-for r = 1, 400 do
+for r = 1, 3000 do
   x[1] = r
   x[2] = 1
   for i = 3, n do

@@ -1,7 +1,7 @@
 C     The sieve of Eratosthenes.
       PROGRAM SIEVE
       INTEGER A(1000000),I,J,C,R
-      DO 40 R=1,5
+      DO 40 R=1,10
       DO 10 I=1,1000000
    10 A(I)=1
       DO 30 I=2,1000

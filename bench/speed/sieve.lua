@@ -1,5 +1,5 @@
 local a = {}
-for r = 1, 5 do
+for r = 1, 10 do
   for i = 1, 1000000 do a[i] = 1 end
   for i = 2, 1000 do
     if a[i] == 1 then

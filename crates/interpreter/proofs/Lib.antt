@@ -15,6 +15,7 @@ pub mod Leading
 pub mod Nesting
 pub mod Offsets
 pub mod Placing
+pub mod Reducing
 pub mod Scanning
 pub mod Seats
 pub mod Storing
