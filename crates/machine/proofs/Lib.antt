@@ -4,3 +4,4 @@ pub mod Runs
 pub mod Views
 pub mod Example
 pub mod Equal
+pub mod Lying

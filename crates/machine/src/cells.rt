@@ -1,0 +1,40 @@
+//! Numbers of cells.
+
+ghost use Rattle.std.specs.Prelude.{◌≡◌, ◌<◌, ◌^◌, ◌+◌, Some};
+ghost use Rattle.machine.specs.Laid.{cell_number};
+
+use crate::code::{Code, Variable};
+
+/// The number of a variable's cell at a place, if it has one there.
+fn number_in(variable: &Variable, place: i64) -> Option<usize>
+    requires { variable.now.start + variable.now.size < 2 ^ 62 }
+    ensures { result ≡ cell_number (Some variable.now) place }
+{
+    if place < 0 {
+        return None;
+    }
+    let place = place as usize;
+    if place < variable.size {
+        Some(variable.start + place)
+    } else {
+        None
+    }
+}
+
+impl Code {
+    ghost use Rattle.std.specs.Prelude.{◌≡◌, slice_get};
+    ghost use Rattle.machine.specs.Laid.{cell_number};
+
+    /// The number of a variable's cell at a place, if it has one there.
+    #[tactic(auto, using(crate::proofs::Lying::few_cells))]
+    pub fn cell(&self, variable: u32, place: i64) -> Option<usize>
+        ensures { result ≡ cell_number (slice_get self.now.variables.items variable) place }
+    {
+        let number = variable as usize;
+        if number < self.variables.len() {
+            number_in(&self.variables[number], place)
+        } else {
+            None
+        }
+    }
+}
