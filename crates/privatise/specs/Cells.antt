@@ -1,5 +1,5 @@
 -- An account of the code: what paths have done with scalars, in a list by their cells, from 0 on.
-use Rattle.std.specs.Prelude.{ℕ, zero, suc, List, [], ◌∷◌, map, Option, Some, None, slice_get}
+use Rattle.std.specs.Prelude.{ℕ, zero, suc, List, [], ◌∷◌, Option, Some, None, slice_get}
 use Rattle.privatise.specs.Walks.{then_walk, more}
 use Rattle.privatise.specs.declared.walk.Walk.{Walk}
 use Rattle.privatise.specs.declared.walk.Walk.TheVariants.{Defined, Early}
