@@ -8,7 +8,8 @@ use Rattle.std.specs.List.{list_all}
 use Rattle.loop_tree.specs.Loops.{Loop}
 use Rattle.subscripts.specs.Forms.{Form, Share, factor_in, others, varies}
 use Rattle.subscripts.specs.Values.{Agree, sum_of}
-use Rattle.subscripts.proofs.Sums.{Once, split, taken}
+use Rattle.subscripts.specs.Proper.{Once}
+use Rattle.subscripts.proofs.Sums.{split, taken}
 use Rattle.dependence.specs.Tests.{are_alike, gap, gaps, is_nothing, no_gaps, no_others, sizes, steady, vary}
 use Rattle.dependence.proofs.Distances.{no_gap, none_abs}
 

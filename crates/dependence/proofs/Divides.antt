@@ -9,7 +9,8 @@ use Rattle.loop_tree.specs.Loops.{Loop}
 use Rattle.subscripts.specs.Forms.{Form, Share, factor_in, has_share, others, varies}
 use Rattle.subscripts.specs.Values.{sum_of}
 use Rattle.subscripts.proofs.Products.{times_sum, times_difference, times_assoc}
-use Rattle.subscripts.proofs.Sums.{Once, once_kept, split, taken}
+use Rattle.subscripts.specs.Proper.{Once}
+use Rattle.subscripts.proofs.Sums.{once_kept, split, taken}
 use Rattle.dependence.specs.Tests.{by_divisor, divided, gap, gaps, gcd, gcd_of, gcd_with, gcd_within, sizes, steady, vary, varying}
 use Rattle.dependence.proofs.Alike.{by_steady, second_of_both, isnt}
 use Rattle.dependence.proofs.Divisors.{positive}

@@ -9,7 +9,7 @@ use Rattle.loop_tree.specs.Loops.{Loop}
 use Rattle.subscripts.specs.Forms.{Form}
 use Rattle.subscripts.specs.Values.{Agree, form_value}
 use Rattle.subscripts.proofs.Products.{sum_times, times_assoc, times_difference}
-use Rattle.subscripts.proofs.Sums.{Once}
+use Rattle.subscripts.specs.Proper.{Once}
 use Rattle.dependence.specs.Meets.{IsStep}
 use Rattle.dependence.specs.Tests.{are_alike, at_step, by_constant, by_distance, by_stride, difference, is_zero}
 use Rattle.dependence.specs.declared.relation.Found.TheVariants.{Nothing, Only}

@@ -15,13 +15,14 @@ use Rattle.ast.specs.declared.fault.Fault.{Fault}
 use Rattle.ast.specs.declared.fault.Fault.TheVariants.{Overflow}
 use Rattle.loop_tree.specs.Loops.{Loop}
 use Rattle.loop_tree.specs.Constants.{if_some}
+use Rattle.subscripts.specs.Proper.{Once}
 use Rattle.subscripts.specs.Forms.{Form, Share, are_none, binary_form, element_form, form_of, has_room, has_share, in_room, is_constant, is_variable, number_form, prefixed_form, product, scalar_form, share_varying, times, total, total_form, total_of, varies}
 use Rattle.subscripts.specs.Values.{MayBe, ScalarMayBe, Agree, IsForm, IsValueOf, form_value, sum_of}
 use Rattle.subscripts.specs.View.{HasForm, form, form_in}
 use Rattle.subscripts.specs.declared.form.Affine.{Affine}
 use Rattle.subscripts.specs.declared.form.Affine.TheVariants as affines
 use Rattle.subscripts.proofs.Products.{sum_times, times_assoc}
-use Rattle.subscripts.proofs.Sums.{Once, once_total, once_times, sum_total, sum_product, total_times}
+use Rattle.subscripts.proofs.Sums.{once_total, once_times, sum_total, sum_product, total_times}
 
 -- ---- answers
 

@@ -5,15 +5,12 @@ use Rattle.std.proofs.lemmas.Bool.Decides.{Decides-int_eq, Decides-eqb}
 use Rattle.std.proofs.Math.IntN.{zero-*ℤ, *ℤ-zero}
 use Rattle.std.specs.Prelude.{ℤ, pos, ◌+ℤ◌, ◌*ℤ◌, ◌++◌, ◌==◌, ◌||◌, not, Bool, true, false, if◌then◌else◌, filter, ⊤}
 use Rattle.std.specs.Ordering.{int_eq}
+use Rattle.subscripts.specs.Proper.{Once}
 use Rattle.subscripts.specs.Forms.{Share, factor_in, has_share, is_nonzero, nonzero, new_share, others, times_share, total, total_share, total_shares}
 use Rattle.subscripts.specs.Values.{sum_of}
 use Rattle.subscripts.proofs.Products.{times_sum, times_difference, sum_times, times_assoc}
 
 -- ---- each scalar once
-
-abbrev pub Once : List Share → Type 0
-Once [] = ⊤
-Once (s ∷ ss) = (has_share s.cell ss ≡ false) × Once ss
 
 -- what a test keeps has no cell that the whole lacks
 kept_lacks : (p : Share → Bool) (c : ℕ) (ss : List Share) → has_share c ss ≡ false → has_share c (filter p ss) ≡ false
@@ -155,7 +152,7 @@ not_taken c (s ∷ ss) h = by (s.cell == c) h (λ k. not_taken c ss k)
     by true h more = absurd (true≢false h)
     by false h more = more h
 
-turned : (n m : ℕ) (b : Bool) → (n == m) ≡ b → (m == n) ≡ b
+pub turned : (n m : ℕ) (b : Bool) → (n == m) ≡ b → (m == n) ≡ b
 turned n m true e = (Decides-eqb m n).1 (sym ((Decides-eqb n m).0 e))
 turned n m false e = by (m == n) refl
   where

@@ -116,10 +116,15 @@ product f g = if is_constant f then in_room (times f.constant g) else if is_cons
 abbrev pub number_form : ℤ → Form
 number_form n = record { constant = n; coefficient = pos 0; shares = [] }
 
+abbrev pub variable_form : Form
+variable_form = record { constant = pos 0; coefficient = pos 1; shares = [] }
+
+-- another scalar
+abbrev pub other_form : ℕ → Form
+other_form c = record { constant = pos 0; coefficient = pos 0; shares = record { cell = c; factor = pos 1 } ∷ [] }
+
 abbrev pub scalar_form : Loop → ℕ → Form
-scalar_form l c =
-    if is_variable l c then record { constant = pos 0; coefficient = pos 1; shares = [] }
-    else record { constant = pos 0; coefficient = pos 0; shares = record { cell = c; factor = pos 1 } ∷ [] }
+scalar_form l c = if is_variable l c then variable_form else other_form c
 
 abbrev pub prefixed_form : Loop → Prefix → Form → Option Form
 prefixed_form l Plus f = Some f

@@ -22,7 +22,7 @@ put_each ss [] = Some ss
 put_each ss (t ∷ ts) = if_some (put_fitted ss t) (λ us. put_each us ts)
 
 -- A call that answered so left what is meant.
-abbrev pub Left : Option (Unit {0}) → List Share → Option (List Share) → Type 0
+abbrev pub Left : {T : Type 0} → Option (Unit {0}) → T → Option T → Type 0
 Left None left meant = meant ≡ None
 Left (Some done) left meant = meant ≡ Some left
 

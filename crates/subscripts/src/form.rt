@@ -1,13 +1,13 @@
 //! Affine forms.
 
-ghost use Rattle.std.specs.Prelude.{◌≡◌, [], ◌∷◌, option_map, pos};
+ghost use Rattle.std.specs.Prelude.{◌≡◌, IfSome, option_map};
 ghost use Rattle.loop_tree.specs.TreeView.{seen};
 ghost use Rattle.subscripts.specs.Forms as spec;
 ghost use Rattle.subscripts.specs.Steps.{times_step, total_step};
 ghost use Rattle.subscripts.specs.View.{form};
 
 use crate::shares::{Share, product, put_others, put_times, put_totals, share_varying, total};
-use ast::{Operator, Prefix};
+use ast::Operator;
 use loop_tree::LoopView;
 use smallvec::SmallVec;
 use std::alloc::Global;
@@ -31,7 +31,8 @@ pub enum Affine {
 
 /// The form of a number.
 pub fn number_form(alloc: Global, number: i64) -> Form
-    ensures { form result ≡ spec.number_form number }
+    ensures value { form result ≡ spec.number_form number }
+    ensures capacity { result.shares.capacity ≡ 8 }
 {
     Form {
         constant: number,
@@ -42,7 +43,8 @@ pub fn number_form(alloc: Global, number: i64) -> Form
 
 /// The form of the loop's variable.
 fn variable_form(alloc: Global) -> Form
-    ensures { form result ≡ record { constant = pos 0; coefficient = pos 1; shares = [] } }
+    ensures value { form result ≡ spec.variable_form }
+    ensures capacity { result.shares.capacity ≡ 8 }
 {
     Form {
         constant: 0,
@@ -52,8 +54,9 @@ fn variable_form(alloc: Global) -> Form
 }
 
 /// The form of another scalar.
-fn other_form(alloc: Global, cell: usize) -> Form
-    ensures { form result ≡ record { constant = pos 0; coefficient = pos 0; shares = record { cell = cell; factor = pos 1 } ∷ [] } }
+pub fn other_form(alloc: Global, cell: usize) -> Form
+    ensures value { form result ≡ spec.other_form cell }
+    ensures capacity { result.shares.capacity ≡ 8 }
 {
     let mut shares = SmallVec::new(alloc);
     shares.push_reserved(Share { cell, factor: 1 });
@@ -66,7 +69,8 @@ fn other_form(alloc: Global, cell: usize) -> Form
 
 /// The form of a scalar.
 pub fn scalar_form(view: &LoopView<'_, '_>, cell: usize) -> Form
-    ensures { form result ≡ spec.scalar_form (seen view.now) cell }
+    ensures value { form result ≡ spec.scalar_form (seen view.now) cell }
+    ensures capacity { result.shares.capacity ≡ 8 }
 {
     if cell == view.head().variable.cell {
         variable_form(view.allocator())
@@ -76,7 +80,8 @@ pub fn scalar_form(view: &LoopView<'_, '_>, cell: usize) -> Form
 }
 
 fn total_step(alloc: Global, minus: bool, first: &Form, second: &Form) -> Option<Form>
-    ensures { option_map form result ≡ total_step minus (form first.now) (form second.now) }
+    ensures value { option_map form result ≡ total_step minus (form first.now) (form second.now) }
+    ensures capacity { IfSome result (λ f. f.shares.capacity ≡ 8) }
 {
     let constant = total(minus, first.constant, second.constant)?;
     let coefficient = total(minus, first.coefficient, second.coefficient)?;
@@ -101,14 +106,16 @@ fn total_step(alloc: Global, minus: bool, first: &Form, second: &Form) -> Option
 }
 
 /// The sum or the difference of forms, where it has room.
-fn total_form(alloc: Global, minus: bool, first: &Form, second: &Form) -> Option<Form>
-    ensures { option_map form result ≡ spec.in_room (spec.total_form minus (form first.now) (form second.now)) }
+pub fn total_form(alloc: Global, minus: bool, first: &Form, second: &Form) -> Option<Form>
+    ensures value { option_map form result ≡ spec.in_room (spec.total_form minus (form first.now) (form second.now)) }
+    ensures capacity { IfSome result (λ f. f.shares.capacity ≡ 8) }
 {
     total_step(alloc, minus, first, second)
 }
 
 fn times_step(alloc: Global, number: &Form, all: &Form) -> Option<Form>
-    ensures { option_map form result ≡ times_step number.now.constant (form all.now) }
+    ensures value { option_map form result ≡ times_step number.now.constant (form all.now) }
+    ensures capacity { IfSome result (λ f. f.shares.capacity ≡ 8) }
 {
     let constant = product(number.constant, all.constant)?;
     let coefficient = product(number.constant, all.coefficient)?;
@@ -123,7 +130,8 @@ fn times_step(alloc: Global, number: &Form, all: &Form) -> Option<Form>
 
 /// A form as many times as the constant of another says, where it has room.
 fn times(alloc: Global, number: &Form, all: &Form) -> Option<Form>
-    ensures { option_map form result ≡ spec.in_room (spec.times number.now.constant (form all.now)) }
+    ensures value { option_map form result ≡ spec.in_room (spec.times number.now.constant (form all.now)) }
+    ensures capacity { IfSome result (λ f. f.shares.capacity ≡ 8) }
 {
     times_step(alloc, number, all)
 }
@@ -137,7 +145,8 @@ pub fn is_constant(all: &Form) -> bool
 
 /// The product of forms, one of which is a number.
 fn product_form(alloc: Global, first: &Form, second: &Form) -> Option<Form>
-    ensures { option_map form result ≡ spec.product (form first.now) (form second.now) }
+    ensures value { option_map form result ≡ spec.product (form first.now) (form second.now) }
+    ensures capacity { IfSome result (λ f. f.shares.capacity ≡ 8) }
 {
     if is_constant(first) {
         times(alloc, first, second)
@@ -149,29 +158,14 @@ fn product_form(alloc: Global, first: &Form, second: &Form) -> Option<Form>
 }
 
 /// A sum or a difference; there is none where both sides take a scalar that the range gives values.
-fn total_of(view: &LoopView<'_, '_>, minus: bool, first: &Form, second: &Form) -> Option<Form>
-    ensures { option_map form result ≡ spec.total_of (seen view.now) minus (form first.now) (form second.now) }
+pub fn total_of(view: &LoopView<'_, '_>, minus: bool, first: &Form, second: &Form) -> Option<Form>
+    ensures value { option_map form result ≡ spec.total_of (seen view.now) minus (form first.now) (form second.now) }
+    ensures capacity { IfSome result (λ f. f.shares.capacity ≡ 8) }
 {
     if share_varying(view, first.shares.as_slice(), second.shares.as_slice()) {
         None
     } else {
         total_form(view.allocator(), minus, first, second)
-    }
-}
-
-/// The form behind a sign.
-pub fn prefixed_form(view: &LoopView<'_, '_>, prefix: Prefix, operand: Form) -> Option<Form>
-    ensures { option_map form result ≡ spec.prefixed_form (seen view.now) prefix (form operand) }
-{
-    match prefix {
-        Prefix::Plus => Some(operand),
-        Prefix::Minus => total_form(
-            view.allocator(),
-            true,
-            &number_form(view.allocator(), 0),
-            &operand,
-        ),
-        Prefix::Not => None,
     }
 }
 
@@ -182,7 +176,8 @@ pub fn binary_form(
     left: &Form,
     right: &Form,
 ) -> Option<Form>
-    ensures { option_map form result ≡ spec.binary_form (seen view.now) operator (form left.now) (form right.now) }
+    ensures value { option_map form result ≡ spec.binary_form (seen view.now) operator (form left.now) (form right.now) }
+    ensures capacity { IfSome result (λ f. f.shares.capacity ≡ 8) }
 {
     match operator {
         Operator::Add => total_of(view, false, left, right),

@@ -1,8 +1,10 @@
 //! Affine forms of subscripts.
 #![tactic(auto)]
 
+mod adding;
 mod expression;
 mod form;
+mod leaf;
 mod shares;
 
 pub use expression::affine;

@@ -76,7 +76,7 @@ pub fn share_varying(view: &LoopView<'_, '_>, first: &[Share], second: &[Share])
 }
 
 /// Puts a share behind others, unless it is of factor 0; `None` where there is no room.
-fn put(shares: &mut SmallVec<Share, 8>, cell: usize, factor: i64) -> Option<()>
+pub fn put(shares: &mut SmallVec<Share, 8>, cell: usize, factor: i64) -> Option<()>
     requires { shares.old.capacity ≡ 8 }
     ensures left { Left result (map share_of shares.new.items) (put (map share_of shares.old.items) cell factor) }
     ensures capacity { shares.new.capacity ≡ 8 }
