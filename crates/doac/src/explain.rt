@@ -1,6 +1,6 @@
 //! What the numbers of refusals and faults mean, and how that is printed.
 
-ghost use Rattle.std.specs.Prelude.{◌≡◌, IfSome};
+ghost use Rattle.std.specs.Prelude.{◌≡◌, IfSome, is_some};
 ghost use Rattle.doac.specs.CommandLine as line;
 
 mod faults;
@@ -106,7 +106,8 @@ fn is_within(least: u8, most: u8, number: u8) -> bool
 
 /// What a refusal's number means.
 pub fn refusal(number: u8) -> Option<Explanation>
-    ensures { IfSome result (λ explanation. explanation.number ≡ number) }
+    ensures number { IfSome result (λ explanation. explanation.number ≡ number) }
+    ensures whether { is_some result ≡ line.is_explained number }
 {
     match number {
         0..=19 => lines::page(number),
@@ -117,7 +118,8 @@ pub fn refusal(number: u8) -> Option<Explanation>
 
 /// What a fault's number means.
 pub fn fault(number: u8) -> Option<Explanation>
-    ensures { IfSome result (λ explanation. explanation.number ≡ number) }
+    ensures number { IfSome result (λ explanation. explanation.number ≡ number) }
+    ensures whether { is_some result ≡ line.is_within 1 6 number }
 {
     faults::page(number)
 }

@@ -1,13 +1,15 @@
 //! The faults, each with a program that has it and one that is cured.
 
-ghost use Rattle.std.specs.Prelude.{◌≡◌, IfSome};
+ghost use Rattle.std.specs.Prelude.{◌≡◌, IfSome, is_some};
+ghost use Rattle.doac.specs.CommandLine.{is_within};
 
 use crate::explain::{Explanation, Origin, Trial};
 use ast::Fault;
 
 /// What the fault of a number means, if there is one.
 pub fn page(number: u8) -> Option<Explanation>
-    ensures { IfSome result (λ explanation. explanation.number ≡ number) }
+    ensures number { IfSome result (λ explanation. explanation.number ≡ number) }
+    ensures whether { is_some result ≡ is_within 1 6 number }
 {
     match number {
         1 => Some(OVERFLOW),

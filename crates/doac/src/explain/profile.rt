@@ -1,12 +1,14 @@
 //! The rules for whole programs, each with a source that breaks it and one that is cured.
 
-ghost use Rattle.std.specs.Prelude.{◌≡◌, IfSome};
+ghost use Rattle.std.specs.Prelude.{◌≡◌, IfSome, is_some};
+ghost use Rattle.doac.specs.CommandLine.{is_within};
 
 use crate::explain::{Explanation, Origin, Trial};
 
 /// What the rule of a number means, if it is one for whole programs.
 pub fn page(number: u8) -> Option<Explanation>
-    ensures { IfSome result (λ explanation. explanation.number ≡ number) }
+    ensures number { IfSome result (λ explanation. explanation.number ≡ number) }
+    ensures whether { is_some result ≡ is_within 30 43 number }
 {
     match number {
         30 => Some(WRONG_ORDER),

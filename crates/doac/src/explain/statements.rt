@@ -1,12 +1,14 @@
 //! The rules for single statements, each with a source that breaks it and one that is cured.
 
-ghost use Rattle.std.specs.Prelude.{◌≡◌, IfSome};
+ghost use Rattle.std.specs.Prelude.{◌≡◌, IfSome, is_some};
+ghost use Rattle.doac.specs.CommandLine.{is_within};
 
 use crate::explain::{Explanation, Origin, Trial};
 
 /// What the rule of a number means, if it is one for single statements.
 pub fn page(number: u8) -> Option<Explanation>
-    ensures { IfSome result (λ explanation. explanation.number ≡ number) }
+    ensures number { IfSome result (λ explanation. explanation.number ≡ number) }
+    ensures whether { is_some result ≡ is_within 20 27 number }
 {
     match number {
         20 => Some(NO_STATEMENT),
