@@ -76,9 +76,13 @@ are_alike l f g = not (vary l f.shares) && (not (vary l g.shares) && (no_gaps l 
 abbrev pub difference : Form → Form → ℤ
 difference f g = f.constant -ℤ g.constant
 
--- alike, without the loop's variable, and the constants differ
+-- without the loop's variable, and the constants differ
+abbrev pub are_constants : Form → Form → Bool
+are_constants f g = is_zero f.coefficient && (is_zero g.coefficient && not (int_eq f.constant g.constant))
+
+-- alike but for that
 abbrev pub by_constant : Loop → Form → Form → Bool
-by_constant l f g = are_alike l f g && (is_zero f.coefficient && (is_zero g.coefficient && not (int_eq f.constant g.constant)))
+by_constant l f g = are_alike l f g && are_constants f g
 
 -- what a divisor of the difference of the constants has to divide
 abbrev pub divided : Loop → Form → Form → List ℕ

@@ -62,14 +62,18 @@ fn are_alike(view: &LoopView<'_, '_>, first: &Form, second: &Form) -> bool
         && are_no_others(view, first.shares.as_slice(), second.shares.as_slice())
 }
 
+/// Whether forms that are alike are two different constants.
+fn are_constants(first: &Form, second: &Form) -> bool
+    ensures { result ≡ spec.are_constants (form_of first.now) (form_of second.now) }
+{
+    first.coefficient == 0 && second.coefficient == 0 && first.constant != second.constant
+}
+
 /// Whether the forms are two different constants, but for scalars that they take alike.
 pub fn by_constant(view: &LoopView<'_, '_>, first: &Form, second: &Form) -> bool
     ensures { result ≡ spec.by_constant (seen view.now) (form_of first.now) (form_of second.now) }
 {
-    are_alike(view, first, second)
-        && first.coefficient == 0
-        && second.coefficient == 0
-        && first.constant != second.constant
+    are_alike(view, first, second) && are_constants(first, second)
 }
 
 /// Whether a number other than 0 doesn't divide another.
@@ -214,15 +218,18 @@ fn by_found(dimension: usize, trips: Option<u128>, found: Found) -> Relation
     }
 }
 
-/// What the tests give for a dimension.
+/// What the tests give for a dimension. Whether the forms are alike is found once.
 pub fn tested(view: &LoopView<'_, '_>, dimension: usize, first: &Form, second: &Form) -> Relation
     ensures { result ≡ spec.tested (seen view.now) dimension (form_of first.now) (form_of second.now) }
 {
-    if by_constant(view, first, second) {
+    let alike = are_alike(view, first, second);
+    if alike && are_constants(first, second) {
         Relation::Apart(dimension, Reason::Constant)
     } else if by_divisor(view, first, second) {
         Relation::Apart(dimension, Reason::Divisor)
+    } else if alike && first.coefficient == second.coefficient {
+        by_found(dimension, view.trips(), at_step(view.step(), first, second))
     } else {
-        by_found(dimension, view.trips(), by_distance(view, first, second))
+        Relation::Any
     }
 }
