@@ -1,1 +1,4 @@
 pub mod Accesses
+pub mod Checking
+pub mod Finding
+pub mod Standing
