@@ -1,4 +1,6 @@
 pub mod Accesses
 pub mod Checking
 pub mod Finding
+pub mod Meaning
+pub mod Running
 pub mod Standing
