@@ -1,5 +1,6 @@
 pub mod Accesses
 pub mod Checking
+pub mod Computing
 pub mod Finding
 pub mod Meaning
 pub mod Running

@@ -14,7 +14,7 @@ use Rattle.ast.specs.declared.expression.Intrinsic.TheVariants.{Abs, Iabs, Max, 
 use Rattle.ast.specs.declared.fault.Fault.{Fault}
 use Rattle.ast.specs.declared.fault.Fault.TheVariants.{Index as BadIndex}
 use Rattle.machine.specs.Code.{Cell}
-use Rattle.expr_code.specs.Places.{Places, Home, loop_index, private_scalar, in_store, dimensions_at, home}
+use Rattle.expr_code.specs.Places.{Places, Home, loop_index, private_scalar, in_store, dimensions_at, home, home_of}
 use Rattle.expr_code.specs.Process.{Steps, answered_into, at_place, checked_into, chosen_into, count, fewer, further_into, just, locals_into, place_into, reached_into, scalar_into, term_into, terms_into}
 
 -- What a process comes to: X, by the value that the expression has, or by its fault.
@@ -29,9 +29,9 @@ on_all bad (Err e) k = bad e
 
 -- The steps' meanings, on a store.
 pub record Means (A : Type 0) (S : Steps A) (p : Places) (store : StoreOf) (X : Type 0) (meant : A → X) (bad : Fault → X) : Type 0 where
-  pub loads : (r : Ref) (n : ℕ) (κ : ℤ → A) → home p (dimensions_at p.symbols r.cell) r.name ≡ in_store → meant (S.load r (record { name = r.name; place = n }) κ) ≡ meant (κ (store r.name n))
-  pub owns : (r : Ref) (x : ℕ) (κ : ℤ → A) → home p (dimensions_at p.symbols r.cell) r.name ≡ private_scalar x → meant (S.own r x κ) ≡ meant (κ (store r.name 0))
-  pub indexes : (r : Ref) (κ : ℤ → A) → home p (dimensions_at p.symbols r.cell) r.name ≡ loop_index → meant (S.index r κ) ≡ meant (κ (store r.name 0))
+  pub loads : (r : Ref) (n : ℕ) (κ : ℤ → A) → home_of p r.name ≡ in_store → meant (S.load r (record { name = r.name; place = n }) κ) ≡ meant (κ (store r.name n))
+  pub owns : (r : Ref) (x : ℕ) (κ : ℤ → A) → home_of p r.name ≡ private_scalar x → meant (S.own r x κ) ≡ meant (κ (store r.name 0))
+  pub indexes : (r : Ref) (κ : ℤ → A) → home_of p r.name ≡ loop_index → meant (S.index r κ) ≡ meant (κ (store r.name 0))
   pub goes : (a : A) → meant (S.local a) ≡ meant a
   pub faults : (e : Fault) → meant (S.fails e) ≡ bad e
 
@@ -120,6 +120,21 @@ iabs_none (x ∷ y ∷ xs) h = refl
 absolute_front : (g : Intrinsic) (m : ℕ) → ((xs : List ℤ) → (length xs == 1) ≡ false → intrinsic_value g [] ≡ intrinsic_value g xs) → (xs : List ℤ) → length xs ≡ m → intrinsic_value g (front (just 1 m) xs) ≡ intrinsic_value g xs
 absolute_front g m other xs len = by_front g 1 m xs len (λ h. other xs (ap (λ (k : ℕ). k == 1) len ∙ h))
 
+module _ (p : Places) where
+  -- each reference's dimensions are found by its name
+  abbrev mutual
+    pub Named : Term → Type 0
+    Named (element r es) = (dimensions_in p.symbols r.name ≡ dimensions_at p.symbols r.cell) × AllNamed es
+    Named (call g es) = AllNamed es
+    Named (parentheses e) = Named e
+    Named (unary o e) = Named e
+    Named (binary o a b) = Named a × Named b
+    Named _ = Unit {0}
+
+    pub AllNamed : Terms → Type 0
+    AllNamed no_terms = Unit {0}
+    AllNamed (then_term e es) = Named e × AllNamed es
+
 module _ (A : Type 0) (S : Steps A) (p : Places) (store : StoreOf) (X : Type 0) (meant : A → X) (bad : Fault → X) (M : Means A S p store X meant bad) where
   abbrev look : LookUp
   look = looked_up p.symbols store
@@ -159,31 +174,17 @@ module _ (A : Type 0) (S : Steps A) (p : Places) (store : StoreOf) (X : Type 0) 
       checked_meant (d ∷ ds) (x ∷ xs) (locals_into A S (length ds) (at_place A S (place_of (d ∷ ds) (x ∷ xs)) κ)) (λ n. meant (κ n)) (λ n e.
       locals_meant (length ds) (at_place A S (place_of (d ∷ ds) (x ∷ xs)) κ) ∙ ap (λ (z : Result ℕ Fault). meant (at_place A S z κ)) e)
 
-  scalar_meant : (r : Ref) (h : Home) (κ : ℤ → A) → home p (dimensions_at p.symbols r.cell) r.name ≡ h → meant (scalar_into A S h r κ) ≡ meant (κ (store r.name 0))
+  scalar_meant : (r : Ref) (h : Home) (κ : ℤ → A) → home_of p r.name ≡ h → meant (scalar_into A S h r κ) ≡ meant (κ (store r.name 0))
   scalar_meant r loop_index κ e = M.indexes r κ e
   scalar_meant r (private_scalar x) κ e = M.owns r x κ e
   scalar_meant r in_store κ e = M.loads r 0 κ e
 
-  reached_meant : (r : Ref) (ds : List Extent) (xs : List ℤ) (κ : ℤ → A) → ds ≡ dimensions_at p.symbols r.cell → meant (reached_into A S p r ds xs κ) ≡ on bad (place_of ds xs >>= λ n. Ok (store r.name n)) (λ v. meant (κ v))
+  reached_meant : (r : Ref) (ds : List Extent) (xs : List ℤ) (κ : ℤ → A) → ds ≡ dimensions_in p.symbols r.name → meant (reached_into A S p r ds xs κ) ≡ on bad (place_of ds xs >>= λ n. Ok (store r.name n)) (λ v. meant (κ v))
   reached_meant r [] xs κ e = scalar_meant r (home p [] r.name) κ (ap (λ (ds : List Extent). home p ds r.name) (sym e))
   reached_meant r (d ∷ ds) xs κ e =
       place_meant d ds xs (λ n. S.load r (record { name = r.name; place = n }) κ)
       ∙ under_all bad (place_of (d ∷ ds) xs) (λ n. meant (S.load r (record { name = r.name; place = n }) κ)) (λ n. meant (κ (store r.name n))) (λ n. M.loads r n κ (ap (λ (fs : List Extent). home p fs r.name) (sym e)))
       ∙ placed bad (place_of (d ∷ ds) xs) (store r.name) (λ v. meant (κ v))
-
-  -- each reference's dimensions are found by its name
-  abbrev mutual
-    pub Named : Term → Type 0
-    Named (element r es) = (dimensions_in p.symbols r.name ≡ dimensions_at p.symbols r.cell) × AllNamed es
-    Named (call g es) = AllNamed es
-    Named (parentheses e) = Named e
-    Named (unary o e) = Named e
-    Named (binary o a b) = Named a × Named b
-    Named _ = Unit {0}
-
-    pub AllNamed : Terms → Type 0
-    AllNamed no_terms = Unit {0}
-    AllNamed (then_term e es) = Named e × AllNamed es
 
   -- a function on all arguments, where there are just as many, or on none
   applied : (g : Intrinsic) (n : ℕ) (es : Terms) (κ : ℤ → A) → ((xs : List ℤ) → length xs ≡ count es → intrinsic_value g (front (just n (count es)) xs) ≡ intrinsic_value g xs)
@@ -196,7 +197,7 @@ module _ (A : Type 0) (S : Steps A) (p : Places) (store : StoreOf) (X : Type 0) 
       by (Err e) len = refl
 
   mutual
-    pub term_meant : (e : Term) (κ : ℤ → A) → Named e → meant (term_into A S p e κ) ≡ on bad (value look e) (λ v. meant (κ v))
+    pub term_meant : (e : Term) (κ : ℤ → A) → Named p e → meant (term_into A S p e κ) ≡ on bad (value look e) (λ v. meant (κ v))
     term_meant (constant n) κ w = M.goes (κ n)
     term_meant (truth b) κ w = M.goes (κ (truth_value b))
     term_meant (parameter x n) κ w = M.goes (κ n)
@@ -204,7 +205,7 @@ module _ (A : Type 0) (S : Steps A) (p : Places) (store : StoreOf) (X : Type 0) 
         let ds = dimensions_at p.symbols r.cell in
         terms_meant es (length ds) (λ xs. reached_into A S p r ds xs κ) w.1
         ∙ under_all bad (values look es) (λ xs. meant (reached_into A S p r ds (front (length ds) xs) κ)) (λ xs. on bad (look r xs) (λ v. meant (κ v))) (λ xs.
-        reached_meant r ds (front (length ds) xs) κ refl
+        reached_meant r ds (front (length ds) xs) κ (sym w.0)
         ∙ ap (λ (z : Result ℕ Fault). on bad (z >>= λ n. Ok (store r.name n)) (λ v. meant (κ v))) (place_front ds xs ∙ ap (λ (fs : List Extent). place_of fs xs) (sym w.0)))
         ∙ bound_all bad (values look es) (λ xs. look r xs) (λ v. meant (κ v))
     term_meant (call Mod es) κ w = applied Mod 2 es κ (modulo_front (count es)) (terms_meant es (just 2 (count es)) (λ xs. answered_into A S (intrinsic_value Mod xs) κ) w)
@@ -227,7 +228,7 @@ module _ (A : Type 0) (S : Steps A) (p : Places) (store : StoreOf) (X : Type 0) 
         ∙ bound bad (value look b) (λ v. value_of o u v) (λ x. meant (κ x)))
         ∙ bound bad (value look a) (λ u. value look b >>= λ v. value_of o u v) (λ v. meant (κ v))
 
-    pub terms_meant : (es : Terms) (n : ℕ) (κ : List ℤ → A) → AllNamed es → meant (terms_into A S p es n κ) ≡ on_all bad (values look es) (λ xs. meant (κ (front n xs)))
+    pub terms_meant : (es : Terms) (n : ℕ) (κ : List ℤ → A) → AllNamed p es → meant (terms_into A S p es n κ) ≡ on_all bad (values look es) (λ xs. meant (κ (front n xs)))
     terms_meant no_terms n κ w = refl
     terms_meant (then_term e es) zero κ w =
         term_meant e (λ x. S.local (terms_into A S p es zero κ)) w.0
@@ -241,7 +242,7 @@ module _ (A : Type 0) (S : Steps A) (p : Places) (store : StoreOf) (X : Type 0) 
         ∙ under bad (value look e) (λ x. meant (terms_into A S p es n (λ xs. κ (x ∷ xs)))) (λ x. on_all bad (values look es) (λ xs. meant (κ (front (suc n) (x ∷ xs))))) (λ x. terms_meant es n (λ xs. κ (x ∷ xs)) w.1)
         ∙ sym (first_on bad (value look e) (values look es) (λ xs. meant (κ (front (suc n) xs))))
 
-    pub chosen_meant : (es : Terms) (choice : ℤ → ℤ → ℤ) (κ : ℤ → A) (g : Intrinsic) → AllNamed es → (most : ℤ → List ℤ → ℤ) → intrinsic_value g [] ≡ Ok (pos 0) → ((best : ℤ) (xs : List ℤ) → intrinsic_value g (best ∷ xs) ≡ Ok (most best xs))
+    pub chosen_meant : (es : Terms) (choice : ℤ → ℤ → ℤ) (κ : ℤ → A) (g : Intrinsic) → AllNamed p es → (most : ℤ → List ℤ → ℤ) → intrinsic_value g [] ≡ Ok (pos 0) → ((best : ℤ) (xs : List ℤ) → intrinsic_value g (best ∷ xs) ≡ Ok (most best xs))
         → ((best : ℤ) → most best [] ≡ best) → ((best x : ℤ) (xs : List ℤ) → most best (x ∷ xs) ≡ most (choice best x) xs)
         → meant (chosen_into A S p es choice κ) ≡ on bad (values look es >>= λ xs. intrinsic_value g xs) (λ v. meant (κ v))
     chosen_meant no_terms choice κ g w most none some ends further = M.goes (κ (pos 0)) ∙ ap (λ (r : Result ℤ Fault). on bad r (λ v. meant (κ v))) (sym none)
@@ -253,7 +254,7 @@ module _ (A : Type 0) (S : Steps A) (p : Places) (store : StoreOf) (X : Type 0) 
         ∙ sym (first_on bad (value look e) (values look es) (λ xs. on bad (intrinsic_value g xs) (λ v. meant (κ v))))
         ∙ bound_all bad (values look (then_term e es)) (λ xs. intrinsic_value g xs) (λ v. meant (κ v))
 
-    pub further_meant : (es : Terms) (choice : ℤ → ℤ → ℤ) (best : ℤ) (κ : ℤ → A) → AllNamed es → (most : ℤ → List ℤ → ℤ) → ((best : ℤ) → most best [] ≡ best) → ((best x : ℤ) (xs : List ℤ) → most best (x ∷ xs) ≡ most (choice best x) xs)
+    pub further_meant : (es : Terms) (choice : ℤ → ℤ → ℤ) (best : ℤ) (κ : ℤ → A) → AllNamed p es → (most : ℤ → List ℤ → ℤ) → ((best : ℤ) → most best [] ≡ best) → ((best x : ℤ) (xs : List ℤ) → most best (x ∷ xs) ≡ most (choice best x) xs)
         → meant (further_into A S p es choice best κ) ≡ on_all bad (values look es) (λ xs. meant (κ (most best xs)))
     further_meant no_terms choice best κ w most ends further = ap (λ (v : ℤ). meant (κ v)) (sym (ends best))
     further_meant (then_term e es) choice best κ w most ends further =

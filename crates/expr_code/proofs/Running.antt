@@ -77,6 +77,21 @@ fewer_first zero n = omega arith
 fewer_first (suc m) zero = omega arith
 fewer_first (suc m) (suc n) = let k = fewer_first m n in omega (arith, k)
 
+module _ (code : Code) (p : Places) where
+  -- each reference reaches its cells, and its subscripts can be numbered
+  abbrev mutual
+    pub Reaches : Term → Type 0
+    Reaches (element r es) = Reach code.variables r (dimensions_at p.symbols r.cell) × (count es ≤ 2 ^ 32) × AllReach es
+    Reaches (call g es) = AllReach es
+    Reaches (parentheses e) = Reaches e
+    Reaches (unary o e) = Reaches e
+    Reaches (binary o a b) = Reaches a × Reaches b
+    Reaches _ = Unit {0}
+
+    pub AllReach : Terms → Type 0
+    AllReach no_terms = Unit {0}
+    AllReach (then_term e es) = Reaches e × AllReach es
+
 module _ (A : Type 0) (S : Steps A) (code : Code) (f : Frame) (line limit : ℕ) (St : A → Frame → Type 0) (R : Rules A S code f line limit St) where
   abbrev frame : ℕ → List ℤ → Frame
   frame pc st = at code f pc st
@@ -259,20 +274,6 @@ module _ (A : Type 0) (S : Steps A) (code : Code) (f : Frame) (line limit : ℕ)
             ∙ ap (λ (c : Option Cell). loading_if c 1 (frame (pc + length (place_code p.line d ds (length xs))) (pos n ∷ st))) (cell_law code.variables r (d ∷ ds) n w below))
             (λ v. subst (λ (k : ℕ). St (κ v) (frame k (v ∷ st))) (sym len) (next v)))
 
-    -- each reference reaches its cells, and its subscripts can be numbered
-    abbrev mutual
-      pub Reaches : Term → Type 0
-      Reaches (element r es) = Reach code.variables r (dimensions_at p.symbols r.cell) × (count es ≤ 2 ^ 32) × AllReach es
-      Reaches (call g es) = AllReach es
-      Reaches (parentheses e) = Reaches e
-      Reaches (unary o e) = Reaches e
-      Reaches (binary o a b) = Reaches a × Reaches b
-      Reaches _ = Unit {0}
-
-      pub AllReach : Terms → Type 0
-      AllReach no_terms = Unit {0}
-      AllReach (then_term e es) = Reaches e × AllReach es
-
     -- an instruction on two operands that makes one of them
     abbrev Chooses : Act → (ℤ → ℤ → ℤ) → Type 0
     Chooses act choice = (pc : ℕ) (a b : ℤ) (st : List ℤ) → slice_get code.instructions pc ≡ Some (instr line act) → view code (frame pc (b ∷ a ∷ st)) ≡ doing (frame (pc + 1) (choice a b ∷ st))
@@ -360,7 +361,7 @@ module _ (A : Type 0) (S : Steps A) (code : Code) (f : Frame) (line limit : ℕ)
     less_room n m h = omega (arith, h)
 
     mutual
-      pub term_runs : (e : Term) (κ : ℤ → A) (pc : ℕ) (st : List ℤ) → Reaches e → Has pc (term_code p e) → length st + operands e ≤ f.operands.room → ((v : ℤ) → St (κ v) (frame (pc + length (term_code p e)) (v ∷ st))) → St (term_into A S p e κ) (frame pc st)
+      pub term_runs : (e : Term) (κ : ℤ → A) (pc : ℕ) (st : List ℤ) → Reaches code p e → Has pc (term_code p e) → length st + operands e ≤ f.operands.room → ((v : ℤ) → St (κ v) (frame (pc + length (term_code p e)) (v ∷ st))) → St (term_into A S p e κ) (frame pc st)
       term_runs (constant n) κ pc st w has room next = constant_runs n κ pc st has room next
       term_runs (truth b) κ pc st w has room next = constant_runs (truth_value b) κ pc st has room next
       term_runs (parameter x n) κ pc st w has room next = constant_runs n κ pc st has room next
@@ -421,7 +422,7 @@ module _ (A : Type 0) (S : Steps A) (code : Code) (f : Frame) (line limit : ℕ)
           term_runs b (λ v. answered_into A S (value_of o u v) κ) n (u ∷ st) w.1 (has_front code.instructions limit n (term_code p b) last rest) (next_room (length st) (operands b) (right_room (length st) (operands a) (operands b + 1) room)) (λ v.
           binary_answers o u v κ (n + length (term_code p b)) st back.1 (on_line (n + length (term_code p b)) (Binary o) back.0) (λ x. subst (λ (k : ℕ). St (κ x) (frame k (x ∷ st))) len (next x))))
 
-      pub terms_run : (es : Terms) (n : ℕ) (κ : List ℤ → A) (pc : ℕ) (st : List ℤ) → AllReach es → Has pc (terms_code p es n) → length st + operands_kept es ≤ f.operands.room
+      pub terms_run : (es : Terms) (n : ℕ) (κ : List ℤ → A) (pc : ℕ) (st : List ℤ) → AllReach code p es → Has pc (terms_code p es n) → length st + operands_kept es ≤ f.operands.room
           → ((xs : List ℤ) → length xs ≡ fewer (count es) n → St (κ xs) (frame (pc + length (terms_code p es n)) (onto xs st))) → St (terms_into A S p es n κ) (frame pc st)
       terms_run no_terms n κ pc st w has room next = moved (κ []) (pc + 0) pc st (omega arith) (next [] refl)
       terms_run (then_term e es) zero κ pc st w has room next =
@@ -440,7 +441,7 @@ module _ (A : Type 0) (S : Steps A) (code : Code) (f : Frame) (line limit : ℕ)
           terms_run es m (λ xs. κ (x ∷ xs)) n (x ∷ st) w.1 rest (next_room (length st) (operands_kept es) (right_room (length st) (operands e) (operands_kept es + 1) room)) (λ xs many.
           subst (λ (k : ℕ). St (κ (x ∷ xs)) (frame k (onto xs (x ∷ st)))) len (next (x ∷ xs) (ap suc many))))
 
-      pub chosen_runs : (es : Terms) (act : Act) (choice : ℤ → ℤ → ℤ) (κ : ℤ → A) (pc : ℕ) (st : List ℤ) → Chooses act choice → AllReach es → Has pc (chosen_code p es act) → length st + operands_chosen es ≤ f.operands.room
+      pub chosen_runs : (es : Terms) (act : Act) (choice : ℤ → ℤ → ℤ) (κ : ℤ → A) (pc : ℕ) (st : List ℤ) → Chooses act choice → AllReach code p es → Has pc (chosen_code p es act) → length st + operands_chosen es ≤ f.operands.room
           → ((v : ℤ) → St (κ v) (frame (pc + length (chosen_code p es act)) (v ∷ st))) → St (chosen_into A S p es choice κ) (frame pc st)
       chosen_runs no_terms act choice κ pc st sees w has room next = constant_runs (pos 0) κ pc st has room next
       chosen_runs (then_term e es) act choice κ pc st sees w has room next =
@@ -450,7 +451,7 @@ module _ (A : Type 0) (S : Steps A) (code : Code) (f : Frame) (line limit : ℕ)
           term_runs e (λ x. further_into A S p es choice x κ) pc st w.0 (has_front code.instructions limit pc (term_code p e) (further_code p es act) has) (left_room (length st) (operands e) (operands_further es) room) (λ x.
           further_run es act choice x κ n st sees w.1 rest (right_room (length st) (operands e) (operands_further es) room) (λ v. subst (λ (k : ℕ). St (κ v) (frame k (v ∷ st))) len (next v)))
 
-      pub further_run : (es : Terms) (act : Act) (choice : ℤ → ℤ → ℤ) (best : ℤ) (κ : ℤ → A) (pc : ℕ) (st : List ℤ) → Chooses act choice → AllReach es → Has pc (further_code p es act) → length st + operands_further es ≤ f.operands.room
+      pub further_run : (es : Terms) (act : Act) (choice : ℤ → ℤ → ℤ) (best : ℤ) (κ : ℤ → A) (pc : ℕ) (st : List ℤ) → Chooses act choice → AllReach code p es → Has pc (further_code p es act) → length st + operands_further es ≤ f.operands.room
           → ((v : ℤ) → St (κ v) (frame (pc + length (further_code p es act)) (v ∷ st))) → St (further_into A S p es choice best κ) (frame pc (best ∷ st))
       further_run no_terms act choice best κ pc st sees w has room next = moved (κ best) (pc + 0) pc (best ∷ st) (omega arith) (next best)
       further_run (then_term e es) act choice best κ pc st sees w has room next =

@@ -1,0 +1,193 @@
+-- Run alone, the code of an expression leaves its value, or its fault.
+use Rattle.std.proofs.Common.{◌≡◌, ◌∙◌, ◌<◌, ◌≤◌, ◌+◌, ◌^◌, ℕ, zero, suc, ℤ, pos, Bool, true, false, List, [], ◌∷◌, ◌++◌, get_or, Option, Some, None, Result, Ok, Err, length, refl, sym, ap, subst, arith}
+use Rattle.std.specs.Prelude.{◌&&◌, max, slice_get}
+use Rattle.std.specs.List.{IsDistinct, list_all}
+use Rattle.std.proofs.Math.Nat.{le-max_left, le-max_right}
+use Rattle.std.proofs.lemmas.Bool.{and_parts}
+use Rattle.std.proofs.lemmas.Option.{get_or_from_slice_get}
+use Rattle.ast.specs.Meaning.{looked_up, value}
+use Rattle.ast.specs.Program.{is_placed}
+use Rattle.ast.specs.References.{term_references, terms_references}
+use Rattle.ast.specs.Store.{StoreOf, same_name}
+use Rattle.ast.specs.Symbols.{Extent, Symbol, dimensions_in, is_sized, names_of}
+use Rattle.ast.specs.Tree.{Ref, Term, constant, truth, parameter, element, call, parentheses, unary, binary, Terms, no_terms, then_term}
+use Rattle.ast.specs.declared.expression.Intrinsic.{Intrinsic}
+use Rattle.ast.specs.declared.expression.Intrinsic.TheVariants.{Abs, Iabs, Max, Max0, Min, Min0, Mod}
+use Rattle.ast.specs.declared.fault.Fault.{Fault}
+use Rattle.machine.specs.Code.{Code, Cell}
+use Rattle.machine.specs.Frame.{Frame, with_items}
+use Rattle.machine.specs.Local.{and_then, defined, faulted}
+use Rattle.machine.specs.View.{View, doing, loading, view}
+use Rattle.machine.specs.declared.code.Open.{Open}
+use Rattle.machine.specs.declared.code.Variable.{Variable}
+use Rattle.machine.specs.declared.instr.Instr.{Instr}
+use Rattle.expr_code.specs.Alone.{alone, taken_on}
+use Rattle.expr_code.specs.Computes.{Computes, Encodable, Fits, HasVariables, Leaves, operands, operands_kept, operands_chosen, operands_further, variables_in, variables_for}
+use Rattle.expr_code.specs.Emitted.{term_code}
+use Rattle.expr_code.specs.Places.{Places, Home, loop_index, private_scalar, in_store, dimensions_at, held_or, home, private_value, seen_from}
+use Rattle.expr_code.specs.Process.{Steps, count, term_into}
+use Rattle.expr_code.proofs.Finding.{dimensions_same, reach}
+use Rattle.expr_code.proofs.Meaning.{AllNamed, Means, Named, on, term_meant}
+use Rattle.expr_code.proofs.Running.{AllReach, Reaches, Rules, term_runs}
+use Rattle.expr_code.proofs.Standing.{HasAt, at, has_here}
+
+-- ---- what holds of each part of an expression
+
+both : (q : Ref → Bool) (xs ys : List Ref) → list_all q (xs ++ ys) ≡ true → (list_all q xs ≡ true) × (list_all q ys ≡ true)
+both q [] ys h = (refl, h)
+both q (x ∷ xs) ys h =
+    let k = and_parts (q x) (list_all q (xs ++ ys)) h in
+    let l = both q xs ys k.1 in
+    (rw (k.0, l.0) refl, l.1)
+
+counts_kept : (es : Terms) → count es ≤ operands_kept es
+counts_kept no_terms = omega arith
+counts_kept (then_term e es) = let k = counts_kept es in let l = le-max_right (operands e) (operands_kept es + 1) in omega (arith, k, l)
+
+module _ (p : Places) (distinct : IsDistinct same_name (names_of p.symbols)) (sized : list_all is_sized p.symbols ≡ true) where
+  abbrev all_placed : List Ref → Type 0
+  all_placed rs = list_all (λ r. is_placed p.symbols r) rs ≡ true
+
+  mutual
+    named : (e : Term) → all_placed (term_references e) → Named p e
+    named (element r es) h =
+        let k = both (λ r. is_placed p.symbols r) (terms_references es) (r ∷ []) h in
+        (dimensions_same p.symbols r distinct (and_parts (is_placed p.symbols r) true k.1).0, all_named es k.0)
+    named (call g es) h = all_named es h
+    named (parentheses e) h = named e h
+    named (unary o e) h = named e h
+    named (binary o a b) h = let k = both (λ r. is_placed p.symbols r) (term_references a) (term_references b) h in (named a k.0, named b k.1)
+    named (constant n) h = tt
+    named (truth b) h = tt
+    named (parameter x n) h = tt
+
+    all_named : (es : Terms) → all_placed (terms_references es) → AllNamed p es
+    all_named no_terms h = tt
+    all_named (then_term e es) h = let k = both (λ r. is_placed p.symbols r) (term_references e) (terms_references es) h in (named e k.0, all_named es k.1)
+
+  module _ (code : Code) (variables : HasVariables code p.symbols) (few : length p.symbols ≤ 2 ^ 32) where
+    left_few : (a b : ℕ) → max a b ≤ 2 ^ 32 → a ≤ 2 ^ 32
+    left_few a b h = let k = le-max_left a b in omega (arith, h, k)
+
+    right_few : (a b : ℕ) → max a b ≤ 2 ^ 32 → b ≤ 2 ^ 32
+    right_few a b h = let k = le-max_right a b in omega (arith, h, k)
+
+    next_few : (n : ℕ) → n + 1 ≤ 2 ^ 32 → n ≤ 2 ^ 32
+    next_few n h = omega (arith, h)
+
+    mutual
+      reaches : (e : Term) → all_placed (term_references e) → operands e ≤ 2 ^ 32 → Reaches code p e
+      reaches (element r es) h s =
+          let k = both (λ r. is_placed p.symbols r) (terms_references es) (r ∷ []) h in
+          let kept = right_few 1 (operands_kept es) s in
+          (reach code.variables p.symbols r variables sized few (and_parts (is_placed p.symbols r) true k.1).0, omega (arith, kept, counts_kept es), all_reach es k.0 kept)
+      reaches (call Mod es) h s = all_reach es h (right_few 1 (operands_kept es) s)
+      reaches (call Abs es) h s = all_reach es h (right_few 1 (operands_kept es) s)
+      reaches (call Iabs es) h s = all_reach es h (right_few 1 (operands_kept es) s)
+      reaches (call Max es) h s = chosen_reach es h s
+      reaches (call Max0 es) h s = chosen_reach es h s
+      reaches (call Min es) h s = chosen_reach es h s
+      reaches (call Min0 es) h s = chosen_reach es h s
+      reaches (parentheses e) h s = reaches e h s
+      reaches (unary o e) h s = reaches e h s
+      reaches (binary o a b) h s =
+          let k = both (λ r. is_placed p.symbols r) (term_references a) (term_references b) h in
+          (reaches a k.0 (left_few (operands a) (operands b + 1) s), reaches b k.1 (next_few (operands b) (right_few (operands a) (operands b + 1) s)))
+      reaches (constant n) h s = tt
+      reaches (truth b) h s = tt
+      reaches (parameter x n) h s = tt
+
+      all_reach : (es : Terms) → all_placed (terms_references es) → operands_kept es ≤ 2 ^ 32 → AllReach code p es
+      all_reach no_terms h s = tt
+      all_reach (then_term e es) h s =
+          let k = both (λ r. is_placed p.symbols r) (term_references e) (terms_references es) h in
+          (reaches e k.0 (left_few (operands e) (operands_kept es + 1) s), all_reach es k.1 (next_few (operands_kept es) (right_few (operands e) (operands_kept es + 1) s)))
+
+      chosen_reach : (es : Terms) → all_placed (terms_references es) → operands_chosen es ≤ 2 ^ 32 → AllReach code p es
+      chosen_reach no_terms h s = tt
+      chosen_reach (then_term e es) h s =
+          let k = both (λ r. is_placed p.symbols r) (term_references e) (terms_references es) h in
+          (reaches e k.0 (left_few (operands e) (operands_further es) s), further_reach es k.1 (right_few (operands e) (operands_further es) s))
+
+      further_reach : (es : Terms) → all_placed (terms_references es) → operands_further es ≤ 2 ^ 32 → AllReach code p es
+      further_reach no_terms h s = tt
+      further_reach (then_term e es) h s =
+          let k = both (λ r. is_placed p.symbols r) (term_references e) (terms_references es) h in
+          (reaches e k.0 (next_few (operands e) (left_few (operands e + 1) (operands_further es) s)), further_reach es k.1 (right_few (operands e + 1) (operands_further es) s))
+
+-- ---- steps alone on a store
+
+module _ (p : Places) (code : Code) (f : Frame) (store : StoreOf) (end : ℕ) (st : List ℤ) where
+  -- what a process comes to on the store
+  abbrev steps : Steps (Result ℤ Fault)
+  steps = record {
+    load = λ r c κ. κ (store c.name c.place);
+    own = λ r x κ. κ (private_value f x);
+    index = λ r κ. κ f.index;
+    local = λ a. a;
+    fails = λ e. Err e;
+  }
+
+  -- the frame comes there alone, at most to the end of the code
+  abbrev Comes : Result ℤ Fault → Frame → Type 0
+  Comes (Ok v) g = (n : ℕ) × (g.place + n ≡ end) × (alone code store n g ≡ Some (at code f end (v ∷ st)))
+  Comes (Err e) g = (n : ℕ) × (h : Frame) × (g.place + n ≤ end) × (alone code store n g ≡ Some h) × (h.fault ≡ Some (e, p.line))
+
+  later : (a : Result ℤ Fault) (g h : Frame) → taken_on store (view code g) ≡ Some h → h.place ≡ g.place + 1 → Comes a h → Comes a g
+  later (Ok v) g h e next c = (suc c.0, omega (arith, next, c.1), ap (λ (o : Option Frame). and_then o (λ x. alone code store c.0 x)) e ∙ c.2)
+  later (Err k) g h e next c = (suc c.0, c.1, omega (arith, next, c.2), ap (λ (o : Option Frame). and_then o (λ x. alone code store c.0 x)) e ∙ c.3, c.4)
+
+  rules : Rules (Result ℤ Fault) steps code f p.line end Comes
+  rules = record {
+    loads = λ r c κ pc us vs e next. later (κ (store c.name c.place)) (at code f pc us) (at code f (pc + 1) (store c.name c.place ∷ vs)) (ap (taken_on store) e) refl (next (store c.name c.place));
+    owns = λ r x κ pc us o is e next.
+        later (κ (private_value f x)) (at code f pc us) (at code f (pc + 1) (private_value f x ∷ us))
+        (ap (taken_on store) e ∙ ap (λ (v : ℤ). Some (at code f (pc + 1) (v ∷ us))) (sym (ap defined (get_or_from_slice_get f.privates x o None is)))) refl (next (private_value f x));
+    indexes = λ r κ pc us e next. later (κ f.index) (at code f pc us) (at code f (pc + 1) (f.index ∷ us)) (ap (taken_on store) e) refl next;
+    goes = λ a pc us vs e next. later a (at code f pc us) (at code f (pc + 1) vs) (ap (taken_on store) e) refl next;
+    faults = λ e pc us near seen. (1, faulted e p.line (at code f pc us), omega (arith, near), ap (λ (o : Option Frame). and_then o (λ x. Some x)) (ap (taken_on store) seen), refl);
+  }
+
+  told : (r : Result ℤ Fault) → on (λ e. Err e) r (λ v. Ok v) ≡ r
+  told (Ok v) = refl
+  told (Err e) = refl
+
+  left : (a : Result ℤ Fault) (before n : ℕ) → before + n ≡ end → (g : Frame) → g ≡ at code f before st → g.place ≡ before → Comes a (at code f before st) → Leaves p.line code store g n a
+  left (Ok v) before n e g is there c =
+      let same : c.0 ≡ n = omega (arith, e, c.1) in
+      let far : end ≡ g.place + n = omega (arith, e, there) in
+      ap (λ (x : Frame). alone code store n x) is
+      ∙ ap (λ (k : ℕ). alone code store k (at code f before st)) (sym same)
+      ∙ c.2
+      ∙ ap (λ (k : ℕ). Some (at code f k (v ∷ st))) far
+      ∙ ap (λ (x : Frame). Some (record x { place = g.place + n; operands = with_items (v ∷ x.operands.items) x.operands })) (sym is)
+  left (Err k) before n e g is there c = (c.0, c.1, omega (arith, e, c.2), ap (λ (x : Frame). alone code store c.0 x) is ∙ c.3, c.4)
+
+-- ---- together
+
+sees : (p : Places) (code : Code) (f : Frame) (store : StoreOf) (end : ℕ) (st : List ℤ) → Means (Result ℤ Fault) (steps p code f store end st) p (seen_from p f store) (Result ℤ Fault) (λ a. a) (λ e. Err e)
+sees p code f store end st = record {
+  loads = λ r n κ h. ap κ (sym (ap (λ (k : Home). held_or k f (store r.name n)) h));
+  owns = λ r x κ h. ap κ (sym (ap (λ (k : Home). held_or k f (store r.name 0)) h));
+  indexes = λ r κ h. ap κ (sym (ap (λ (k : Home). held_or k f (store r.name 0)) h));
+  goes = λ a. refl;
+  faults = λ e. refl;
+}
+
+sound_frame : (code : Code) (f : Frame) (n : ℕ) → f.place ≡ n → f.fault ≡ None → f ≡ at code f n f.operands.items
+sound_frame code f n e s = ap (λ (k : ℕ). record f { place = k }) e ∙ ap (λ (o : Option (Fault × ℕ)). record f { place = n; fault = o }) s
+
+pub computes : (p : Places) (e : Term) → IsDistinct same_name (names_of p.symbols) → list_all is_sized p.symbols ≡ true → Computes p e (term_code p e)
+computes p e distinct sized can code before after f store variables stands there fits =
+    let st = f.operands.items in
+    let end = length before + length (term_code p e) in
+    let S = steps p code f store end st in
+    let has : HasAt code.instructions end (length before) (term_code p e) = subst (λ (is : List Instr). HasAt is end (length before) (term_code p e)) (sym stands) (has_here before (term_code p e) after end (omega arith)) in
+    let come : Comes p code f store end st (term_into (Result ℤ Fault) S p e (λ v. Ok v)) (at code f (length before) st) =
+        term_runs (Result ℤ Fault) S code f p.line end (Comes p code f store end st) (rules p code f store end st) p fits.privates can.few_privates refl e (λ v. Ok v) (length before) st
+        (reaches p distinct sized code variables can.few_symbols e can.placed can.few_operands) has fits.room (λ v. (0, omega arith, refl)) in
+    let means : term_into (Result ℤ Fault) S p e (λ v. Ok v) ≡ value (looked_up p.symbols (seen_from p f store)) e =
+        term_meant (Result ℤ Fault) S p (seen_from p f store) (Result ℤ Fault) (λ a. a) (λ k. Err k) (sees p code f store end st) e (λ v. Ok v) (named p distinct sized e can.placed)
+        ∙ told p code f store end st (value (looked_up p.symbols (seen_from p f store)) e) in
+    left p code f store end st (value (looked_up p.symbols (seen_from p f store)) e) (length before) (length (term_code p e)) refl f (sound_frame code f (length before) there fits.sound) there
+    (subst (λ (a : Result ℤ Fault). Comes p code f store end st a (at code f (length before) st)) means come)
