@@ -1,4 +1,5 @@
 pub mod Accesses
+pub mod Beginnings
 pub mod Checking
 pub mod Computing
 pub mod Finding
