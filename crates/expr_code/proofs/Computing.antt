@@ -22,7 +22,7 @@ use Rattle.machine.specs.declared.code.Open.{Open}
 use Rattle.machine.specs.declared.code.Variable.{Variable}
 use Rattle.machine.specs.declared.instr.Instr.{Instr}
 use Rattle.expr_code.specs.Alone.{alone, taken_on}
-use Rattle.expr_code.specs.Computes.{Computes, Encodable, Fits, HasVariables, Leaves, operands, operands_kept, operands_chosen, operands_further, variables_in, variables_for}
+use Rattle.expr_code.specs.Computes.{Appended, Computes, Encodable, Fits, HasVariables, Leaves, operands, operands_kept, operands_chosen, operands_further, variables_in, variables_for}
 use Rattle.expr_code.specs.Emitted.{term_code}
 use Rattle.expr_code.specs.Places.{Places, Home, loop_index, private_scalar, in_store, dimensions_at, held_or, home, private_value, seen_from}
 use Rattle.expr_code.specs.Process.{Steps, count, term_into}
@@ -191,3 +191,6 @@ computes p e distinct sized can code before after f store variables stands there
         ∙ told p code f store end st (value (looked_up p.symbols (seen_from p f store)) e) in
     left p code f store end st (value (looked_up p.symbols (seen_from p f store)) e) (length before) (length (term_code p e)) refl f (sound_frame code f (length before) there fits.sound) there
     (subst (λ (a : Result ℤ Fault). Comes p code f store end st a (at code f (length before) st)) means come)
+
+pub appended : (p : Places) (e : Term) (old new : List Instr) → IsDistinct same_name (names_of p.symbols) → list_all is_sized p.symbols ≡ true → new ≡ old ++ term_code p e → Appended p e old new
+appended p e old new distinct sized is = record { more = term_code p e; is = is; computes = computes p e distinct sized }

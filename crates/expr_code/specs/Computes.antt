@@ -80,3 +80,9 @@ Computes p e is =
     Encodable p e → (code : Code) (before after : List Instr) (f : Frame) (store : StoreOf)
     → HasVariables code p.symbols → code.instructions ≡ before ++ (is ++ after) → f.place ≡ length before → Fits p e f
     → Leaves p.line code store f (length is) (value (looked_up p.symbols (seen_from p f store)) e)
+
+-- Code that computes the expression was appended.
+pub record Appended (p : Places) (e : Term) (old new : List Instr) : Type 0 where
+  pub more : List Instr
+  pub is : new ≡ old ++ more
+  pub computes : Computes p e more
