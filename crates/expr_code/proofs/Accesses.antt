@@ -5,7 +5,7 @@ use Rattle.ast.specs.Tree.{Ref, Term, Terms, terms}
 use Rattle.ast.specs.View.{access as access_of, access_step, ref, term, term_step}
 use Rattle.ast.specs.declared.expression.Access.{Access, fold_out-Access}
 use Rattle.ast.specs.declared.expression.Expr.{Expr}
-use Rattle.expr_code.specs.Emitted.{element_code}
+use Rattle.expr_code.specs.Emitted.{element_code, target_code}
 use Rattle.expr_code.specs.Places.{Places}
 use Rattle.expr_code.specs.Process.{count, fewer}
 
@@ -20,6 +20,12 @@ element_code_law p a es h =
     ap (λ (xs : List Expr). element_code p (ref a.reference) (terms (map term xs))) h
     ∙ ap (λ (r : Ref). element_code p r (terms (map term a.subscripts.items))) (sym (reference_of a))
     ∙ ap (λ (ts : Terms). element_code p (access_of a).ref ts) (sym (subscripts_of a))
+
+pub target_code_law : (p : Places) (a : Access) (es : List Expr) → es ≡ a.subscripts.items → target_code p (ref a.reference) (terms (map term es)) ≡ target_code p (access_of a).ref (access_of a).subscripts
+target_code_law p a es h =
+    ap (λ (xs : List Expr). target_code p (ref a.reference) (terms (map term xs))) h
+    ∙ ap (λ (r : Ref). target_code p r (terms (map term a.subscripts.items))) (sym (reference_of a))
+    ∙ ap (λ (ts : Terms). target_code p (access_of a).ref ts) (sym (subscripts_of a))
 
 pub count_terms : (es : List Expr) → count (terms (map term es)) ≡ length es
 count_terms [] = refl

@@ -5,12 +5,12 @@ use Rattle.std.specs.List.{IsDistinct, list_all}
 use Rattle.std.proofs.Math.Nat.{le-max_left, le-max_right}
 use Rattle.std.proofs.lemmas.Bool.{and_parts}
 use Rattle.std.proofs.lemmas.Option.{get_or_from_slice_get}
-use Rattle.ast.specs.Meaning.{looked_up, value}
+use Rattle.ast.specs.Meaning.{looked_up, target, value}
 use Rattle.ast.specs.Program.{is_placed}
 use Rattle.ast.specs.References.{term_references, terms_references}
 use Rattle.ast.specs.Store.{StoreOf, same_name}
 use Rattle.ast.specs.Symbols.{Extent, Symbol, dimensions_in, is_sized, names_of}
-use Rattle.ast.specs.Tree.{Ref, Term, constant, truth, parameter, element, call, parentheses, unary, binary, Terms, no_terms, then_term}
+use Rattle.ast.specs.Tree.{Ref, Access, accessed, Term, constant, truth, parameter, element, call, parentheses, unary, binary, Terms, no_terms, then_term}
 use Rattle.ast.specs.declared.expression.Intrinsic.{Intrinsic}
 use Rattle.ast.specs.declared.expression.Intrinsic.TheVariants.{Abs, Iabs, Max, Max0, Min, Min0, Mod}
 use Rattle.ast.specs.declared.fault.Fault.{Fault}
@@ -22,13 +22,13 @@ use Rattle.machine.specs.declared.code.Open.{Open}
 use Rattle.machine.specs.declared.code.Variable.{Variable}
 use Rattle.machine.specs.declared.instr.Instr.{Instr}
 use Rattle.expr_code.specs.Alone.{alone, taken_on}
-use Rattle.expr_code.specs.Computes.{Appended, Computes, Encodable, Fits, HasVariables, Leaves, operands, operands_kept, operands_chosen, operands_further, variables_in, variables_for}
-use Rattle.expr_code.specs.Emitted.{term_code}
+use Rattle.expr_code.specs.Computes.{Appended, Computes, Encodable, Fits, HasVariables, Leaves, Locates, PlaceAppended, operands, operands_kept, operands_chosen, operands_further, with_place}
+use Rattle.expr_code.specs.Emitted.{target_code, term_code}
 use Rattle.expr_code.specs.Places.{Places, Home, loop_index, private_scalar, in_store, dimensions_at, held_or, home, private_value, seen_from}
-use Rattle.expr_code.specs.Process.{Steps, count, term_into}
+use Rattle.expr_code.specs.Process.{Steps, count, target_into, term_into}
 use Rattle.expr_code.proofs.Finding.{dimensions_same, reach}
-use Rattle.expr_code.proofs.Meaning.{AllNamed, Means, Named, on, term_meant}
-use Rattle.expr_code.proofs.Running.{AllReach, Reaches, Rules, term_runs}
+use Rattle.expr_code.proofs.Meaning.{AllNamed, Means, Named, on, on_all, target_meant, term_meant}
+use Rattle.expr_code.proofs.Running.{AllReach, Reaches, Rules, target_runs, term_runs}
 use Rattle.expr_code.proofs.Standing.{HasAt, at, has_here}
 
 -- ---- what holds of each part of an expression
@@ -117,9 +117,9 @@ module _ (p : Places) (distinct : IsDistinct same_name (names_of p.symbols)) (si
 
 -- ---- steps alone on a store
 
-module _ (p : Places) (code : Code) (f : Frame) (store : StoreOf) (end : ℕ) (st : List ℤ) where
+module _ (X : Type 0) (p : Places) (code : Code) (f : Frame) (store : StoreOf) (end : ℕ) (put : X → List ℤ) where
   -- what a process comes to on the store
-  abbrev steps : Steps (Result ℤ Fault)
+  abbrev steps : Steps (Result X Fault)
   steps = record {
     load = λ r c κ. κ (store c.name c.place);
     own = λ r x κ. κ (private_value f x);
@@ -129,15 +129,15 @@ module _ (p : Places) (code : Code) (f : Frame) (store : StoreOf) (end : ℕ) (s
   }
 
   -- the frame comes there alone, at most to the end of the code
-  abbrev Comes : Result ℤ Fault → Frame → Type 0
-  Comes (Ok v) g = (n : ℕ) × (g.place + n ≡ end) × (alone code store n g ≡ Some (at code f end (v ∷ st)))
+  abbrev Comes : Result X Fault → Frame → Type 0
+  Comes (Ok v) g = (n : ℕ) × (g.place + n ≡ end) × (alone code store n g ≡ Some (at code f end (put v)))
   Comes (Err e) g = (n : ℕ) × (h : Frame) × (g.place + n ≤ end) × (alone code store n g ≡ Some h) × (h.fault ≡ Some (e, p.line))
 
-  later : (a : Result ℤ Fault) (g h : Frame) → taken_on store (view code g) ≡ Some h → h.place ≡ g.place + 1 → Comes a h → Comes a g
+  later : (a : Result X Fault) (g h : Frame) → taken_on store (view code g) ≡ Some h → h.place ≡ g.place + 1 → Comes a h → Comes a g
   later (Ok v) g h e next c = (suc c.0, omega (arith, next, c.1), ap (λ (o : Option Frame). and_then o (λ x. alone code store c.0 x)) e ∙ c.2)
   later (Err k) g h e next c = (suc c.0, c.1, omega (arith, next, c.2), ap (λ (o : Option Frame). and_then o (λ x. alone code store c.0 x)) e ∙ c.3, c.4)
 
-  rules : Rules (Result ℤ Fault) steps code f p.line end Comes
+  rules : Rules (Result X Fault) steps code f p.line end Comes
   rules = record {
     loads = λ r c κ pc us vs e next. later (κ (store c.name c.place)) (at code f pc us) (at code f (pc + 1) (store c.name c.place ∷ vs)) (ap (taken_on store) e) refl (next (store c.name c.place));
     owns = λ r x κ pc us o is e next.
@@ -148,49 +148,79 @@ module _ (p : Places) (code : Code) (f : Frame) (store : StoreOf) (end : ℕ) (s
     faults = λ e pc us near seen. (1, faulted e p.line (at code f pc us), omega (arith, near), ap (λ (o : Option Frame). and_then o (λ x. Some x)) (ap (taken_on store) seen), refl);
   }
 
-  told : (r : Result ℤ Fault) → on (λ e. Err e) r (λ v. Ok v) ≡ r
-  told (Ok v) = refl
-  told (Err e) = refl
+  sees : Means (Result X Fault) steps p (seen_from p f store) (Result X Fault) (λ a. a) (λ e. Err e)
+  sees = record {
+    loads = λ r n κ h. ap κ (sym (ap (λ (k : Home). held_or k f (store r.name n)) h));
+    owns = λ r x κ h. ap κ (sym (ap (λ (k : Home). held_or k f (store r.name 0)) h));
+    indexes = λ r κ h. ap κ (sym (ap (λ (k : Home). held_or k f (store r.name 0)) h));
+    goes = λ a. refl;
+    faults = λ e. refl;
+  }
 
-  left : (a : Result ℤ Fault) (before n : ℕ) → before + n ≡ end → (g : Frame) → g ≡ at code f before st → g.place ≡ before → Comes a (at code f before st) → Leaves p.line code store g n a
-  left (Ok v) before n e g is there c =
-      let same : c.0 ≡ n = omega (arith, e, c.1) in
-      let far : end ≡ g.place + n = omega (arith, e, there) in
+  left : (a : Result X Fault) (lay : X → List ℤ → List ℤ) (before n : ℕ) → before + n ≡ end → ((v : X) → put v ≡ lay v f.operands.items) → f.place ≡ before → f.fault ≡ None → Comes a (at code f before f.operands.items) → Leaves lay p.line code store f n a
+  left (Ok v) lay before n e same there sound c =
+      let is = sound_frame before there sound in
+      let steps_same : c.0 ≡ n = omega (arith, e, c.1) in
+      let far : end ≡ f.place + n = omega (arith, e, there) in
       ap (λ (x : Frame). alone code store n x) is
-      ∙ ap (λ (k : ℕ). alone code store k (at code f before st)) (sym same)
+      ∙ ap (λ (k : ℕ). alone code store k (at code f before f.operands.items)) (sym steps_same)
       ∙ c.2
-      ∙ ap (λ (k : ℕ). Some (at code f k (v ∷ st))) far
-      ∙ ap (λ (x : Frame). Some (record x { place = g.place + n; operands = with_items (v ∷ x.operands.items) x.operands })) (sym is)
-  left (Err k) before n e g is there c = (c.0, c.1, omega (arith, e, c.2), ap (λ (x : Frame). alone code store c.0 x) is ∙ c.3, c.4)
+      ∙ ap (λ (us : List ℤ). Some (at code f end us)) (same v)
+      ∙ ap (λ (k : ℕ). Some (at code f k (lay v f.operands.items))) far
+      ∙ ap (λ (o : Option (Fault × ℕ)). Some (record f { place = f.place + n; operands = with_items (lay v f.operands.items) f.operands; fault = o })) (sym sound)
+    where
+      sound_frame : (k : ℕ) → f.place ≡ k → f.fault ≡ None → f ≡ at code f k f.operands.items
+      sound_frame k e s = ap (λ (j : ℕ). record f { place = j }) e ∙ ap (λ (o : Option (Fault × ℕ)). record f { place = k; fault = o }) s
+  left (Err k) lay before n e same there sound c =
+      let is = ap (λ (j : ℕ). record f { place = j }) there ∙ ap (λ (o : Option (Fault × ℕ)). record f { place = before; fault = o }) sound in
+      (c.0, c.1, omega (arith, e, c.2), ap (λ (x : Frame). alone code store c.0 x) is ∙ c.3, c.4)
 
 -- ---- together
 
-sees : (p : Places) (code : Code) (f : Frame) (store : StoreOf) (end : ℕ) (st : List ℤ) → Means (Result ℤ Fault) (steps p code f store end st) p (seen_from p f store) (Result ℤ Fault) (λ a. a) (λ e. Err e)
-sees p code f store end st = record {
-  loads = λ r n κ h. ap κ (sym (ap (λ (k : Home). held_or k f (store r.name n)) h));
-  owns = λ r x κ h. ap κ (sym (ap (λ (k : Home). held_or k f (store r.name 0)) h));
-  indexes = λ r κ h. ap κ (sym (ap (λ (k : Home). held_or k f (store r.name 0)) h));
-  goes = λ a. refl;
-  faults = λ e. refl;
-}
+told : {X : Type 0} (r : Result X Fault) → on_all (λ e. Err e) r (λ v. Ok v) ≡ r
+told (Ok v) = refl
+told (Err e) = refl
 
-sound_frame : (code : Code) (f : Frame) (n : ℕ) → f.place ≡ n → f.fault ≡ None → f ≡ at code f n f.operands.items
-sound_frame code f n e s = ap (λ (k : ℕ). record f { place = k }) e ∙ ap (λ (o : Option (Fault × ℕ)). record f { place = n; fault = o }) s
+told_value : (r : Result ℤ Fault) → on (λ e. Err e) r (λ v. Ok v) ≡ r
+told_value (Ok v) = refl
+told_value (Err e) = refl
 
 pub computes : (p : Places) (e : Term) → IsDistinct same_name (names_of p.symbols) → list_all is_sized p.symbols ≡ true → Computes p e (term_code p e)
 computes p e distinct sized can code before after f store variables stands there fits =
     let st = f.operands.items in
     let end = length before + length (term_code p e) in
-    let S = steps p code f store end st in
+    let S = steps ℤ p code f store end (λ v. v ∷ st) in
     let has : HasAt code.instructions end (length before) (term_code p e) = subst (λ (is : List Instr). HasAt is end (length before) (term_code p e)) (sym stands) (has_here before (term_code p e) after end (omega arith)) in
-    let come : Comes p code f store end st (term_into (Result ℤ Fault) S p e (λ v. Ok v)) (at code f (length before) st) =
-        term_runs (Result ℤ Fault) S code f p.line end (Comes p code f store end st) (rules p code f store end st) p fits.privates can.few_privates refl e (λ v. Ok v) (length before) st
+    let come : Comes ℤ p code f store end (λ v. v ∷ st) (term_into (Result ℤ Fault) S p e (λ v. Ok v)) (at code f (length before) st) =
+        term_runs (Result ℤ Fault) S code f p.line end (Comes ℤ p code f store end (λ v. v ∷ st)) (rules ℤ p code f store end (λ v. v ∷ st)) p fits.privates can.few_privates refl e (λ v. Ok v) (length before) st
         (reaches p distinct sized code variables can.few_symbols e can.placed can.few_operands) has fits.room (λ v. (0, omega arith, refl)) in
     let means : term_into (Result ℤ Fault) S p e (λ v. Ok v) ≡ value (looked_up p.symbols (seen_from p f store)) e =
-        term_meant (Result ℤ Fault) S p (seen_from p f store) (Result ℤ Fault) (λ a. a) (λ k. Err k) (sees p code f store end st) e (λ v. Ok v) (named p distinct sized e can.placed)
-        ∙ told p code f store end st (value (looked_up p.symbols (seen_from p f store)) e) in
-    left p code f store end st (value (looked_up p.symbols (seen_from p f store)) e) (length before) (length (term_code p e)) refl f (sound_frame code f (length before) there fits.sound) there
-    (subst (λ (a : Result ℤ Fault). Comes p code f store end st a (at code f (length before) st)) means come)
+        term_meant (Result ℤ Fault) S p (seen_from p f store) (Result ℤ Fault) (λ a. a) (λ k. Err k) (sees ℤ p code f store end (λ v. v ∷ st)) e (λ v. Ok v) (named p distinct sized e can.placed)
+        ∙ told_value (value (looked_up p.symbols (seen_from p f store)) e) in
+    left ℤ p code f store end (λ v. v ∷ st) (value (looked_up p.symbols (seen_from p f store)) e) (λ v xs. v ∷ xs) (length before) (length (term_code p e)) refl (λ v. refl) there fits.sound
+    (subst (λ (a : Result ℤ Fault). Comes ℤ p code f store end (λ v. v ∷ st) a (at code f (length before) st)) means come)
+
+pub locates : (p : Places) (a : Access) → IsDistinct same_name (names_of p.symbols) → list_all is_sized p.symbols ≡ true → Locates p a (target_code p a.ref a.subscripts)
+locates p a distinct sized can code before after f store variables stands there fits =
+    let st = f.operands.items in
+    let ds = dimensions_at p.symbols a.ref.cell in
+    let is = target_code p a.ref a.subscripts in
+    let end = length before + length is in
+    let put : ℕ → List ℤ = λ n. with_place ds n st in
+    let S = steps ℕ p code f store end put in
+    let has : HasAt code.instructions end (length before) is = subst (λ (js : List Instr). HasAt js end (length before) is) (sym stands) (has_here before is after end (omega arith)) in
+    let known = named p distinct sized (accessed a) can.placed in
+    let come : Comes ℕ p code f store end put (target_into (Result ℕ Fault) S p a.ref a.subscripts (λ n. Ok n)) (at code f (length before) st) =
+        target_runs (Result ℕ Fault) S code f p.line end (Comes ℕ p code f store end put) (rules ℕ p code f store end put) p fits.privates can.few_privates refl a.ref a.subscripts (λ n. Ok n) (length before) st
+        (reaches p distinct sized code variables can.few_symbols (accessed a) can.placed can.few_operands) has fits.room (λ n below. (0, omega arith, refl)) in
+    let means : target_into (Result ℕ Fault) S p a.ref a.subscripts (λ n. Ok n) ≡ target p.symbols (seen_from p f store) a =
+        target_meant (Result ℕ Fault) S p (seen_from p f store) (Result ℕ Fault) (λ k. k) (λ k. Err k) (sees ℕ p code f store end put) a.ref a.subscripts (λ n. Ok n) known
+        ∙ told (target p.symbols (seen_from p f store) a) in
+    left ℕ p code f store end put (target p.symbols (seen_from p f store) a) (with_place (dimensions_in p.symbols a.ref.name)) (length before) (length is) refl (λ n. ap (λ (fs : List Extent). with_place fs n st) (sym known.0)) there fits.sound
+    (subst (λ (r : Result ℕ Fault). Comes ℕ p code f store end put r (at code f (length before) st)) means come)
 
 pub appended : (p : Places) (e : Term) (old new : List Instr) → IsDistinct same_name (names_of p.symbols) → list_all is_sized p.symbols ≡ true → new ≡ old ++ term_code p e → Appended p e old new
 appended p e old new distinct sized is = record { more = term_code p e; is = is; computes = computes p e distinct sized }
+
+pub place_appended : (p : Places) (a : Access) (old new : List Instr) → IsDistinct same_name (names_of p.symbols) → list_all is_sized p.symbols ≡ true → new ≡ old ++ target_code p a.ref a.subscripts → PlaceAppended p a old new
+place_appended p a old new distinct sized is = record { more = target_code p a.ref a.subscripts; is = is; locates = locates p a distinct sized }

@@ -4,7 +4,7 @@ use Rattle.std.proofs.Common.{◌≡◌, ◌∙◌, ℕ, zero, suc, ◌+◌, ◌
 use Rattle.std.specs.Prelude.{◌==◌, ◌-ℤ◌, unsigned_abs, if◌then◌else◌}
 use Rattle.std.proofs.lemmas.Bool.{eqb-true}
 use Rattle.ast.specs.Exact.{greater, greatest, intrinsic_value, least, less, prefixed_value, truth_value, value_of}
-use Rattle.ast.specs.Meaning.{LookUp, looked_up, place_in, value, values}
+use Rattle.ast.specs.Meaning.{LookUp, looked_up, place_in, target, value, values}
 use Rattle.ast.specs.Results.{◌>>=◌}
 use Rattle.ast.specs.Store.{StoreOf}
 use Rattle.ast.specs.Symbols.{Extent, is_within, width, place_of, dimensions_in}
@@ -15,7 +15,7 @@ use Rattle.ast.specs.declared.fault.Fault.{Fault}
 use Rattle.ast.specs.declared.fault.Fault.TheVariants.{Index as BadIndex}
 use Rattle.machine.specs.Code.{Cell}
 use Rattle.expr_code.specs.Places.{Places, Home, loop_index, private_scalar, in_store, dimensions_at, home, home_of}
-use Rattle.expr_code.specs.Process.{Steps, answered_into, at_place, checked_into, chosen_into, count, fewer, further_into, just, locals_into, place_into, reached_into, scalar_into, term_into, terms_into}
+use Rattle.expr_code.specs.Process.{Steps, answered_into, at_place, checked_into, chosen_into, count, fewer, further_into, just, locals_into, located_into, place_into, reached_into, scalar_into, target_into, term_into, terms_into}
 
 -- What a process comes to: X, by the value that the expression has, or by its fault.
 abbrev pub on : {X : Type 0} → (Fault → X) → Result ℤ Fault → (ℤ → X) → X
@@ -23,7 +23,7 @@ on bad (Ok v) k = k v
 on bad (Err e) k = bad e
 
 -- the same of a list of values, and of a place
-abbrev on_all : {V X : Type 0} → (Fault → X) → Result V Fault → (V → X) → X
+abbrev pub on_all : {V X : Type 0} → (Fault → X) → Result V Fault → (V → X) → X
 on_all bad (Ok v) k = k v
 on_all bad (Err e) k = bad e
 
@@ -264,3 +264,19 @@ module _ (A : Type 0) (S : Steps A) (p : Places) (store : StoreOf) (X : Type 0) 
         ∙ further_meant es choice (choice best x) κ w.1 most ends further
         ∙ under_all bad (values look es) (λ xs. meant (κ (most (choice best x) xs))) (λ xs. meant (κ (most best (x ∷ xs)))) (λ xs. ap (λ (v : ℤ). meant (κ v)) (sym (further best x xs))))
         ∙ sym (first_on bad (value look e) (values look es) (λ xs. meant (κ (most best xs))))
+
+  located_meant : (ds : List Extent) (xs : List ℤ) (κ : ℕ → A) → meant (located_into A S ds xs κ) ≡ on_all bad (place_of ds xs) (λ n. meant (κ n))
+  located_meant [] xs κ = refl
+  located_meant (d ∷ ds) xs κ = place_meant d ds xs κ
+
+  pub target_meant : (r : Ref) (es : Terms) (κ : ℕ → A) → Named p (element r es) → meant (target_into A S p r es κ) ≡ on_all bad (target p.symbols store (record { ref = r; subscripts = es })) (λ n. meant (κ n))
+  target_meant r es κ w =
+      let ds = dimensions_at p.symbols r.cell in
+      terms_meant es (length ds) (λ xs. located_into A S ds xs κ) w.1
+      ∙ under_all bad (values look es) (λ xs. meant (located_into A S ds (front (length ds) xs) κ)) (λ xs. on_all bad (place_in p.symbols r.name xs) (λ n. meant (κ n))) (λ xs.
+      located_meant ds (front (length ds) xs) κ ∙ ap (λ (z : Result ℕ Fault). on_all bad z (λ n. meant (κ n))) (place_front ds xs ∙ ap (λ (fs : List Extent). place_of fs xs) (sym w.0)))
+      ∙ joined (values look es)
+    where
+      joined : (us : Result (List ℤ) Fault) → on_all bad us (λ xs. on_all bad (place_in p.symbols r.name xs) (λ n. meant (κ n))) ≡ on_all bad (us >>= λ xs. place_in p.symbols r.name xs) (λ n. meant (κ n))
+      joined (Ok xs) = refl
+      joined (Err e) = refl

@@ -23,10 +23,10 @@ use Rattle.machine.specs.declared.instr.Act.{Act}
 use Rattle.machine.specs.declared.instr.Act.TheVariants.{Constant, Private, Index, Binary, Modulo, Greatest, Least, Unary, Absolute, Check, SkipUnless, Load, LoadElement}
 use Rattle.machine.specs.declared.instr.Axis.{Axis}
 use Rattle.machine.specs.declared.instr.Instr.{Instr}
-use Rattle.expr_code.specs.Computes.{operands, operands_kept, operands_chosen, operands_further}
-use Rattle.expr_code.specs.Emitted.{axis, applied_act, applied_to, checks_code, chosen_code, dropping, further_code, instr, next_stride, nowhere, place_code, reached_code, scalar_act, short, sums_code, term_code, terms_code}
+use Rattle.expr_code.specs.Computes.{operands, operands_kept, operands_chosen, operands_further, with_place}
+use Rattle.expr_code.specs.Emitted.{axis, applied_act, applied_to, checks_code, chosen_code, dropping, further_code, instr, located_code, next_stride, nowhere, place_code, reached_code, scalar_act, short, sums_code, target_code, term_code, terms_code}
 use Rattle.expr_code.specs.Places.{Places, Home, loop_index, private_scalar, in_store, dimensions_at, home, is_loop_name, number_in, private_or_stored}
-use Rattle.expr_code.specs.Process.{Steps, answered_into, at_place, checked_into, chosen_into, count, fewer, further_into, just, locals_into, place_into, reached_into, scalar_into, term_into, terms_into}
+use Rattle.expr_code.specs.Process.{Steps, answered_into, at_place, checked_into, chosen_into, count, fewer, further_into, just, locals_into, located_into, place_into, reached_into, scalar_into, target_into, term_into, terms_into}
 use Rattle.expr_code.proofs.Checking.{first_open, rest_open, others_few, longer_positive, stride_is, part_within, part_outside, part_nowhere, place_below, total, one_more}
 use Rattle.expr_code.proofs.Finding.{Open, Reach, cell_law, number_below, short_is}
 use Rattle.expr_code.proofs.Standing.{HasAt, has_front, has_back, onto, get_onto, set_onto, at, seen, constant_seen, index_seen, private_seen, dropped_seen}
@@ -462,3 +462,34 @@ module _ (A : Type 0) (S : Steps A) (code : Code) (f : Frame) (line limit : ℕ)
           term_runs e (λ x. S.local (further_into A S p es choice (choice best x) κ)) pc (best ∷ st) w.0 (has_front code.instructions limit pc (term_code p e) last has) (next_room (length st) (operands e) (left_room (length st) (operands e + 1) (operands_further es) room)) (λ x.
           R.goes (further_into A S p es choice (choice best x) κ) n (x ∷ best ∷ st) (choice best x ∷ st) (sees n best x st (on_line n act rest.0))
           (further_run es act choice (choice best x) κ (n + 1) st sees w.1 rest.2 (right_room (length st) (operands e + 1) (operands_further es) room) (λ v. subst (λ (k : ℕ). St (κ v) (frame k (v ∷ st))) len (next v))))
+
+    located_run : (ds : List Extent) (xs : List ℤ) (κ : ℕ → A) (pc : ℕ) (st : List ℤ) → Open ds → elements ds ≤ most_elements → length xs ≤ length ds → length xs ≤ 2 ^ 32 → length st + 1 ≤ f.operands.room
+        → Has pc (located_code p.line ds (length xs)) → ((n : ℕ) → n < elements ds → St (κ n) (frame (pc + length (located_code p.line ds (length xs))) (with_place ds n st)))
+        → St (located_into A S ds xs κ) (frame pc (onto xs st))
+    located_run [] [] κ pc st o few most short_enough room has next = moved (κ 0) (pc + 0) pc st (omega arith) (next 0 (omega arith))
+    located_run [] (x ∷ xs) κ pc st o few most short_enough room has next = absurd (omega (arith, most))
+    located_run (d ∷ ds) xs κ pc st o few most short_enough room has next =
+        place_runs d ds xs κ pc st o few most short_enough room (subst (λ (k : ℕ). Has pc (place_code k d ds (length xs))) lines has)
+        (λ n below. subst (λ (k : ℕ). St (κ n) (frame (pc + length (place_code k d ds (length xs))) (pos n ∷ st))) lines (next n below))
+
+    -- the code of the place of a variable that is given a value
+    pub target_runs : (r : Ref) (es : Terms) (κ : ℕ → A) (pc : ℕ) (st : List ℤ) → Reaches code p (element r es) → Has pc (target_code p r es) → length st + operands (element r es) ≤ f.operands.room
+        → ((n : ℕ) → n < elements (dimensions_at p.symbols r.cell) → St (κ n) (frame (pc + length (target_code p r es)) (with_place (dimensions_at p.symbols r.cell) n st))) → St (target_into A S p r es κ) (frame pc st)
+    target_runs r es κ pc st w has room next =
+        let ds = dimensions_at p.symbols r.cell in
+        let n = pc + length (terms_code p es (length ds)) in
+        terms_run es (length ds) (λ xs. located_into A S ds xs κ) pc st w.2 (has_front code.instructions limit pc (terms_code p es (length ds)) (located_code p.line ds (fewer (count es) (length ds))) has) (right_room (length st) 1 (operands_kept es) room) (λ xs len.
+        located_run ds xs κ n st w.0.open_bounds w.0.few (most xs len) (enough xs len) (left_room (length st) 1 (operands_kept es) room)
+        (subst (λ (k : ℕ). Has n (located_code p.line ds k)) (sym len) (has_back code.instructions limit pc (terms_code p es (length ds)) (located_code p.line ds (fewer (count es) (length ds))) has))
+        (λ m below. subst (λ (k : ℕ). St (κ m) (frame k (with_place ds m st))) (far xs len) (next m below)))
+      where
+        most : (xs : List ℤ) → length xs ≡ fewer (count es) (length (dimensions_at p.symbols r.cell)) → length xs ≤ length (dimensions_at p.symbols r.cell)
+        most xs len = omega (arith, len, fewer_below (count es) (length (dimensions_at p.symbols r.cell)))
+
+        enough : (xs : List ℤ) → length xs ≡ fewer (count es) (length (dimensions_at p.symbols r.cell)) → length xs ≤ 2 ^ 32
+        enough xs len = omega (arith, len, fewer_first (count es) (length (dimensions_at p.symbols r.cell)), w.1)
+
+        far : (xs : List ℤ) → length xs ≡ fewer (count es) (length (dimensions_at p.symbols r.cell)) → pc + length (target_code p r es) ≡ pc + length (terms_code p es (length (dimensions_at p.symbols r.cell))) + length (located_code p.line (dimensions_at p.symbols r.cell) (length xs))
+        far xs len =
+            let same : length (located_code p.line (dimensions_at p.symbols r.cell) (length xs)) ≡ length (located_code p.line (dimensions_at p.symbols r.cell) (fewer (count es) (length (dimensions_at p.symbols r.cell)))) = ap (λ (k : ℕ). length (located_code p.line (dimensions_at p.symbols r.cell) k)) len in
+            omega (arith, same, length-append (terms_code p es (length (dimensions_at p.symbols r.cell))) (located_code p.line (dimensions_at p.symbols r.cell) (fewer (count es) (length (dimensions_at p.symbols r.cell)))))

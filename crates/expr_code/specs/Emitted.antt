@@ -56,6 +56,11 @@ abbrev pub place_code : ℕ → Extent → List Extent → ℕ → List Instr
 place_code line d ds zero = instr line (Constant (pos 0)) ∷ instr line (Check 0 nowhere) ∷ []
 place_code line d ds (suc m) = checks_code line 1 (d ∷ ds) (suc m) ++ sums_code line (length ds)
 
+-- the same of a variable with these dimensions; a scalar needs none
+abbrev pub located_code : ℕ → List Extent → ℕ → List Instr
+located_code line [] m = []
+located_code line (d ∷ ds) m = place_code line d ds m
+
 abbrev pub scalar_act : Home → ℕ → Act
 scalar_act loop_index c = Index
 scalar_act (private_scalar x) c = Private (short x)
@@ -112,3 +117,7 @@ applied_code p es n act = terms_code p es (just n (count es)) ++ applied_to p.li
 
 abbrev pub element_code : Places → Ref → Terms → List Instr
 element_code p r es = terms_code p es (length (dimensions_at p.symbols r.cell)) ++ reached_code p r (dimensions_at p.symbols r.cell) (fewer (count es) (length (dimensions_at p.symbols r.cell)))
+
+-- the place of a variable that is given a value
+abbrev pub target_code : Places → Ref → Terms → List Instr
+target_code p r es = terms_code p es (length (dimensions_at p.symbols r.cell)) ++ located_code p.line (dimensions_at p.symbols r.cell) (fewer (count es) (length (dimensions_at p.symbols r.cell)))

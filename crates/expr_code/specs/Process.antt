@@ -61,6 +61,11 @@ module _ (A : Type 0) (S : Steps A) where
   place_into d ds [] κ = S.local (S.fails BadIndex)
   place_into d ds (x ∷ xs) κ = checked_into (d ∷ ds) (x ∷ xs) (locals_into (length ds) (at_place (place_of (d ∷ ds) (x ∷ xs)) κ))
 
+  -- the place of a variable with these dimensions; a scalar has one cell
+  abbrev pub located_into : List Extent → List ℤ → (ℕ → A) → A
+  located_into [] xs κ = κ 0
+  located_into (d ∷ ds) xs κ = place_into d ds xs κ
+
   abbrev pub scalar_into : Home → Ref → (ℤ → A) → A
   scalar_into loop_index r κ = S.index r κ
   scalar_into (private_scalar x) r κ = S.own r x κ
@@ -103,3 +108,7 @@ module _ (A : Type 0) (S : Steps A) where
       pub further_into : Terms → (ℤ → ℤ → ℤ) → ℤ → (ℤ → A) → A
       further_into no_terms choice best κ = κ best
       further_into (then_term e es) choice best κ = term_into e (λ x. S.local (further_into es choice (choice best x) κ))
+
+    -- the place of a variable that is given a value
+    abbrev pub target_into : Ref → Terms → (ℕ → A) → A
+    target_into r es κ = terms_into es (length (dimensions_at p.symbols r.cell)) (λ xs. located_into (dimensions_at p.symbols r.cell) xs κ)

@@ -4,5 +4,5 @@
 mod emitting;
 mod places;
 
-pub use emitting::emit;
+pub use emitting::{emit, emit_place};
 pub use places::Places;
