@@ -9,7 +9,7 @@ use Rattle.expr_code.specs.Emitted.{element_code, target_code}
 use Rattle.expr_code.specs.Places.{Places}
 use Rattle.expr_code.specs.Process.{count, fewer}
 
-subscripts_of : (a : Access) → (access_of a).subscripts ≡ terms (map term a.subscripts.items)
+pub subscripts_of : (a : Access) → (access_of a).subscripts ≡ terms (map term a.subscripts.items)
 subscripts_of a = ap (λ (b : tree.Access). b.subscripts) (fold_out-Access Term tree.Access term_step access_step a) ∙ search rules
 
 reference_of : (a : Access) → (access_of a).ref ≡ ref a.reference

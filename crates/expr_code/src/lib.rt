@@ -3,6 +3,8 @@
 
 mod emitting;
 mod places;
+mod room;
 
 pub use emitting::{emit, emit_place};
 pub use places::Places;
+pub use room::{operands, operands_of_place};
