@@ -41,10 +41,13 @@ instr line act = record { line = line; act = act }
 abbrev pub dropping : Act
 dropping = SkipUnless 0
 
+abbrev pub missing_code : ℕ → List Instr
+missing_code line = instr line (Check 0 nowhere) ∷ []
+
 -- so many subscripts are checked
 abbrev pub checks_code : ℕ → ℕ → List Extent → ℕ → List Instr
 checks_code line stride [] m = []
-checks_code line stride (d ∷ ds) zero = instr line (Check 0 nowhere) ∷ []
+checks_code line stride (d ∷ ds) zero = missing_code line
 checks_code line stride (d ∷ ds) (suc m) = instr line (Check (short m) (axis stride d)) ∷ checks_code line (next_stride stride d) ds m
 
 abbrev pub sums_code : ℕ → ℕ → List Instr
@@ -53,7 +56,7 @@ sums_code line (suc n) = instr line (Binary Add) ∷ sums_code line n
 
 -- the place of an element, by so many subscripts
 abbrev pub place_code : ℕ → Extent → List Extent → ℕ → List Instr
-place_code line d ds zero = instr line (Constant (pos 0)) ∷ instr line (Check 0 nowhere) ∷ []
+place_code line d ds zero = instr line (Constant (pos 0)) ∷ missing_code line
 place_code line d ds (suc m) = checks_code line 1 (d ∷ ds) (suc m) ++ sums_code line (length ds)
 
 -- the same of a variable with these dimensions; a scalar needs none

@@ -8,3 +8,6 @@ mod room;
 pub use emitting::{emit, emit_place};
 pub use places::Places;
 pub use room::{operands, operands_of_place};
+
+#[cfg(test)]
+mod tests;
