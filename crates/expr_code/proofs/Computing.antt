@@ -1,6 +1,6 @@
 -- Run alone, the code of an expression leaves its value, or its fault.
-use Rattle.std.proofs.Common.{◌≡◌, ◌∙◌, ◌<◌, ◌≤◌, ◌+◌, ◌^◌, ℕ, zero, suc, ℤ, pos, Bool, true, false, List, [], ◌∷◌, ◌++◌, get_or, Option, Some, None, Result, Ok, Err, length, refl, sym, ap, subst, arith}
-use Rattle.std.specs.Prelude.{◌&&◌, max, slice_get}
+use Rattle.std.proofs.Common.{◌≡◌, ◌∙◌, ◌≤◌, ◌+◌, ◌^◌, ℕ, suc, ℤ, Bool, true, List, [], ◌∷◌, ◌++◌, Option, Some, None, Result, Ok, Err, length, refl, sym, ap, subst, arith}
+use Rattle.std.specs.Prelude.{max}
 use Rattle.std.specs.List.{IsDistinct, list_all}
 use Rattle.std.proofs.Math.Nat.{le-max_left, le-max_right}
 use Rattle.std.proofs.lemmas.Bool.{and_parts}
@@ -9,22 +9,19 @@ use Rattle.ast.specs.Meaning.{looked_up, target, value}
 use Rattle.ast.specs.Program.{is_placed}
 use Rattle.ast.specs.References.{term_references, terms_references}
 use Rattle.ast.specs.Store.{StoreOf, same_name}
-use Rattle.ast.specs.Symbols.{Extent, Symbol, dimensions_in, is_sized, names_of}
+use Rattle.ast.specs.Symbols.{Extent, dimensions_in, is_sized, names_of}
 use Rattle.ast.specs.Tree.{Ref, Access, accessed, Term, constant, truth, parameter, element, call, parentheses, unary, binary, Terms, no_terms, then_term}
-use Rattle.ast.specs.declared.expression.Intrinsic.{Intrinsic}
 use Rattle.ast.specs.declared.expression.Intrinsic.TheVariants.{Abs, Iabs, Max, Max0, Min, Min0, Mod}
 use Rattle.ast.specs.declared.fault.Fault.{Fault}
-use Rattle.machine.specs.Code.{Code, Cell}
+use Rattle.machine.specs.Code.{Code}
 use Rattle.machine.specs.Frame.{Frame, with_items}
 use Rattle.machine.specs.Local.{and_then, defined, faulted}
-use Rattle.machine.specs.View.{View, doing, loading, view}
-use Rattle.machine.specs.declared.code.Open.{Open}
-use Rattle.machine.specs.declared.code.Variable.{Variable}
+use Rattle.machine.specs.View.{view}
 use Rattle.machine.specs.declared.instr.Instr.{Instr}
 use Rattle.expr_code.specs.Alone.{alone, taken_on}
-use Rattle.expr_code.specs.Computes.{Appended, Computes, Encodable, Fits, HasVariables, Leaves, Locates, PlaceAppended, operands, operands_kept, operands_chosen, operands_further, with_place}
+use Rattle.expr_code.specs.Computes.{Appended, Computes, HasVariables, Leaves, Locates, PlaceAppended, operands, operands_kept, operands_chosen, operands_further, with_place}
 use Rattle.expr_code.specs.Emitted.{target_code, term_code}
-use Rattle.expr_code.specs.Places.{Places, Home, loop_index, private_scalar, in_store, dimensions_at, held_or, home, private_value, seen_from}
+use Rattle.expr_code.specs.Places.{Places, Home, dimensions_at, held_or, private_value, seen_from}
 use Rattle.expr_code.specs.Process.{Steps, count, target_into, term_into}
 use Rattle.expr_code.proofs.Finding.{dimensions_same, reach}
 use Rattle.expr_code.proofs.Meaning.{AllNamed, Means, Named, on, on_all, target_meant, term_meant}
@@ -192,11 +189,11 @@ computes p e distinct sized can code before after f store variables stands there
     let S = steps ℤ p code f store end (λ v. v ∷ st) in
     let has : HasAt code.instructions end (length before) (term_code p e) = subst (λ (is : List Instr). HasAt is end (length before) (term_code p e)) (sym stands) (has_here before (term_code p e) after end (omega arith)) in
     let come : Comes ℤ p code f store end (λ v. v ∷ st) (term_into (Result ℤ Fault) S p e (λ v. Ok v)) (at code f (length before) st) =
-        term_runs (Result ℤ Fault) S code f p.line end (Comes ℤ p code f store end (λ v. v ∷ st)) (rules ℤ p code f store end (λ v. v ∷ st)) p fits.privates can.few_privates refl e (λ v. Ok v) (length before) st
-        (reaches p distinct sized code variables can.few_symbols e can.placed can.few_operands) has fits.room (λ v. (0, omega arith, refl)) in
+    term_runs (Result ℤ Fault) S code f p.line end (Comes ℤ p code f store end (λ v. v ∷ st)) (rules ℤ p code f store end (λ v. v ∷ st)) p fits.privates can.few_privates refl e (λ v. Ok v) (length before) st
+    (reaches p distinct sized code variables can.few_symbols e can.placed can.few_operands) has fits.room (λ v. (0, omega arith, refl)) in
     let means : term_into (Result ℤ Fault) S p e (λ v. Ok v) ≡ value (looked_up p.symbols (seen_from p f store)) e =
-        term_meant (Result ℤ Fault) S p (seen_from p f store) (Result ℤ Fault) (λ a. a) (λ k. Err k) (sees ℤ p code f store end (λ v. v ∷ st)) e (λ v. Ok v) (named p distinct sized e can.placed)
-        ∙ told_value (value (looked_up p.symbols (seen_from p f store)) e) in
+    term_meant (Result ℤ Fault) S p (seen_from p f store) (Result ℤ Fault) (λ a. a) (λ k. Err k) (sees ℤ p code f store end (λ v. v ∷ st)) e (λ v. Ok v) (named p distinct sized e can.placed)
+    ∙ told_value (value (looked_up p.symbols (seen_from p f store)) e) in
     left ℤ p code f store end (λ v. v ∷ st) (value (looked_up p.symbols (seen_from p f store)) e) (λ v xs. v ∷ xs) (length before) (length (term_code p e)) refl (λ v. refl) there fits.sound
     (subst (λ (a : Result ℤ Fault). Comes ℤ p code f store end (λ v. v ∷ st) a (at code f (length before) st)) means come)
 
@@ -211,11 +208,11 @@ locates p a distinct sized can code before after f store variables stands there 
     let has : HasAt code.instructions end (length before) is = subst (λ (js : List Instr). HasAt js end (length before) is) (sym stands) (has_here before is after end (omega arith)) in
     let known = named p distinct sized (accessed a) can.placed in
     let come : Comes ℕ p code f store end put (target_into (Result ℕ Fault) S p a.ref a.subscripts (λ n. Ok n)) (at code f (length before) st) =
-        target_runs (Result ℕ Fault) S code f p.line end (Comes ℕ p code f store end put) (rules ℕ p code f store end put) p fits.privates can.few_privates refl a.ref a.subscripts (λ n. Ok n) (length before) st
-        (reaches p distinct sized code variables can.few_symbols (accessed a) can.placed can.few_operands) has fits.room (λ n below. (0, omega arith, refl)) in
+    target_runs (Result ℕ Fault) S code f p.line end (Comes ℕ p code f store end put) (rules ℕ p code f store end put) p fits.privates can.few_privates refl a.ref a.subscripts (λ n. Ok n) (length before) st
+    (reaches p distinct sized code variables can.few_symbols (accessed a) can.placed can.few_operands) has fits.room (λ n below. (0, omega arith, refl)) in
     let means : target_into (Result ℕ Fault) S p a.ref a.subscripts (λ n. Ok n) ≡ target p.symbols (seen_from p f store) a =
-        target_meant (Result ℕ Fault) S p (seen_from p f store) (Result ℕ Fault) (λ k. k) (λ k. Err k) (sees ℕ p code f store end put) a.ref a.subscripts (λ n. Ok n) known
-        ∙ told (target p.symbols (seen_from p f store) a) in
+    target_meant (Result ℕ Fault) S p (seen_from p f store) (Result ℕ Fault) (λ k. k) (λ k. Err k) (sees ℕ p code f store end put) a.ref a.subscripts (λ n. Ok n) known
+    ∙ told (target p.symbols (seen_from p f store) a) in
     left ℕ p code f store end put (target p.symbols (seen_from p f store) a) (with_place (dimensions_in p.symbols a.ref.name)) (length before) (length is) refl (λ n. ap (λ (fs : List Extent). with_place fs n st) (sym known.0)) there fits.sound
     (subst (λ (r : Result ℕ Fault). Comes ℕ p code f store end put r (at code f (length before) st)) means come)
 

@@ -1,7 +1,7 @@
 -- Numbers of operands in 32 bits.
 use Rattle.std.proofs.Common.{◌≡◌, ◌∙◌, ◌⊎◌, inl, inr, ◌<◌, ◌≤◌, ◌+◌, ℕ, zero, suc, Bool, true, false, List, [], ◌∷◌, drop, length, map, refl, ap, sym, arith}
 use Rattle.std.specs.Prelude.{max, nat_lt, if◌then◌else◌}
-use Rattle.std.proofs.Math.Nat.{le-max_left, le-max_right, max-eq_left, max-eq_right, max-le}
+use Rattle.std.proofs.Math.Nat.{max-eq_left, max-eq_right}
 use Rattle.std.proofs.lemmas.Bool.{ltb-true, ltb-false}
 use Rattle.ast.specs.Tree.{Terms, terms}
 use Rattle.ast.specs.View.{access as access_of, term}

@@ -1,6 +1,6 @@
 -- What is found at the place of a name among the symbols, and among the variables of code.
 use Rattle.std.proofs.Common.{◌≡◌, ◌∙◌, ◌+◌, ◌<◌, ◌≤◌, ◌^◌, ℕ, zero, suc, Bool, true, false, List, [], ◌∷◌, Option, Some, None, length, refl, sym, ap, subst, arith}
-use Rattle.std.specs.Prelude.{◌&&◌, slice_get, int_lt, not, nat_le, nat_lt, if◌then◌else◌, map}
+use Rattle.std.specs.Prelude.{◌&&◌, slice_get, int_lt, not, nat_le, if◌then◌else◌}
 use Rattle.std.specs.List.{AllByRecursion, IsDistinct, list_all}
 use Rattle.std.specs.Cmp.Lexicographic.{same_text}
 use Rattle.std.proofs.lemmas.Bool.{and_parts, leb-true, lt-ltb}
@@ -8,7 +8,7 @@ use Rattle.std.proofs.lemmas.Cmp.{nat_list_eq_equiv}
 use Rattle.std.proofs.lemmas.Option.{slice_get_within}
 use Rattle.ast.specs.Program.{is_variable, is_variable_named, is_placed}
 use Rattle.ast.specs.Store.{same_name}
-use Rattle.ast.specs.Symbols.{Extent, Sort, variable, fixed, Symbol, names_of, dimensions_in, dimensions_of, elements, size, is_sized, is_sized_sort, most_elements}
+use Rattle.ast.specs.Symbols.{Extent, Sort, variable, fixed, Symbol, names_of, dimensions_in, dimensions_of, elements, size, is_sized, most_elements}
 use Rattle.ast.specs.Tree.{Ref}
 use Rattle.machine.specs.Code.{Cell, cell_at}
 use Rattle.machine.specs.declared.code.Variable.{Variable}
@@ -76,8 +76,7 @@ variable_at xs [] i s h e = cc
 variable_at [] (t ∷ ss) i s h e = cc
 variable_at (x ∷ xs) (t ∷ ss) zero s h e =
     let first : ◌≡◌ {A = List ℕ × ℕ} (x.name.letters, x.size) (t.name, size t.sort) = cc in
-    let d : t ≡ s = cc in
-    (
+    let d : t ≡ s = cc in (
       x,
       refl,
       ap (λ (p : List ℕ × ℕ). p.0) first ∙ ap (λ (z : Symbol). z.name) d,

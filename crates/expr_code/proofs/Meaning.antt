@@ -1,6 +1,6 @@
 -- What the process of an expression comes to is the expression's value, whatever its steps are made
 -- into.
-use Rattle.std.proofs.Common.{◌≡◌, ◌∙◌, ℕ, zero, suc, ◌+◌, ◌*◌, ℤ, pos, Bool, true, false, List, [], ◌∷◌, ◌++◌, Option, Some, None, Result, Ok, Err, length, refl, sym, ap}
+use Rattle.std.proofs.Common.{◌≡◌, ◌∙◌, ℕ, zero, suc, ◌+◌, ◌*◌, ℤ, pos, Bool, true, false, List, [], ◌∷◌, Result, Ok, Err, length, refl, sym, ap}
 use Rattle.std.specs.Prelude.{◌==◌, ◌-ℤ◌, unsigned_abs, if◌then◌else◌}
 use Rattle.std.proofs.lemmas.Bool.{eqb-true}
 use Rattle.ast.specs.Exact.{greater, greatest, intrinsic_value, least, less, prefixed_value, truth_value, value_of}
@@ -13,9 +13,8 @@ use Rattle.ast.specs.declared.expression.Intrinsic.{Intrinsic}
 use Rattle.ast.specs.declared.expression.Intrinsic.TheVariants.{Abs, Iabs, Max, Max0, Min, Min0, Mod}
 use Rattle.ast.specs.declared.fault.Fault.{Fault}
 use Rattle.ast.specs.declared.fault.Fault.TheVariants.{Index as BadIndex}
-use Rattle.machine.specs.Code.{Cell}
 use Rattle.expr_code.specs.Places.{Places, Home, loop_index, private_scalar, in_store, dimensions_at, home, home_of}
-use Rattle.expr_code.specs.Process.{Steps, answered_into, at_place, checked_into, chosen_into, count, fewer, further_into, just, locals_into, located_into, place_into, reached_into, scalar_into, target_into, term_into, terms_into}
+use Rattle.expr_code.specs.Process.{Steps, answered_into, at_place, checked_into, chosen_into, count, further_into, just, locals_into, located_into, place_into, reached_into, scalar_into, target_into, term_into, terms_into}
 
 -- What a process comes to: X, by the value that the expression has, or by its fault.
 abbrev pub on : {X : Type 0} → (Fault → X) → Result ℤ Fault → (ℤ → X) → X

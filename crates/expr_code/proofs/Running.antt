@@ -1,9 +1,9 @@
 -- The code of an expression does what its process does, whatever the steps are made into.
 use Rattle.std.proofs.Common.{◌≡◌, ◌∙◌, ◌⊎◌, inl, inr, ◌<◌, ◌≤◌, ◌+◌, ◌*◌, ◌^◌, ℕ, zero, suc, ℤ, pos, Bool, true, false, List, [], ◌∷◌, ◌++◌, Option, Some, None, Result, Ok, Err, length, map, drop, refl, sym, ap, subst, arith, length-append}
-use Rattle.std.specs.Prelude.{◌+ℤ◌, ◌-ℤ◌, ◌==◌, unsigned_abs, max, nat_lt, slice_get, slice_set, if◌then◌else◌}
+use Rattle.std.specs.Prelude.{◌-ℤ◌, ◌==◌, unsigned_abs, max, slice_get, slice_set, if◌then◌else◌}
 use Rattle.std.proofs.Math.Nat.{le-max_left, le-max_right}
 use Rattle.std.proofs.lemmas.Bool.{lt-ltb, eqb-true}
-use Rattle.ast.specs.Exact.{absolute, greater, in_range, intrinsic_value, less, prefixed_value, remainder, truth_value, value_of}
+use Rattle.ast.specs.Exact.{absolute, greater, intrinsic_value, less, prefixed_value, remainder, truth_value, value_of}
 use Rattle.ast.specs.Results.{◌>>=◌}
 use Rattle.ast.specs.Symbols.{Extent, elements, is_within, width, place_of, most_elements}
 use Rattle.ast.specs.Tree.{Ref, Term, constant, truth, parameter, element, call, parentheses, unary, binary, Terms, no_terms, then_term}
@@ -15,19 +15,19 @@ use Rattle.ast.specs.declared.expression.Prefix.{Prefix}
 use Rattle.ast.specs.declared.fault.Fault.{Fault}
 use Rattle.ast.specs.declared.fault.Fault.TheVariants.{Index as BadIndex}
 use Rattle.machine.specs.Code.{Code, Cell, cell_at}
-use Rattle.machine.specs.Frame.{Frame, with_items}
+use Rattle.machine.specs.Frame.{Frame}
 use Rattle.machine.specs.Local.{answered, answered_at, defined, faulted, if_replaced, made_at, part_of, with_operands}
 use Rattle.machine.specs.View.{View, doing, loading, doing_if, element_loading, loading_if, view, with_operand}
 use Rattle.machine.specs.declared.code.Open.{Open as Opened}
 use Rattle.machine.specs.declared.instr.Act.{Act}
-use Rattle.machine.specs.declared.instr.Act.TheVariants.{Constant, Private, Index, Binary, Modulo, Greatest, Least, Unary, Absolute, Check, SkipUnless, Load, LoadElement}
+use Rattle.machine.specs.declared.instr.Act.TheVariants.{Constant, Private, Binary, Modulo, Greatest, Least, Unary, Absolute, Check, Load, LoadElement}
 use Rattle.machine.specs.declared.instr.Axis.{Axis}
 use Rattle.machine.specs.declared.instr.Instr.{Instr}
 use Rattle.expr_code.specs.Computes.{operands, operands_kept, operands_chosen, operands_further, with_place}
-use Rattle.expr_code.specs.Emitted.{axis, applied_act, applied_to, checks_code, chosen_code, dropping, further_code, instr, located_code, next_stride, nowhere, place_code, reached_code, scalar_act, short, sums_code, target_code, term_code, terms_code}
+use Rattle.expr_code.specs.Emitted.{axis, applied_to, checks_code, chosen_code, dropping, further_code, instr, located_code, next_stride, nowhere, place_code, reached_code, scalar_act, short, sums_code, target_code, term_code, terms_code}
 use Rattle.expr_code.specs.Places.{Places, Home, loop_index, private_scalar, in_store, dimensions_at, home, is_loop_name, number_in, private_or_stored}
 use Rattle.expr_code.specs.Process.{Steps, answered_into, at_place, checked_into, chosen_into, count, fewer, further_into, just, locals_into, located_into, place_into, reached_into, scalar_into, target_into, term_into, terms_into}
-use Rattle.expr_code.proofs.Checking.{first_open, rest_open, others_few, longer_positive, stride_is, part_within, part_outside, part_nowhere, place_below, total, one_more}
+use Rattle.expr_code.proofs.Checking.{rest_open, others_few, longer_positive, stride_is, part_within, part_outside, part_nowhere, place_below, total, one_more}
 use Rattle.expr_code.proofs.Finding.{Open, Reach, cell_law, number_below, short_is}
 use Rattle.expr_code.proofs.Standing.{HasAt, has_front, has_back, onto, get_onto, set_onto, at, seen, constant_seen, index_seen, private_seen, dropped_seen}
 
@@ -160,15 +160,15 @@ module _ (A : Type 0) (S : Steps A) (code : Code) (f : Frame) (line limit : ℕ)
 
       by : (t : Bool) → is_within d x ≡ t
           → (is_within d x ≡ true → ((n : ℕ) (rs : List ℕ) → place_of ds xs ≡ Ok n → total rs ≡ total (s * unsigned_abs (x -ℤ d.lower) ∷ ns) + (s * width d) * n → length rs ≡ length (s * unsigned_abs (x -ℤ d.lower) ∷ ns) + length ds → St a (frame (pc + 1 + length (checks_code line (s * width d) ds (length xs))) (parts rs st)))
-              → St (checked_into A S ds xs a) (frame (pc + 1) (onto xs (parts (s * unsigned_abs (x -ℤ d.lower) ∷ ns) st))))
+          → St (checked_into A S ds xs a) (frame (pc + 1) (onto xs (parts (s * unsigned_abs (x -ℤ d.lower) ∷ ns) st))))
           → St (if t then S.local (checked_into A S ds xs a) else S.fails BadIndex) (frame pc (onto xs (x ∷ parts ns st)))
       by true t ih =
           check_goes (axis s d) xs (parts ns st) x (pos (s * unsigned_abs (x -ℤ d.lower))) (checked_into A S ds xs a) pc (short (length xs)) has.0 above (part_within s d ds x l o few t)
           (ih t (λ n rs p q c.
-              let place : place_of (d ∷ ds) (x ∷ xs) ≡ Ok (unsigned_abs (x -ℤ d.lower) + width d * n) =
-                  ap (λ (b : Bool). if b then (place_of ds xs >>= λ k. Ok (unsigned_abs (x -ℤ d.lower) + width d * k)) else Err BadIndex) t ∙ ap (λ (z : Result ℕ Fault). z >>= λ k. Ok (unsigned_abs (x -ℤ d.lower) + width d * k)) p in
-              let len : pc + 1 + length (checks_code line (s * width d) ds (length xs)) ≡ pc + length (checks_code line s (d ∷ ds) (length (x ∷ xs))) = far n in
-              subst (λ (k : ℕ). St a (frame k (parts rs st))) (sym len) (next (unsigned_abs (x -ℤ d.lower) + width d * n) rs place (one_more s (unsigned_abs (x -ℤ d.lower)) (total ns) (width d) n (total rs) q) (omega (arith, c)))))
+          let place : place_of (d ∷ ds) (x ∷ xs) ≡ Ok (unsigned_abs (x -ℤ d.lower) + width d * n) =
+          ap (λ (b : Bool). if b then (place_of ds xs >>= λ k. Ok (unsigned_abs (x -ℤ d.lower) + width d * k)) else Err BadIndex) t ∙ ap (λ (z : Result ℕ Fault). z >>= λ k. Ok (unsigned_abs (x -ℤ d.lower) + width d * k)) p in
+          let len : pc + 1 + length (checks_code line (s * width d) ds (length xs)) ≡ pc + length (checks_code line s (d ∷ ds) (length (x ∷ xs))) = far n in
+          subst (λ (k : ℕ). St a (frame k (parts rs st))) (sym len) (next (unsigned_abs (x -ℤ d.lower) + width d * n) rs place (one_more s (unsigned_abs (x -ℤ d.lower)) (total ns) (width d) n (total rs) q) (omega (arith, c)))))
         where
           far : (n : ℕ) → pc + 1 + length (checks_code line (s * width d) ds (length xs)) ≡ pc + length (checks_code line s (d ∷ ds) (length (x ∷ xs)))
           far n = let k : length (checks_code line (next_stride s d) ds (length xs)) ≡ length (checks_code line (s * width d) ds (length xs)) = ap (λ (z : ℕ). length (checks_code line z ds (length xs))) stride in omega (arith, k)
@@ -184,8 +184,8 @@ module _ (A : Type 0) (S : Steps A) (code : Code) (f : Frame) (line limit : ℕ)
   sums_run (m ∷ ns) n a pc st h has next =
       let fits : m + n < 2 ^ 63 = omega (arith, h) in
       let here : view code (frame pc (pos n ∷ pos m ∷ parts ns st)) ≡ doing (frame (pc + 1) (pos (m + n) ∷ parts ns st)) =
-          seen code f (instr line (Binary Add)) pc (pos n ∷ pos m ∷ parts ns st) has.0
-          ∙ ap (λ (r : Result ℤ Fault). shown (with_operands (answered r 2 (frame pc (pos n ∷ pos m ∷ parts ns st)).operands) line (frame pc (pos n ∷ pos m ∷ parts ns st)))) (sum_is m n fits) in
+      seen code f (instr line (Binary Add)) pc (pos n ∷ pos m ∷ parts ns st) has.0
+      ∙ ap (λ (r : Result ℤ Fault). shown (with_operands (answered r 2 (frame pc (pos n ∷ pos m ∷ parts ns st)).operands) line (frame pc (pos n ∷ pos m ∷ parts ns st)))) (sum_is m n fits) in
       let sum : n + (m + total ns) ≡ (m + n) + total ns = omega arith in
       let len : pc + 1 + length (sums_code line (length ns)) ≡ pc + length (sums_code line (length (m ∷ ns))) = omega arith in
       R.goes (locals_into A S (length ns) a) pc (pos n ∷ pos m ∷ parts ns st) (pos (m + n) ∷ parts ns st) here
@@ -214,8 +214,8 @@ module _ (A : Type 0) (S : Steps A) (code : Code) (f : Frame) (line limit : ℕ)
           let end : St (κ n) (frame (pc + length (checks_code line 1 (d ∷ ds) (length (x ∷ xs))) + length (sums_code line (length ds))) (pos n ∷ st)) = subst (λ (k : ℕ). St (κ n) (frame k (pos n ∷ st))) (sym len) (next n below) in
           let placed : St (at_place A S (place_of (d ∷ ds) (x ∷ xs)) κ) (frame (pc + length (checks_code line 1 (d ∷ ds) (length (x ∷ xs))) + length (sums_code line (length ds))) (pos n ∷ st)) = subst (λ (z : Result ℕ Fault). St (at_place A S z κ) (frame (pc + length (checks_code line 1 (d ∷ ds) (length (x ∷ xs))) + length (sums_code line (length ds))) (pos n ∷ st))) (sym p) end in
           let to : St (at_place A S (place_of (d ∷ ds) (x ∷ xs)) κ) (frame (pc + length (checks_code line 1 (d ∷ ds) (length (x ∷ xs))) + length (sums_code line (length rs))) (pos (r + total rs) ∷ st)) =
-              subst (λ (k : ℕ). St (at_place A S (place_of (d ∷ ds) (x ∷ xs)) κ) (frame (pc + length (checks_code line 1 (d ∷ ds) (length (x ∷ xs))) + length (sums_code line k)) (pos (r + total rs) ∷ st))) (sym many)
-              (subst (λ (k : ℕ). St (at_place A S (place_of (d ∷ ds) (x ∷ xs)) κ) (frame (pc + length (checks_code line 1 (d ∷ ds) (length (x ∷ xs))) + length (sums_code line (length ds))) (pos k ∷ st))) (sym is) placed) in
+          subst (λ (k : ℕ). St (at_place A S (place_of (d ∷ ds) (x ∷ xs)) κ) (frame (pc + length (checks_code line 1 (d ∷ ds) (length (x ∷ xs))) + length (sums_code line k)) (pos (r + total rs) ∷ st))) (sym many)
+          (subst (λ (k : ℕ). St (at_place A S (place_of (d ∷ ds) (x ∷ xs)) κ) (frame (pc + length (checks_code line 1 (d ∷ ds) (length (x ∷ xs))) + length (sums_code line (length ds))) (pos k ∷ st))) (sym is) placed) in
           subst (λ (k : ℕ). St (locals_into A S k (at_place A S (place_of (d ∷ ds) (x ∷ xs)) κ)) (frame (pc + length (checks_code line 1 (d ∷ ds) (length (x ∷ xs)))) (pos r ∷ parts rs st))) many
           (sums_run rs r (at_place A S (place_of (d ∷ ds) (x ∷ xs)) κ) (pc + length (checks_code line 1 (d ∷ ds) (length (x ∷ xs)))) st (omega (arith, is, below, few)) (subst (λ (k : ℕ). Has (pc + length (checks_code line 1 (d ∷ ds) (length (x ∷ xs)))) (sums_code line k)) (sym many) back) to)
 

@@ -1,15 +1,13 @@
 -- Instructions that stand in code one after another, and frames at them.
-use Rattle.std.proofs.Common.{◌≡◌, ◌∙◌, ◌<◌, ◌≤◌, ◌+◌, ℕ, zero, suc, Bool, true, false, List, [], ◌∷◌, ◌++◌, Option, Some, None, Ok, Err, Result, length, drop, refl, sym, ap, subst, arith, length-append, append_assoc}
-use Rattle.std.specs.Prelude.{ℤ, pos, slice_get, slice_set, nat_lt, if◌then◌else◌}
+use Rattle.std.proofs.Common.{◌≡◌, ◌∙◌, ◌<◌, ◌≤◌, ◌+◌, ℕ, suc, Bool, true, false, List, [], ◌∷◌, ◌++◌, Option, Some, None, length, refl, sym, ap, subst, arith, length-append, append_assoc}
+use Rattle.std.specs.Prelude.{ℤ, slice_get, slice_set, if◌then◌else◌}
 use Rattle.std.proofs.lemmas.Bool.{lt-ltb}
 use Rattle.ast.specs.Exact.{is_true}
-use Rattle.ast.specs.declared.fault.Fault.{Fault}
-use Rattle.machine.specs.Code.{Code, Cell}
-use Rattle.machine.specs.Frame.{Frame, Stack, with_items}
+use Rattle.machine.specs.Code.{Code}
+use Rattle.machine.specs.Frame.{Frame, with_items}
 use Rattle.machine.specs.Local.{answered, defined, faulted, going_on, if_pushed, pushed, skipping, with_operands, without}
-use Rattle.machine.specs.View.{View, doing, loading, doing_if, view, instr_view, act_view}
+use Rattle.machine.specs.View.{View, doing, doing_if, view, instr_view, act_view}
 use Rattle.machine.specs.declared.code.Open.{Open}
-use Rattle.machine.specs.declared.instr.Act.{Act}
 use Rattle.machine.specs.declared.instr.Act.TheVariants.{Constant, Private, Index, SkipUnless}
 use Rattle.machine.specs.declared.instr.Instr.{Instr}
 use Rattle.expr_code.specs.Emitted.{instr}

@@ -1,12 +1,12 @@
 -- What code of an expression does, in the machine's terms.
-use Rattle.std.specs.Prelude.{◌≡◌, ◌≤◌, ◌+◌, ◌^◌, ℕ, ℤ, pos, zero, suc, max, true, List, [], ◌∷◌, ◌++◌, length, map, Option, Some, None, Result, Ok, Err}
+use Rattle.std.specs.Prelude.{◌≡◌, ◌≤◌, ◌+◌, ◌^◌, ℕ, ℤ, pos, max, true, List, [], ◌∷◌, ◌++◌, length, map, Some, None, Result, Ok, Err}
 use Rattle.std.specs.List.{list_all}
 use Rattle.ast.specs.Meaning.{looked_up, target, value}
 use Rattle.ast.specs.Program.{is_placed}
 use Rattle.ast.specs.References.{term_references}
 use Rattle.ast.specs.Store.{StoreOf}
 use Rattle.ast.specs.Symbols.{Extent, Symbol, dimensions_in, size}
-use Rattle.ast.specs.Tree.{Ref, Access, accessed, Term, element, call, parentheses, unary, binary, Terms, no_terms, then_term}
+use Rattle.ast.specs.Tree.{Access, accessed, Term, element, call, parentheses, unary, binary, Terms, no_terms, then_term}
 use Rattle.ast.specs.declared.expression.Intrinsic.TheVariants.{Max, Max0, Min, Min0}
 use Rattle.ast.specs.declared.fault.Fault.{Fault}
 use Rattle.machine.specs.Code.{Code}

@@ -1,5 +1,5 @@
 -- Where the code of an expression finds its variables.
-use Rattle.std.specs.Prelude.{ℕ, ℤ, pos, ◌+◌, Bool, false, if◌then◌else◌, List, [], ◌∷◌, get_or, Option, Some, None, slice_get}
+use Rattle.std.specs.Prelude.{ℕ, ℤ, ◌+◌, Bool, false, if◌then◌else◌, List, [], ◌∷◌, get_or, Option, Some, None, slice_get}
 use Rattle.ast.specs.Store.{StoreOf, same_name}
 use Rattle.ast.specs.Symbols.{Extent, Symbol, dimensions_in, dimensions_of}
 use Rattle.machine.specs.Frame.{Frame}

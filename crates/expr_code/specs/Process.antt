@@ -4,7 +4,6 @@ use Rattle.std.specs.Prelude.{ℕ, ℤ, zero, suc, pos, ◌==◌, if◌then◌el
 use Rattle.ast.specs.Exact.{greater, intrinsic_value, less, prefixed_value, truth_value, value_of}
 use Rattle.ast.specs.Symbols.{Extent, is_within, place_of}
 use Rattle.ast.specs.Tree.{Ref, Term, constant, truth, parameter, element, call, parentheses, unary, binary, Terms, no_terms, then_term}
-use Rattle.ast.specs.declared.expression.Intrinsic.{Intrinsic}
 use Rattle.ast.specs.declared.expression.Intrinsic.TheVariants.{Abs, Iabs, Max, Max0, Min, Min0, Mod}
 use Rattle.ast.specs.declared.fault.Fault.{Fault}
 use Rattle.ast.specs.declared.fault.Fault.TheVariants.{Index as BadIndex}

@@ -69,12 +69,7 @@ fn scalar(alloc: Global, letter: u8, cell: usize) -> Expr {
     Expr::Element(access(alloc, letter, cell))
 }
 
-fn binary(
-    alloc: Global,
-    operator: Operator,
-    left: Expr,
-    right: Expr,
-) -> Result<Expr, AllocError> {
+fn binary(alloc: Global, operator: Operator, left: Expr, right: Expr) -> Result<Expr, AllocError> {
     Ok(Expr::Binary(operator, Box::new(alloc, left)?, Box::new(alloc, right)?))
 }
 
@@ -114,11 +109,23 @@ fn are(rt: &impl Abort, code: &[Instr], acts: &[Act]) {
     match code {
         [] => panic!(*rt; "there are instructions"),
         [first, others @ ..] => {
-            assert_eq!(*rt; *first, Instr { line: 1, act: Act::Halt });
+            assert_eq!(*rt;
+                *first,
+                Instr {
+                    line: 1,
+                    act: Act::Halt
+                }
+            );
             assert_eq!(*rt; others.len(), acts.len());
             for i in 0..acts.len() {
                 if i < others.len() {
-                    assert_eq!(*rt; others[i], Instr { line: LINE, act: acts[i] });
+                    assert_eq!(*rt;
+                        others[i],
+                        Instr {
+                            line: LINE,
+                            act: acts[i]
+                        }
+                    );
                 }
             }
         }
@@ -219,11 +226,7 @@ fn constants(alloc: Global) -> Result<Expr, AllocError> {
 }
 
 /// The code of these instructions, with room for so many operands.
-fn assembled(
-    rt: &(impl Abort + AllocGlobal),
-    instructions: Vec<Instr>,
-    operands: usize,
-) -> Code {
+fn assembled(rt: &(impl Abort + AllocGlobal), instructions: Vec<Instr>, operands: usize) -> Code {
     let alloc = rt.alloc();
     let parts = Parts {
         instructions,
@@ -242,10 +245,7 @@ fn assembled(
 }
 
 /// The frame where the code of an expression has run.
-fn ran(
-    rt: &(impl Abort + AllocGlobal),
-    expression: &Expr,
-) -> Result<Frame, AllocError> {
+fn ran(rt: &(impl Abort + AllocGlobal), expression: &Expr) -> Result<Frame, AllocError> {
     let alloc = rt.alloc();
     let program = program(alloc)?;
     let privates = no_names(alloc);
