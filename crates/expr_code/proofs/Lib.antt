@@ -1,0 +1,9 @@
+pub mod Accesses
+pub mod Beginnings
+pub mod Checking
+pub mod Computing
+pub mod Counting
+pub mod Finding
+pub mod Meaning
+pub mod Running
+pub mod Standing

@@ -1,0 +1,13 @@
+//! Code of expressions.
+#![tactic(auto)]
+
+mod emitting;
+mod places;
+mod room;
+
+pub use emitting::{emit, emit_place};
+pub use places::Places;
+pub use room::{operands, operands_of_place};
+
+#[cfg(test)]
+mod tests;
