@@ -1,16 +1,15 @@
 -- Cells by name and place, and their numbers.
-use Rattle.std.proofs.Common.{◌≡◌, ◌∙◌, ℕ, zero, suc, ◌+◌, ◌<◌, ◌≤◌, ◌^◌, Bool, true, false, List, [], ◌∷◌, length, drop, get_or, Option, Some, None, refl, sym, ap, subst, arith}
-use Rattle.std.specs.Prelude.{ℤ, pos, negsuc, nat_lt, ◌&&◌, ◌||◌, ◌==◌, not, if◌then◌else◌, map, slice_get}
+use Rattle.std.proofs.Common.{◌≡◌, ◌∙◌, ℕ, zero, suc, ◌+◌, ◌<◌, ◌≤◌, ◌^◌, Bool, true, false, List, [], ◌∷◌, length, get_or, Option, Some, None, refl, sym, ap, subst, arith}
+use Rattle.std.specs.Prelude.{ℤ, pos, negsuc, nat_lt, ◌&&◌, ◌||◌, ◌==◌, not, slice_get}
 use Rattle.std.specs.Cmp.Lexicographic.{same_text}
 use Rattle.std.proofs.lemmas.Bool.{and_parts, eqb-true, ltb-true}
 use Rattle.std.proofs.lemmas.Cmp.{nat_list_eq_equiv}
-use Rattle.std.proofs.lemmas.List.{length-drop}
 use Rattle.ast.specs.Store.{same_name}
-use Rattle.machine.specs.Code.{Cell, cell_at}
+use Rattle.machine.specs.Code.{Cell}
 use Rattle.machine.specs.Frame.{Stack, has_room}
-use Rattle.machine.specs.FrameView.{room_of, stack_of}
+use Rattle.machine.specs.FrameView.{stack_of}
 use Rattle.machine.specs.Laid.{are_distinct, are_laid, cell_number, count_of, is_among, names_in, number_at}
-use Rattle.machine.specs.Local.{one_of, without}
+use Rattle.machine.specs.Local.{without}
 use Rattle.machine.specs.View.{cell_from}
 use Rattle.machine.specs.declared.code.Variable.{Variable}
 use Rattle.machine.proofs.Stacks.{room_law, without_law}
@@ -134,6 +133,20 @@ cells_apart n (x ∷ xs) a b p q m h e f =
         let j = within (n + x.size) xs a p m k.rest (rw w at e) in
         absurd (omega (arith, i.0, i.1, j.0, k.at))
     by false false w v further = further (rw w at e) (rw v at f)
+
+pub cells_below : (xs : List Variable) (a : List ℕ) (p m : ℕ) → are_laid 0 xs ≡ true → number_at xs a p ≡ Some m → m < count_of xs
+cells_below xs a p m h e = omega (arith, (within 0 xs a p m h e).1)
+
+-- the number behind the last cell
+pub last_of : (n : ℕ) (xs : List Variable) (i : ℕ) (d : Variable) → are_laid n xs ≡ true → length xs ≡ i + 1 → (get_or xs i d).start + (get_or xs i d).size ≡ n + count_of xs
+last_of n [] i d h l = absurd (omega (arith, l))
+last_of n (x ∷ []) zero d h l = omega (arith, (begins n x [] h).at)
+last_of n (x ∷ (y ∷ ys)) zero d h l = absurd (omega (arith, l))
+last_of n (x ∷ xs) (suc i) d h l = omega (arith, last_of (n + x.size) xs i d (begins n x xs h).rest (omega (arith, l)))
+
+pub none_counted : (xs : List Variable) → length xs ≡ 0 → count_of xs ≡ 0
+none_counted [] h = refl
+none_counted (x ∷ xs) h = absurd (omega (arith, h))
 
 -- ---- an element's place is popped before its value is pushed
 

@@ -23,7 +23,7 @@ fn number_in(variable: &Variable, place: i64) -> Option<usize>
 
 impl Code {
     ghost use Rattle.std.specs.Prelude.{◌≡◌, slice_get};
-    ghost use Rattle.machine.specs.Laid.{cell_number};
+    ghost use Rattle.machine.specs.Laid.{cell_number, count_of};
 
     /// The number of a variable's cell at a place, if it has one there.
     #[tactic(auto, using(crate::proofs::Lying::few_cells))]
@@ -36,5 +36,18 @@ impl Code {
         } else {
             None
         }
+    }
+
+    /// How many cells a store of it has.
+    #[tactic(auto, using(crate::proofs::Naming::last_of, crate::proofs::Naming::none_counted, crate::proofs::Lying::few_cells))]
+    pub fn cells(&self) -> usize
+        ensures { result ≡ count_of self.now.variables.items }
+    {
+        let variables = self.variables.as_slice();
+        if variables.is_empty() {
+            return 0;
+        }
+        let last = variables[variables.len() - 1];
+        last.start + last.size
     }
 }

@@ -25,7 +25,10 @@ pub enum Next<'c> {
     /// A local instruction.
     Local,
     /// The value of the cell of this number takes the place of so many operands.
-    Load { cell: usize, popped: usize },
+    Load {
+        cell: usize,
+        popped: usize,
+    },
     /// The cell of this number gets this value; so many operands go.
     Store {
         cell: usize,
@@ -38,25 +41,43 @@ pub enum Next<'c> {
         values: usize,
     },
     /// The next record of the input is taken; a fault has this line.
-    TakeRecord { line: Line },
+    TakeRecord {
+        line: Line,
+    },
     /// The next integer of the input becomes an operand; a fault has this line.
-    TakeValue { line: Line },
+    TakeValue {
+        line: Line,
+    },
     /// What is left of the record that was taken last is dropped.
     DropRecord,
     /// Iteration j waits until the count of the event is at least j - distance + 1.
-    Await { event: u32, distance: u128 },
+    Await {
+        event: u32,
+        distance: u128,
+    },
     /// The count of the event grows by one.
-    Advance { event: u32 },
+    Advance {
+        event: u32,
+    },
     /// This loop is opened; two operands go.
     Opens(Open),
     /// The open loop is closed, once its iterations have retired; a fault has this line.
-    Join { line: Line },
+    Join {
+        line: Line,
+    },
     /// An iteration of the loop of this number ends.
-    Retire { number: u32 },
+    Retire {
+        number: u32,
+    },
     /// A fault is reported.
-    Report { fault: Fault, line: Line },
+    Report {
+        fault: Fault,
+        line: Line,
+    },
     /// A STOP is reported.
-    Stop { line: Line },
+    Stop {
+        line: Line,
+    },
     /// The program ends.
     Halt,
     /// None: the frame doesn't fit what stands there.
@@ -64,13 +85,7 @@ pub enum Next<'c> {
 }
 
 /// A load of a variable's cell at a place.
-fn load<'c>(
-    code: &'c Code,
-    frame: &Frame,
-    variable: u32,
-    place: i64,
-    popped: usize,
-) -> Next<'c>
+fn load<'c>(code: &'c Code, frame: &Frame, variable: u32, place: i64, popped: usize) -> Next<'c>
     requires pushes { Pushes (frame_of frame.now) popped }
     ensures { Tells (code_of code.now) (frame_of frame.now) (loading_if (cell_from (slice_get code.now.variables.items variable) place) popped (frame_of frame.now)) result }
 {

@@ -1,4 +1,4 @@
-use Rattle.std.proofs.Common.{◌≡◌, ◌∙◌, ◌<◌, Some, ap, sym, arith, length, get_or, List, rules, w64, to_z, of_z}
+use Rattle.std.proofs.Common.{◌≡◌, ◌∙◌, ◌<◌, Some, ap, sym, arith, length, rules, w64, to_z, of_z}
 use Rattle.std.specs.Prelude.{map, slice_get}
 use Rattle.std.proofs.lemmas.List.{length-drop}
 use Rattle.machine.specs.CodeView.{code_of, loop_of}
@@ -20,8 +20,7 @@ returns-in-Some c =
     let r3 : to_z w64 (of_z w64 l.step) ≡ l.step = search rules in
     let h : c.args.number < length c.args.code.now.loops.items = omega (arith, ap (λ xs. length xs) v) in
     let g : slice_get (map loop_of c.args.code.now.loops.items) c.args.number ≡ Some (loop_of l) = mapped_get loop_of c.args.code.now.loops.items c.args.number l h ∙ ap (λ x. Some (loop_of x)) (sym k) in
-    let t = rw (v, ← k, r, r2, r3) at c.trips.ensures in
-    (
+    let t = rw (v, ← k, r, r2, r3) at c.trips.ensures in (
       rw r (open_law (code_of c.args.code.now) c.args.number c.trips.result (loop_of l) (frame_of f) c.in-Some.first c.in-Some.last g (sym (rw c.as_slice.ensures at e.operands)) (nonzero_law l.step (rw (v, ← k) at c.if-step-eq0.false)) t),
       (c.requires.place, omega (arith, w, length-drop f.top f.slots.items)),
     )
