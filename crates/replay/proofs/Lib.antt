@@ -4,3 +4,4 @@ pub mod Numbers
 pub mod Parsing
 pub mod Texts
 pub mod Wholes
+pub mod Running

@@ -1,5 +1,6 @@
 pub mod Kept
 pub mod Reading
 pub mod Refusals
+pub mod Replays
 pub mod Schedules
 pub mod View
