@@ -7,9 +7,10 @@ use Rattle.machine.specs.Frame.{Frame}
 use Rattle.machine.specs.State.{Active, State, Machine, CodeRun, CodeStep, Init, Wait, Who, the_main, iteration, Choice, take_main, take_iteration, take_ticket, Takes, Turn, Move, MainMove, put_at}
 use Rattle.machine.specs.View.{View, doing, loading, storing, printing, reading, awaiting, advancing, opening, joining, leaving, breaking, halting, stuck, view, trips_of, begin}
 use Rattle.machine.specs.declared.code.Open.{Open}
-use Rattle.replay.specs.Replays.{Point, slot, frame_of, wait_of, view_in, local_in, moved, taken, Moves, Picks, Does, Leads, Replays, beginning, IsReplayed, EveryRun}
+use Rattle.replay.specs.Replays.{Point, slot, frame_of, wait_of, view_in, local_in, moved, taken, Moves, Picks, Works, Does, Leads, Replays, beginning, IsReplayed, EveryRun, IsRun}
 use Rattle.replay.specs.Schedules.{Act, works, shares, picks_main, picks, takes_ticket, Entry, Schedule, AreEntries, AreSizes, IsAct, IsSchedule}
-use Rattle.replay.specs.declared.entry.Version.TheVariants.{Second}
+use Rattle.replay.specs.declared.entry.Version.{Version}
+use Rattle.replay.specs.declared.entry.Version.TheVariants.{First, Second}
 
 -- ---- the numbers of iterations are below how many steps were made
 
@@ -241,3 +242,46 @@ every_run code input p s qs m sizes run =
       is = x.is;
       written = λ f. (sizes, x.allowed (omega (arith, f)));
     }
+
+-- ---- what a schedule leads to is a run
+
+abbrev Runs : Code → ℕ → ℕ → Machine → Machine → Type 0
+Runs code p s m n = (qs : List ℕ) × CodeRun code s p m qs n
+
+first : (code : Code) (p s q : ℕ) (m n o : Machine) → q < p → CodeStep code s m q n → Runs code p s n o → Runs code p s m o
+first code p s q m n o h t r = (q ∷ r.0, (n, h, t, r.1))
+
+onward : (code : Code) (p s : ℕ) (m n o : Machine) (qs : List ℕ) → CodeRun code s p m qs n → Runs code p s n o → Runs code p s m o
+onward code p s m n o [] e r = subst (λ (z : Machine). Runs code p s z o) (sym e) r
+onward code p s m n o (q ∷ qs) e r = first code p s q m e.0 o e.1 e.2 (onward code p s e.0 n o qs e.3 r)
+
+picked_step : (code : Code) (s : ℕ) (c : Choice) (a : Point) (q : ℕ) (b : Point) → Picks code s c a q b → CodeStep code s a.machine q b.machine
+picked_step code s c a q b h = record {
+  going = h.going;
+  turn = subst (λ (o : Option Who). Turn Frame Open (view code) trips_of (begin code) s o a.machine q b.machine) (sym h.idle) (c, h.takes);
+}
+
+one : (code : Code) (p s q : ℕ) (m n : Machine) → q < p → CodeStep code s m q n → Runs code p s m n
+one code p s q m n h t = (q ∷ [], (n, h, t, refl))
+
+worked_run : (code : Code) (p s n : ℕ) (a : Point) (q : ℕ) (b : Point) → q < p → Works code s n a q b → Runs code p s a.machine b.machine
+worked_run code p s zero a q b h w = ([], ap (λ (z : Point). z.machine) w)
+worked_run code p s (suc n) a q b h w = first code p s q a.machine w.0.machine b.machine h w.1.step (worked_run code p s n w.0 q b h w.2)
+
+done_run : (v : Version) (code : Code) (p s : ℕ) (x : Act) (a : Point) (q : ℕ) (b : Point) → q < p → Does v code s x a q b → Runs code p s a.machine b.machine
+done_run v code p s (works n) a q b h d = worked_run code p s n a q b h d
+done_run First code p s shares a q b h (inl d) = one code p s q a.machine b.machine h d.step
+done_run First code p s shares a q b h (inr d) = one code p s q a.machine b.machine h (picked_step code s d.0 a q b d.2)
+done_run Second code p s shares a q b h d = one code p s q a.machine b.machine h d.step
+done_run v code p s picks_main a q b h d = one code p s q a.machine b.machine h (picked_step code s take_main a q b d)
+done_run v code p s (picks k) a q b h d = one code p s q a.machine b.machine h (picked_step code s (take_iteration k) a q b d)
+done_run v code p s takes_ticket a q b h d = one code p s q a.machine b.machine h (picked_step code s take_ticket a q b d)
+
+led_run : (v : Version) (code : Code) (p s : ℕ) (es : List Entry) (a b : Point) → AreEntries v p es → Leads v code s a es b → Runs code p s a.machine b.machine
+led_run v code p s [] a b h l = ([], ap (λ (z : Point). z.machine) l)
+led_run v code p s (e ∷ es) a b h l =
+    let d = done_run v code p s e.act a e.processor l.0 h.0.0 l.1 in
+    onward code p s a.machine l.0.machine b.machine d.0 d.1 (led_run v code p s es l.0 b h.1 l.2)
+
+pub is_run : IsRun
+is_run code input x b h r = led_run x.version code x.processors x.slots x.entries (beginning code input x.slots) b h.1 r.leads

@@ -137,3 +137,9 @@ abbrev pub EveryRun : Type 0
 EveryRun =
     (code : Code) (input : List ℕ) (p s : ℕ) (qs : List ℕ) (m : Machine) → AreSizes p s → CodeRun code s p (Init code input) qs m
     → IsReplayed code input p s m (length qs ≤ 2 ^ 128)
+
+-- What a schedule leads to is the last state of a run of its processors.
+abbrev pub IsRun : Type 0
+IsRun =
+    (code : Code) (input : List ℕ) (x : Schedule) (b : Point) → IsSchedule x → Replays code input x b
+    → (qs : List ℕ) × CodeRun code x.slots x.processors (Init code input) qs b.machine
