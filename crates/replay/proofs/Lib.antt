@@ -5,3 +5,5 @@ pub mod Parsing
 pub mod Texts
 pub mod Wholes
 pub mod Running
+pub mod Maps
+pub mod Queues
