@@ -7,3 +7,4 @@ pub mod Wholes
 pub mod Running
 pub mod Maps
 pub mod Queues
+pub mod Turning

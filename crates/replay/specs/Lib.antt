@@ -4,5 +4,6 @@ pub mod Reading
 pub mod Refusals
 pub mod Replays
 pub mod Schedules
+pub mod Turns
 pub mod View
 pub mod Waiting

@@ -24,13 +24,13 @@ pub record Shared : Type 0 where
   pub cells : List ℤ
   pub order : kernel.View
   pub output : List ℕ
-  pub input : Input
   pub loop : Option Open
   pub ended : Option End
 
 -- Iteration k of s that may be open stands at k mod s.
 pub record Kept : Type 0 where
   pub shared : Shared
+  pub input : Input
   pub main : Frame
   pub waiting : Option Wait
   pub iterations : List (Option Standing)
@@ -72,7 +72,7 @@ counts_of xs = λ e. cond (eqb e 0) 0 (get_or xs e 0)
 abbrev pub machine_of : List Variable → ℕ → Kept → Machine
 machine_of xs s x = record {
   store = store_of xs x.shared.cells;
-  input = x.shared.input;
+  input = x.input;
   output = x.shared.output;
   counts = counts_of x.shared.order.counts;
   retired = get_or x.shared.order.counts 0 0;

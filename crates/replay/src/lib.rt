@@ -8,6 +8,7 @@ mod reading;
 mod refusal;
 mod schedule;
 mod short;
+mod turn;
 mod writing;
 
 pub use entry::{Act, Entry, Version};

@@ -1,0 +1,99 @@
+-- An account of the code: what a step of an iteration leaves.
+use Rattle.std.specs.Prelude.{◌≡◌, ℕ, ℤ, pos, ◌+◌, ◌-◌, ◌==◌, nat_lt, if◌then◌else◌, List, [], ◌∷◌, ◌++◌, get_or, map, set, Option, Some, None, slice_get}
+use Rattle.ast.specs.Record.{record_of}
+use Rattle.ast.specs.declared.fault.End.{End}
+use Rattle.ast.specs.declared.fault.End.TheVariants.{Stopped, Fault as Faulted}
+use Rattle.ec_kernel.specs.View.{count_at, parked, advanced}
+use Rattle.machine.specs.Code.{Code, loop_at}
+use Rattle.machine.specs.CodeView.{part}
+use Rattle.machine.specs.Laid.{cell_number}
+use Rattle.machine.specs.Local.{going_on, without}
+use Rattle.machine.specs.Next.{values_for}
+use Rattle.machine.specs.State.{Wait, until_count, until_retired, Who}
+use Rattle.machine.specs.View.{filled, with_operand}
+use Rattle.machine.specs.declared.next.Next.{Next}
+use Rattle.machine.specs.declared.next.Next.TheVariants.{Load, Store, Print, Await, Advance, Retire, Report, Stop}
+use Rattle.replay.specs.Parts.{Standing, Shared, Kept}
+use Rattle.replay.specs.declared.turn.Outcome.{Outcome}
+use Rattle.replay.specs.declared.turn.Outcome.TheVariants.{Stays, Parks, Leaves, Ends, Idle}
+
+pub record After : Type 0 where
+  pub outcome : Outcome
+  pub shared : Shared
+  pub standing : Standing
+
+abbrev pub stays : Shared → Standing → After
+stays x a = record { outcome = Stays; shared = x; standing = a }
+
+abbrev pub idle : Shared → Standing → After
+idle x a = record { outcome = Idle; shared = x; standing = a }
+
+abbrev pub parks : ℕ → ℕ → ℕ → Wait → Shared → Standing → After
+parks slot e v w x a = record { outcome = Parks; shared = record x { order = parked x.order e v slot }; standing = record a { wait = Some w } }
+
+-- the iteration waits until it is the next to retire
+abbrev pub waits_its_turn : ℕ → Shared → Standing → After
+waits_its_turn slot x a = parks slot 0 a.number (until_retired a.number) x a
+
+-- the cells after private scalars that were defined are stored
+abbrev pub set_if : Option ℕ → ℤ → List ℤ → List ℤ
+set_if None v cells = cells
+set_if (Some n) v cells = set cells n v
+
+abbrev pub cells_after : Code → List ℕ → List (Option ℤ) → List ℤ → List ℤ
+cells_after code [] vs cells = cells
+cells_after code (x ∷ xs) [] cells = cells
+cells_after code (x ∷ xs) (None ∷ vs) cells = cells_after code xs vs cells
+cells_after code (x ∷ xs) (Some v ∷ vs) cells = set_if (cell_number (slice_get code.variables x) (pos 0)) v (cells_after code xs vs cells)
+
+abbrev pub leaves : Code → ℕ → Shared → Standing → After
+leaves code n x a = record {
+  outcome = Leaves;
+  shared = record x {
+    cells = cells_after code (loop_at code n).privates a.frame.privates x.cells;
+    order = advanced x.order 0;
+    output = x.output ++ a.out;
+  };
+  standing = a;
+}
+
+abbrev pub ends : End → Shared → Standing → After
+ends e x a = record { outcome = Ends; shared = record x { output = x.output ++ a.out; ended = Some e }; standing = a }
+
+-- an iteration in a slot makes the step that stands next
+abbrev pub iteration_after : Code → ℕ → Next → Shared → Standing → After
+iteration_after code slot (Load n k) x a = stays x (record a { frame = with_operand k a.frame (get_or x.cells n (pos 0)) })
+iteration_after code slot (Store n v k) x a = stays (record x { cells = set x.cells n v }) (record a { frame = going_on (without k a.frame.operands) a.frame })
+iteration_after code slot (Print pieces k) x a = stays x (record a {
+  frame = going_on (without k a.frame.operands) a.frame;
+  out = a.out ++ record_of (filled (map part pieces.now) (values_for (map part pieces.now) a.frame));
+})
+iteration_after code slot (Await e d) x a =
+    if nat_lt a.number (count_at x.order e + d) then stays x (record a { frame = going_on a.frame.operands a.frame })
+    else parks slot e (a.number + 1 - d) (until_count e (a.number + 1 - d)) x a
+iteration_after code slot (Advance e) x a =
+    if count_at x.order e == a.number then stays (record x { order = advanced x.order e }) (record a { frame = going_on a.frame.operands a.frame })
+    else idle x a
+iteration_after code slot (Retire n) x a = if count_at x.order 0 == a.number then leaves code n x a else waits_its_turn slot x a
+iteration_after code slot (Report e line) x a = if count_at x.order 0 == a.number then ends (Faulted e line) x a else waits_its_turn slot x a
+iteration_after code slot (Stop line) x a = if count_at x.order 0 == a.number then ends (Stopped line) x a else waits_its_turn slot x a
+iteration_after code slot next x a = idle x a
+
+-- ---- what a core keeps then
+
+abbrev pub staying : Outcome → Standing → Option Standing
+staying Leaves a = None
+staying _ a = Some a
+
+abbrev pub held_after : Outcome → ℕ → List (Option Who) → List (Option Who)
+held_after Parks q hs = set hs q None
+held_after Leaves q hs = set hs q None
+held_after _ q hs = hs
+
+-- processor q has made a step of the iteration that stands at a place
+abbrev pub put_back : ℕ → ℕ → After → Kept → Kept
+put_back q at y x = record x {
+  shared = y.shared;
+  iterations = set x.iterations at (staying y.outcome y.standing);
+  held = held_after y.outcome q x.held;
+}
