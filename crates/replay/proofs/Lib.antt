@@ -8,3 +8,4 @@ pub mod Running
 pub mod Maps
 pub mod Queues
 pub mod Turning
+pub mod Leading

@@ -108,7 +108,7 @@ same_machine code s q k a x y r =
 
 -- ---- private scalars are stored
 
-abbrev Vars : Type 0
+abbrev pub Vars : Type 0
 Vars = List Variable
 
 if_length : (o : Option ℕ) (v : ℤ) (cells : List ℤ) → length (set_if o v cells) ≡ length cells
@@ -121,7 +121,7 @@ after_length code (x ∷ xs) [] cells = refl
 after_length code (x ∷ xs) (None ∷ vs) cells = after_length code xs vs cells
 after_length code (x ∷ xs) (Some v ∷ vs) cells = if_length (cell_number (slice_get code.variables x) (pos 0)) v (cells_after code xs vs cells) ∙ after_length code xs vs cells
 
-one_stored : (vs : Vars) (i : ℕ) (o : Option Variable) (v : ℤ) (cells : List ℤ) (store : StoreOf) (more : List (Cell × ℤ)) → are_laid 0 vs ≡ true → are_distinct (names_in vs) ≡ true → slice_get vs i ≡ o → length cells ≡ count_of vs → store_of vs cells ≡ put_cells store more
+pub one_stored : (vs : Vars) (i : ℕ) (o : Option Variable) (v : ℤ) (cells : List ℤ) (store : StoreOf) (more : List (Cell × ℤ)) → are_laid 0 vs ≡ true → are_distinct (names_in vs) ≡ true → slice_get vs i ≡ o → length cells ≡ count_of vs → store_of vs cells ≡ put_cells store more
     → store_of vs (set_if (cell_number o (pos 0)) v cells) ≡ put_cells store (stored_if (cell_at o 0) v more)
 one_stored vs i o v cells store more l d g c h = by (cell_number o (pos 0)) refl
   where

@@ -1,18 +1,23 @@
 -- An account of the code: what a step of an iteration leaves.
-use Rattle.std.specs.Prelude.{◌≡◌, ℕ, ℤ, pos, ◌+◌, ◌-◌, ◌==◌, nat_lt, if◌then◌else◌, List, [], ◌∷◌, ◌++◌, get_or, map, set, Option, Some, None, slice_get}
+use Rattle.std.specs.Prelude.{◌≡◌, ℕ, ℤ, pos, ◌+◌, ◌-◌, ◌==◌, nat_lt, nat_le, Bool, true, false, if◌then◌else◌, List, [], ◌∷◌, ◌++◌, get_or, map, set, Option, Some, None, slice_get, Result, Ok, Err}
+use Rattle.ast.specs.Exact.{in_range}
+use Rattle.ast.specs.Input.{next_integer, taken as read_record}
 use Rattle.ast.specs.Record.{record_of}
 use Rattle.ast.specs.declared.fault.End.{End}
-use Rattle.ast.specs.declared.fault.End.TheVariants.{Stopped, Fault as Faulted}
-use Rattle.ec_kernel.specs.View.{count_at, parked, advanced}
+use Rattle.ast.specs.declared.fault.End.TheVariants.{Done, Stopped, Fault as Faulted}
+use Rattle.ast.specs.declared.fault.Fault.{Fault}
+use Rattle.ec_kernel.specs.View.{count_at, parked, advanced, restarted}
 use Rattle.machine.specs.Code.{Code, loop_at}
 use Rattle.machine.specs.CodeView.{part}
+use Rattle.machine.specs.Frame.{Frame}
 use Rattle.machine.specs.Laid.{cell_number}
 use Rattle.machine.specs.Local.{going_on, without}
 use Rattle.machine.specs.Next.{values_for}
 use Rattle.machine.specs.State.{Wait, until_count, until_retired, Who}
-use Rattle.machine.specs.View.{filled, with_operand}
+use Rattle.machine.specs.View.{Input, filled, frame_after, frame_joined, frame_with, index_at, input_after, input_behind, with_operand}
+use Rattle.machine.specs.declared.code.Open.{Open}
 use Rattle.machine.specs.declared.next.Next.{Next}
-use Rattle.machine.specs.declared.next.Next.TheVariants.{Load, Store, Print, Await, Advance, Retire, Report, Stop}
+use Rattle.machine.specs.declared.next.Next.TheVariants.{Load, Store, Print, TakeRecord, TakeValue, DropRecord, Await, Advance, Opens, Join, Retire, Report, Stop, Halt}
 use Rattle.replay.specs.Parts.{Standing, Shared, Kept}
 use Rattle.replay.specs.declared.turn.Outcome.{Outcome}
 use Rattle.replay.specs.declared.turn.Outcome.TheVariants.{Stays, Parks, Leaves, Ends, Idle}
@@ -97,3 +102,68 @@ put_back q at y x = record x {
   iterations = set x.iterations at (staying y.outcome y.standing);
   held = held_after y.outcome q x.held;
 }
+
+-- ---- the same of main
+
+-- what a step of main leaves
+pub record MainAfter : Type 0 where
+  pub outcome : Outcome
+  pub shared : Shared
+  pub input : Input
+  pub main : Frame
+  pub waiting : Option Wait
+
+abbrev pub main_as : Outcome → Kept → MainAfter
+main_as o x = record { outcome = o; shared = x.shared; input = x.input; main = x.main; waiting = x.waiting }
+
+abbrev pub main_stays : Frame → Kept → MainAfter
+main_stays g x = record (main_as Stays x) { main = g }
+
+abbrev pub main_ends : End → Kept → MainAfter
+main_ends e x = record (main_as Ends x) { shared = record x.shared { ended = Some e } }
+
+-- no iteration is open
+abbrev pub none_open : List (Option Standing) → Bool
+none_open [] = true
+none_open (None ∷ xs) = none_open xs
+none_open (Some a ∷ xs) = false
+
+abbrev pub opens : Open → Kept → MainAfter
+opens l x = record (main_as Stays x) { shared = record x.shared { order = restarted x.shared.order; loop = Some l }; main = going_on (without 2 x.main.operands) x.main }
+
+-- the loop's variable gets its last value, unless that leaves the 64-bit integers
+abbrev pub with_last : Code → Open → Result ℤ Fault → List ℤ → List ℤ
+with_last code l (Ok v) cells = set_if (cell_number (slice_get code.variables (loop_at code l.number).variable) (pos 0)) v cells
+with_last code l (Err e) cells = cells
+
+abbrev pub closes : Code → ℕ → Open → Kept → MainAfter
+closes code line l x = record (main_as Stays x) {
+  shared = record x.shared { cells = with_last code l (in_range (index_at code l l.trips)) x.shared.cells; loop = None };
+  main = frame_joined (in_range (index_at code l l.trips)) line x.main;
+}
+
+abbrev pub joins : Code → ℕ → Option Open → Kept → MainAfter
+joins code line None x = main_as Idle x
+joins code line (Some l) x =
+    if nat_le l.trips (count_at x.shared.order 0) then closes code line l x
+    else record (main_as Parks x) { shared = record x.shared { order = parked x.shared.order 0 l.trips 0 }; waiting = Some (until_retired l.trips) }
+
+abbrev pub main_after : Code → Next → Kept → MainAfter
+main_after code (Load n k) x = main_stays (with_operand k x.main (get_or x.shared.cells n (pos 0))) x
+main_after code (Store n v k) x = record (main_stays (going_on (without k x.main.operands) x.main) x) { shared = record x.shared { cells = set x.shared.cells n v } }
+main_after code (Print pieces k) x = record (main_stays (going_on (without k x.main.operands) x.main) x) {
+  shared = record x.shared { output = x.shared.output ++ record_of (filled (map part pieces.now) (values_for (map part pieces.now) x.main)) }
+}
+main_after code (TakeRecord line) x = record (main_stays (frame_after (read_record x.input.records) line x.main) x) { input = input_after (read_record x.input.records) x.input }
+main_after code (TakeValue line) x = record (main_stays (frame_with (next_integer x.input.left x.input.records) line x.main) x) { input = input_behind (next_integer x.input.left x.input.records) x.input }
+main_after code DropRecord x = record (main_stays (going_on x.main.operands x.main) x) { input = record x.input { left = [] } }
+main_after code (Opens l) x = if none_open x.iterations then opens l x else main_as Idle x
+main_after code (Join line) x = joins code line x.shared.loop x
+main_after code (Report e line) x = main_ends (Faulted e line) x
+main_after code (Stop line) x = main_ends (Stopped line) x
+main_after code Halt x = main_ends Done x
+main_after code next x = main_as Idle x
+
+-- processor q has made a step of main
+abbrev pub put_main : ℕ → MainAfter → Kept → Kept
+put_main q y x = record x { shared = y.shared; input = y.input; main = y.main; waiting = y.waiting; held = held_after y.outcome q x.held }
