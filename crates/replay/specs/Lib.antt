@@ -1,5 +1,6 @@
 pub mod Kept
 pub mod Parts
+pub mod PartsView
 pub mod Reading
 pub mod Refusals
 pub mod Replays

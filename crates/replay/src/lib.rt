@@ -4,6 +4,7 @@
 mod entry;
 pub mod laws;
 mod number;
+mod parts;
 mod reading;
 mod refusal;
 mod schedule;
