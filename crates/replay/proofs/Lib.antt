@@ -9,3 +9,4 @@ pub mod Maps
 pub mod Queues
 pub mod Turning
 pub mod Leading
+pub mod Pieces

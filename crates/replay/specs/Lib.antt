@@ -1,6 +1,7 @@
 pub mod Kept
 pub mod Parts
 pub mod PartsView
+pub mod Printing
 pub mod Reading
 pub mod Refusals
 pub mod Replays

@@ -5,6 +5,7 @@ mod entry;
 pub mod laws;
 mod number;
 mod parts;
+mod printing;
 mod reading;
 mod refusal;
 mod schedule;
