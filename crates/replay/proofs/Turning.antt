@@ -1,9 +1,9 @@
 -- A step of an iteration is a step of the machine.
-use Rattle.std.proofs.Common.{inl, inr, ◌≡◌, ◌∙◌, ◌⊎◌, ℕ, zero, suc, ◌+◌, ◌-◌, ◌<◌, ◌≤◌, Bool, true, false, List, [], ◌∷◌, ◌++◌, length, get_or, Option, Some, None, refl, sym, ap, subst, arith}
+use Rattle.std.proofs.Common.{inl, inr, ◌≡◌, ◌∙◌, ◌⊎◌, ℕ, zero, suc, ◌+◌, ◌-◌, ◌<◌, ◌≤◌, Bool, true, false, List, [], ◌∷◌, ◌++◌, length, drop, get_or, Option, Some, None, refl, sym, ap, subst, arith}
 use Rattle.std.specs.Prelude.{ℤ, pos, ◌%◌, ◌==◌, nat_lt, nat_le, if◌then◌else◌, map, slice_get}
 use Rattle.std.proofs.Math.ListN.{set}
 use Rattle.std.proofs.lemmas.Bool.{eqb-true, eq-eqb, ne_eqb, ltb-true, ltb-false, leb-true, and_parts}
-use Rattle.std.proofs.lemmas.List.{get_or-set_same, get_or-set_other, length-set}
+use Rattle.std.proofs.lemmas.List.{drop_all, drop_more, get_or-set_same, get_or-set_other, length-set}
 use Rattle.std.proofs.lemmas.Option.{get_or_from_slice_get}
 use Rattle.ast.specs.Record.{record_of}
 use Rattle.ast.specs.Store.{StoreOf}
@@ -23,7 +23,7 @@ use Rattle.machine.specs.declared.next.Next.{Next}
 use Rattle.machine.specs.declared.next.Next.TheVariants.{Local, Load, Store, Print, TakeRecord, TakeValue, DropRecord, Await, Advance, Opens, Join, Retire, Report, Stop, Halt, Stuck}
 use Rattle.machine.proofs.Naming.{cells_below, numbered, unnumbered}
 use Rattle.replay.specs.Parts.{Standing, Shared, Kept, standing, active, wait_in, held_of, counts_of, store_of, machine_of}
-use Rattle.replay.specs.Turns.{After, cells_after, ends, idle, iteration_after, leaves, parks, put_back, set_if, stays, waits_its_turn}
+use Rattle.replay.specs.Turns.{After, cells_after, ends, idle, iteration_after, leaves, one_after, parks, put_back, set_if, stays, waits_its_turn}
 use Rattle.replay.specs.declared.turn.Outcome.{Outcome}
 use Rattle.replay.specs.declared.turn.Outcome.TheVariants.{Stays, Parks, Leaves, Ends, Idle}
 use Rattle.replay.proofs.Maps.{Mine, held_put, standing_is, iterations_put, parked_put, put_same, counts_put, counts_first, count_is, store_put, store_is}
@@ -318,3 +318,32 @@ moves code s q k a x (Report e line) v r t w = subst (λ u. Move u (of a) (befor
 moves code s q k a x (Stop line) v r t w = subst (λ u. Move u (of a) (before code s x) q k (after code s q k (iteration_after code (1 + k % s) (Stop line) x.shared a) x)) (sym t) (breaks code s q k a x (stop_at line) r)
 moves code s q k a x Halt v r t w = absurd w
 moves code s q k a x Stuck v r t w = absurd w
+
+-- ---- the code that stores private scalars
+
+pub cell_within : (vs : Vars) (i : ℕ) (z : ℤ) (n : ℕ) → are_laid 0 vs ≡ true → are_distinct (names_in vs) ≡ true → cell_number (slice_get vs i) z ≡ Some n → n < count_of vs
+cell_within vs i z n l d e = let k = numbered vs i (slice_get vs i) z n d refl e in cells_below vs k.cell.name k.cell.place n l k.number
+
+one_more : (code : Code) (x : ℕ) (xs : List ℕ) (o : Option ℤ) (vs : List (Option ℤ)) (cells : List ℤ) → cells_after code (x ∷ xs) (o ∷ vs) cells ≡ one_after code x o (cells_after code xs vs cells)
+one_more code x xs None vs cells = refl
+one_more code x xs (Some v) vs cells = refl
+
+pub stores_one : (code : Code) (n i d : ℕ) (xs : List ℕ) (o : Option ℤ) (vs : List (Option ℤ)) (old mid new : List ℤ) → n ≡ i + 1 → i < length xs → i < length vs → cells_after code (drop n xs) (drop n vs) old ≡ mid → new ≡ one_after code (get_or xs i d) (get_or vs i o) mid → cells_after code (drop i xs) (drop i vs) old ≡ new
+stores_one code n i d xs o vs old mid new m h k w u =
+    ap (λ (ys : List ℕ). cells_after code ys (drop i vs) old) (drop_more xs i d h)
+    ∙ ap (λ (ys : List (Option ℤ)). cells_after code (get_or xs i d ∷ drop (i + 1) xs) ys old) (drop_more vs i o k)
+    ∙ one_more code (get_or xs i d) (drop (i + 1) xs) (get_or vs i o) (drop (i + 1) vs) old
+    ∙ ap (λ (c : List ℤ). one_after code (get_or xs i d) (get_or vs i o) c) (ap (λ (j : ℕ). cells_after code (drop j xs) (drop j vs) old) (sym m) ∙ w)
+    ∙ sym u
+
+pub one_length : (code : Code) (x : ℕ) (o : Option ℤ) (cells : List ℤ) → length (one_after code x o cells) ≡ length cells
+one_length code x None cells = refl
+one_length code x (Some v) cells = if_length (cell_number (slice_get code.variables x) (pos 0)) v cells
+
+pub stores_nothing : (code : Code) (i : ℕ) (xs : List ℕ) (vs : List (Option ℤ)) (cells : List ℤ) → (length xs ≤ i) ⊎ (length vs ≤ i) → cells_after code (drop i xs) (drop i vs) cells ≡ cells
+stores_nothing code i xs vs cells (inl h) = ap (λ (ys : List ℕ). cells_after code ys (drop i vs) cells) (drop_all i xs h)
+stores_nothing code i xs vs cells (inr h) = ap (λ (ys : List (Option ℤ)). cells_after code (drop i xs) ys cells) (drop_all i vs h) ∙ none_given code (drop i xs) cells
+  where
+    none_given : (code : Code) (xs : List ℕ) (cells : List ℤ) → cells_after code xs [] cells ≡ cells
+    none_given code [] cells = refl
+    none_given code (x ∷ xs) cells = refl

@@ -1,21 +1,22 @@
 -- An account of the code: what a step of an iteration leaves.
-use Rattle.std.specs.Prelude.{◌≡◌, ℕ, ℤ, pos, ◌+◌, ◌-◌, ◌==◌, nat_lt, nat_le, Bool, true, false, if◌then◌else◌, List, [], ◌∷◌, ◌++◌, get_or, map, set, Option, Some, None, slice_get, Result, Ok, Err}
+use Rattle.std.specs.Prelude.{◌≡◌, ℕ, ℤ, pos, ◌+◌, ◌-◌, ◌<◌, ◌≤◌, ◌^◌, length, ◌==◌, nat_lt, nat_le, Bool, true, false, if◌then◌else◌, List, [], ◌∷◌, ◌++◌, get_or, map, set, Option, Some, None, slice_get, Result, Ok, Err}
 use Rattle.ast.specs.Exact.{in_range}
 use Rattle.ast.specs.Input.{next_integer, taken as read_record}
 use Rattle.ast.specs.Record.{record_of}
 use Rattle.ast.specs.declared.fault.End.{End}
 use Rattle.ast.specs.declared.fault.End.TheVariants.{Done, Stopped, Fault as Faulted}
 use Rattle.ast.specs.declared.fault.Fault.{Fault}
-use Rattle.ec_kernel.specs.View.{count_at, parked, advanced, restarted}
+use Rattle.ec_kernel.specs.View.{count_at, places, parked, advanced, restarted}
 use Rattle.machine.specs.Code.{Code, loop_at}
 use Rattle.machine.specs.CodeView.{part}
 use Rattle.machine.specs.Frame.{Frame}
-use Rattle.machine.specs.Laid.{cell_number}
+use Rattle.machine.specs.Laid.{cell_number, count_of}
 use Rattle.machine.specs.Local.{going_on, without}
 use Rattle.machine.specs.Next.{values_for}
 use Rattle.machine.specs.State.{Wait, until_count, until_retired, Who}
 use Rattle.machine.specs.View.{Input, filled, frame_after, frame_joined, frame_with, index_at, input_after, input_behind, with_operand}
 use Rattle.machine.specs.declared.code.Open.{Open}
+use Rattle.machine.specs.declared.code.Piece.{Piece}
 use Rattle.machine.specs.declared.next.Next.{Next}
 use Rattle.machine.specs.declared.next.Next.TheVariants.{Load, Store, Print, TakeRecord, TakeValue, DropRecord, Await, Advance, Opens, Join, Retire, Report, Stop, Halt}
 use Rattle.replay.specs.Parts.{Standing, Shared, Kept}
@@ -51,6 +52,11 @@ cells_after code (x ∷ xs) [] cells = cells
 cells_after code (x ∷ xs) (None ∷ vs) cells = cells_after code xs vs cells
 cells_after code (x ∷ xs) (Some v ∷ vs) cells = set_if (cell_number (slice_get code.variables x) (pos 0)) v (cells_after code xs vs cells)
 
+-- the cells after one private scalar is stored, where it was defined
+abbrev pub one_after : Code → ℕ → Option ℤ → List ℤ → List ℤ
+one_after code x None cells = cells
+one_after code x (Some v) cells = set_if (cell_number (slice_get code.variables x) (pos 0)) v cells
+
 abbrev pub leaves : Code → ℕ → Shared → Standing → After
 leaves code n x a = record {
   outcome = Leaves;
@@ -65,14 +71,20 @@ leaves code n x a = record {
 abbrev pub ends : End → Shared → Standing → After
 ends e x a = record { outcome = Ends; shared = record x { output = x.output ++ a.out; ended = Some e }; standing = a }
 
+abbrev pub reported : ℕ → End → Shared → Standing → After
+reported slot e x a = if count_at x.order 0 == a.number then ends e x a else waits_its_turn slot x a
+
+abbrev pub printed_own : List Piece → ℕ → Standing → Standing
+printed_own pieces k a = record a {
+  frame = going_on (without k a.frame.operands) a.frame;
+  out = a.out ++ record_of (filled (map part pieces) (values_for (map part pieces) a.frame));
+}
+
 -- an iteration in a slot makes the step that stands next
 abbrev pub iteration_after : Code → ℕ → Next → Shared → Standing → After
 iteration_after code slot (Load n k) x a = stays x (record a { frame = with_operand k a.frame (get_or x.cells n (pos 0)) })
 iteration_after code slot (Store n v k) x a = stays (record x { cells = set x.cells n v }) (record a { frame = going_on (without k a.frame.operands) a.frame })
-iteration_after code slot (Print pieces k) x a = stays x (record a {
-  frame = going_on (without k a.frame.operands) a.frame;
-  out = a.out ++ record_of (filled (map part pieces.now) (values_for (map part pieces.now) a.frame));
-})
+iteration_after code slot (Print pieces k) x a = stays x (printed_own pieces.now k a)
 iteration_after code slot (Await e d) x a =
     if nat_lt a.number (count_at x.order e + d) then stays x (record a { frame = going_on a.frame.operands a.frame })
     else parks slot e (a.number + 1 - d) (until_count e (a.number + 1 - d)) x a
@@ -80,8 +92,8 @@ iteration_after code slot (Advance e) x a =
     if count_at x.order e == a.number then stays (record x { order = advanced x.order e }) (record a { frame = going_on a.frame.operands a.frame })
     else idle x a
 iteration_after code slot (Retire n) x a = if count_at x.order 0 == a.number then leaves code n x a else waits_its_turn slot x a
-iteration_after code slot (Report e line) x a = if count_at x.order 0 == a.number then ends (Faulted e line) x a else waits_its_turn slot x a
-iteration_after code slot (Stop line) x a = if count_at x.order 0 == a.number then ends (Stopped line) x a else waits_its_turn slot x a
+iteration_after code slot (Report e line) x a = reported slot (Faulted e line) x a
+iteration_after code slot (Stop line) x a = reported slot (Stopped line) x a
 iteration_after code slot next x a = idle x a
 
 -- ---- what a core keeps then
@@ -167,3 +179,12 @@ main_after code next x = main_as Idle x
 -- processor q has made a step of main
 abbrev pub put_main : ℕ → MainAfter → Kept → Kept
 put_main q y x = record x { shared = y.shared; input = y.input; main = y.main; waiting = y.waiting; held = held_after y.outcome q x.held }
+
+-- a step of the iteration may be made: it is in no place of the kernel, and none before it is missing
+pub record May (code : Code) (slot : ℕ) (x : Shared) (a : Standing) : Type 0 where
+  pub counts : length x.order.counts ≡ 65
+  pub slot_in_range : slot < x.order.slots
+  pub nowhere : places slot x.order ≡ 0
+  pub number : a.number < 2 ^ 128 - 1
+  pub turn : count_at x.order 0 ≤ a.number
+  pub cells : length x.cells ≡ count_of code.variables
