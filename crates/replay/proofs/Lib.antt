@@ -10,3 +10,5 @@ pub mod Queues
 pub mod Turning
 pub mod Leading
 pub mod Pieces
+pub mod Scanning
+pub mod Values

@@ -3,14 +3,18 @@
 
 mod entry;
 pub mod laws;
+mod input;
+mod main_turn;
 mod number;
 mod parts;
 mod printing;
 mod reading;
 mod refusal;
+mod scanner;
 mod schedule;
 mod short;
 mod turn;
+mod values_at;
 mod writing;
 
 pub use entry::{Act, Entry, Version};

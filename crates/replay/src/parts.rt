@@ -1,5 +1,6 @@
 //! What a core keeps of activities, and what they share.
 
+use crate::input::Input;
 use ast::End;
 use ec_kernel::Kernel;
 use machine::{Frame, Open};
@@ -37,4 +38,13 @@ pub struct Shared {
     pub open: Option<Open>,
     /// How the run has ended.
     pub ended: Option<End>,
+}
+
+/// What main has of its own.
+#[derive(Drop)]
+pub struct Main<'p> {
+    pub frame: Frame,
+    /// What it is parked on.
+    pub wait: Option<Until>,
+    pub input: Input<'p>,
 }
