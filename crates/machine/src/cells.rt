@@ -26,13 +26,19 @@ impl Code {
     ghost use Rattle.machine.specs.Laid.{cell_number, count_of};
 
     /// The number of a variable's cell at a place, if it has one there.
-    #[tactic(auto, using(crate::proofs::Lying::few_cells))]
     pub fn cell(&self, variable: u32, place: i64) -> Option<usize>
         ensures { result ≡ cell_number (slice_get self.now.variables.items variable) place }
     {
-        let number = variable as usize;
-        if number < self.variables.len() {
-            number_in(&self.variables[number], place)
+        self.cell_at(variable as usize, place)
+    }
+
+    /// The same, of a variable by its place among the code's variables.
+    #[tactic(auto, using(crate::proofs::Lying::few_cells))]
+    pub fn cell_at(&self, variable: usize, place: i64) -> Option<usize>
+        ensures { result ≡ cell_number (slice_get self.now.variables.items variable) place }
+    {
+        if variable < self.variables.len() {
+            number_in(&self.variables[variable], place)
         } else {
             None
         }

@@ -1,6 +1,6 @@
 -- A step of main is a step of the machine.
 use Rattle.std.proofs.Common.{inl, inr, ◌≡◌, ◌∙◌, ◌⊎◌, ℕ, zero, suc, ◌+◌, ◌<◌, ◌≤◌, Bool, true, false, List, [], ◌∷◌, ◌++◌, length, get_or, Option, Some, None, Result, Ok, Err, refl, sym, ap, subst, arith}
-use Rattle.std.specs.Prelude.{ℤ, pos, ◌%◌, nat_le, eqb, cond, if◌then◌else◌, map, slice_get, replicate}
+use Rattle.std.specs.Prelude.{ℤ, pos, ◌+ℤ◌, ◌*ℤ◌, ◌%◌, nat_le, eqb, cond, if◌then◌else◌, map, slice_get, replicate}
 use Rattle.std.proofs.Math.ListN.{set}
 use Rattle.std.proofs.lemmas.Bool.{leb-true, leb-false}
 use Rattle.std.proofs.lemmas.List.{length-set}
@@ -20,7 +20,7 @@ use Rattle.machine.specs.declared.next.Next.{Next}
 use Rattle.machine.specs.declared.next.Next.TheVariants.{Local, Load, Store, Print, TakeRecord, TakeValue, DropRecord, Await, Advance, Opens, Join, Retire, Report, Stop, Halt, Stuck}
 use Rattle.machine.proofs.Naming.{cells_below}
 use Rattle.replay.specs.Parts.{Standing, Shared, Kept, active, numbered, standing, held_of, counts_of, store_of, machine_of}
-use Rattle.replay.specs.Turns.{MainAfter, closes, joins, main_after, main_as, none_open, opens, put_main, with_last}
+use Rattle.replay.specs.Turns.{MainAfter, closes, joins, main_after, main_as, none_open, opens, put_main, set_if, with_last}
 use Rattle.replay.specs.declared.turn.Outcome.TheVariants.{Parks, Idle}
 use Rattle.replay.proofs.Maps.{held_put, store_put, store_is}
 use Rattle.replay.proofs.Turning.{Went, one_stored}
@@ -145,3 +145,10 @@ main_moves code s q x (Report e line) v r t w = subst (λ u. MainMove trips_of u
 main_moves code s q x (Stop line) v r t w = subst (λ u. MainMove trips_of u (before code s x) q (after code s q (main_after code (Stop line) x) x)) (sym t) refl
 main_moves code s q x Halt v r t w = subst (λ u. MainMove trips_of u (before code s x) q (after code s q (main_after code Halt x) x)) (sym t) refl
 main_moves code s q x Stuck v r t w = absurd w
+
+-- the last value of the open loop's variable
+pub closed_cells : (code : Code) (l : Open) (x : ℕ) (step v : ℤ) (cells : List ℤ) → x ≡ (loop_at code l.number).variable → step ≡ (loop_at code l.number).step → in_range (l.first +ℤ (pos l.trips *ℤ step)) ≡ Ok v
+    → set_if (cell_number (slice_get code.variables x) (pos 0)) v cells ≡ with_last code l (in_range (index_at code l l.trips)) cells
+closed_cells code l x step v cells e f g =
+    ap (λ (y : ℕ). set_if (cell_number (slice_get code.variables y) (pos 0)) v cells) e
+    ∙ ap (λ (o : Result ℤ Fault). with_last code l o cells) (sym g ∙ ap (λ (z : ℤ). in_range (l.first +ℤ (pos l.trips *ℤ z))) f)
