@@ -1,25 +1,23 @@
 -- A step of main is a step of the machine.
-use Rattle.std.proofs.Common.{inl, inr, ◌≡◌, ◌∙◌, ◌⊎◌, ℕ, zero, suc, ◌+◌, ◌<◌, ◌≤◌, Bool, true, false, List, [], ◌∷◌, ◌++◌, length, get_or, Option, Some, None, Result, Ok, Err, refl, sym, ap, subst, arith}
-use Rattle.std.specs.Prelude.{ℤ, pos, ◌+ℤ◌, ◌*ℤ◌, ◌%◌, nat_le, eqb, cond, if◌then◌else◌, map, slice_get, replicate}
-use Rattle.std.proofs.Math.ListN.{set}
+use Rattle.std.proofs.Common.{inl, inr, ◌≡◌, ◌∙◌, ◌⊎◌, ℕ, zero, suc, ◌<◌, ◌≤◌, Bool, true, false, List, [], ◌∷◌, length, get_or, Option, Some, None, Result, Ok, Err, refl, sym, ap, subst, arith}
+use Rattle.std.specs.Prelude.{ℤ, pos, ◌+ℤ◌, ◌*ℤ◌, ◌%◌, nat_le, eqb, cond, if◌then◌else◌, slice_get, replicate}
 use Rattle.std.proofs.lemmas.Bool.{leb-true, leb-false}
-use Rattle.std.proofs.lemmas.List.{length-set}
 use Rattle.ast.specs.Exact.{in_range}
 use Rattle.ast.specs.Store.{StoreOf}
 use Rattle.ast.specs.declared.fault.Fault.{Fault}
-use Rattle.ec_kernel.specs.View.{count_at, parked, restarted}
+use Rattle.ec_kernel.specs.View.{count_at, parked}
 use Rattle.machine.specs.Code.{Code, Cell, cell_at, loop_at}
 use Rattle.machine.specs.Frame.{Frame}
 use Rattle.machine.specs.Laid.{are_distinct, are_laid, cell_number, count_of, names_in, number_at}
 use Rattle.machine.specs.Local.{going_on, without}
 use Rattle.machine.specs.Next.{Tells}
-use Rattle.machine.specs.State.{Machine, MainMove, NoneOpen, Wait, until_retired, Who, the_main, put_at, put_cell, put_cells}
+use Rattle.machine.specs.State.{Machine, MainMove, until_retired, Who, the_main, put_at, put_cells}
 use Rattle.machine.specs.View.{View, storing, opening, joining, index_at, join_stores, joined_with, frame_joined, trips_of, with_operand}
 use Rattle.machine.specs.declared.code.Open.{Open}
 use Rattle.machine.specs.declared.next.Next.{Next}
 use Rattle.machine.specs.declared.next.Next.TheVariants.{Local, Load, Store, Print, TakeRecord, TakeValue, DropRecord, Await, Advance, Opens, Join, Retire, Report, Stop, Halt, Stuck}
 use Rattle.machine.proofs.Naming.{cells_below}
-use Rattle.replay.specs.Parts.{Standing, Shared, Kept, active, numbered, standing, held_of, counts_of, store_of, machine_of}
+use Rattle.replay.specs.Parts.{Standing, Kept, active, numbered, standing, held_of, counts_of, store_of, machine_of}
 use Rattle.replay.specs.Turns.{MainAfter, closes, joins, main_after, main_as, none_open, opens, put_main, set_if, with_last}
 use Rattle.replay.specs.declared.turn.Outcome.TheVariants.{Parks, Idle}
 use Rattle.replay.proofs.Maps.{held_put, store_put, store_is}
@@ -73,11 +71,10 @@ opened_machine : (code : Code) (s q : ℕ) (x : Kept) (l : Open) → Leads code 
     → MainMove trips_of (opening l (going_on (without 2 x.main.operands) x.main)) (before code s x) q (after code s q (opens l x) x)
 opened_machine code s q x l r h =
     let n : ℕ = length x.shared.order.counts in
-    let g : Frame = going_on (without 2 x.main.operands) x.main in
-    (
+    let g : Frame = going_on (without 2 x.main.operands) x.main in (
       λ k. nobody x.iterations s h k,
       ap (λ (f : ℕ → ℕ). record (before code s x) { main = g; loop = Some l; counts = f; retired = get_or (zeros_of n) 0 0; ticket = 0 }) (no_counts n)
-      ∙ ap (λ (c : ℕ). record (before code s x) { main = g; loop = Some l; counts = λ e. 0; retired = c; ticket = 0 }) (zero_at n 0),
+          ∙ ap (λ (c : ℕ). record (before code s x) { main = g; loop = Some l; counts = λ e. 0; retired = c; ticket = 0 }) (zero_at n 0),
     )
 
 opens_moves : (code : Code) (s q : ℕ) (x : Kept) (l : Open) → Leads code q x → Went (main_after code (Opens l) x).outcome
@@ -109,7 +106,7 @@ joined code s q line x (Some l) r e w = (l, e, by (nat_le l.trips (count_at x.sh
     by true h = inl (
       leb-true l.trips (count_at x.shared.order 0) h,
       ap (λ (f : StoreOf). record (before code s x) { main = frame_joined (in_range (index_at code l l.trips)) line x.main; store = f; loop = None })
-      (last_stored code l (in_range (index_at code l l.trips)) x.shared.cells r.laid r.distinct r.cells),
+          (last_stored code l (in_range (index_at code l l.trips)) x.shared.cells r.laid r.distinct r.cells),
     )
     by false h = inr (
       omega (arith, leb-false l.trips (count_at x.shared.order 0) h),

@@ -1,10 +1,10 @@
 -- Lists that stand for maps, after a write.
-use Rattle.std.proofs.Common.{◌≡◌, ◌∙◌, ℕ, zero, suc, ◌+◌, ◌<◌, Bool, true, false, List, [], ◌∷◌, length, get_or, Option, Some, None, refl, sym, ap, subst, arith}
+use Rattle.std.proofs.Common.{◌≡◌, ◌∙◌, ℕ, ◌<◌, Bool, true, false, List, length, get_or, Option, Some, None, refl, sym, ap, subst}
 use Rattle.std.specs.Prelude.{ℤ, pos, ◌%◌, ◌==◌, ◌&&◌, eqb, cond, if◌then◌else◌}
 use Rattle.std.proofs.Math.ListN.{set}
-use Rattle.std.proofs.lemmas.Bool.{and_parts, eqb-true, eq-eqb, ne_eqb}
+use Rattle.std.proofs.lemmas.Bool.{eqb-true, eq-eqb, ne_eqb}
 use Rattle.std.proofs.lemmas.List.{get_or-set_same, get_or-set_other}
-use Rattle.ast.specs.Store.{StoreOf, put, same_name}
+use Rattle.ast.specs.Store.{put, same_name}
 use Rattle.machine.specs.Code.{Cell}
 use Rattle.machine.specs.Laid.{are_laid, number_at}
 use Rattle.machine.specs.Frame.{Frame}
@@ -52,9 +52,9 @@ standing_at xs s k b l old new j =
     decide j k (λ c. numbered j (get_or (set xs (k % s) b) (j % s) None) ≡ cond c b (numbered j (get_or xs (j % s) None)))
     (λ e. subst (λ (i : ℕ). numbered i (get_or (set xs (k % s) b) (i % s) None) ≡ b) (sym e) (ap (numbered k) (get_or-set_same xs (k % s) b None l) ∙ numbered_mine k b new))
     (λ d. decide (j % s) (k % s) (λ c. numbered j (get_or (set xs (k % s) b) (j % s) None) ≡ numbered j (get_or xs (j % s) None))
-      (λ e. ap (λ (i : ℕ). numbered j (get_or (set xs (k % s) b) i None)) e ∙ ap (numbered j) (get_or-set_same xs (k % s) b None l) ∙ numbered_other j k b new d
-        ∙ sym (ap (λ (i : ℕ). numbered j (get_or xs i None)) e ∙ numbered_other j k (get_or xs (k % s) None) old d))
-      (λ f. ap (numbered j) (get_or-set_other xs (k % s) (j % s) b None f)))
+    (λ e. ap (λ (i : ℕ). numbered j (get_or (set xs (k % s) b) i None)) e ∙ ap (numbered j) (get_or-set_same xs (k % s) b None l) ∙ numbered_other j k b new d
+    ∙ sym (ap (λ (i : ℕ). numbered j (get_or xs i None)) e ∙ numbered_other j k (get_or xs (k % s) None) old d))
+    (λ f. ap (numbered j) (get_or-set_other xs (k % s) (j % s) b None f)))
 
 pub standing_put : (xs : List (Option Standing)) (s k : ℕ) (b : Option Standing) → k % s < length xs → Mine k (get_or xs (k % s) None) → Mine k b → standing (set xs (k % s) b) s ≡ put_at (standing xs s) k b
 unfolding standing put_at
@@ -133,7 +133,7 @@ store_at : (xs : List Variable) (cells : List ℤ) (a : List ℕ) (p n : ℕ) (v
 store_at xs cells a p n v h e l b q =
     decides a b p q (λ c. value_in (set cells n v) (number_at xs b q) ≡ (if c then v else value_in cells (number_at xs b q)))
     (λ f g. let k : number_at xs b q ≡ Some n = ap (λ (i : ℕ). number_at xs b i) (sym g) ∙ subst (λ (y : List ℕ). number_at xs y p ≡ Some n) f e in
-      ap (value_in (set cells n v)) k ∙ get_or-set_same cells n v (pos 0) l)
+    ap (value_in (set cells n v)) k ∙ get_or-set_same cells n v (pos 0) l)
     (λ d. value_put cells n v (number_at xs b q) (λ f. let k = cells_apart 0 xs a b p q n h e f in d k.0 k.1))
 
 -- a cell has another value

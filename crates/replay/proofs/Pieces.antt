@@ -1,11 +1,11 @@
 -- Records, piece by piece.
-use Rattle.std.proofs.Common.{◌≡◌, ◌∙◌, ℕ, zero, suc, ◌+◌, ◌-◌, ◌<◌, ◌≤◌, Bool, true, false, List, [], ◌∷◌, ◌++◌, length, take, drop, get_or, refl, sym, ap, append_assoc, arith}
-use Rattle.std.specs.Prelude.{ℤ, map, reverse}
+use Rattle.std.proofs.Common.{◌≡◌, ◌∙◌, ℕ, suc, ◌-◌, ◌<◌, Bool, true, false, List, [], ◌∷◌, ◌++◌, length, take, get_or, refl, sym, ap, append_assoc, arith}
+use Rattle.std.specs.Prelude.{ℤ, reverse}
 use Rattle.std.proofs.lemmas.List.{append-nil, reverse-append, take_all}
 use Rattle.std.proofs.Math.Seq.{take-suc}
 use Rattle.ast.specs.Record.{Printed, number, text, items_printed, rest_printed, record_of}
 use Rattle.machine.specs.Code.{Part, operand, text_as}
-use Rattle.machine.specs.View.{filled, values_wanted}
+use Rattle.machine.specs.View.{filled}
 use Rattle.replay.specs.Printing.{PrintsPiece, all_shown, shown, to_print}
 
 shown_on : (first : Bool) (p : Printed) (ps : List Printed) → all_shown first (p ∷ ps) ≡ shown first p ++ rest_printed ps
@@ -24,22 +24,20 @@ value_piece first left vs old new d h e ps w l =
     let v : ℤ = get_or vs (left - 1) d in
     let r : List ℤ = reverse (take (left - 1) vs) in
     let one : left ≡ suc (left - 1) = omega arith in
-    let big : reverse (take left vs) ≡ v ∷ r = ap (λ (n : ℕ). reverse (take n vs)) one ∙ last_first vs (left - 1) d (omega arith) in
-    (
+    let big : reverse (take left vs) ≡ v ∷ r = ap (λ (n : ℕ). reverse (take n vs)) one ∙ last_first vs (left - 1) d (omega arith) in (
       omega (arith, w),
       ap (λ (b : List ℕ). b ++ rest_printed (filled ps r)) e
-      ∙ append_assoc old (shown first (number v)) (rest_printed (filled ps r))
-      ∙ ap (λ (b : List ℕ). old ++ b) (sym (shown_on first (number v) (filled ps r)) ∙ ap (λ (z : List ℤ). all_shown first (filled (operand ∷ ps) z)) (sym big)),
+          ∙ append_assoc old (shown first (number v)) (rest_printed (filled ps r))
+          ∙ ap (λ (b : List ℕ). old ++ b) (sym (shown_on first (number v) (filled ps r)) ∙ ap (λ (z : List ℤ). all_shown first (filled (operand ∷ ps) z)) (sym big)),
     )
 
 pub text_piece : (first : Bool) (t : List ℕ) (left : ℕ) (vs : List ℤ) (old new : List ℕ) → new ≡ old ++ t → PrintsPiece first (text_as t) left vs old left new
 text_piece first t left vs old new e ps w l =
-    let r : List ℤ = reverse (take left vs) in
-    (
+    let r : List ℤ = reverse (take left vs) in (
       w,
       ap (λ (b : List ℕ). b ++ rest_printed (filled ps r)) e
-      ∙ append_assoc old t (rest_printed (filled ps r))
-      ∙ ap (λ (b : List ℕ). old ++ b) (ap (λ (b : List ℕ). b ++ rest_printed (filled ps r)) (sym (text_shown first t)) ∙ sym (shown_on first (text t) (filled ps r))),
+          ∙ append_assoc old t (rest_printed (filled ps r))
+          ∙ ap (λ (b : List ℕ). old ++ b) (ap (λ (b : List ℕ). b ++ rest_printed (filled ps r)) (sym (text_shown first t)) ∙ sym (shown_on first (text t) (filled ps r))),
     )
 
 nothing : (first : Bool) → all_shown first [] ≡ []

@@ -1,6 +1,6 @@
 -- Where the kernel has an activity, after a call of it.
 use Rattle.std.proofs.Common.{inl, inr, ◌≡◌, ◌∙◌, ◌⊎◌, ℕ, zero, suc, ◌+◌, ◌<◌, ◌≤◌, Bool, true, false, List, [], ◌∷◌, ◌++◌, length, get_or, take, drop, Option, Some, None, refl, sym, ap, subst, arith}
-use Rattle.std.specs.Prelude.{◌==◌, cond, if◌then◌else◌, map, nat_le}
+use Rattle.std.specs.Prelude.{◌==◌, if◌then◌else◌, map, nat_le}
 use Rattle.std.specs.List.{prefix_len}
 use Rattle.std.proofs.Math.ListN.{set}
 use Rattle.std.proofs.lemmas.Bool.{cases_eq, eq-eqb, eqb-true, ne_eqb, leb-true}
@@ -75,11 +75,17 @@ parks_itself x e v t k l c =
 
 parks_at : (x : View) (e v t s i u : ℕ) → IsKernel x → e < length x.counts → StandsAt x s i u → StandsAt (parked x e v t) s i u
 parks_at x e v t s i u k l (n, inl h) = (n, inl h)
-parks_at x e v t s i u k l (n, inr h) = (n, inr (h.0, elim (cases_eq i e) [
-  | inl same ↦ subst (λ j. Waits u s (get_or (set x.waiters e (queued (v, t) (waiters_at x e))) j [])) (sym same)
-      (subst (λ ws. Waits u s ws) (sym (get_or-set_same x.waiters e (queued (v, t) (waiters_at x e)) [] (omega (arith, k.events, l)))) (still_queued u s v t (waiters_at x e) (subst (λ j. Waits u s (waiters_at x j)) same h.1)))
-  | inr other ↦ subst (λ ws. Waits u s ws) (sym (get_or-set_other x.waiters e i (queued (v, t) (waiters_at x e)) [] other)) h.1
-]))
+parks_at x e v t s i u k l (n, inr h) = (
+  n,
+  inr (
+    h.0,
+    elim (cases_eq i e) [
+      | inl same ↦ subst (λ j. Waits u s (get_or (set x.waiters e (queued (v, t) (waiters_at x e))) j [])) (sym same)
+          (subst (λ ws. Waits u s ws) (sym (get_or-set_same x.waiters e (queued (v, t) (waiters_at x e)) [] (omega (arith, k.events, l)))) (still_queued u s v t (waiters_at x e) (subst (λ j. Waits u s (waiters_at x j)) same h.1)))
+      | inr other ↦ subst (λ ws. Waits u s ws) (sym (get_or-set_other x.waiters e i (queued (v, t) (waiters_at x e)) [] other)) h.1
+    ],
+  ),
+)
 
 -- another one stands as before
 pub parks_other : (x : View) (e v t s : ℕ) (w : Option Wait) → IsKernel x → e < length x.counts → (s ≡ t → ⊥) → Stands x s w → Stands (parked x e v t) s w
@@ -146,9 +152,9 @@ advances_same x e s u k j (l, h) = by h
     by (inr a) = elim (split_waits u s n ws a.1) [
       | inl b ↦ (inside, inl (omega (arith, front_waits (count_at x e + 1) u s ws b, count), omega (arith, waiting_times u s (take n ws) b, more)))
       | inr b ↦ (
-        let d : Waits u s (waiters_at (advanced x e) e) = subst (λ vs. Waits u s vs) (sym rest) b in
-        (inside, inr (above_waits (count_at (advanced x e) e) u s (waiters_at (advanced x e) e) (j.waiting e inside) d, d))
-      )
+          let d : Waits u s (waiters_at (advanced x e) e) = subst (λ vs. Waits u s vs) (sym rest) b in
+          (inside, inr (above_waits (count_at (advanced x e) e) u s (waiters_at (advanced x e) e) (j.waiting e inside) d, d))
+          )
     ]
 
 advances_other : (x : View) (e s i u : ℕ) → (i ≡ e → ⊥) → StandsAt x s i u → StandsAt (advanced x e) s i u

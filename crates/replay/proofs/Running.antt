@@ -1,14 +1,14 @@
 -- Every run is the replay of a schedule.
 use Rattle.std.proofs.Common.{inl, inr, ◌≡◌, ◌∙◌, ◌⊎◌, ℕ, zero, suc, ◌+◌, ◌<◌, ◌≤◌, ◌^◌, Bool, true, false, List, [], ◌∷◌, length, Option, Some, None, refl, sym, ap, subst, arith}
-use Rattle.std.specs.Prelude.{eqb, cond}
+use Rattle.std.specs.Prelude.{eqb}
 use Rattle.std.proofs.lemmas.Bool.{eqb-true}
 use Rattle.machine.specs.Code.{Code}
 use Rattle.machine.specs.Frame.{Frame}
-use Rattle.machine.specs.State.{Active, State, Machine, CodeRun, CodeStep, Init, Wait, Who, the_main, iteration, Choice, take_main, take_iteration, take_ticket, Takes, Turn, Move, MainMove, put_at}
+use Rattle.machine.specs.State.{Active, Machine, CodeRun, CodeStep, Init, Wait, Who, the_main, iteration, Choice, take_main, take_iteration, take_ticket, Takes, Turn, Move, MainMove, put_at}
 use Rattle.machine.specs.View.{View, doing, loading, storing, printing, reading, awaiting, advancing, opening, joining, leaving, breaking, halting, stuck, view, trips_of, begin}
 use Rattle.machine.specs.declared.code.Open.{Open}
-use Rattle.replay.specs.Replays.{Point, slot, frame_of, wait_of, view_in, local_in, moved, taken, Moves, Picks, Works, Does, Leads, Replays, beginning, IsReplayed, EveryRun, IsRun}
-use Rattle.replay.specs.Schedules.{Act, works, shares, picks_main, picks, takes_ticket, Entry, Schedule, AreEntries, AreSizes, IsAct, IsSchedule}
+use Rattle.replay.specs.Replays.{Point, slot, frame_of, wait_of, view_in, local_in, moved, taken, Picks, Works, Does, Leads, beginning, EveryRun, IsRun}
+use Rattle.replay.specs.Schedules.{Act, works, shares, picks_main, picks, takes_ticket, Entry, AreEntries, IsAct}
 use Rattle.replay.specs.declared.entry.Version.{Version}
 use Rattle.replay.specs.declared.entry.Version.TheVariants.{First, Second}
 

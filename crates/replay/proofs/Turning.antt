@@ -1,14 +1,12 @@
 -- A step of an iteration is a step of the machine.
-use Rattle.std.proofs.Common.{inl, inr, ◌≡◌, ◌∙◌, ◌⊎◌, ℕ, zero, suc, ◌+◌, ◌-◌, ◌<◌, ◌≤◌, Bool, true, false, List, [], ◌∷◌, ◌++◌, length, drop, get_or, Option, Some, None, refl, sym, ap, subst, arith}
-use Rattle.std.specs.Prelude.{ℤ, pos, ◌%◌, ◌==◌, nat_lt, nat_le, if◌then◌else◌, map, slice_get}
+use Rattle.std.proofs.Common.{inl, inr, ◌≡◌, ◌∙◌, ◌⊎◌, ℕ, ◌+◌, ◌-◌, ◌<◌, ◌≤◌, Bool, true, false, List, [], ◌∷◌, ◌++◌, length, drop, get_or, Option, Some, None, refl, sym, ap, subst, arith}
+use Rattle.std.specs.Prelude.{ℤ, pos, ◌%◌, ◌==◌, nat_lt, nat_le, if◌then◌else◌, slice_get}
 use Rattle.std.proofs.Math.ListN.{set}
-use Rattle.std.proofs.lemmas.Bool.{eqb-true, eq-eqb, ne_eqb, ltb-true, ltb-false, leb-true, and_parts}
+use Rattle.std.proofs.lemmas.Bool.{eqb-true, eq-eqb, ltb-true, ltb-false, leb-true, and_parts}
 use Rattle.std.proofs.lemmas.List.{drop_all, drop_more, get_or-set_same, get_or-set_other, length-set}
 use Rattle.std.proofs.lemmas.Option.{get_or_from_slice_get}
-use Rattle.ast.specs.Record.{record_of}
 use Rattle.ast.specs.Store.{StoreOf}
 use Rattle.ast.specs.declared.fault.End.{End}
-use Rattle.ast.specs.declared.fault.End.TheVariants.{Stopped, Fault as Faulted}
 use Rattle.ec_kernel.specs.View.{count_at, parked, advanced}
 use Rattle.machine.specs.Code.{Code, Cell, Loop, cell_at, loop_at, no_loop}
 use Rattle.machine.specs.Frame.{Frame}
@@ -16,7 +14,7 @@ use Rattle.machine.specs.Laid.{are_distinct, are_laid, cell_number, count_of, na
 use Rattle.machine.specs.Local.{going_on, without}
 use Rattle.machine.specs.Next.{Tells}
 use Rattle.machine.specs.State.{Active, Machine, Move, Wait, until_count, until_retired, Who, iteration, end_of, put_at, put_cell, put_cells, with_frame, park}
-use Rattle.machine.specs.View.{Cause, View, defined_cells, stored_if, with_operand, loading, storing, printing, awaiting, advancing, leaving, breaking, failure, stop_at, is_event}
+use Rattle.machine.specs.View.{Cause, View, defined_cells, stored_if, with_operand, loading, storing, awaiting, advancing, leaving, breaking, failure, stop_at, is_event}
 use Rattle.machine.specs.declared.code.Open.{Open}
 use Rattle.machine.specs.declared.code.Variable.{Variable}
 use Rattle.machine.specs.declared.next.Next.{Next}
@@ -25,7 +23,7 @@ use Rattle.machine.proofs.Naming.{cells_below, numbered, unnumbered}
 use Rattle.replay.specs.Parts.{Standing, Shared, Kept, standing, active, wait_in, held_of, counts_of, store_of, machine_of}
 use Rattle.replay.specs.Turns.{After, cells_after, ends, idle, iteration_after, leaves, one_after, parks, put_back, set_if, stays, waits_its_turn}
 use Rattle.replay.specs.declared.turn.Outcome.{Outcome}
-use Rattle.replay.specs.declared.turn.Outcome.TheVariants.{Stays, Parks, Leaves, Ends, Idle}
+use Rattle.replay.specs.declared.turn.Outcome.TheVariants.{Idle}
 use Rattle.replay.proofs.Maps.{Mine, held_put, standing_is, iterations_put, parked_put, put_same, counts_put, counts_first, count_is, store_put, store_is}
 
 -- processor q holds iteration k, which stands in its place
@@ -53,10 +51,10 @@ unmoved vs s y hs x = machine_of vs s (record x { shared = y; held = hs })
 
 turned : (code : Code) (s q k : ℕ) (a : Standing) (x : Kept) (y : Shared) (hs : List (Option Who)) (b : Option Standing) → Runs code s q k a x → Mine k b
     → machine_of code.variables s (with_iteration s k y hs b x)
-      ≡ record (unmoved code.variables s y hs x) {
-        iterations = put_at (λ i. active (standing x.iterations s i)) k (active b);
-        parked = put_at (λ i. wait_in (standing x.iterations s i)) k (wait_in b);
-      }
+    ≡ record (unmoved code.variables s y hs x) {
+      iterations = put_at (λ i. active (standing x.iterations s i)) k (active b);
+      parked = put_at (λ i. wait_in (standing x.iterations s i)) k (wait_in b);
+    }
 turned code s q k a x y hs b r m =
     let old : Mine k (get_or x.iterations (k % s) None) = subst (λ o. Mine k o) (sym r.here) r.number in
     let M : Machine = unmoved code.variables s y hs x in
@@ -89,7 +87,7 @@ parks_machine code s q k a x y w r =
 -- it has retired
 leaves_machine : (code : Code) (s q k : ℕ) (a : Standing) (x : Kept) (y : Shared) → Runs code s q k a x
     → machine_of code.variables s (with_iteration s k y (set x.held q None) None x)
-      ≡ record (unmoved code.variables s y x.held x) { iterations = put_at (λ i. active (standing x.iterations s i)) k None; held = put_at (held_of x.held) q None }
+    ≡ record (unmoved code.variables s y x.held x) { iterations = put_at (λ i. active (standing x.iterations s i)) k None; held = put_at (held_of x.held) q None }
 leaves_machine code s q k a x y r =
     let M : Machine = unmoved code.variables s y (set x.held q None) x in
     let N : Machine = unmoved code.variables s y x.held x in
@@ -167,7 +165,7 @@ waits_turn : (code : Code) (s q k : ℕ) (a : Standing) (x : Kept) → Runs code
 waits_turn code s q k a x r d = (
   omega (arith, r.turn, d),
   parks_machine code s q k a x (record x.shared { order = parked x.shared.order 0 a.number (1 + k % s) }) (until_retired a.number) r
-  ∙ ap (λ (n : ℕ). park (before code s x) q k (until_retired n)) r.number,
+      ∙ ap (λ (n : ℕ). park (before code s x) q k (until_retired n)) r.number,
 )
 
 ends_machine : (code : Code) (s q k : ℕ) (a : Standing) (x : Kept) (e : End) → Runs code s q k a x
@@ -217,12 +215,12 @@ awaits code s q k a x e d r h = by (nat_lt a.number (count_at x.shared.order e +
     by false w = inr (
       omega (arith, ltb-false a.number (count_at x.shared.order e + d) w, count, r.number),
       parks_machine code s q k a x (record x.shared { order = parked x.shared.order e (a.number + 1 - d) (1 + k % s) }) (until_count e (a.number + 1 - d)) r
-      ∙ ap (λ (n : ℕ). park (before code s x) q k (until_count e (n + 1 - d))) r.number,
+          ∙ ap (λ (n : ℕ). park (before code s x) q k (until_count e (n + 1 - d))) r.number,
     )
 
 advances_machine : (code : Code) (s q k : ℕ) (a : Standing) (x : Kept) (e : ℕ) → Runs code s q k a x → is_event e ≡ true
     → unmoved code.variables s (record x.shared { order = advanced x.shared.order e }) x.held x
-      ≡ record (before code s x) { counts = put_at (before code s x).counts e ((before code s x).counts e + 1) }
+    ≡ record (before code s x) { counts = put_at (before code s x).counts e ((before code s x).counts e + 1) }
 advances_machine code s q k a x e r h =
     let z = event_some e h in
     let c : ℕ = count_at x.shared.order e + 1 in
@@ -245,7 +243,7 @@ advances code s q k a x e r h = by (count_at x.shared.order e == a.number) refl
     by true w t = (
       count_is x.shared.order.counts e (event_some e h).0 ∙ eqb-true (count_at x.shared.order e) a.number w ∙ r.number,
       stays_machine code s q k a x y (record a { frame = g }) r r.number r.running
-      ∙ ap (λ (m : Machine). with_frame m k g a.out) (advances_machine code s q k a x e r h),
+          ∙ ap (λ (m : Machine). with_frame m k g a.out) (advances_machine code s q k a x e r h),
     )
     by false w t = absurd t
 

@@ -1,10 +1,10 @@
 -- Values of a DO variable that leave the 64-bit integers.
-use Rattle.std.proofs.Common.{◌≡◌, ◌∙◌, ℕ, zero, suc, ◌+◌, ◌*◌, ◌<◌, ◌≤◌, ◌^◌, Bool, Ok, Err, Option, None, refl, sym, ap, arith, w64, of_z, to_z, FitsSigned, rules}
+use Rattle.std.proofs.Common.{◌≡◌, ◌∙◌, ℕ, zero, suc, ◌<◌, ◌≤◌, ◌^◌, Bool, Ok, Err, refl, ap, arith, w64, of_z, FitsSigned}
 use Rattle.std.specs.Prelude.{ℤ, pos, negsuc, ◌+ℤ◌, ◌*ℤ◌, unsigned_abs, if◌then◌else◌}
 use Rattle.std.proofs.Math.Nat.{mul-le-mul_left}
 use Rattle.std.proofs.lemmas.Bool.{le-ltb, lt-ltb}
 use Rattle.std.proofs.lemmas.Int.{ints, unsigned_abs-mul}
-use Rattle.ast.specs.Exact.{fits, in_range}
+use Rattle.ast.specs.Exact.{in_range}
 use Rattle.ast.specs.declared.fault.Fault.TheVariants.{Overflow}
 
 pub outside : (z : ℤ) → 2 ^ 63 < unsigned_abs z → in_range z ≡ Err Overflow

@@ -1,5 +1,5 @@
 -- An account of the code: main's own parts.
-use Rattle.std.specs.Prelude.{◌≡◌, ◌<◌, ◌++◌, ℕ, Bool, true, List, length, Option, map, option_map}
+use Rattle.std.specs.Prelude.{◌≡◌, ◌<◌, ◌++◌, Bool, true, List, length, Option, map, option_map}
 use Rattle.ast.specs.Record.{record_of}
 use Rattle.ec_kernel.specs.View.{NoWaiter, places}
 use Rattle.machine.specs.Code.{Code}

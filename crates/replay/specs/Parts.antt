@@ -1,9 +1,8 @@
 -- What a core keeps, and the state of the machine that it stands for.
-use Rattle.std.specs.Prelude.{◌≡◌, ℕ, ℤ, pos, ◌%◌, ◌==◌, eqb, cond, if◌then◌else◌, List, get_or, Option, Some, None}
+use Rattle.std.specs.Prelude.{ℕ, ℤ, pos, ◌%◌, ◌==◌, eqb, cond, if◌then◌else◌, List, get_or, Option, Some, None}
 use Rattle.ast.specs.Store.{StoreOf}
 use Rattle.ast.specs.declared.fault.End.{End}
 use Rattle.ec_kernel.specs.View as kernel
-use Rattle.machine.specs.Code.{Code}
 use Rattle.machine.specs.Frame.{Frame}
 use Rattle.machine.specs.Laid.{number_at}
 use Rattle.machine.specs.State.{Active, Machine, Wait, Who}

@@ -1,5 +1,5 @@
 -- An account of PRINT: a record, piece by piece.
-use Rattle.std.specs.Prelude.{◌≡◌, ◌≤◌, ◌++◌, ℕ, ℤ, Bool, true, false, List, [], ◌∷◌, length, reverse, take}
+use Rattle.std.specs.Prelude.{◌≡◌, ◌≤◌, ◌++◌, ℕ, ℤ, Bool, true, false, List, ◌∷◌, length, reverse, take}
 use Rattle.ast.specs.Record.{Printed, first_printed, next_printed, items_printed, rest_printed}
 use Rattle.machine.specs.Code.{Part}
 use Rattle.machine.specs.View.{filled, values_wanted}

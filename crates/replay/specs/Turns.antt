@@ -164,7 +164,7 @@ abbrev pub main_after : Code → Next → Kept → MainAfter
 main_after code (Load n k) x = main_stays (with_operand k x.main (get_or x.shared.cells n (pos 0))) x
 main_after code (Store n v k) x = record (main_stays (going_on (without k x.main.operands) x.main) x) { shared = record x.shared { cells = set x.shared.cells n v } }
 main_after code (Print pieces k) x = record (main_stays (going_on (without k x.main.operands) x.main) x) {
-  shared = record x.shared { output = x.shared.output ++ record_of (filled (map part pieces.now) (values_for (map part pieces.now) x.main)) }
+  shared = record x.shared { output = x.shared.output ++ record_of (filled (map part pieces.now) (values_for (map part pieces.now) x.main)) };
 }
 main_after code (TakeRecord line) x = record (main_stays (frame_after (read_record x.input.records) line x.main) x) { input = input_after (read_record x.input.records) x.input }
 main_after code (TakeValue line) x = record (main_stays (frame_with (next_integer x.input.left x.input.records) line x.main) x) { input = input_behind (next_integer x.input.left x.input.records) x.input }

@@ -2,8 +2,8 @@
 #![tactic(auto)]
 
 mod entry;
-pub mod laws;
 mod input;
+pub mod laws;
 mod main_turn;
 mod number;
 mod parts;

@@ -1,6 +1,6 @@
 //! Steps of activities.
 
-ghost use Rattle.std.specs.Prelude.{ℕ, ◌≡◌, ◌<◌, ◌≤◌, ◌+◌, map, ◌-◌, ◌^◌, IfOk, OnOk, OnErr, get_or, length, pos, set};
+ghost use Rattle.std.specs.Prelude.{ℕ, ◌≡◌, ◌==◌, ◌<◌, ◌≤◌, ◌+◌, map, ◌-◌, ◌^◌, IfOk, OnOk, OnErr, get_or, length, pos, set};
 ghost use Rattle.ec_kernel.specs.View.{count_at, places};
 ghost use Rattle.machine.specs.Code.{Code as Plain};
 ghost use Rattle.machine.specs.CodeView.{code_of, part};
@@ -165,7 +165,12 @@ pub fn leave(
 {
     shared.output.extend_from_slice(&iteration.out)?;
     let variables = code.loops[number as usize].privates.as_slice();
-    store_privates(&mut shared.cells, code, variables, iteration.frame.privates());
+    store_privates(
+        &mut shared.cells,
+        code,
+        variables,
+        iteration.frame.privates(),
+    );
     shared.kernel.advance(0);
     Ok(())
 }
@@ -178,6 +183,14 @@ pub fn finish(shared: &mut Shared, iteration: &Iteration, end: End) -> Result<()
     shared.output.extend_from_slice(&iteration.out)?;
     shared.ended = Some(end);
     Ok(())
+}
+
+/// Whether all iterations before this one have retired.
+fn is_next(shared: &Shared, iteration: &Iteration) -> bool
+    requires counts { 0 < length shared.now.kernel.counts }
+    ensures { result ≡ (count_at shared.now.kernel 0 == iteration.now.number) }
+{
+    shared.kernel.read(0) == iteration.number
 }
 
 /// An iteration retires, or waits until it is the next to do so.
@@ -193,7 +206,7 @@ fn retire(
     ensures ok { IfOk result (λ o. record { outcome = o; shared = shared_of shared.new; standing = standing_of iteration.new } ≡ iteration_after (code_of code.now) slot (Retire number) (shared_of shared.old) (standing_of iteration.old)) }
     ensures err { OnErr result ((shared_of shared.new ≡ shared_of shared.old) × (standing_of iteration.new ≡ standing_of iteration.old)) }
 {
-    if shared.kernel.read(0) != iteration.number {
+    if !is_next(shared, iteration) {
         wait_for_turn(shared, iteration, slot);
         return Ok(Outcome::Parks);
     }
@@ -215,7 +228,7 @@ fn report(
     ensures ok { IfOk result (λ o. record { outcome = o; shared = shared_of shared.new; standing = standing_of iteration.new } ≡ reported slot end (shared_of shared.old) (standing_of iteration.old)) }
     ensures err { OnErr result ((shared_of shared.new ≡ shared_of shared.old) × (standing_of iteration.new ≡ standing_of iteration.old)) }
 {
-    if shared.kernel.read(0) != iteration.number {
+    if !is_next(shared, iteration) {
         wait_for_turn(shared, iteration, slot);
         return Ok(Outcome::Parks);
     }
@@ -262,13 +275,7 @@ pub fn iteration_turn(
             value,
             popped,
         } => {
-            store(
-                &mut iteration.frame,
-                &mut shared.cells,
-                cell,
-                value,
-                popped,
-            );
+            store(&mut iteration.frame, &mut shared.cells, cell, value, popped);
             Ok(Outcome::Stays)
         }
         Next::Print { pieces, values } => {

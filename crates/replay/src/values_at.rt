@@ -29,9 +29,8 @@ fn sum(first: i64, way: i128) -> Result<i64, Fault>
     ensures { result ≡ in_range (first +ℤ way) }
 {
     match i128::from(first).checked_add(way) {
-        Some(value) if value >= -9_223_372_036_854_775_808 && value <= 9_223_372_036_854_775_807 => {
-            Ok(value as i64)
-        }
+        Some(value) if value >= -9_223_372_036_854_775_808 && value <= 9_223_372_036_854_775_807 =>
+            { Ok(value as i64) }
         _ => Err(Fault::Overflow),
     }
 }

@@ -1,7 +1,6 @@
 use Rattle.std.proofs.Common.{◌≡◌, ◌∙◌, None, List, sym, ap, rules, w64, to_z, of_z}
 use Rattle.std.specs.Prelude.{ℤ}
 use Rattle.machine.specs.CodeView.{code_of}
-use Rattle.replay.specs.Parts.{Shared}
 use Rattle.replay.specs.PartsView.{shared_of}
 use Rattle.replay.proofs.Leading.{closed_cells}
 use Rattle.replay.proofs.main_turn.close.Goals as goal
