@@ -5,3 +5,5 @@ pub mod Views
 pub mod Example
 pub mod Equal
 pub mod Lying
+pub mod Naming
+pub mod Telling

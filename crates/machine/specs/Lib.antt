@@ -4,6 +4,7 @@ pub mod Frame
 pub mod FrameView
 pub mod Laid
 pub mod Local
+pub mod Next
 pub mod Solo
 pub mod State
 pub mod View

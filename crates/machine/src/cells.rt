@@ -23,18 +23,37 @@ fn number_in(variable: &Variable, place: i64) -> Option<usize>
 
 impl Code {
     ghost use Rattle.std.specs.Prelude.{◌≡◌, slice_get};
-    ghost use Rattle.machine.specs.Laid.{cell_number};
+    ghost use Rattle.machine.specs.Laid.{cell_number, count_of};
 
     /// The number of a variable's cell at a place, if it has one there.
-    #[tactic(auto, using(crate::proofs::Lying::few_cells))]
     pub fn cell(&self, variable: u32, place: i64) -> Option<usize>
         ensures { result ≡ cell_number (slice_get self.now.variables.items variable) place }
     {
-        let number = variable as usize;
-        if number < self.variables.len() {
-            number_in(&self.variables[number], place)
+        self.cell_at(variable as usize, place)
+    }
+
+    /// The same, of a variable by its place among the code's variables.
+    #[tactic(auto, using(crate::proofs::Lying::few_cells))]
+    pub fn cell_at(&self, variable: usize, place: i64) -> Option<usize>
+        ensures { result ≡ cell_number (slice_get self.now.variables.items variable) place }
+    {
+        if variable < self.variables.len() {
+            number_in(&self.variables[variable], place)
         } else {
             None
         }
+    }
+
+    /// How many cells a store of it has.
+    #[tactic(auto, using(crate::proofs::Naming::last_of, crate::proofs::Naming::none_counted, crate::proofs::Lying::few_cells))]
+    pub fn cells(&self) -> usize
+        ensures { result ≡ count_of self.now.variables.items }
+    {
+        let variables = self.variables.as_slice();
+        if variables.is_empty() {
+            return 0;
+        }
+        let last = variables[variables.len() - 1];
+        last.start + last.size
     }
 }

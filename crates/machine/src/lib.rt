@@ -8,6 +8,7 @@ mod done;
 mod frame;
 mod instr;
 pub mod laws;
+mod next;
 mod parts;
 mod same;
 mod stack;
@@ -17,6 +18,7 @@ pub use code::{Await, Code, Loop, LoopReport, Open, Parts, Piece, Variable};
 pub use done::Done;
 pub use frame::{Counter, Frame};
 pub use instr::{Act, Axis, Instr};
+pub use next::{Next, stands_next};
 pub use working::{Stop, local, stands_local};
 
 #[cfg(test)]

@@ -302,3 +302,53 @@ fn want_of_memory_in_copies(rt: HostRuntime) -> Result<(), Fail> {
     }
     Ok(())
 }
+
+/// Whether the step that stands next behind local instructions is a store of this value to this
+/// cell.
+fn stores(code: &Code, frame: &mut Frame, wanted: (usize, i64, usize)) -> bool {
+    local(code, frame, 1024);
+    match stands_next(code, frame) {
+        Next::Store {
+            cell,
+            value,
+            popped,
+        } => (cell, value, popped) == wanted,
+        _ => false,
+    }
+}
+
+/// The step that stands next has the numbers of cells, and the values, of its operands.
+#[test]
+fn steps_are_told(rt: HostRuntime) -> Result<(), Fail> {
+    let one = Act::Constant(1);
+    let code = assembled(&rt, &[Act::Constant(5), one, Act::StoreElement(1)])?;
+    assert_eq!(rt; code.cells(), 3);
+    let mut frame = begun(&rt, &code, 0)?;
+    assert!(rt; matches!(stands_next(&code, &frame), Next::Local));
+    assert!(rt; stores(&code, &mut frame, (2, 5, 2)));
+    let code = assembled(
+        &rt,
+        &[Act::Constant(5), Act::Constant(2), Act::StoreElement(1)],
+    )?;
+    let mut frame = begun(&rt, &code, 0)?;
+    local(&code, &mut frame, 1024);
+    assert!(rt; matches!(stands_next(&code, &frame), Next::Stuck));
+    let code = assembled(&rt, &[Act::Constant(5), Act::Store(0)])?;
+    let mut frame = begun(&rt, &code, 0)?;
+    assert!(rt; stores(&code, &mut frame, (0, 5, 1)));
+    let code = assembled(&rt, &[Act::Halt])?;
+    assert!(rt; matches!(stands_next(&code, &begun(&rt, &code, 0)?), Next::Halt));
+    let code = assembled(&rt, &[one, Act::Constant(0), Act::Binary(Operator::Divide)])?;
+    let mut frame = begun(&rt, &code, 0)?;
+    local(&code, &mut frame, 1024);
+    assert!(rt;
+        matches!(
+            stands_next(&code, &frame),
+            Next::Report {
+                fault: Fault::ZeroDivisor,
+                line: 3
+            }
+        )
+    );
+    Ok(())
+}

@@ -4,3 +4,11 @@ pub mod Numbers
 pub mod Parsing
 pub mod Texts
 pub mod Wholes
+pub mod Running
+pub mod Maps
+pub mod Queues
+pub mod Turning
+pub mod Leading
+pub mod Pieces
+pub mod Scanning
+pub mod Values

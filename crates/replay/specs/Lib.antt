@@ -1,5 +1,13 @@
 pub mod Kept
+pub mod MainTurns
+pub mod Parts
+pub mod PartsView
+pub mod Printing
 pub mod Reading
 pub mod Refusals
+pub mod Replays
+pub mod Scanning
 pub mod Schedules
+pub mod Turns
 pub mod View
+pub mod Waiting

@@ -1,5 +1,10 @@
+use crate::input::Input;
+use crate::printing::print;
 use crate::refusal::ReplayRefusal;
 use crate::schedule::Schedule;
+use crate::values_at::value_after;
+use ast::Fault;
+use machine::Piece;
 use std::alloc::AllocError;
 use std::process::Abort;
 use std::test::Fail;
@@ -94,5 +99,60 @@ fn want_of_memory(rt: HostRuntime) -> Result<(), Fail> {
             }
         },
     }
+    Ok(())
+}
+
+/// Integers are taken from record to record; a fault leaves the input as it was.
+#[test]
+fn records_are_read(rt: HostRuntime) -> Result<(), Fail> {
+    let mut input = Input::new(rt.alloc(), b"3 4\n\n-5 , +6\n7 x\n");
+    assert_eq!(rt; input.take()?, Ok(()));
+    assert_eq!(rt; input.take_value()?, Ok(3));
+    assert_eq!(rt; input.take_value()?, Ok(4));
+    assert_eq!(rt; input.take_value()?, Ok(-5));
+    input.drop_rest();
+    assert_eq!(rt; input.take_value()?, Err(Fault::BadInput));
+    assert_eq!(rt; input.take()?, Err(Fault::BadInput));
+    let mut empty = Input::new(rt.alloc(), b"");
+    assert_eq!(rt; empty.take()?, Err(Fault::EndOfInput));
+    assert_eq!(rt; empty.take_value()?, Err(Fault::EndOfInput));
+    Ok(())
+}
+
+/// A record with the values of the two operands, the first one below.
+fn printed(rt: &(impl Abort + AllocGlobal)) -> Result<Vec<u8>, AllocError> {
+    let mut text = Vec::new(rt.alloc());
+    text.extend_from_slice(b"IS")?;
+    let pieces = [Piece::Operand, Piece::Text(text), Piece::Operand];
+    let mut out = Vec::new(rt.alloc());
+    print(&mut out, &pieces, &[-2, 17])?;
+    Ok(out)
+}
+
+/// With memory refused a record is an error, and made again it is right.
+#[test]
+fn want_of_memory_in_records(rt: HostRuntime) -> Result<(), Fail> {
+    match printed(&rt) {
+        Ok(out) => assert_eq!(rt; out.as_slice(), b" 17IS -2\n".as_slice()),
+        Err(error) => {
+            assert_eq!(rt; printed(&rt)?.as_slice(), b" 17IS -2\n".as_slice());
+            return Err(error.into());
+        }
+    }
+    Ok(())
+}
+
+#[test]
+fn values_of_a_variable(rt: HostRuntime) -> Result<(), Fail> {
+    assert_eq!(rt; value_after(3, 0, 1), Ok(3));
+    assert_eq!(rt; value_after(5, 3, -2), Ok(-1));
+    assert_eq!(rt; value_after(i64::MAX - 1, 2, 1), Err(Fault::Overflow));
+    assert_eq!(rt;
+        value_after(i64::MIN, u128::from(u64::MAX), 1),
+        Ok(i64::MAX)
+    );
+    assert_eq!(rt; value_after(i64::MIN, 1, i64::MIN), Err(Fault::Overflow));
+    assert_eq!(rt; value_after(7, u128::MAX, 0), Ok(7));
+    assert_eq!(rt; value_after(7, u128::MAX, i64::MIN), Err(Fault::Overflow));
     Ok(())
 }
