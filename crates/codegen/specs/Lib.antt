@@ -1,0 +1,3 @@
+pub mod Emitted
+pub mod Process
+pub mod Room

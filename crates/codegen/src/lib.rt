@@ -1,0 +1,5 @@
+//! Code of programs.
+#![tactic(auto)]
+
+/// Nothing yet.
+pub fn nothing() {}
