@@ -13,13 +13,13 @@ use Rattle.machine.specs.View.{View, doing, storing, printing, breaking, stop_at
 use Rattle.machine.specs.declared.instr.Act.TheVariants as acts
 use Rattle.machine.specs.declared.instr.Instr.{Instr}
 use Rattle.expr_code.specs.Computes.{operands, with_place}
-use Rattle.expr_code.specs.Emitted.{instr, short, target_code, term_code}
+use Rattle.expr_code.specs.Emitted.{given_act, instr, short, target_code, term_code}
 use Rattle.expr_code.specs.Places.{Places, Home, loop_index, private_scalar, in_store, dimensions_at, home, is_loop_name, number_in, private_or_stored}
 use Rattle.expr_code.specs.Process.{Steps}
 use Rattle.expr_code.proofs.Finding.{Reach, cell_law, number_below, short_is}
 use Rattle.expr_code.proofs.Running.{Reaches, Rules, target_runs, term_runs}
 use Rattle.expr_code.proofs.Standing.{HasAt, has_front, has_back, at, onto, seen}
-use Rattle.codegen.specs.Emitted.{elements_code, given_act, items_code, kind_code, kind_records, parts_of, stored_code}
+use Rattle.codegen.specs.Emitted.{elements_code, items_code, kind_code, kind_records, parts_of, stored_code}
 use Rattle.codegen.specs.Process.{Doing, elements_into, given_into, items_into, kind_into, on, stored_into}
 use Rattle.codegen.specs.Room.{elements_room, items_room, kind_room}
 use Rattle.codegen.proofs.Standing.{Keeps, keeps_same, keeps_set, print_seen, set_seen, with_private}

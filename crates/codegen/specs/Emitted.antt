@@ -8,16 +8,9 @@ use Rattle.machine.specs.Code.{Part, operand, text_as}
 use Rattle.machine.specs.declared.instr.Act.{Act}
 use Rattle.machine.specs.declared.instr.Act.TheVariants as acts
 use Rattle.machine.specs.declared.instr.Instr.{Instr}
-use Rattle.expr_code.specs.Emitted.{instr, scalar_act, short, target_code, term_code}
+use Rattle.expr_code.specs.Emitted.{given_act, instr, scalar_act, short, target_code, term_code}
 use Rattle.expr_code.specs.Places.{Places, Home, loop_index, private_scalar, in_store, dimensions_at, home}
 use Rattle.codegen.specs.Process.{is_last_stop}
-
--- a variable with these dimensions and this home is given the operand
-abbrev pub given_act : List Extent → Home → ℕ → Act
-given_act [] (private_scalar x) c = acts.SetPrivate (short x)
-given_act [] loop_index c = acts.Store (short c)
-given_act [] in_store c = acts.Store (short c)
-given_act (d ∷ ds) h c = acts.StoreElement (short c)
 
 abbrev pub stored_code : Places → Access → List Instr
 stored_code p x = target_code p x.ref x.subscripts ++ instr p.line (given_act (dimensions_at p.symbols x.ref.cell) (home p (dimensions_at p.symbols x.ref.cell) x.ref.name) x.ref.cell) ∷ []

@@ -1,3 +1,4 @@
 pub mod Emitted
 pub mod Process
+pub mod Records
 pub mod Room

@@ -1,5 +1,6 @@
-//! Code of programs.
+//! Code of programs. So far: of the statements that hold no others.
 #![tactic(auto)]
 
-/// Nothing yet.
-pub fn nothing() {}
+mod statements;
+
+pub use statements::emit_plain;
