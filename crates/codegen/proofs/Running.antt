@@ -3,6 +3,7 @@ use Rattle.std.proofs.Common.{◌≡◌, ◌∙◌, ◌<◌, ◌≤◌, ◌+◌,
 use Rattle.std.specs.Prelude.{max, nat_lt, slice_get, slice_set, if◌then◌else◌}
 use Rattle.std.proofs.Math.Nat.{le-max_left, le-max_right}
 use Rattle.std.proofs.lemmas.Bool.{lt-ltb}
+use Rattle.ast.proofs.Sizes.{some_elements}
 use Rattle.ast.specs.Record.{Printed, number, text, record_of}
 use Rattle.ast.specs.Symbols.{Extent, elements}
 use Rattle.ast.specs.Tree.{Ref, Term, Access, accessed, element, PrintItem, value_item, text_item, Kind, assign, print, read, stop, program, integer, dimension, parameters, do_loop, go_on, block_if, else_if, else_arm, end_if, logical_if, end}
@@ -34,19 +35,43 @@ pub record Does (A : Type 0) (D : Doing A) (code : Code) (limit : ℕ) (index : 
   pub gets : (line : ℕ) (κ : ℤ → A) (f : Frame) (pc : ℕ) (st : List ℤ) → f.index ≡ index → length st < f.operands.room → view code (at code f pc st) ≡ act_view code acts.TakeValue line (at code f pc st) → ((v : ℤ) → St (κ v) (at code f (pc + 1) (v ∷ st))) → St (D.take_value line κ) (at code f pc st)
   pub drops : (line : ℕ) (a : A) (f : Frame) (pc : ℕ) (st : List ℤ) → f.index ≡ index → view code (at code f pc st) ≡ act_view code acts.DropRecord line (at code f pc st) → St a (at code f (pc + 1) st) → St (D.drop_record a) (at code f pc st)
   pub goes : (a : A) (f g : Frame) (pc to : ℕ) (st us : List ℤ) → f.index ≡ index → view code (at code f pc st) ≡ doing (at code g to us) → St a (at code g to us) → St (D.local a) (at code f pc st)
+  pub awaits : (e d w line : ℕ) (a : A) (f : Frame) (pc : ℕ) (st : List ℤ) → f.index ≡ index → slice_get code.awaits w ≡ Some (record { event = e; distance = d }) → slice_get code.instructions pc ≡ Some (instr line (acts.Await w)) → St a (at code f (pc + 1) st) → St (D.await e d a) (at code f pc st)
+  pub advances : (e line : ℕ) (a : A) (f : Frame) (pc : ℕ) (st : List ℤ) → f.index ≡ index → slice_get code.instructions pc ≡ Some (instr line (acts.Advance (short e))) → St a (at code f (pc + 1) st) → St (D.advance e a) (at code f pc st)
+  pub opens : (n line : ℕ) (m1 m2 : ℤ) (a : A) (f : Frame) (pc : ℕ) (st : List ℤ) → f.index ≡ index → slice_get code.instructions pc ≡ Some (instr line (acts.Open (short n))) → slice_get code.instructions (pc + 1) ≡ Some (instr line acts.Join) → St a (at code f (pc + 1 + 1) st) → St (D.opening n m1 m2 a) (at code f pc (m2 ∷ m1 ∷ st))
   pub stops : (line : ℕ) (f : Frame) (pc : ℕ) (st : List ℤ) → f.index ≡ index → view code (at code f pc st) ≡ breaking (stop_at line) → St (D.stop line) (at code f pc st)
+
+-- a frame in which statements of these places run
+pub record Fits (p : Places) (index : ℤ) (f : Frame) : Type 0 where
+  pub indexed : f.index ≡ index
+  pub privates : length p.privates ≤ length f.privates
+
+pub fits_on : (p : Places) (index : ℤ) (f g : Frame) → Keeps f g → Fits p index f → Fits p index g
+fits_on p index f g k w = record { indexed = k.index ∙ w.indexed; privates = omega (arith, k.privates, w.privates) }
+
+module _ (code : Code) (p : Places) where
+  abbrev pub ItemsReach : List PrintItem → Type 0
+  ItemsReach [] = Unit {0}
+  ItemsReach (value_item e ∷ items) = Reaches code p e × ItemsReach items
+  ItemsReach (text_item t ∷ items) = ItemsReach items
+
+  abbrev pub ElementsReach : List Access → Type 0
+  ElementsReach [] = Unit {0}
+  ElementsReach (x ∷ more) = Reaches code p (accessed x) × ElementsReach more
+
+  abbrev pub KindReaches : Kind → Type 0
+  KindReaches (assign x e) = Reaches code p e × Reaches code p (accessed x)
+  KindReaches (print items) = ItemsReach items
+  KindReaches (read xs) = ElementsReach xs
+  KindReaches _ = Unit {0}
+
+-- the records that a statement prints are those of the code from number n on
+abbrev pub HasRecords : Code → ℕ → Kind → Type 0
+HasRecords code n (print items) = (slice_get code.records n ≡ Some (parts_of items)) × (n < 2 ^ 32)
+HasRecords code n _ = Unit {0}
 
 module _ (A : Type 0) (D : Doing A) (code : Code) (limit : ℕ) (index : ℤ) (St : A → Frame → Type 0) (R : Does A D code limit index St) (p : Places) (few_privates : length p.privates ≤ 2 ^ 32) where
   abbrev Has : ℕ → List Instr → Type 0
   Has pc is = HasAt code.instructions limit pc is
-
-  -- a frame in which statements of these places run
-  pub record Fits (f : Frame) : Type 0 where
-    pub indexed : f.index ≡ index
-    pub privates : length p.privates ≤ length f.privates
-
-  fits_on : (f g : Frame) → Keeps f g → Fits f → Fits g
-  fits_on f g k w = record { indexed = k.index ∙ w.indexed; privates = omega (arith, k.privates, w.privates) }
 
   private_below : (r : Ref) (x : ℕ) → home p [] r.name ≡ private_scalar x → x < length p.privates
   private_below r x e = chosen (is_loop_name p.loop_name r.name) (number_in 0 r.name p.privates) refl e
@@ -60,40 +85,40 @@ module _ (A : Type 0) (D : Doing A) (code : Code) (limit : ℕ) (index : ℤ) (S
           omega (arith, z, is)
 
   -- an operand, below the place of an element, goes into a variable
-  scalar_given : (r : Ref) (h : Home) (v : ℤ) (a : A) (f : Frame) (line pc : ℕ) (st : List ℤ) → home p [] r.name ≡ h → Reach code.variables r [] → Fits f → slice_get code.instructions pc ≡ Some (instr line (given_act [] h r.cell))
+  pub scalar_given : (r : Ref) (h : Home) (ds : List Extent) (v : ℤ) (a : A) (f : Frame) (line pc : ℕ) (st : List ℤ) → home p [] r.name ≡ h → Reach code.variables r ds → Fits p index f → slice_get code.instructions pc ≡ Some (instr line (given_act [] h r.cell))
       → ((g : Frame) → Keeps f g → St a (at code g (pc + 1) st)) → St (given_into A D p h r 0 v a) (at code f pc (v ∷ st))
-  scalar_given r (private_scalar x) v a f line pc st e w fits has next =
+  scalar_given r (private_scalar x) ds v a f line pc st e w fits has next =
       let below : x < length p.privates = private_below r x e in
       let there : x < length f.privates = omega (arith, below, fits.privates) in
       let number_is : short x ≡ x = short_is x (omega (arith, below, few_privates)) in
       R.sets r x v a f pc (v ∷ st) st fits.indexed there (set_seen code f x v st line pc (has ∙ ap (λ (k : ℕ). Some (instr line (acts.SetPrivate k))) number_is) there) (next (with_private f x v) (keeps_set f x v))
-  scalar_given r loop_index v a f line pc st e w fits has next =
+  scalar_given r loop_index ds v a f line pc st e w fits has next =
       R.keeps r (record { name = r.name; place = 0 }) v a f pc (v ∷ st) st fits.indexed
-      (seen code f (instr line (acts.Store (short r.cell))) pc (v ∷ st) has ∙ ap (λ (c : Option Cell). storing_if c v 1 (at code f pc (v ∷ st))) (cell_law code.variables r [] 0 w (omega arith)))
+      (seen code f (instr line (acts.Store (short r.cell))) pc (v ∷ st) has ∙ ap (λ (c : Option Cell). storing_if c v 1 (at code f pc (v ∷ st))) (cell_law code.variables r ds 0 w (some_elements ds)))
       (next f (keeps_same f))
-  scalar_given r in_store v a f line pc st e w fits has next =
+  scalar_given r in_store ds v a f line pc st e w fits has next =
       R.keeps r (record { name = r.name; place = 0 }) v a f pc (v ∷ st) st fits.indexed
-      (seen code f (instr line (acts.Store (short r.cell))) pc (v ∷ st) has ∙ ap (λ (c : Option Cell). storing_if c v 1 (at code f pc (v ∷ st))) (cell_law code.variables r [] 0 w (omega arith)))
+      (seen code f (instr line (acts.Store (short r.cell))) pc (v ∷ st) has ∙ ap (λ (c : Option Cell). storing_if c v 1 (at code f pc (v ∷ st))) (cell_law code.variables r ds 0 w (some_elements ds)))
       (next f (keeps_same f))
 
-  given_runs : (r : Ref) (ds : List Extent) (n : ℕ) (v : ℤ) (a : A) (f : Frame) (line pc : ℕ) (st : List ℤ) → Reach code.variables r ds → n < elements ds → Fits f → slice_get code.instructions pc ≡ Some (instr line (given_act ds (home p ds r.name) r.cell))
+  given_runs : (r : Ref) (ds : List Extent) (n : ℕ) (v : ℤ) (a : A) (f : Frame) (line pc : ℕ) (st : List ℤ) → Reach code.variables r ds → n < elements ds → Fits p index f → slice_get code.instructions pc ≡ Some (instr line (given_act ds (home p ds r.name) r.cell))
       → ((g : Frame) → Keeps f g → St a (at code g (pc + 1) st)) → St (given_into A D p (home p ds r.name) r n v a) (at code f pc (with_place ds n (v ∷ st)))
   given_runs r [] n v a f line pc st w below fits has next =
       let none : 0 ≡ n = omega (arith, below) in
-      subst (λ (k : ℕ). St (given_into A D p (home p [] r.name) r k v a) (at code f pc (v ∷ st))) none (scalar_given r (home p [] r.name) v a f line pc st refl w fits has next)
+      subst (λ (k : ℕ). St (given_into A D p (home p [] r.name) r k v a) (at code f pc (v ∷ st))) none (scalar_given r (home p [] r.name) [] v a f line pc st refl w fits has next)
   given_runs r (d ∷ ds) n v a f line pc st w below fits has next =
       R.keeps r (record { name = r.name; place = n }) v a f pc (pos n ∷ v ∷ st) st fits.indexed
       (seen code f (instr line (acts.StoreElement (short r.cell))) pc (pos n ∷ v ∷ st) has ∙ ap (λ (c : Option Cell). storing_if c v 2 (at code f pc (pos n ∷ v ∷ st))) (cell_law code.variables r (d ∷ ds) n w below))
       (next f (keeps_same f))
 
-  left_room : (n a b m : ℕ) → n + max a b ≤ m → n + a ≤ m
+  pub left_room : (n a b m : ℕ) → n + max a b ≤ m → n + a ≤ m
   left_room n a b m h = let k = le-max_left a b in omega (arith, h, k)
 
-  right_room : (n a b m : ℕ) → n + max a b ≤ m → n + b ≤ m
+  pub right_room : (n a b m : ℕ) → n + max a b ≤ m → n + b ≤ m
   right_room n a b m h = let k = le-max_right a b in omega (arith, h, k)
 
   -- a variable is given the operand
-  pub stored_runs : (line : ℕ) (x : Access) (v : ℤ) (a : A) (f : Frame) (pc : ℕ) (st : List ℤ) → Reaches code p (accessed x) → Fits f → Has pc (stored_code (on A D p line) x) → length st + (operands (accessed x) + 1) ≤ f.operands.room
+  pub stored_runs : (line : ℕ) (x : Access) (v : ℤ) (a : A) (f : Frame) (pc : ℕ) (st : List ℤ) → Reaches code p (accessed x) → Fits p index f → Has pc (stored_code (on A D p line) x) → length st + (operands (accessed x) + 1) ≤ f.operands.room
       → ((g : Frame) → Keeps f g → St a (at code g (pc + length (stored_code (on A D p line) x)) st)) → St (stored_into A D p line x v a) (at code f pc (v ∷ st))
   stored_runs line x v a f pc st w fits has room next =
       let q = on A D p line in
@@ -109,12 +134,7 @@ module _ (A : Type 0) (D : Doing A) (code : Code) (limit : ℕ) (index : ℤ) (S
 
   -- ---- PRINT
 
-  abbrev pub ItemsReach : List PrintItem → Type 0
-  ItemsReach [] = Unit {0}
-  ItemsReach (value_item e ∷ items) = Reaches code p e × ItemsReach items
-  ItemsReach (text_item t ∷ items) = ItemsReach items
-
-  items_run : (line : ℕ) (items : List PrintItem) (κ : List Printed → A) (f : Frame) (pc : ℕ) (st : List ℤ) → ItemsReach items → Fits f → Has pc (items_code (on A D p line) items) → length st + items_room items ≤ f.operands.room
+  items_run : (line : ℕ) (items : List PrintItem) (κ : List Printed → A) (f : Frame) (pc : ℕ) (st : List ℤ) → ItemsReach code p items → Fits p index f → Has pc (items_code (on A D p line) items) → length st + items_room items ≤ f.operands.room
       → ((vs : List ℤ) → length vs ≡ values_wanted (parts_of items) → St (κ (filled (parts_of items) vs)) (at code f (pc + length (items_code (on A D p line) items)) (onto vs st)))
       → St (items_into A D p line items κ) (at code f pc st)
   items_run line [] κ f pc st w fits has room next = let z : pc + 0 ≡ pc = omega arith in subst (λ (k : ℕ). St (κ []) (at code f k st)) z (next [] refl)
@@ -134,11 +154,7 @@ module _ (A : Type 0) (D : Doing A) (code : Code) (limit : ℕ) (index : ℤ) (S
 
   -- ---- READ
 
-  abbrev pub ElementsReach : List Access → Type 0
-  ElementsReach [] = Unit {0}
-  ElementsReach (x ∷ more) = Reaches code p (accessed x) × ElementsReach more
-
-  elements_run : (line : ℕ) (xs : List Access) (a : A) (f : Frame) (pc : ℕ) (st : List ℤ) → ElementsReach xs → Fits f → Has pc (elements_code (on A D p line) xs) → length st + elements_room xs ≤ f.operands.room
+  elements_run : (line : ℕ) (xs : List Access) (a : A) (f : Frame) (pc : ℕ) (st : List ℤ) → ElementsReach code p xs → Fits p index f → Has pc (elements_code (on A D p line) xs) → length st + elements_room xs ≤ f.operands.room
       → ((g : Frame) → Keeps f g → St a (at code g (pc + length (elements_code (on A D p line) xs)) st)) → St (elements_into A D p line xs a) (at code f pc st)
   elements_run line [] a f pc st w fits has room next = let z : pc + 0 ≡ pc = omega arith in subst (λ (k : ℕ). St a (at code f k st)) z (next f (keeps_same f))
   elements_run line (x ∷ more) a f pc st w fits has room next =
@@ -146,7 +162,7 @@ module _ (A : Type 0) (D : Doing A) (code : Code) (limit : ℕ) (index : ℤ) (S
       let first = left_room (length st) (operands (accessed x) + 1) (elements_room more) f.operands.room room in
       R.gets line (λ v. stored_into A D p line x v (elements_into A D p line more a)) f pc st fits.indexed (omega (arith, first)) (seen code f (instr line acts.TakeValue) pc st has.0) (λ v.
       stored_runs line x v (elements_into A D p line more a) f (pc + 1) st w.0 fits (has_front code.instructions limit (pc + 1) (stored_code q x) (elements_code q more) has.2) first (λ g k.
-      elements_run line more a g (pc + 1 + length (stored_code q x)) st w.1 (fits_on f g k fits) (has_back code.instructions limit (pc + 1) (stored_code q x) (elements_code q more) has.2)
+      elements_run line more a g (pc + 1 + length (stored_code q x)) st w.1 (fits_on p index f g k fits) (has_back code.instructions limit (pc + 1) (stored_code q x) (elements_code q more) has.2)
       (room_on g k (right_room (length st) (operands (accessed x) + 1) (elements_room more) f.operands.room room)) (λ h l.
       subst (λ (j : ℕ). St a (at code h j st)) far (next h (Rattle.codegen.proofs.Standing.keeps_on f g h k l)))))
     where
@@ -158,21 +174,10 @@ module _ (A : Type 0) (D : Doing A) (code : Code) (limit : ℕ) (index : ℤ) (S
 
   -- ---- statements that hold no others
 
-  abbrev pub KindReaches : Kind → Type 0
-  KindReaches (assign x e) = Reaches code p e × Reaches code p (accessed x)
-  KindReaches (print items) = ItemsReach items
-  KindReaches (read xs) = ElementsReach xs
-  KindReaches _ = Unit {0}
-
-  -- the records that a statement prints are those of the code from number n on
-  abbrev pub HasRecords : ℕ → Kind → Type 0
-  HasRecords n (print items) = (slice_get code.records n ≡ Some (parts_of items)) × (n < 2 ^ 32)
-  HasRecords n _ = Unit {0}
-
   nothing_runs : (a : A) (f : Frame) (pc : ℕ) (st : List ℤ) → ((g : Frame) → Keeps f g → St a (at code g (pc + 0) st)) → St a (at code f pc st)
   nothing_runs a f pc st next = let z : pc + 0 ≡ pc = omega arith in subst (λ (k : ℕ). St a (at code f k st)) z (next f (keeps_same f))
 
-  pub kind_runs : (line n : ℕ) (k : Kind) (a : A) (f : Frame) (pc : ℕ) (st : List ℤ) → KindReaches k → HasRecords n k → Fits f → Has pc (kind_code (on A D p line) n k) → length st + kind_room k ≤ f.operands.room
+  pub kind_runs : (line n : ℕ) (k : Kind) (a : A) (f : Frame) (pc : ℕ) (st : List ℤ) → KindReaches code p k → HasRecords code n k → Fits p index f → Has pc (kind_code (on A D p line) n k) → length st + kind_room k ≤ f.operands.room
       → ((g : Frame) → Keeps f g → St a (at code g (pc + length (kind_code (on A D p line) n k)) st)) → St (kind_into A D p line k a) (at code f pc st)
   kind_runs line n (assign x e) a f pc st w r fits has room next =
       let q = on A D p line in
