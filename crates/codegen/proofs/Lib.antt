@@ -1,3 +1,4 @@
+pub mod Blocks
 pub mod Nesting
 pub mod Running
 pub mod Standing

@@ -97,7 +97,7 @@ module _ (code : Code) where
   skip_seen f n line pc st h = seen code f (instr line (acts.Skip n)) pc st h
 
 -- after a part of a loop's trip, the loops under way are those before
-reloop : (f h g : Frame) (cs : List Counter) → Keeps f h → Keeps (with_loops h cs) g → (k : Frame) × Keeps f k × (g ≡ with_loops k cs)
+pub reloop : (f h g : Frame) (cs : List Counter) → Keeps f h → Keeps (with_loops h cs) g → (k : Frame) × Keeps f k × (g ≡ with_loops k cs)
 reloop f h g cs a b = (
   record g { counters = h.counters },
   record { index = b.index ∙ a.index; privates = b.privates ∙ a.privates; room = b.room ∙ a.room; counters = a.counters },
@@ -170,7 +170,7 @@ module _ (A : Type 0) (D : Doing A) (code : Code) (limit : ℕ) (index : ℤ) (S
   step_runs line None κ f pc st w fits has room next = R.goes (κ (pos 1)) f f pc (pc + 1) st (pos 1 ∷ st) fits.indexed (constant_seen code f (pos 1) line pc st has.0 (omega (arith, room))) (next (pos 1))
   step_runs line (Some e) κ f pc st w fits has room next = term_runs A (D.evaluate line) code f line limit St (R.evaluates line f fits.indexed) (on A D p line) fits.privates few_privates refl e κ pc st w has room next
 
-  serial_runs : (line : ℕ) (h : DoHead) (ds : List Extent) (range : A → A) (is : List Instr) (a : A) (f : Frame) (pc : ℕ) (st : List ℤ) → Reach code.variables h.variable ds → HeadReaches code p h → Fits p index f → Has pc (serial_code (on A D p line) h is) → length st + max (head_room h) 2 ≤ f.operands.room → length f.counters.items < f.counters.room
+  pub serial_runs : (line : ℕ) (h : DoHead) (ds : List Extent) (range : A → A) (is : List Instr) (a : A) (f : Frame) (pc : ℕ) (st : List ℤ) → Reach code.variables h.variable ds → HeadReaches code p h → Fits p index f → Has pc (serial_code (on A D p line) h is) → length st + max (head_room h) 2 ≤ f.operands.room → length f.counters.items < f.counters.room
       → ((b : A) (g : Frame) (c : Counter) (at_range : ℕ) → at_range + length is + 5 ≡ pc + length (serial_code (on A D p line) h is) → Has at_range is → Keeps f g → ((k : Frame) → Keeps f k → St b (at code (with_loops k (c ∷ f.counters.items)) (at_range + length is) st)) → St (range b) (at code (with_loops g (c ∷ f.counters.items)) at_range st))
       → ((g : Frame) → Keeps f g → St a (at code g (pc + length (serial_code (on A D p line) h is)) st))
       → St (serial_into A D p line h range a) (at code f pc st)
@@ -237,7 +237,7 @@ module _ (A : Type 0) (D : Doing A) (code : Code) (limit : ℕ) (index : ℤ) (S
 
   -- ---- IF
 
-  chosen_runs : (line : ℕ) (v : ℤ) (body others : List Instr) (x y a : A) (f : Frame) (pc : ℕ) (st : List ℤ) → Fits p index f → Has pc (chosen_code (on A D p line) body others)
+  pub chosen_runs : (line : ℕ) (v : ℤ) (body others : List Instr) (x y a : A) (f : Frame) (pc : ℕ) (st : List ℤ) → Fits p index f → Has pc (chosen_code (on A D p line) body others)
       → ((g : Frame) → Keeps f g → St a (at code g (pc + length (chosen_code (on A D p line) body others)) st))
       → (((g : Frame) → Keeps f g → St (D.local a) (at code g (pc + 1 + length body) st)) → Has (pc + 1) body → St x (at code f (pc + 1) st))
       → (((g : Frame) → Keeps f g → St a (at code g (pc + 1 + length body + 1 + length others) st)) → Has (pc + 1 + length body + 1) others → St y (at code f (pc + 1 + length body + 1) st))
