@@ -154,7 +154,7 @@ module _ (A : Type 0) (D : Doing A) (code : Code) (limit : ℕ) (index : ℤ) (S
       let last : slice_get code.instructions (pc + 1 + length is + 1 + 1 + 1 + 1) ≡ Some (instr line (acts.Back (L + 1))) = ap (λ (j : ℕ). slice_get code.instructions j) (sym near) ∙ back.0 ∙ ap (λ (j : ℕ). Some (instr line (acts.Back j))) number in
       let within : pc + 1 + length is + 1 + 1 + 1 + 1 < limit = omega (arith, near, back.1) in
       let tail : Has (pc + 1 + length is) (grown_code q r ++ instr line (acts.Back (L + 1)) ∷ []) =
-          (grown.0, grown.1, (grown.2.0, grown.2.1, (grown.2.2.0, grown.2.2.1, (grown.2.2.2.0, grown.2.2.2.1, (last, within, tt))))) in
+      (grown.0, grown.1, (grown.2.0, grown.2.1, (grown.2.2.0, grown.2.2.1, (grown.2.2.2.0, grown.2.2.2.1, (last, within, tt))))) in
       R.goes (range (grown_into A D p line r m3 (turns_into A D p (λ b. range (grown_into A D p line r m3 b)) n a))) (with_loops g (counter (suc n) m3 ∷ cs)) (with_loops g (counter n m3 ∷ cs)) pc (pc + 1) st st (k.index ∙ fits.indexed)
       (count_seen code g n m3 cs (short (L + 1)) line pc st has.0)
       (body (grown_into A D p line r m3 (turns_into A D p (λ b. range (grown_into A D p line r m3 b)) n a)) g (counter n m3) k (λ h l.

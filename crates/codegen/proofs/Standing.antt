@@ -76,7 +76,6 @@ module _ (code : Code) (f : Frame) where
       enough : values_wanted ps ≤ length (reverse vs ++ st)
       enough = let k = length_seam (reverse vs) st in omega (arith, k, wanted)
 
-
   -- a private scalar is given the value on top
   pub set_seen : (x : ℕ) (v : ℤ) (st : List ℤ) (line pc : ℕ) → slice_get code.instructions pc ≡ Some (instr line (SetPrivate x)) → x < length f.privates → view code (at code f pc (v ∷ st)) ≡ doing (at code (with_private f x v) (pc + 1) st)
   set_seen x v st line pc h l =

@@ -4,3 +4,6 @@
 mod statements;
 
 pub use statements::emit_plain;
+
+#[cfg(test)]
+mod tests;

@@ -22,11 +22,7 @@ fn put(code: &mut Vec<Instr>, line: Line, act: Act) -> Result<(), AllocError>
 }
 
 /// A variable is given the operand.
-fn store(
-    access: &Access,
-    places: &Places<'_>,
-    code: &mut Vec<Instr>,
-) -> Result<(), AllocError>
+fn store(access: &Access, places: &Places<'_>, code: &mut Vec<Instr>) -> Result<(), AllocError>
     ensures { OnOk result (code.new.items ≡ code.old.items ++ stored_code (places_of places.now) (access_of access.now)) }
 {
     emit_place(access, places, code)?;
@@ -34,11 +30,7 @@ fn store(
 }
 
 /// The values of a PRINT's items.
-fn values(
-    items: &[Item],
-    places: &Places<'_>,
-    code: &mut Vec<Instr>,
-) -> Result<(), AllocError>
+fn values(items: &[Item], places: &Places<'_>, code: &mut Vec<Instr>) -> Result<(), AllocError>
     ensures { OnOk result (code.new.items ≡ code.old.items ++ items_code (places_of places.now) (map item_of items.now)) }
 {
     for item in items {
@@ -116,11 +108,7 @@ fn print(
 }
 
 /// A READ.
-fn read(
-    targets: &[Access],
-    places: &Places<'_>,
-    code: &mut Vec<Instr>,
-) -> Result<(), AllocError>
+fn read(targets: &[Access], places: &Places<'_>, code: &mut Vec<Instr>) -> Result<(), AllocError>
     ensures { OnOk result (code.new.items ≡ code.old.items ++ (instr (places_of places.now).line TakeRecord ∷ (elements_code (places_of places.now) (map access_of targets.now) ++ instr (places_of places.now).line DropRecord ∷ []))) }
 {
     put(code, places.line, Act::TakeRecord)?;
