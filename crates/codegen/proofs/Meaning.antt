@@ -104,6 +104,16 @@ then_under run f g h = by run.end refl
     by (Stopped l) e = refl
     by (Faulted k l) e = refl
 
+-- a STOP that END follows is told alike in a program and in its plan
+last_same : (n : Node) (b : Block) → process.is_last_stop (plain_node n) (plain_block b) ≡ meaning.is_last_stop n b
+last_same (tree.plain s) tree.no_nodes = refl
+last_same (tree.plain s) (tree.then_node (tree.plain t) tree.no_nodes) = refl
+last_same (tree.plain s) (tree.then_node (tree.plain t) (tree.then_node n b)) = refl
+last_same (tree.plain s) (tree.then_node (tree.loop l h c) b) = refl
+last_same (tree.plain s) (tree.then_node (tree.choose a) b) = refl
+last_same (tree.loop l h c) b = refl
+last_same (tree.choose a) b = refl
+
 module _ (A : Type 0) (D : Doing A) (p : Places) (meant : A → List ℤ → Run → Told) (M : Acts A D p meant) where
   -- a continuation that doesn't look at what is left of a record
   abbrev after : A → Run → Told
@@ -231,3 +241,130 @@ module _ (A : Type 0) (D : Doing A) (p : Places) (meant : A → List ℤ → Run
   kind_meant line end_if a run w d = nothing_meant a run d
   kind_meant line (logical_if e k) a run w d = nothing_meant a run d
   kind_meant line end a run w d = nothing_meant a run d
+
+  -- ---- DO
+
+  answered_told : (r : Result ℤ Fault) (line : ℕ) (κ : ℤ → A) (left : List ℤ) (run : Run) → meant (answered_into A (D.evaluate line) r κ) left run ≡ given_told r line run (λ v. meant (κ v) left run)
+  answered_told (Ok v) line κ left run = (M.evaluates line left run).goes (κ v)
+  answered_told (Err e) line κ left run = (M.evaluates line left run).faults e
+
+  abbrev pub StepNamed : Option Term → Type 0
+  StepNamed None = Unit {0}
+  StepNamed (Some e) = Named p e
+
+  step_meant : (line : ℕ) (e : Option Term) (κ : ℤ → A) (run : Run) → StepNamed e → meant (step_into A D p line e κ) [] run ≡ given_told (step_value (looked_up p.symbols run.store) e) line run (λ v. meant (κ v) [] run)
+  step_meant line None κ run w = M.goes (κ (pos 1)) [] run
+  step_meant line (Some e) κ run w = value_meant line e κ [] run w
+
+  -- a variable of a DO
+  pub record Counts (r : Ref) : Type 0 where
+    pub scalar : home_of p r.name ≡ home p [] r.name
+    pub free : Free (home p [] r.name)
+
+  variable_meant : (r : Ref) (v : ℤ) (a : A) (run : Run) → Counts r → meant (variable_into A D p r v a) [] run ≡ meant a [] (written run r.name 0 v)
+  variable_meant r v a run w = given_scalar (home p [] r.name) r v a [] run w.scalar w.free
+
+  grown_meant : (line : ℕ) (r : Ref) (m3 : ℤ) (a : A) (run : Run) → Counts r → run.end ≡ Done → meant (grown_into A D p line r m3 a) [] run ≡ then_told (grown line r.name m3 run) (after a)
+  grown_meant line r m3 a run w d =
+      scalar_meant A (D.evaluate line) (process.on A D p line) run.store Told (λ b. meant b [] run) (λ e. failed e line run) (M.evaluates line [] run) r (home p [] r.name) (λ v. D.local (answered_into A (D.evaluate line) (value_of Add v m3) (λ u. variable_into A D p r u (D.local a)))) w.scalar
+      ∙ M.goes (answered_into A (D.evaluate line) (value_of Add (run.store r.name 0) m3) (λ u. variable_into A D p r u (D.local a))) [] run
+      ∙ answered_told (value_of Add (run.store r.name 0) m3) line (λ u. variable_into A D p r u (D.local a)) [] run
+      ∙ given_under (value_of Add (run.store r.name 0) m3) line run (λ u. meant (variable_into A D p r u (D.local a)) [] run) (λ u. then_told (written run r.name 0 u) (after a)) (λ u.
+      variable_meant r u (D.local a) run w ∙ M.goes a [] (written run r.name 0 u) ∙ nothing_meant a (written run r.name 0 u) d)
+      ∙ given_then (value_of Add (run.store r.name 0) m3) line run (λ u. written run r.name 0 u) (after a)
+
+  turns_meant : (n : ℕ) (turn : A → A) (makes : Run → Run) (a : A) (run : Run) → ((b : A) (r : Run) → r.end ≡ Done → meant (turn b) [] r ≡ then_told (makes r) (after b)) → run.end ≡ Done → meant (turns_into A D p turn n a) [] run ≡ then_told (turns makes n run) (after a)
+  turns_meant zero turn makes a run h d = M.goes a [] run ∙ nothing_meant a run d
+  turns_meant (suc n) turn makes a run h d =
+      M.goes (turn (turns_into A D p turn n a)) [] run
+      ∙ h (turns_into A D p turn n a) run d
+      ∙ then_under (makes run) (after (turns_into A D p turn n a)) (λ r. then_told (turns makes n r) (after a)) (λ r e. turns_meant n turn makes a r h e)
+      ∙ sym (then_then (makes run) (turns makes n) (after a))
+
+  abbrev pub HeadNamed : DoHead → Type 0
+  HeadNamed h = Named p h.first × Named p h.last × StepNamed h.step × Counts h.variable
+
+  serial_meant : (line : ℕ) (h : DoHead) (range : A → A) (makes : Run → Run) (a : A) (run : Run) → HeadNamed h → ((b : A) (r : Run) → r.end ≡ Done → meant (range b) [] r ≡ then_told (makes r) (after b)) → run.end ≡ Done
+      → meant (serial_into A D p line h range a) [] run
+          ≡ then_told (given (value (looked_up p.symbols run.store) h.first) line run (λ m1. given (value (looked_up p.symbols run.store) h.last) line run (λ m2. given (step_value (looked_up p.symbols run.store) h.step) line run (λ m3. looped line h.variable.name makes m1 m2 m3 run)))) (after a)
+  serial_meant line h range makes a run w body d =
+      let look = looked_up p.symbols run.store in
+      value_meant line h.first (λ m1. term_into A (D.evaluate line) (process.on A D p line) h.last (λ m2. step_into A D p line h.step (λ m3. set_up_into A D p line m3 (variable_into A D p h.variable m1 (turns_into A D p (λ b. range (grown_into A D p line h.variable m3 b)) (trips m1 m2 m3) a))))) [] run w.0
+      ∙ given_under (value look h.first) line run (λ m1. meant (term_into A (D.evaluate line) (process.on A D p line) h.last (λ m2. step_into A D p line h.step (λ m3. set_up_into A D p line m3 (variable_into A D p h.variable m1 (turns_into A D p (λ b. range (grown_into A D p line h.variable m3 b)) (trips m1 m2 m3) a))))) [] run) (λ m1. then_told (given (value look h.last) line run (λ m2. given (step_value look h.step) line run (λ m3. looped line h.variable.name makes m1 m2 m3 run))) (after a)) (λ m1.
+      value_meant line h.last (λ m2. step_into A D p line h.step (λ m3. set_up_into A D p line m3 (variable_into A D p h.variable m1 (turns_into A D p (λ b. range (grown_into A D p line h.variable m3 b)) (trips m1 m2 m3) a)))) [] run w.1
+      ∙ given_under (value look h.last) line run (λ m2. meant (step_into A D p line h.step (λ m3. set_up_into A D p line m3 (variable_into A D p h.variable m1 (turns_into A D p (λ b. range (grown_into A D p line h.variable m3 b)) (trips m1 m2 m3) a)))) [] run) (λ m2. then_told (given (step_value look h.step) line run (λ m3. looped line h.variable.name makes m1 m2 m3 run)) (after a)) (λ m2.
+      step_meant line h.step (λ m3. set_up_into A D p line m3 (variable_into A D p h.variable m1 (turns_into A D p (λ b. range (grown_into A D p line h.variable m3 b)) (trips m1 m2 m3) a))) run w.2
+      ∙ given_under (step_value look h.step) line run (λ m3. meant (set_up_into A D p line m3 (variable_into A D p h.variable m1 (turns_into A D p (λ b. range (grown_into A D p line h.variable m3 b)) (trips m1 m2 m3) a))) [] run) (λ m3. then_told (looped line h.variable.name makes m1 m2 m3 run) (after a)) (λ m3. begun m1 m2 m3 (int_eq m3 (pos 0)))
+      ∙ given_then (step_value look h.step) line run (λ m3. looped line h.variable.name makes m1 m2 m3 run) (after a))
+      ∙ given_then (value look h.last) line run (λ m2. given (step_value look h.step) line run (λ m3. looped line h.variable.name makes m1 m2 m3 run)) (after a))
+      ∙ given_then (value look h.first) line run (λ m1. given (value look h.last) line run (λ m2. given (step_value look h.step) line run (λ m3. looped line h.variable.name makes m1 m2 m3 run))) (after a)
+    where
+      trip : (m3 : ℤ) (b : A) (r : Run) → r.end ≡ Done → meant (range (grown_into A D p line h.variable m3 b)) [] r ≡ then_told (then_do (makes r) (λ x. grown line h.variable.name m3 x)) (after b)
+      trip m3 b r e =
+          body (grown_into A D p line h.variable m3 b) r e
+          ∙ then_under (makes r) (after (grown_into A D p line h.variable m3 b)) (λ x. then_told (grown line h.variable.name m3 x) (after b)) (λ x f. grown_meant line h.variable m3 b x w.3 f)
+          ∙ sym (then_then (makes r) (λ x. grown line h.variable.name m3 x) (after b))
+
+      begun : (m1 m2 m3 : ℤ) (zero_step : Bool) → meant (if zero_step then (D.evaluate line).fails ZeroStep else D.local (variable_into A D p h.variable m1 (turns_into A D p (λ b. range (grown_into A D p line h.variable m3 b)) (trips m1 m2 m3) a))) [] run
+          ≡ then_told (if zero_step then record run { end = Faulted ZeroStep line } else turns (λ x. then_do (makes x) (λ y. grown line h.variable.name m3 y)) (trips m1 m2 m3) (written run h.variable.name 0 m1)) (after a)
+      begun m1 m2 m3 true = (M.evaluates line [] run).faults ZeroStep
+      begun m1 m2 m3 false =
+          M.goes (variable_into A D p h.variable m1 (turns_into A D p (λ b. range (grown_into A D p line h.variable m3 b)) (trips m1 m2 m3) a)) [] run
+          ∙ variable_meant h.variable m1 (turns_into A D p (λ b. range (grown_into A D p line h.variable m3 b)) (trips m1 m2 m3) a) run w.3
+          ∙ turns_meant (trips m1 m2 m3) (λ b. range (grown_into A D p line h.variable m3 b)) (λ x. then_do (makes x) (λ y. grown line h.variable.name m3 y)) a (written run h.variable.name 0 m1) (λ b r e. trip m3 b r e) d
+
+  -- ---- blocks
+
+  abbrev mutual
+    pub NodeNamed : Node → Type 0
+    NodeNamed (tree.plain s) = KindNamed s.kind
+    NodeNamed (tree.loop line h b) = HeadNamed h × BlockNamed b
+    NodeNamed (tree.choose arms) = ArmsNamed arms
+
+    pub BlockNamed : Block → Type 0
+    BlockNamed tree.no_nodes = Unit {0}
+    BlockNamed (tree.then_node n b) = NodeNamed n × BlockNamed b
+
+    pub ArmsNamed : Arms → Type 0
+    ArmsNamed tree.no_arms = Unit {0}
+    ArmsNamed (tree.then_arm line None b more) = BlockNamed b
+    ArmsNamed (tree.then_arm line (Some c) b more) = Named p c × BlockNamed b × ArmsNamed more
+
+  -- no loop is opened
+  abbrev none_open : ℕ → Option ℕ
+  none_open id = None
+
+  unless_last : (b : Bool) (x a : A) (run last : Run) → run.end ≡ Done → meant x [] run ≡ then_told last (after a) → meant (if b then a else x) [] run ≡ then_told (if b then run else last) (after a)
+  unless_last true x a run last d h = nothing_meant a run d
+  unless_last false x a run last d h = h
+
+  chosen_meant : (b : Bool) (x y : A) (a : A) (run one other : Run) → meant x [] run ≡ then_told one (after a) → meant y [] run ≡ then_told other (after a) → meant (if b then x else y) [] run ≡ then_told (if b then one else other) (after a)
+  chosen_meant true x y a run one other h k = h
+  chosen_meant false x y a run one other h k = k
+
+  mutual
+    pub node_meant : (n : Node) (a : A) (run : Run) → NodeNamed n → run.end ≡ Done → meant (node_into A D p none_open (plain_node n) a) [] run ≡ then_told (exec p.symbols n run) (after a)
+    node_meant (tree.plain s) a run w d = kind_meant s.line s.kind a run w d
+    node_meant (tree.loop line h b) a run w d = serial_meant line h (λ x. block_into A D p none_open (plain_block b) x) (λ r. exec_block p.symbols b r) a run w.0 (λ x r e. block_meant b x r w.1 e) d
+    node_meant (tree.choose arms) a run w d = arms_meant arms a run w d
+
+    pub block_meant : (b : Block) (a : A) (run : Run) → BlockNamed b → run.end ≡ Done → meant (block_into A D p none_open (plain_block b) a) [] run ≡ then_told (exec_block p.symbols b run) (after a)
+    block_meant tree.no_nodes a run w d = nothing_meant a run d
+    block_meant (tree.then_node n b) a run w d =
+        ap (λ (z : Bool). meant (if z then a else node_into A D p none_open (plain_node n) (block_into A D p none_open (plain_block b) a)) [] run) (last_same n b)
+        ∙ unless_last (meaning.is_last_stop n b) (node_into A D p none_open (plain_node n) (block_into A D p none_open (plain_block b) a)) a run (then_do (exec p.symbols n run) (λ r. exec_block p.symbols b r)) d
+        (node_meant n (block_into A D p none_open (plain_block b) a) run w.0 d
+        ∙ then_under (exec p.symbols n run) (after (block_into A D p none_open (plain_block b) a)) (λ r. then_told (exec_block p.symbols b r) (after a)) (λ r e. block_meant b a r w.1 e)
+        ∙ sym (then_then (exec p.symbols n run) (λ r. exec_block p.symbols b r) (after a)))
+
+    pub arms_meant : (arms : Arms) (a : A) (run : Run) → ArmsNamed arms → run.end ≡ Done → meant (arms_into A D p none_open (plain_arms arms) a) [] run ≡ then_told (exec_arms p.symbols arms run) (after a)
+    arms_meant tree.no_arms a run w d = nothing_meant a run d
+    arms_meant (tree.then_arm line None b more) a run w d = block_meant b a run w d
+    arms_meant (tree.then_arm line (Some c) b more) a run w d =
+        value_meant line c (λ v. D.local (if is_true v then block_into A D p none_open (plain_block b) (D.local a) else arms_into A D p none_open (plain_arms more) a)) [] run w.0
+        ∙ given_under (value (looked_up p.symbols run.store) c) line run (λ v. meant (D.local (if is_true v then block_into A D p none_open (plain_block b) (D.local a) else arms_into A D p none_open (plain_arms more) a)) [] run) (λ v. then_told (if is_true v then exec_block p.symbols b run else exec_arms p.symbols more run) (after a)) (λ v.
+        M.goes (if is_true v then block_into A D p none_open (plain_block b) (D.local a) else arms_into A D p none_open (plain_arms more) a) [] run
+        ∙ chosen_meant (is_true v) (block_into A D p none_open (plain_block b) (D.local a)) (arms_into A D p none_open (plain_arms more) a) a run (exec_block p.symbols b run) (exec_arms p.symbols more run)
+        (block_meant b (D.local a) run w.1 d ∙ then_under (exec_block p.symbols b run) (after (D.local a)) (after a) (λ r e. M.goes a [] r))
+        (arms_meant more a run w.2 d))
+        ∙ given_then (value (looked_up p.symbols run.store) c) line run (λ v. if is_true v then exec_block p.symbols b run else exec_arms p.symbols more run) (after a)
