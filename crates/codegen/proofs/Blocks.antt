@@ -3,7 +3,7 @@ use Rattle.std.proofs.Common.{◌≡◌, ◌∙◌, ◌⊎◌, inl, inr, ◌<◌
 use Rattle.std.specs.Prelude.{max, slice_get, if◌then◌else◌}
 use Rattle.std.proofs.Math.Nat.{le-max_left, le-max_right, max-eq_left, max-eq_right}
 use Rattle.ast.specs.Exact.{is_true}
-use Rattle.ast.specs.Tree.{Term, DoHead, Kind, Statement, assign, print, read, stop, program, integer, dimension, parameters, do_loop, go_on, block_if, else_if, else_arm, end_if, logical_if, end}
+use Rattle.ast.specs.Tree.{DoHead, Kind, assign, print, read, stop, program, integer, dimension, parameters, do_loop, go_on, block_if, else_if, else_arm, end_if, logical_if, end}
 use Rattle.dependence.specs.Plan.{PlanNode, awaits, advances, plain, loop, choose, PlanBlock, no_nodes, then_node, PlanArms, no_arms, made_else, then_arm}
 use Rattle.machine.specs.Code.{Code, Part}
 use Rattle.machine.specs.Frame.{Frame}
@@ -18,9 +18,9 @@ use Rattle.expr_code.specs.Process.{term_into}
 use Rattle.expr_code.proofs.Finding.{Reach, short_is}
 use Rattle.expr_code.proofs.Running.{Reaches, term_runs}
 use Rattle.expr_code.proofs.Standing.{HasAt, has_front, has_back, at}
-use Rattle.codegen.specs.Emitted.{arms_awaits, arms_code, arms_records, block_awaits, block_code, block_records, chosen_code, if_serial, kind_records, loop_code, node_awaits, node_code, node_records, opened_code, parts_of, serial_code}
-use Rattle.codegen.specs.Process.{Doing, arms_into, block_into, is_last_stop, kind_into, loop_into, node_into, on, opened_into}
-use Rattle.codegen.specs.Room.{arms_loops, arms_room, block_loops, block_room, head_room, kind_room, node_loops, node_room, step_room}
+use Rattle.codegen.specs.Emitted.{arms_awaits, arms_code, arms_records, block_awaits, block_code, block_records, chosen_code, if_serial, kind_records, loop_code, node_awaits, node_code, node_records, opened_code}
+use Rattle.codegen.specs.Process.{Doing, arms_into, block_into, is_last_stop, loop_into, node_into, on, opened_into}
+use Rattle.codegen.specs.Room.{arms_loops, arms_room, block_loops, block_room, head_room, node_loops, node_room, step_room}
 use Rattle.codegen.proofs.Nesting.{HeadReaches, chosen_runs, reloop, serial_runs, with_loops}
 use Rattle.codegen.proofs.Running.{Does, Fits, HasRecords, KindReaches, fits_on, kind_runs}
 use Rattle.codegen.proofs.Standing.{Keeps, keeps_on, keeps_same}

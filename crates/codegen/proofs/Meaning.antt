@@ -1,9 +1,9 @@
 -- What the process of a program comes to is its sequential meaning, whatever its steps are made into,
 -- where no loop is opened.
 use Rattle.std.proofs.Common.{◌≡◌, ◌∙◌, ℕ, zero, suc, ℤ, pos, Bool, true, false, List, [], ◌∷◌, ◌++◌, Option, Some, None, Result, Ok, Err, refl, sym, ap, subst}
-use Rattle.std.specs.Prelude.{◌+ℤ◌, if◌then◌else◌}
+use Rattle.std.specs.Prelude.{if◌then◌else◌}
 use Rattle.std.specs.Ordering.{int_eq}
-use Rattle.ast.specs.Exact.{in_range, is_true, trips, value_of}
+use Rattle.ast.specs.Exact.{is_true, trips, value_of}
 use Rattle.ast.specs.Input.{taken, next_integer}
 use Rattle.ast.specs.Meaning as meaning
 use Rattle.ast.specs.Meaning.{Run, going_on, then_do, given, written, printed, step_value, turns, target, read_elements, exec_plain, grown, looped, exec, exec_block, exec_arms, looked_up, value}
@@ -19,7 +19,7 @@ use Rattle.ast.specs.declared.fault.End.TheVariants.{Done, Stopped, Fault as Fau
 use Rattle.ast.specs.declared.fault.Fault.{Fault}
 use Rattle.ast.specs.declared.fault.Fault.TheVariants.{ZeroStep}
 use Rattle.expr_code.specs.Places.{Places, Home, loop_index, private_scalar, in_store, dimensions_at, home, home_of}
-use Rattle.expr_code.specs.Process.{Steps, answered_into, scalar_into, target_into, term_into}
+use Rattle.expr_code.specs.Process.{answered_into, term_into}
 use Rattle.expr_code.proofs.Meaning.{Means, Named, on, on_all, scalar_meant, target_meant, term_meant}
 use Rattle.codegen.specs.Plain.{plain_node, plain_block, plain_arms}
 use Rattle.codegen.specs.Process as process
@@ -286,7 +286,7 @@ module _ (A : Type 0) (D : Doing A) (p : Places) (meant : A → List ℤ → Run
 
   serial_meant : (line : ℕ) (h : DoHead) (range : A → A) (makes : Run → Run) (a : A) (run : Run) → HeadNamed h → ((b : A) (r : Run) → r.end ≡ Done → meant (range b) [] r ≡ then_told (makes r) (after b)) → run.end ≡ Done
       → meant (serial_into A D p line h range a) [] run
-          ≡ then_told (given (value (looked_up p.symbols run.store) h.first) line run (λ m1. given (value (looked_up p.symbols run.store) h.last) line run (λ m2. given (step_value (looked_up p.symbols run.store) h.step) line run (λ m3. looped line h.variable.name makes m1 m2 m3 run)))) (after a)
+      ≡ then_told (given (value (looked_up p.symbols run.store) h.first) line run (λ m1. given (value (looked_up p.symbols run.store) h.last) line run (λ m2. given (step_value (looked_up p.symbols run.store) h.step) line run (λ m3. looped line h.variable.name makes m1 m2 m3 run)))) (after a)
   serial_meant line h range makes a run w body d =
       let look = looked_up p.symbols run.store in
       value_meant line h.first (λ m1. term_into A (D.evaluate line) (process.on A D p line) h.last (λ m2. step_into A D p line h.step (λ m3. set_up_into A D p line m3 (variable_into A D p h.variable m1 (turns_into A D p (λ b. range (grown_into A D p line h.variable m3 b)) (trips m1 m2 m3) a))))) [] run w.0

@@ -1,28 +1,26 @@
 -- The code of blocks, loops and IFs does what their process does.
-use Rattle.std.proofs.Common.{◌≡◌, ◌∙◌, ◌⊎◌, inl, inr, ◌<◌, ◌≤◌, ◌+◌, ◌-◌, ◌^◌, ℕ, zero, suc, ℤ, pos, Bool, true, false, List, [], ◌∷◌, ◌++◌, Option, Some, None, Result, Ok, Err, length, drop, map, refl, sym, ap, subst, arith, length-append}
-use Rattle.std.specs.Prelude.{max, nat_lt, slice_get, if◌then◌else◌}
+use Rattle.std.proofs.Common.{◌≡◌, ◌∙◌, ◌<◌, ◌≤◌, ◌+◌, ◌-◌, ◌^◌, ℕ, zero, suc, ℤ, pos, Bool, true, false, List, [], ◌∷◌, ◌++◌, Option, Some, None, length, refl, sym, ap, subst, arith, length-append}
+use Rattle.std.specs.Prelude.{max, slice_get, if◌then◌else◌}
 use Rattle.std.specs.Ordering.{int_eq}
 use Rattle.std.proofs.Math.Nat.{le-max_left, le-max_right}
 use Rattle.std.proofs.lemmas.Bool.{lt-ltb}
 use Rattle.ast.specs.Exact.{is_true, trips, value_of}
 use Rattle.ast.specs.Symbols.{Extent}
-use Rattle.ast.specs.Tree.{Ref, Term, DoHead, Statement}
+use Rattle.ast.specs.Tree.{Ref, Term, DoHead}
 use Rattle.ast.specs.declared.expression.Operator.TheVariants.{Add}
 use Rattle.ast.specs.declared.fault.Fault.TheVariants.{ZeroStep}
-use Rattle.dependence.specs.Plan.{PlanNode, awaits, advances, plain, loop, choose, PlanBlock, no_nodes, then_node, PlanArms, no_arms, made_else, then_arm}
-use Rattle.machine.specs.Code.{Code, Part}
+use Rattle.machine.specs.Code.{Code}
 use Rattle.machine.specs.Frame.{Frame, Stack, with_items}
-use Rattle.machine.specs.Local.{counter, counted_down, going_on, one_of, pushed, looping, loop_set_up, skipping, step_pushed, with_counters, without, faulted, if_pushed}
-use Rattle.machine.specs.View.{View, doing, doing_if, opening, joining, view}
-use Rattle.machine.specs.declared.code.Await.{Await}
+use Rattle.machine.specs.Local.{counter, counted_down, one_of, pushed, looping, step_pushed, faulted, if_pushed}
+use Rattle.machine.specs.View.{View, doing, doing_if, view}
 use Rattle.machine.specs.declared.code.Open.{Open as Opened}
 use Rattle.machine.specs.declared.frame.Counter.{Counter}
 use Rattle.machine.specs.declared.instr.Act.TheVariants as acts
 use Rattle.machine.specs.declared.instr.Instr.{Instr}
 use Rattle.expr_code.specs.Computes.{operands}
-use Rattle.expr_code.specs.Emitted.{given_act, instr, scalar_act, short, term_code}
-use Rattle.expr_code.specs.Places.{Places, dimensions_at, home}
-use Rattle.expr_code.specs.Process.{answered_into, scalar_into, term_into}
+use Rattle.expr_code.specs.Emitted.{instr, short, term_code}
+use Rattle.expr_code.specs.Places.{Places, home}
+use Rattle.expr_code.specs.Process.{answered_into, term_into}
 use Rattle.expr_code.proofs.Finding.{Reach, short_is}
 use Rattle.expr_code.proofs.Running.{Reaches, binary_answers, scalar_runs, term_runs}
 use Rattle.expr_code.proofs.Standing.{HasAt, has_front, has_back, at, constant_seen, seen}
@@ -30,7 +28,7 @@ use Rattle.codegen.specs.Emitted.{chosen_code, grown_code, step_code, turns_code
 use Rattle.codegen.specs.Process.{Doing, grown_into, on, serial_into, set_up_into, step_into, turns_into, variable_into}
 use Rattle.codegen.specs.Room.{head_room, step_room}
 use Rattle.codegen.proofs.Running.{Does, Fits, fits_on, scalar_given}
-use Rattle.codegen.proofs.Standing.{Keeps, keeps_on, keeps_same}
+use Rattle.codegen.proofs.Standing.{Keeps, keeps_same}
 
 abbrev pub StepReaches : Code → Places → Option Term → Type 0
 StepReaches code p None = Unit {0}

@@ -1,26 +1,23 @@
 -- The code of statements does what their process does, whatever the steps are made into.
-use Rattle.std.proofs.Common.{◌≡◌, ◌∙◌, ◌<◌, ◌≤◌, ◌+◌, ◌^◌, ℕ, zero, suc, ℤ, pos, Bool, true, false, List, [], ◌∷◌, ◌++◌, Option, Some, None, Result, Ok, Err, length, drop, map, refl, sym, ap, subst, arith, length-append}
-use Rattle.std.specs.Prelude.{max, nat_lt, slice_get, slice_set, if◌then◌else◌}
+use Rattle.std.proofs.Common.{◌≡◌, ◌∙◌, ◌<◌, ◌≤◌, ◌+◌, ◌^◌, ℕ, suc, ℤ, pos, Bool, true, false, List, [], ◌∷◌, ◌++◌, Option, Some, None, length, refl, sym, ap, subst, arith, length-append}
+use Rattle.std.specs.Prelude.{max, slice_get, if◌then◌else◌}
 use Rattle.std.proofs.Math.Nat.{le-max_left, le-max_right}
-use Rattle.std.proofs.lemmas.Bool.{lt-ltb}
 use Rattle.ast.proofs.Sizes.{some_elements}
 use Rattle.ast.specs.Record.{Printed, number, text, record_of}
 use Rattle.ast.specs.Symbols.{Extent, elements}
-use Rattle.ast.specs.Tree.{Ref, Term, Access, accessed, element, PrintItem, value_item, text_item, Kind, assign, print, read, stop, program, integer, dimension, parameters, do_loop, go_on, block_if, else_if, else_arm, end_if, logical_if, end}
-use Rattle.ast.specs.declared.fault.Fault.{Fault}
-use Rattle.machine.specs.Code.{Code, Cell, Part, operand, text_as, cell_at}
-use Rattle.machine.specs.Frame.{Frame, with_items}
-use Rattle.machine.specs.View.{View, doing, storing, printing, breaking, stop_at, filled, storing_if, values_wanted, act_view, view}
+use Rattle.ast.specs.Tree.{Ref, Access, accessed, PrintItem, value_item, text_item, Kind, assign, print, read, stop, program, integer, dimension, parameters, do_loop, go_on, block_if, else_if, else_arm, end_if, logical_if, end}
+use Rattle.machine.specs.Code.{Code, Cell}
+use Rattle.machine.specs.Frame.{Frame}
+use Rattle.machine.specs.View.{doing, storing, printing, breaking, stop_at, filled, storing_if, values_wanted, act_view, view}
 use Rattle.machine.specs.declared.instr.Act.TheVariants as acts
 use Rattle.machine.specs.declared.instr.Instr.{Instr}
 use Rattle.expr_code.specs.Computes.{operands, with_place}
 use Rattle.expr_code.specs.Emitted.{given_act, instr, short, target_code, term_code}
 use Rattle.expr_code.specs.Places.{Places, Home, loop_index, private_scalar, in_store, dimensions_at, home, is_loop_name, number_in, private_or_stored}
-use Rattle.expr_code.specs.Process.{Steps}
 use Rattle.expr_code.proofs.Finding.{Reach, cell_law, number_below, short_is}
 use Rattle.expr_code.proofs.Running.{Reaches, Rules, target_runs, term_runs}
 use Rattle.expr_code.proofs.Standing.{HasAt, has_front, has_back, at, onto, seen}
-use Rattle.codegen.specs.Emitted.{elements_code, items_code, kind_code, kind_records, parts_of, stored_code}
+use Rattle.codegen.specs.Emitted.{elements_code, items_code, kind_code, parts_of, stored_code}
 use Rattle.codegen.specs.Process.{Doing, elements_into, given_into, items_into, kind_into, on, stored_into}
 use Rattle.codegen.specs.Room.{elements_room, items_room, kind_room}
 use Rattle.codegen.proofs.Standing.{Keeps, keeps_same, keeps_set, print_seen, set_seen, with_private}

@@ -1,18 +1,17 @@
 -- Frames from statement to statement.
-use Rattle.std.proofs.Common.{◌≡◌, ◌∙◌, ◌<◌, ◌≤◌, ◌+◌, ◌^◌, ℕ, zero, suc, ℤ, pos, Bool, true, false, List, [], ◌∷◌, ◌++◌, Option, Some, None, Result, Ok, Err, length, drop, take, map, refl, sym, ap, subst, arith, append_assoc}
-use Rattle.std.specs.Prelude.{nat_lt, nat_le, reverse, slice_get, slice_set, if◌then◌else◌}
+use Rattle.std.proofs.Common.{◌≡◌, ◌∙◌, ◌<◌, ◌≤◌, ◌+◌, ℕ, zero, suc, ℤ, Bool, List, [], ◌∷◌, ◌++◌, Option, Some, None, length, drop, take, refl, sym, ap, arith, append_assoc}
+use Rattle.std.specs.Prelude.{reverse, slice_get, slice_set, if◌then◌else◌}
 use Rattle.std.proofs.Math.Seq.{take-append_seam}
 use Rattle.std.proofs.lemmas.Bool.{le-leb, lt-ltb}
 use Rattle.std.proofs.lemmas.Grind.{reverse_onto}
 use Rattle.std.proofs.lemmas.List.{length-reverse, reverse-reverse}
-use Rattle.ast.specs.Record.{Printed, number, text, record_of}
-use Rattle.machine.specs.Code.{Code, Part, operand, text_as}
-use Rattle.machine.specs.Frame.{Frame, with_items}
-use Rattle.machine.specs.Local.{going_on, private_set, without}
+use Rattle.ast.specs.Record.{record_of}
+use Rattle.machine.specs.Code.{Code, Part}
+use Rattle.machine.specs.Frame.{Frame}
+use Rattle.machine.specs.Local.{going_on, without}
 use Rattle.machine.specs.View.{View, doing, doing_if, filled, printing, printing_if, printing_of, stuck, values_wanted, view}
 use Rattle.machine.specs.declared.code.Open.{Open as Opened}
 use Rattle.machine.specs.declared.instr.Act.TheVariants.{Print, SetPrivate}
-use Rattle.machine.specs.declared.instr.Instr.{Instr}
 use Rattle.expr_code.specs.Emitted.{instr}
 use Rattle.expr_code.proofs.Standing.{at, onto, seen}
 

@@ -1,16 +1,14 @@
 -- An account of the code: what is emitted for statements, by recursion on their tree.
-use Rattle.std.specs.Prelude.{ℕ, zero, suc, pos, ◌+◌, if◌then◌else◌, List, [], ◌∷◌, ◌++◌, length, Option, Some, None}
-use Rattle.ast.specs.Symbols.{Extent}
+use Rattle.std.specs.Prelude.{ℕ, pos, ◌+◌, if◌then◌else◌, List, [], ◌∷◌, ◌++◌, length, Option, Some, None}
 use Rattle.ast.specs.Tree.{Ref, Term, Access, PrintItem, value_item, text_item, DoHead, Kind, assign, print, read, stop}
 use Rattle.ast.specs.declared.expression.Operator.TheVariants.{Add}
 use Rattle.dependence.specs.Plan.{PlanNode, awaits, advances, plain, loop, choose, PlanBlock, no_nodes, then_node, PlanArms, no_arms, made_else, then_arm}
 use Rattle.machine.specs.Code.{Part, operand, text_as}
-use Rattle.machine.specs.declared.instr.Act.{Act}
 use Rattle.machine.specs.declared.instr.Act.TheVariants as acts
 use Rattle.machine.specs.declared.code.Await.{Await}
 use Rattle.machine.specs.declared.instr.Instr.{Instr}
 use Rattle.expr_code.specs.Emitted.{given_act, instr, scalar_act, short, target_code, term_code}
-use Rattle.expr_code.specs.Places.{Places, Home, loop_index, private_scalar, in_store, dimensions_at, home}
+use Rattle.expr_code.specs.Places.{Places, dimensions_at, home}
 use Rattle.codegen.specs.Process.{is_last_stop}
 
 abbrev pub stored_code : Places → Access → List Instr

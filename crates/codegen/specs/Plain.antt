@@ -1,5 +1,4 @@
 -- A program as a plan that awaits and advances nothing.
-use Rattle.std.specs.Prelude.{ℕ, Option}
 use Rattle.ast.specs.Tree as tree
 use Rattle.ast.specs.Tree.{Term, DoHead, Statement, Node, Block, Arms}
 use Rattle.dependence.specs.Plan as plan

@@ -1,13 +1,12 @@
 -- What statements do, one step after another, over any kind of steps: of main or of an iteration. Their
 -- code does these steps. A program is a plan that awaits and advances nothing; the loops whose iterations
 -- are run at once are told by their DO variables' references.
-use Rattle.std.specs.Prelude.{ℕ, ℤ, zero, suc, pos, if◌then◌else◌, Bool, true, false, List, [], ◌∷◌, Option, Some, None, length}
+use Rattle.std.specs.Prelude.{ℕ, ℤ, zero, suc, pos, if◌then◌else◌, Bool, false, List, [], ◌∷◌, Option, Some, None}
 use Rattle.std.specs.Ordering.{int_eq}
 use Rattle.ast.specs.Exact.{is_true, trips, value_of}
 use Rattle.ast.specs.Meaning.{are_stop_and_end}
 use Rattle.ast.specs.Record.{Printed, number, text, record_of}
-use Rattle.ast.specs.Symbols.{Extent}
-use Rattle.ast.specs.Tree.{Ref, Term, Access, PrintItem, value_item, text_item, DoHead, Kind, assign, print, read, stop, no_terms}
+use Rattle.ast.specs.Tree.{Ref, Term, Access, PrintItem, value_item, text_item, DoHead, Kind, assign, print, read, stop}
 use Rattle.ast.specs.declared.expression.Operator.TheVariants.{Add}
 use Rattle.ast.specs.declared.fault.Fault.TheVariants.{ZeroStep}
 use Rattle.dependence.specs.Plan.{PlanNode, awaits, advances, plain, loop, choose, PlanBlock, no_nodes, then_node, PlanArms, no_arms, made_else, then_arm}

@@ -1,7 +1,6 @@
 use Rattle.std.proofs.Common.{◌≡◌, ◌++◌, drop, map}
-use Rattle.ast.specs.View.{access as access_of, item as item_of}
-use Rattle.codegen.specs.Emitted.{elements_code, items_code, parts_of}
-use Rattle.codegen.specs.Records.{pieces_of}
+use Rattle.ast.specs.View.{access as access_of}
+use Rattle.codegen.specs.Emitted.{elements_code}
 use Rattle.expr_code.specs.PlacesView.{places_of}
 use Rattle.codegen.proofs.statements.elements.Given as goal
 

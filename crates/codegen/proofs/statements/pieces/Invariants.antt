@@ -1,8 +1,7 @@
 use Rattle.std.proofs.Common.{◌≡◌, ◌++◌, drop, map}
-use Rattle.ast.specs.View.{access as access_of, item as item_of}
-use Rattle.codegen.specs.Emitted.{elements_code, items_code, parts_of}
+use Rattle.ast.specs.View.{item as item_of}
+use Rattle.codegen.specs.Emitted.{parts_of}
 use Rattle.codegen.specs.Records.{pieces_of}
-use Rattle.expr_code.specs.PlacesView.{places_of}
 use Rattle.codegen.proofs.statements.pieces.Given as goal
 
 abbrev pub invariant-loop-item : goal.invariant-loop-item
