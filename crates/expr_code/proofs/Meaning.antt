@@ -173,7 +173,7 @@ module _ (A : Type 0) (S : Steps A) (p : Places) (store : StoreOf) (X : Type 0) 
       checked_meant (d ∷ ds) (x ∷ xs) (locals_into A S (length ds) (at_place A S (place_of (d ∷ ds) (x ∷ xs)) κ)) (λ n. meant (κ n)) (λ n e.
       locals_meant (length ds) (at_place A S (place_of (d ∷ ds) (x ∷ xs)) κ) ∙ ap (λ (z : Result ℕ Fault). meant (at_place A S z κ)) e)
 
-  scalar_meant : (r : Ref) (h : Home) (κ : ℤ → A) → home_of p r.name ≡ h → meant (scalar_into A S h r κ) ≡ meant (κ (store r.name 0))
+  pub scalar_meant : (r : Ref) (h : Home) (κ : ℤ → A) → home_of p r.name ≡ h → meant (scalar_into A S h r κ) ≡ meant (κ (store r.name 0))
   scalar_meant r loop_index κ e = M.indexes r κ e
   scalar_meant r (private_scalar x) κ e = M.owns r x κ e
   scalar_meant r in_store κ e = M.loads r 0 κ e

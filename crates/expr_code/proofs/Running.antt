@@ -3,6 +3,7 @@ use Rattle.std.proofs.Common.{◌≡◌, ◌∙◌, ◌⊎◌, inl, inr, ◌<◌
 use Rattle.std.specs.Prelude.{◌-ℤ◌, ◌==◌, unsigned_abs, max, slice_get, slice_set, if◌then◌else◌}
 use Rattle.std.proofs.Math.Nat.{le-max_left, le-max_right}
 use Rattle.std.proofs.lemmas.Bool.{lt-ltb, eqb-true}
+use Rattle.ast.proofs.Sizes.{some_elements}
 use Rattle.ast.specs.Exact.{absolute, greater, intrinsic_value, less, prefixed_value, remainder, truth_value, value_of}
 use Rattle.ast.specs.Results.{◌>>=◌}
 use Rattle.ast.specs.Symbols.{Extent, elements, is_within, width, place_of, most_elements}
@@ -111,7 +112,7 @@ module _ (A : Type 0) (S : Steps A) (code : Code) (f : Frame) (line limit : ℕ)
   unary_answers : (o : Prefix) (a : ℤ) (κ : ℤ → A) (pc : ℕ) (st : List ℤ) → pc < limit → slice_get code.instructions pc ≡ Some (instr line (Unary o)) → ((v : ℤ) → St (κ v) (frame (pc + 1) (v ∷ st))) → St (answered_into A S (prefixed_value o a) κ) (frame pc (a ∷ st))
   unary_answers o a κ pc st near h next = answers (prefixed_value o a) 1 κ pc (a ∷ st) near (seen code f (instr line (Unary o)) pc (a ∷ st) h) next
 
-  binary_answers : (o : Operator) (a b : ℤ) (κ : ℤ → A) (pc : ℕ) (st : List ℤ) → pc < limit → slice_get code.instructions pc ≡ Some (instr line (Binary o)) → ((v : ℤ) → St (κ v) (frame (pc + 1) (v ∷ st))) → St (answered_into A S (value_of o a b) κ) (frame pc (b ∷ a ∷ st))
+  pub binary_answers : (o : Operator) (a b : ℤ) (κ : ℤ → A) (pc : ℕ) (st : List ℤ) → pc < limit → slice_get code.instructions pc ≡ Some (instr line (Binary o)) → ((v : ℤ) → St (κ v) (frame (pc + 1) (v ∷ st))) → St (answered_into A S (value_of o a b) κ) (frame pc (b ∷ a ∷ st))
   binary_answers o a b κ pc st near h next = answers (value_of o a b) 2 κ pc (b ∷ a ∷ st) near (seen code f (instr line (Binary o)) pc (b ∷ a ∷ st) h) next
 
   -- ---- subscripts
@@ -225,10 +226,10 @@ module _ (A : Type 0) (S : Steps A) (code : Code) (f : Frame) (line limit : ℕ)
   push_room st n h k = omega (arith, h, k)
 
   module _ (p : Places) (privates : length p.privates ≤ length f.privates) (few_privates : length p.privates ≤ 2 ^ 32) (lines : p.line ≡ line) where
-    scalar_runs : (r : Ref) (h : Home) (κ : ℤ → A) (pc : ℕ) (st : List ℤ) → home p [] r.name ≡ h → Reach code.variables r [] → length st < f.operands.room → slice_get code.instructions pc ≡ Some (instr line (scalar_act h r.cell))
+    pub scalar_runs : (r : Ref) (h : Home) (ds : List Extent) (κ : ℤ → A) (pc : ℕ) (st : List ℤ) → home p [] r.name ≡ h → Reach code.variables r ds → length st < f.operands.room → slice_get code.instructions pc ≡ Some (instr line (scalar_act h r.cell))
         → ((v : ℤ) → St (κ v) (frame (pc + 1) (v ∷ st))) → St (scalar_into A S h r κ) (frame pc st)
-    scalar_runs r loop_index κ pc st e w room has next = R.indexes r κ pc st (index_seen code f line pc st has room) (next f.index)
-    scalar_runs r (private_scalar x) κ pc st e w room has next =
+    scalar_runs r loop_index ds κ pc st e w room has next = R.indexes r κ pc st (index_seen code f line pc st has room) (next f.index)
+    scalar_runs r (private_scalar x) ds κ pc st e w room has next =
         let below : x < length p.privates = private_below in
         let there = private_there f.privates x (omega (arith, below, privates)) in
         let number : short x ≡ x = short_is x (omega (arith, below, few_privates)) in
@@ -245,18 +246,18 @@ module _ (A : Type 0) (S : Steps A) (code : Code) (f : Frame) (line limit : ℕ)
 
         private_below : x < length p.privates
         private_below = chosen (is_loop_name p.loop_name r.name) (number_in 0 r.name p.privates) refl e
-    scalar_runs r in_store κ pc st e w room has next =
+    scalar_runs r in_store ds κ pc st e w room has next =
         R.loads r (record { name = r.name; place = 0 }) κ pc st st
         (seen code f (instr line (Load (short r.cell))) pc st has
         ∙ ap (λ (b : Bool). if b then loading_if (cell_at (slice_get code.variables (short r.cell)) 0) 0 (frame pc st) else Rattle.machine.specs.View.stuck) (lt-ltb (length st) f.operands.room room)
-        ∙ ap (λ (c : Option Cell). loading_if c 0 (frame pc st)) (cell_law code.variables r [] 0 w (omega arith)))
+        ∙ ap (λ (c : Option Cell). loading_if c 0 (frame pc st)) (cell_law code.variables r ds 0 w (some_elements ds)))
         next
 
     reached_runs : (r : Ref) (ds : List Extent) (xs : List ℤ) (κ : ℤ → A) (pc : ℕ) (st : List ℤ) → Reach code.variables r ds → length xs ≤ length ds → length xs ≤ 2 ^ 32 → length st + 1 ≤ f.operands.room
         → Has pc (reached_code p r ds (length xs)) → ((v : ℤ) → St (κ v) (frame (pc + length (reached_code p r ds (length xs))) (v ∷ st)))
         → St (reached_into A S p r ds xs κ) (frame pc (onto xs st))
     reached_runs r [] [] κ pc st w most short_enough room has next =
-        scalar_runs r (home p [] r.name) κ pc st refl w (omega (arith, room)) (has.0 ∙ ap (λ (n : ℕ). Some (instr n (scalar_act (home p [] r.name) r.cell))) lines) next
+        scalar_runs r (home p [] r.name) [] κ pc st refl w (omega (arith, room)) (has.0 ∙ ap (λ (n : ℕ). Some (instr n (scalar_act (home p [] r.name) r.cell))) lines) next
     reached_runs r [] (x ∷ xs) κ pc st w most short_enough room has next = absurd (omega (arith, most))
     reached_runs r (d ∷ ds) xs κ pc st w most short_enough room has next =
         place_runs d ds xs (λ n. S.load r (record { name = r.name; place = n }) κ) pc st w.open_bounds w.few most short_enough room

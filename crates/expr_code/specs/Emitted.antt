@@ -6,7 +6,7 @@ use Rattle.ast.specs.Tree.{Ref, Term, constant, truth, parameter, element, call,
 use Rattle.ast.specs.declared.expression.Intrinsic.TheVariants as intrinsics
 use Rattle.ast.specs.declared.expression.Operator.TheVariants.{Add}
 use Rattle.machine.specs.declared.instr.Act.{Act}
-use Rattle.machine.specs.declared.instr.Act.TheVariants.{Constant, Private, Index, Binary, Modulo, Greatest, Least, Unary, Absolute, Check, SkipUnless, Load, LoadElement}
+use Rattle.machine.specs.declared.instr.Act.TheVariants.{Constant, Private, Index, Binary, Modulo, Greatest, Least, Unary, Absolute, Check, SetPrivate, SkipUnless, Load, LoadElement, Store, StoreElement}
 use Rattle.machine.specs.declared.instr.Axis.{Axis}
 use Rattle.machine.specs.declared.instr.Instr.{Instr}
 use Rattle.expr_code.specs.Places.{Places, Home, loop_index, private_scalar, in_store, home, dimensions_at}
@@ -73,6 +73,13 @@ scalar_act in_store c = Load (short c)
 abbrev pub reached_code : Places → Ref → List Extent → ℕ → List Instr
 reached_code p r [] m = instr p.line (scalar_act (home p [] r.name) r.cell) ∷ []
 reached_code p r (d ∷ ds) m = place_code p.line d ds m ++ instr p.line (LoadElement (short r.cell)) ∷ []
+
+-- the new value of a variable is popped, above it the place of an element
+abbrev pub given_act : List Extent → Home → ℕ → Act
+given_act [] (private_scalar x) c = SetPrivate (short x)
+given_act [] loop_index c = Store (short c)
+given_act [] in_store c = Store (short c)
+given_act (d ∷ ds) h c = StoreElement (short c)
 
 -- an instruction on so many operands; 0 where there are none
 abbrev pub applied_act : Act → ℕ → Act

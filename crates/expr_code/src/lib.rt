@@ -6,7 +6,7 @@ mod places;
 mod room;
 
 pub use emitting::{emit, emit_place};
-pub use places::Places;
+pub use places::{Places, short};
 pub use room::{operands, operands_of_place};
 
 #[cfg(test)]

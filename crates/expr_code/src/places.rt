@@ -5,7 +5,7 @@ ghost use Rattle.ast.specs.View.{extent, letters, symbol};
 ghost use Rattle.expr_code.specs.Emitted.{short};
 ghost use Rattle.expr_code.specs.Places.{dimensions_at, number_in};
 
-use ast::{Dimension, Line, Name, Program, Symbol};
+use ast::{Dimension, Line, Name, Program, Reference, Symbol};
 use loop_tree::ScalarSet;
 use machine::Act;
 
@@ -64,7 +64,7 @@ fn dimensions_in(symbols: &[Symbol], cell: usize) -> &[Dimension]
 impl<'p> Places<'p> {
     ghost use Rattle.std.specs.Prelude.{◌≡◌, [], length, map};
     ghost use Rattle.ast.specs.View.{extent};
-    ghost use Rattle.expr_code.specs.Emitted.{scalar_act};
+    ghost use Rattle.expr_code.specs.Emitted.{given_act, scalar_act};
     ghost use Rattle.expr_code.specs.Places.{dimensions_at, home, is_loop_name};
     ghost use Rattle.expr_code.specs.PlacesView.{places_of};
 
@@ -78,8 +78,31 @@ impl<'p> Places<'p> {
         }
     }
 
+    /// Pops the new value of a scalar.
+    pub fn store_scalar(&self, name: Name, cell: usize) -> Act
+        ensures { result ≡ given_act [] (home (places_of self.now) [] name.letters) cell }
+    {
+        if self.is_loop_name(name) {
+            return Act::Store(short(cell));
+        }
+        match number_in(&self.privates.names, name) {
+            Some(number) => Act::SetPrivate(short(number)),
+            None => Act::Store(short(cell)),
+        }
+    }
+
+    /// Pops the new value of a variable, and before it the place of an element.
+    pub fn store(&self, reference: &Reference) -> Act
+        ensures { result ≡ given_act (dimensions_at (places_of self.now).symbols reference.now.cell) (home (places_of self.now) (dimensions_at (places_of self.now).symbols reference.now.cell) reference.now.name.letters) reference.now.cell }
+    {
+        match self.dimensions(reference.cell) {
+            [] => self.store_scalar(reference.name, reference.cell),
+            [_first, _others @ ..] => Act::StoreElement(short(reference.cell)),
+        }
+    }
+
     /// Pushes the value of a scalar.
-    pub(crate) fn scalar(&self, name: Name, cell: usize) -> Act
+    pub fn scalar(&self, name: Name, cell: usize) -> Act
         ensures { result ≡ scalar_act (home (places_of self.now) [] name.letters) cell }
     {
         if self.is_loop_name(name) {
