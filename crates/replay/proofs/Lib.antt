@@ -12,3 +12,4 @@ pub mod Leading
 pub mod Pieces
 pub mod Scanning
 pub mod Values
+pub mod Entering
