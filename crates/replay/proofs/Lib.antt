@@ -13,3 +13,4 @@ pub mod Pieces
 pub mod Scanning
 pub mod Values
 pub mod Entering
+pub mod Remaining
