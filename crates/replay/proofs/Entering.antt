@@ -57,6 +57,7 @@ may_run code s q k x i h =
     let n = i.numbers (k % s) r.standing r.here in
     let b = place_below s k i.some in
     record {
+      kernel = i.kernel;
       counts = i.counts;
       slot_in_range = omega (arith, b, i.slots);
       nowhere = subst (λ (w : Option Wait). Stands x.shared.order (1 + k % s) w) (ap wait_in r.here ∙ r.wait) (i.each (k % s) b);
@@ -101,6 +102,7 @@ leads_of code s q x i l g h = record {
 
 pub may_lead : (code : Code) (s q : ℕ) (x : Kept) → IsCore code s x → held_of x.held q ≡ Some the_main → MayLead code x.shared (none_open x.iterations)
 may_lead code s q x i h = record {
+  kernel = i.kernel;
   counts = i.counts;
   slot = omega (arith, i.slots);
   nowhere = subst (λ (v : Option Wait). Stands x.shared.order 0 v) (i.leads q h) i.main;

@@ -1,17 +1,15 @@
 -- What holds of all that a core keeps holds after a step of an iteration.
-use Rattle.std.proofs.Common.{inl, inr, ◌≡◌, ◌∙◌, ℕ, zero, suc, ◌+◌, ◌-◌, ◌<◌, ◌≤◌, ◌^◌, Bool, true, false, List, [], ◌∷◌, length, get_or, Option, Some, None, refl, sym, ap, subst, arith}
+use Rattle.std.proofs.Common.{inl, inr, ◌≡◌, ◌∙◌, ℕ, ◌+◌, ◌<◌, List, length, get_or, Option, Some, None, refl, sym, ap, subst, arith}
 use Rattle.std.specs.Prelude.{◌%◌}
 use Rattle.std.proofs.Math.ListN.{set}
 use Rattle.std.proofs.lemmas.Bool.{cases_eq}
 use Rattle.std.proofs.lemmas.List.{get_or-set_same, get_or-set_other, length-set}
-use Rattle.ec_kernel.specs.View.{View, IsKernel, count_at, parked, advanced}
+use Rattle.ec_kernel.specs.View.{View, IsKernel, count_at, advanced}
 use Rattle.machine.specs.Code.{Code}
-use Rattle.machine.specs.Laid.{count_of}
-use Rattle.machine.specs.State.{Wait, Who, the_main, iteration}
+use Rattle.machine.specs.State.{Wait, the_main, iteration}
 use Rattle.replay.specs.Core.{IsCore, IsRunning}
 use Rattle.replay.specs.Parts.{Kept, Shared, Standing, held_of, wait_in}
 use Rattle.replay.specs.Waiting.{Stands}
-use Rattle.replay.proofs.Maps.{held_put}
 use Rattle.replay.proofs.Queues.{advances}
 
 -- a kernel in which everybody stands as before, or is ready now
@@ -58,34 +56,34 @@ stays_core code s k x a b y i h n w l m v o c = record {
   main = o.stands 0 x.waiting i.main;
   each = λ j p. elim (cases_eq j (k % s)) [
     | inl e ↦ (
-      let old : Stands x.shared.order (1 + j) None = subst (λ (u : Option Wait). Stands x.shared.order (1 + j) u) (ap (λ (q : ℕ). wait_in (get_or x.iterations q None)) e ∙ ap wait_in h ∙ w) (i.each j p) in
-      let new : wait_in (get_or (set x.iterations (k % s) (Some b)) j None) ≡ None = ap (λ (q : ℕ). wait_in (get_or (set x.iterations (k % s) (Some b)) q None)) e ∙ ap wait_in here ∙ v in
-      subst (λ (u : Option Wait). Stands y.order (1 + j) u) (sym new) (o.stands (1 + j) None old)
-    )
+        let old : Stands x.shared.order (1 + j) None = subst (λ (u : Option Wait). Stands x.shared.order (1 + j) u) (ap (λ (q : ℕ). wait_in (get_or x.iterations q None)) e ∙ ap wait_in h ∙ w) (i.each j p) in
+        let new : wait_in (get_or (set x.iterations (k % s) (Some b)) j None) ≡ None = ap (λ (q : ℕ). wait_in (get_or (set x.iterations (k % s) (Some b)) q None)) e ∙ ap wait_in here ∙ v in
+        subst (λ (u : Option Wait). Stands y.order (1 + j) u) (sym new) (o.stands (1 + j) None old)
+        )
     | inr d ↦ subst (λ (u : Option Standing). Stands y.order (1 + j) (wait_in u)) (sym (get_or-set_other x.iterations (k % s) j (Some b) None d)) (o.stands (1 + j) (wait_in (get_or x.iterations j None)) (i.each j p))
   ];
   numbers = λ j z g. elim (cases_eq j (k % s)) [
     | inl e ↦ (
-      let same : b ≡ z = (let q : Some b ≡ Some z = sym here ∙ ap (λ (p : ℕ). get_or (set x.iterations (k % s) (Some b)) p None) (sym e) ∙ g in cc) in
-      let old = i.numbers (k % s) a h in
-      let num : z.number ≡ a.number = sym (ap (λ (t : Standing). t.number) same) ∙ m ∙ sym n in
-      (ap (λ (t : ℕ). t % s) num ∙ old.0 ∙ sym e, omega (arith, old.1, num, o.first), omega (arith, old.2, num, o.ticket))
-    )
+        let same : b ≡ z = (let q : Some b ≡ Some z = sym here ∙ ap (λ (p : ℕ). get_or (set x.iterations (k % s) (Some b)) p None) (sym e) ∙ g in cc) in
+        let old = i.numbers (k % s) a h in
+        let num : z.number ≡ a.number = sym (ap (λ (t : Standing). t.number) same) ∙ m ∙ sym n in
+        (ap (λ (t : ℕ). t % s) num ∙ old.0 ∙ sym e, omega (arith, old.1, num, o.first), omega (arith, old.2, num, o.ticket))
+        )
     | inr d ↦ (
-      let old = i.numbers j z (sym (get_or-set_other x.iterations (k % s) j (Some b) None d) ∙ g) in
-      (old.0, omega (arith, old.1, o.first), omega (arith, old.2, o.ticket))
-    )
+        let old = i.numbers j z (sym (get_or-set_other x.iterations (k % s) j (Some b) None d) ∙ g) in
+        (old.0, omega (arith, old.1, o.first), omega (arith, old.2, o.ticket))
+        )
   ];
   leads = i.leads;
   runs = λ q j g. elim (cases_eq (j % s) (k % s)) [
     | inl e ↦ (
-      let j_is : j ≡ k = alone code s k x a i h n j e (i.runs q j g) in
-      record { standing = b; here = ap (λ (p : ℕ). get_or (set x.iterations (k % s) (Some b)) p None) e ∙ here; number = m ∙ sym j_is; wait = v }
-    )
+        let j_is : j ≡ k = alone code s k x a i h n j e (i.runs q j g) in
+        record { standing = b; here = ap (λ (p : ℕ). get_or (set x.iterations (k % s) (Some b)) p None) e ∙ here; number = m ∙ sym j_is; wait = v }
+        )
     | inr d ↦ (
-      let r = i.runs q j g in
-      record { standing = r.standing; here = get_or-set_other x.iterations (k % s) (j % s) (Some b) None d ∙ r.here; number = r.number; wait = r.wait }
-    )
+        let r = i.runs q j g in
+        record { standing = r.standing; here = get_or-set_other x.iterations (k % s) (j % s) (Some b) None d ∙ r.here; number = r.number; wait = r.wait }
+        )
   ];
   apart = i.apart;
 }
@@ -134,34 +132,34 @@ parks_core code s q k x a y w i h n l u b o f c = record {
   main = o.others 0 x.waiting (λ z. omega (arith, z)) i.main;
   each = λ j p. elim (cases_eq j (k % s)) [
     | inl e ↦ (
-      let new : wait_in (get_or (set x.iterations (k % s) (Some now)) j None) ≡ Some w = ap (λ (r : ℕ). wait_in (get_or (set x.iterations (k % s) (Some now)) r None)) e ∙ ap wait_in here in
-      subst (λ (v : Option Wait). Stands y.order (1 + j) v) (sym new) (subst (λ (r : ℕ). Stands y.order (1 + r) (Some w)) (sym e) o.itself)
-    )
+        let new : wait_in (get_or (set x.iterations (k % s) (Some now)) j None) ≡ Some w = ap (λ (r : ℕ). wait_in (get_or (set x.iterations (k % s) (Some now)) r None)) e ∙ ap wait_in here in
+        subst (λ (v : Option Wait). Stands y.order (1 + j) v) (sym new) (subst (λ (r : ℕ). Stands y.order (1 + r) (Some w)) (sym e) o.itself)
+        )
     | inr d ↦ subst (λ (z : Option Standing). Stands y.order (1 + j) (wait_in z)) (sym (get_or-set_other x.iterations (k % s) j (Some now) None d)) (o.others (1 + j) (wait_in (get_or x.iterations j None)) (λ z. d (omega (arith, z))) (i.each j p))
   ];
   numbers = λ j z g. elim (cases_eq j (k % s)) [
     | inl e ↦ (
-      let same : now ≡ z = (let r : Some now ≡ Some z = sym here ∙ ap (λ (p : ℕ). get_or (set x.iterations (k % s) (Some now)) p None) (sym e) ∙ g in cc) in
-      let old = i.numbers (k % s) a h in
-      let num : z.number ≡ a.number = sym (ap (λ (t : Standing). t.number) same) in
-      (ap (λ (t : ℕ). t % s) num ∙ old.0 ∙ sym e, omega (arith, old.1, num, f), omega (arith, old.2, num, o.ticket))
-    )
+        let same : now ≡ z = (let r : Some now ≡ Some z = sym here ∙ ap (λ (p : ℕ). get_or (set x.iterations (k % s) (Some now)) p None) (sym e) ∙ g in cc) in
+        let old = i.numbers (k % s) a h in
+        let num : z.number ≡ a.number = sym (ap (λ (t : Standing). t.number) same) in
+        (ap (λ (t : ℕ). t % s) num ∙ old.0 ∙ sym e, omega (arith, old.1, num, f), omega (arith, old.2, num, o.ticket))
+        )
     | inr d ↦ (
-      let old = i.numbers j z (sym (get_or-set_other x.iterations (k % s) j (Some now) None d) ∙ g) in
-      (old.0, omega (arith, old.1, f), omega (arith, old.2, o.ticket))
-    )
+        let old = i.numbers j z (sym (get_or-set_other x.iterations (k % s) j (Some now) None d) ∙ g) in
+        (old.0, omega (arith, old.1, f), omega (arith, old.2, o.ticket))
+        )
   ];
   leads = λ r g. i.leads r (held_other x.held q r the_main b g).1;
   runs = λ r j g. (
-    let g2 = held_other x.held q r (iteration j) b g in
-    let old = i.runs r j g2.1 in
-    record {
-      standing = old.standing;
-      here = get_or-set_other x.iterations (k % s) (j % s) (Some now) None (not_held code s q r j k x a i h n u g2.0 g2.1) ∙ old.here;
-      number = old.number;
-      wait = old.wait;
-    }
-  );
+      let g2 = held_other x.held q r (iteration j) b g in
+      let old = i.runs r j g2.1 in
+      record {
+        standing = old.standing;
+        here = get_or-set_other x.iterations (k % s) (j % s) (Some now) None (not_held code s q r j k x a i h n u g2.0 g2.1) ∙ old.here;
+        number = old.number;
+        wait = old.wait;
+      }
+      );
   apart = λ r t v g e. i.apart r t v (held_other x.held q r v b g).1 (held_other x.held q t v b e).1;
 }
   where
@@ -185,30 +183,30 @@ leaves_core code s q k x a y i h n l u b t o f c = record {
   main = o.others 0 x.waiting (λ z. omega (arith, z)) i.main;
   each = λ j p. elim (cases_eq j (k % s)) [
     | inl e ↦ (
-      let new : wait_in (get_or (set x.iterations (k % s) None) j None) ≡ None = ap (λ (r : ℕ). wait_in (get_or (set x.iterations (k % s) None) r None)) e ∙ ap wait_in here in
-      subst (λ (v : Option Wait). Stands y.order (1 + j) v) (sym new) (subst (λ (r : ℕ). Stands y.order (1 + r) None) (sym e) o.itself)
-    )
+        let new : wait_in (get_or (set x.iterations (k % s) None) j None) ≡ None = ap (λ (r : ℕ). wait_in (get_or (set x.iterations (k % s) None) r None)) e ∙ ap wait_in here in
+        subst (λ (v : Option Wait). Stands y.order (1 + j) v) (sym new) (subst (λ (r : ℕ). Stands y.order (1 + r) None) (sym e) o.itself)
+        )
     | inr d ↦ subst (λ (z : Option Standing). Stands y.order (1 + j) (wait_in z)) (sym (get_or-set_other x.iterations (k % s) j None None d)) (o.others (1 + j) (wait_in (get_or x.iterations j None)) (λ z. d (omega (arith, z))) (i.each j p))
   ];
   numbers = λ j z g. elim (cases_eq j (k % s)) [
     | inl e ↦ (let r : None ≡ Some z = sym (ap (λ (p : ℕ). get_or (set x.iterations (k % s) None) p None) e ∙ here) ∙ g in cc)
     | inr d ↦ (
-      let old = i.numbers j z (sym (get_or-set_other x.iterations (k % s) j None None d) ∙ g) in
-      let other : z.number ≡ k → ⊥ = λ e. d (sym old.0 ∙ ap (λ (p : ℕ). p % s) e) in
-      (old.0, omega (arith, old.1, other, f, t), omega (arith, old.2, o.ticket))
-    )
+        let old = i.numbers j z (sym (get_or-set_other x.iterations (k % s) j None None d) ∙ g) in
+        let other : z.number ≡ k → ⊥ = λ e. d (sym old.0 ∙ ap (λ (p : ℕ). p % s) e) in
+        (old.0, omega (arith, old.1, other, f, t), omega (arith, old.2, o.ticket))
+        )
   ];
   leads = λ r g. i.leads r (held_other x.held q r the_main b g).1;
   runs = λ r j g. (
-    let g2 = held_other x.held q r (iteration j) b g in
-    let old = i.runs r j g2.1 in
-    record {
-      standing = old.standing;
-      here = get_or-set_other x.iterations (k % s) (j % s) None None (not_held code s q r j k x a i h n u g2.0 g2.1) ∙ old.here;
-      number = old.number;
-      wait = old.wait;
-    }
-  );
+      let g2 = held_other x.held q r (iteration j) b g in
+      let old = i.runs r j g2.1 in
+      record {
+        standing = old.standing;
+        here = get_or-set_other x.iterations (k % s) (j % s) None None (not_held code s q r j k x a i h n u g2.0 g2.1) ∙ old.here;
+        number = old.number;
+        wait = old.wait;
+      }
+      );
   apart = λ r z v g e. i.apart r z v (held_other x.held q r v b g).1 (held_other x.held q z v b e).1;
 }
   where
