@@ -14,3 +14,4 @@ pub mod Scanning
 pub mod Values
 pub mod Entering
 pub mod Remaining
+pub mod Going
