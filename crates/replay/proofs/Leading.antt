@@ -41,7 +41,7 @@ after code s q y x = machine_of code.variables s (put_main q y x)
 
 -- ---- opening
 
-none_standing : (xs : List (Option Standing)) (i : ℕ) → none_open xs ≡ true → get_or xs i None ≡ None
+pub none_standing : (xs : List (Option Standing)) (i : ℕ) → none_open xs ≡ true → get_or xs i None ≡ None
 none_standing [] i h = refl
 none_standing (None ∷ xs) zero h = refl
 none_standing (None ∷ xs) (suc i) h = none_standing xs i h

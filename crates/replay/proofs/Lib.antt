@@ -12,3 +12,6 @@ pub mod Leading
 pub mod Pieces
 pub mod Scanning
 pub mod Values
+pub mod Entering
+pub mod Remaining
+pub mod Going

@@ -113,7 +113,7 @@ if_length : (o : Option ℕ) (v : ℤ) (cells : List ℤ) → length (set_if o v
 if_length None v cells = refl
 if_length (Some n) v cells = length-set cells n v
 
-after_length : (code : Code) (xs : List ℕ) (vs : List (Option ℤ)) (cells : List ℤ) → length (cells_after code xs vs cells) ≡ length cells
+pub after_length : (code : Code) (xs : List ℕ) (vs : List (Option ℤ)) (cells : List ℤ) → length (cells_after code xs vs cells) ≡ length cells
 after_length code [] vs cells = refl
 after_length code (x ∷ xs) [] cells = refl
 after_length code (x ∷ xs) (None ∷ vs) cells = after_length code xs vs cells
@@ -154,7 +154,7 @@ before code s x = machine_of code.variables s x
 abbrev after : Code → ℕ → ℕ → ℕ → After → Kept → Machine
 after code s q k y x = machine_of code.variables s (put_back q (k % s) y x)
 
-event_some : (e : ℕ) → is_event e ≡ true → (e ≡ 0 → ⊥) × (e < 65)
+pub event_some : (e : ℕ) → is_event e ≡ true → (e ≡ 0 → ⊥) × (e < 65)
 event_some e h =
     let k = and_parts (nat_lt 0 e) (nat_le e 64) h in
     (λ z. omega (arith, ltb-true 0 e k.0, z), omega (arith, leb-true e 64 k.1))

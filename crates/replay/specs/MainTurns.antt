@@ -1,7 +1,7 @@
 -- An account of the code: main's own parts.
 use Rattle.std.specs.Prelude.{◌≡◌, ◌<◌, ◌++◌, Bool, true, List, length, Option, map, option_map}
 use Rattle.ast.specs.Record.{record_of}
-use Rattle.ec_kernel.specs.View.{NoWaiter, places}
+use Rattle.ec_kernel.specs.View.{IsKernel, NoWaiter, places}
 use Rattle.machine.specs.Code.{Code}
 use Rattle.machine.specs.CodeView.{part}
 use Rattle.machine.specs.Laid.{count_of}
@@ -38,6 +38,7 @@ after_of o x m = record { outcome = o; shared = x; input = m.input; main = m.fra
 -- a step of main may be made: it is in no place of the kernel, and nobody waits where no iteration
 -- is open
 pub record MayLead (code : Code) (x : Shared) (none : Bool) : Type 0 where
+  pub kernel : IsKernel x.order
   pub counts : length x.order.counts ≡ 65
   pub slot : 0 < x.order.slots
   pub nowhere : places 0 x.order ≡ 0

@@ -6,7 +6,7 @@ use Rattle.ast.specs.Record.{record_of}
 use Rattle.ast.specs.declared.fault.End.{End}
 use Rattle.ast.specs.declared.fault.End.TheVariants.{Done, Stopped, Fault as Faulted}
 use Rattle.ast.specs.declared.fault.Fault.{Fault}
-use Rattle.ec_kernel.specs.View.{count_at, places, parked, advanced, restarted}
+use Rattle.ec_kernel.specs.View.{IsKernel, count_at, places, parked, advanced, restarted}
 use Rattle.machine.specs.Code.{Code, loop_at}
 use Rattle.machine.specs.CodeView.{part}
 use Rattle.machine.specs.Frame.{Frame}
@@ -182,6 +182,7 @@ put_main q y x = record x { shared = y.shared; input = y.input; main = y.main; w
 
 -- a step of the iteration may be made: it is in no place of the kernel, and none before it is missing
 pub record May (code : Code) (slot : ℕ) (x : Shared) (a : Standing) : Type 0 where
+  pub kernel : IsKernel x.order
   pub counts : length x.order.counts ≡ 65
   pub slot_in_range : slot < x.order.slots
   pub nowhere : places slot x.order ≡ 0

@@ -3,7 +3,7 @@
 ghost use Rattle.std.specs.Prelude.{◌≡◌, ◌<◌, List, Option, Some, None, IfOk, OnErr, OnOk, length, map, pos, set, slice_get, true};
 ghost use Rattle.ast.specs.Exact.{in_range};
 ghost use Rattle.ast.specs.Input.{next_integer, taken};
-ghost use Rattle.ec_kernel.specs.View.{NoWaiter, places};
+ghost use Rattle.ec_kernel.specs.View.{IsKernel, NoWaiter, places};
 ghost use Rattle.machine.specs.Code.{Code as Plain, loop_at};
 ghost use Rattle.machine.specs.CodeView.{code_of, part};
 ghost use Rattle.machine.specs.FrameView.{frame_of};
@@ -72,9 +72,11 @@ fn take_value(main: &mut Main<'_>, line: Line) -> Result<(), AllocError>
 
 /// A loop is opened, where no iteration is open.
 fn open(shared: &mut Shared, main: &mut Main<'_>, none: bool, opened: Open) -> Outcome
+    requires kept { IsKernel shared.old.kernel }
     requires alone { none ≡ true → NoWaiter shared.old.kernel.waiters }
     requires goes { Goes (frame_of main.old.frame) 2 }
-    ensures { (code : Plain) (xs : List (Option Standing)) (hs : List (Option Who)) → none_open xs ≡ none → after_of result (shared_of shared.new) (main_part main.new) ≡ main_after code (Opens opened) (kept_of (shared_of shared.old) (main_part main.old) xs hs) }
+    ensures after { (code : Plain) (xs : List (Option Standing)) (hs : List (Option Who)) → none_open xs ≡ none → after_of result (shared_of shared.new) (main_part main.new) ≡ main_after code (Opens opened) (kept_of (shared_of shared.old) (main_part main.old) xs hs) }
+    ensures kept { IsKernel shared.new.kernel }
 {
     if !none {
         return Outcome::Idle;
@@ -123,6 +125,7 @@ fn close(shared: &mut Shared, frame: &mut Frame, code: &Code, line: Line, opened
     requires goes { Goes (frame_of frame.old) 0 }
     ensures shared { shared_of shared.new ≡ record (shared_of shared.old) { cells = with_last (code_of code.now) opened (in_range (index_at (code_of code.now) opened opened.trips)) shared.old.cells.items; loop = None } }
     ensures frame { frame_of frame.new ≡ frame_joined (in_range (index_at (code_of code.now) opened opened.trips)) line (frame_of frame.old) }
+    ensures kernel { shared.new.kernel ≡ shared.old.kernel }
 {
     let (variable, step) = variable_and_step(code, opened.number);
     shared.open = None;
@@ -137,12 +140,14 @@ fn close(shared: &mut Shared, frame: &mut Frame, code: &Code, line: Line, opened
 
 /// The open loop is closed, or main waits until its iterations have retired.
 fn join(shared: &mut Shared, main: &mut Main<'_>, code: &Code, line: Line) -> Outcome
+    requires kept { IsKernel shared.old.kernel }
     requires counts { 0 < length shared.old.kernel.counts }
     requires slot { 0 < shared.old.kernel.slots }
     requires nowhere { places 0 shared.old.kernel ≡ 0 }
     requires cells { length shared.old.cells.items ≡ count_of code.now.variables.items }
     requires goes { Goes (frame_of main.old.frame) 0 }
-    ensures { (xs : List (Option Standing)) (hs : List (Option Who)) → after_of result (shared_of shared.new) (main_part main.new) ≡ joins (code_of code.now) line shared.old.open (kept_of (shared_of shared.old) (main_part main.old) xs hs) }
+    ensures after { (xs : List (Option Standing)) (hs : List (Option Who)) → after_of result (shared_of shared.new) (main_part main.new) ≡ joins (code_of code.now) line shared.old.open (kept_of (shared_of shared.old) (main_part main.old) xs hs) }
+    ensures kept { IsKernel shared.new.kernel }
 {
     let Some(opened) = shared.open else {
         return Outcome::Idle;
@@ -168,6 +173,7 @@ pub fn main_turn(
     requires may { MayLead (code_of code.now) (shared_of shared.old) none }
     requires tells { Tells (code_of code.now) (frame_of main.old.frame) (view (code_of code.now) (frame_of main.old.frame)) next }
     ensures ok { IfOk result (λ o. (xs : List (Option Standing)) (hs : List (Option Who)) → none_open xs ≡ none → after_of o (shared_of shared.new) (main_part main.new) ≡ main_after (code_of code.now) next.entry (kept_of (shared_of shared.old) (main_part main.old) xs hs)) }
+    ensures kept { OnOk result (IsKernel shared.new.kernel) }
     ensures err { OnErr result ((shared_of shared.new ≡ shared_of shared.old) × (main_part main.new ≡ main_part main.old)) }
 {
     match next {

@@ -1,7 +1,7 @@
 //! Steps of activities.
 
 ghost use Rattle.std.specs.Prelude.{ℕ, ◌≡◌, ◌==◌, ◌<◌, ◌≤◌, ◌+◌, map, ◌-◌, ◌^◌, IfOk, OnOk, OnErr, get_or, length, pos, set};
-ghost use Rattle.ec_kernel.specs.View.{count_at, places};
+ghost use Rattle.ec_kernel.specs.View.{IsKernel, count_at, places};
 ghost use Rattle.machine.specs.Code.{Code as Plain};
 ghost use Rattle.machine.specs.CodeView.{code_of, part};
 ghost use Rattle.machine.specs.FrameView.{frame_of};
@@ -63,6 +63,7 @@ fn park(shared: &mut Shared, iteration: &mut Iteration, slot: usize, event: u32,
     requires far { count_at shared.old.kernel event < value }
     ensures shared { shared_of shared.new ≡ (parks slot event value (until_count event value) (shared_of shared.old) (standing_of iteration.old)).shared }
     ensures iteration { standing_of iteration.new ≡ (parks slot event value (until_count event value) (shared_of shared.old) (standing_of iteration.old)).standing }
+    ensures kept { IsKernel shared.new.kernel }
 {
     shared.kernel.park(event as usize, value, slot);
     iteration.wait = Some(Until::Count { event, value });
@@ -76,6 +77,7 @@ pub fn wait_for_turn(shared: &mut Shared, iteration: &mut Iteration, slot: usize
     requires far { count_at shared.old.kernel 0 < iteration.old.number }
     ensures shared { shared_of shared.new ≡ (waits_its_turn slot (shared_of shared.old) (standing_of iteration.old)).shared }
     ensures iteration { standing_of iteration.new ≡ (waits_its_turn slot (shared_of shared.old) (standing_of iteration.old)).standing }
+    ensures kept { IsKernel shared.new.kernel }
 {
     let value = iteration.number;
     shared.kernel.park(0, value, slot);
@@ -90,12 +92,14 @@ pub fn await_event(
     event: u32,
     distance: u128,
 ) -> Outcome
+    requires kept { IsKernel shared.old.kernel }
     requires event { event < length shared.old.kernel.counts }
     requires slot { slot < shared.old.kernel.slots }
     requires nowhere { places slot shared.old.kernel ≡ 0 }
     requires goes { Goes (frame_of iteration.old.frame) 0 }
     requires number { iteration.old.number < 2 ^ 128 - 1 }
-    ensures { (code : Plain) → record { outcome = result; shared = shared_of shared.new; standing = standing_of iteration.new } ≡ iteration_after code slot (Await event distance) (shared_of shared.old) (standing_of iteration.old) }
+    ensures after { (code : Plain) → record { outcome = result; shared = shared_of shared.new; standing = standing_of iteration.new } ≡ iteration_after code slot (Await event distance) (shared_of shared.old) (standing_of iteration.old) }
+    ensures kept { IsKernel shared.new.kernel }
 {
     let number = iteration.number;
     if number < distance || number - distance < shared.kernel.read(event as usize) {
@@ -108,10 +112,12 @@ pub fn await_event(
 
 /// An iteration advances an event, where all before it have.
 pub fn advance(shared: &mut Shared, iteration: &mut Iteration, event: u32) -> Outcome
+    requires kept { IsKernel shared.old.kernel }
     requires event { event < length shared.old.kernel.counts }
     requires goes { Goes (frame_of iteration.old.frame) 0 }
     requires number { iteration.old.number < 2 ^ 128 - 1 }
-    ensures { (code : Plain) (slot : ℕ) → record { outcome = result; shared = shared_of shared.new; standing = standing_of iteration.new } ≡ iteration_after code slot (Advance event) (shared_of shared.old) (standing_of iteration.old) }
+    ensures after { (code : Plain) (slot : ℕ) → record { outcome = result; shared = shared_of shared.new; standing = standing_of iteration.new } ≡ iteration_after code slot (Advance event) (shared_of shared.old) (standing_of iteration.old) }
+    ensures kept { IsKernel shared.new.kernel }
 {
     if shared.kernel.read(event as usize) != iteration.number {
         return Outcome::Idle;
@@ -161,6 +167,7 @@ pub fn leave(
     requires counts { 0 < length shared.old.kernel.counts }
     requires few { count_at shared.old.kernel 0 < 2 ^ 128 - 1 }
     ensures ok { OnOk result (shared_of shared.new ≡ (leaves (code_of code.now) number (shared_of shared.old) (standing_of iteration.now)).shared) }
+    ensures kept { OnOk result (IsKernel shared.new.kernel) }
     ensures err { OnErr result (shared_of shared.new ≡ shared_of shared.old) }
 {
     shared.output.extend_from_slice(&iteration.out)?;
@@ -204,6 +211,7 @@ fn retire(
     requires number { number < length code.now.loops.items }
     requires may { May (code_of code.now) slot (shared_of shared.old) (standing_of iteration.old) }
     ensures ok { IfOk result (λ o. record { outcome = o; shared = shared_of shared.new; standing = standing_of iteration.new } ≡ iteration_after (code_of code.now) slot (Retire number) (shared_of shared.old) (standing_of iteration.old)) }
+    ensures kept { OnOk result (IsKernel shared.new.kernel) }
     ensures err { OnErr result ((shared_of shared.new ≡ shared_of shared.old) × (standing_of iteration.new ≡ standing_of iteration.old)) }
 {
     if !is_next(shared, iteration) {
@@ -221,11 +229,13 @@ fn report(
     slot: usize,
     end: End,
 ) -> Result<Outcome, AllocError>
+    requires kept { IsKernel shared.old.kernel }
     requires counts { 0 < length shared.old.kernel.counts }
     requires slot { slot < shared.old.kernel.slots }
     requires nowhere { places slot shared.old.kernel ≡ 0 }
     requires turn { count_at shared.old.kernel 0 ≤ iteration.old.number }
     ensures ok { IfOk result (λ o. record { outcome = o; shared = shared_of shared.new; standing = standing_of iteration.new } ≡ reported slot end (shared_of shared.old) (standing_of iteration.old)) }
+    ensures kept { OnOk result (IsKernel shared.new.kernel) }
     ensures err { OnErr result ((shared_of shared.new ≡ shared_of shared.old) × (standing_of iteration.new ≡ standing_of iteration.old)) }
 {
     if !is_next(shared, iteration) {
@@ -263,6 +273,7 @@ pub fn iteration_turn(
     requires may { May (code_of code.now) slot (shared_of shared.old) (standing_of iteration.old) }
     requires tells { Tells (code_of code.now) (frame_of iteration.old.frame) (view (code_of code.now) (frame_of iteration.old.frame)) next }
     ensures ok { IfOk result (λ o. record { outcome = o; shared = shared_of shared.new; standing = standing_of iteration.new } ≡ iteration_after (code_of code.now) slot next.entry (shared_of shared.old) (standing_of iteration.old)) }
+    ensures kept { OnOk result (IsKernel shared.new.kernel) }
     ensures err { OnErr result ((shared_of shared.new ≡ shared_of shared.old) × (standing_of iteration.new ≡ standing_of iteration.old)) }
 {
     match next {

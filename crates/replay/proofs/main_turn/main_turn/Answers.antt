@@ -14,4 +14,4 @@ store-requires-clause-cell c =
     omega (arith, cells_below c.args.code.now.variables.items t.0.name t.0.place c.in-Store.cell c.args.code.now.laid t.1, c.requires.may.cells, ap (λ xs. length xs) c.deref_mut.ensures.value)
 
 pub returns-in-Opens-clause-ok : goal.returns-in-Opens-clause-ok
-returns-in-Opens-clause-ok c xs hs h = rw c.in-Opens.is (c.open.ensures (code_of c.args.code.now) xs hs h)
+returns-in-Opens-clause-ok c xs hs h = rw c.in-Opens.is (c.open.ensures.after (code_of c.args.code.now) xs hs h)

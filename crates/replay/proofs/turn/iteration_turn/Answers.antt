@@ -21,7 +21,7 @@ retire-requires-clause-number c =
     omega (arith, slice_get_within (code_of c.args.code.now).loops c.in-Retire.number t.0 t.1, length-map c.args.code.now.loops.items loop_of)
 
 pub returns-in-Await-clause-ok : goal.returns-in-Await-clause-ok
-returns-in-Await-clause-ok c = rw c.in-Await.is (c.await_event.ensures (code_of c.args.code.now))
+returns-in-Await-clause-ok c = rw c.in-Await.is (c.await_event.ensures.after (code_of c.args.code.now))
 
 pub returns-in-Advance-clause-ok : goal.returns-in-Advance-clause-ok
-returns-in-Advance-clause-ok c = rw c.in-Advance.is (c.advance.ensures (code_of c.args.code.now) c.args.slot)
+returns-in-Advance-clause-ok c = rw c.in-Advance.is (c.advance.ensures.after (code_of c.args.code.now) c.args.slot)
