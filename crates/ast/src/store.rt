@@ -83,7 +83,7 @@ fn zero_variables(alloc: Global, symbols: &[Symbol]) -> Result<Vec<Variable>, Al
 }
 
 impl Store {
-    ghost use Rattle.std.specs.Prelude.{◌≡◌, ◌<◌, ◌≤◌, IfOk, length, map, pos, slice_index_or, true, get_or, []};
+    ghost use Rattle.std.specs.Prelude.{◌≡◌, ◌<◌, ◌≤◌, ◌++◌, ◌∷◌, IfOk, OnOk, OnErr, length, map, pos, slice_index_or, true, get_or, []};
     ghost use Rattle.std.specs.List.{list_all};
     ghost use Rattle.std.proofs.Math.ListN.{set};
     ghost use Rattle.ast.specs.Store.{values_in, value_at, zeros};
@@ -98,6 +98,24 @@ impl Store {
         Ok(Store {
             variables: zero_variables(alloc, symbols)?,
         })
+    }
+
+    /// A store of no names.
+    pub fn new(alloc: Global) -> Store
+        ensures { cells result ≡ [] }
+    {
+        Store {
+            variables: Vec::new(alloc),
+        }
+    }
+
+    /// Adds a name with its values behind the others. Where memory is refused nothing has changed.
+    pub fn push(&mut self, name: Name, values: Vec<i64>) -> Result<(), AllocError>
+        ensures ok { OnOk result (cells self.new ≡ cells self.old ++ (name.letters, values.items) ∷ []) }
+        ensures err { OnErr result (cells self.new ≡ cells self.old) }
+    {
+        self.variables.push(Variable { name, values })?;
+        Ok(())
     }
 
     /// How many names it holds.
