@@ -122,6 +122,13 @@ impl Kernel {
         ticket
     }
 
+    /// The ticket that is drawn next.
+    pub fn next_ticket(&self) -> u128
+        ensures { result ≡ self.now.ticket }
+    {
+        self.next
+    }
+
     /// The count of an event.
     pub fn read(&self, event: usize) -> u128
         requires { event < length self.now.counts }
@@ -163,6 +170,16 @@ impl Kernel {
         let count = self.counts[event] + 1;
         self.counts[event] = count;
         wake(&mut self.links, WAITERS + event, count)
+    }
+
+    /// The slot that woke first.
+    pub fn first_ready(&self) -> Option<usize>
+        ensures { result ≡ first_of self.now.ready }
+    {
+        match self.links.front(READY) {
+            Some((slot, _)) => Some(slot),
+            None => None,
+        }
     }
 
     /// Takes the slot that woke first.

@@ -2,6 +2,7 @@
 #![tactic(auto)]
 
 mod acting;
+mod alike;
 mod cells;
 mod code;
 mod done;
