@@ -3,7 +3,7 @@
 
 mod emitting;
 mod places;
-mod room;
+pub mod room;
 
 pub use emitting::{emit, emit_place};
 pub use places::{Places, short};

@@ -10,7 +10,7 @@ use ast::{Access, Expr, Intrinsic};
 
 /// One more, if 32 bits can hold it.
 #[tactic(auto, using(crate::proofs::Counting::more_law, crate::proofs::Counting::most_law))]
-fn more(n: u32) -> u32
+pub fn more(n: u32) -> u32
     ensures { (m : ℕ) → n ≡ short m → result ≡ short (m + 1) }
 {
     if n < 4_294_967_295 { n + 1 } else { n }
@@ -18,7 +18,7 @@ fn more(n: u32) -> u32
 
 /// The greater of two.
 #[tactic(auto, using(crate::proofs::Counting::second_law, crate::proofs::Counting::first_law))]
-fn greater(a: u32, b: u32) -> u32
+pub fn greater(a: u32, b: u32) -> u32
     ensures { (m n : ℕ) → a ≡ short m → b ≡ short n → result ≡ short (max m n) }
 {
     if a < b { b } else { a }
