@@ -20,3 +20,4 @@ pub mod Seats
 pub mod Storing
 pub mod Straight
 pub mod Values
+pub mod Weighing

@@ -25,6 +25,3 @@ mod statements;
 mod stop;
 
 pub use run::run_seq;
-
-#[cfg(test)]
-mod tests;
