@@ -134,8 +134,8 @@ module _ (A : Type 0) (D : Doing A) (code : Code) (limit : ℕ) (index : ℤ) (S
       let first = le-max_left (operands h.first) (max (operands h.last + 1) (step_room h.step + 2)) in
       let second = le-max_right (operands h.first) (max (operands h.last + 1) (step_room h.step + 2)) in
       let third = le-max_left (operands h.last + 1) (step_room h.step + 2) in
-      term_runs A (D.evaluate line) code f line limit St (R.evaluates line f fits.indexed) q fits.privates few_privates refl h.first (λ m1. term_into A (D.evaluate line) q h.last (λ m2. D.opening n m1 m2 a)) pc st w1 (has_front code.instructions limit pc (term_code q h.first) (term_code q h.last ++ last) has) (omega (arith, room, first)) (λ m1.
-      term_runs A (D.evaluate line) code f line limit St (R.evaluates line f fits.indexed) q fits.privates few_privates refl h.last (λ m2. D.opening n m1 m2 a) m (m1 ∷ st) w2 (has_front code.instructions limit m (term_code q h.last) last r1) (omega (arith, room, second, third)) (λ m2.
+      term_runs A (D.evaluate line) code f line limit St (R.evaluates line f fits.indexed) q fits.privates few_privates refl h.first (λ m1. term_into A (D.evaluate line) q h.last (λ m2. D.opening line n m1 m2 a)) pc st w1 (has_front code.instructions limit pc (term_code q h.first) (term_code q h.last ++ last) has) (omega (arith, room, first)) (λ m1.
+      term_runs A (D.evaluate line) code f line limit St (R.evaluates line f fits.indexed) q fits.privates few_privates refl h.last (λ m2. D.opening line n m1 m2 a) m (m1 ∷ st) w2 (has_front code.instructions limit m (term_code q h.last) last r1) (omega (arith, room, second, third)) (λ m2.
       R.opens n line m1 m2 a f k st fits.indexed r2.0 r2.2.0 (subst (λ (j : ℕ). St a (at code f j st)) len (next f (keeps_same f)))))
 
   -- what a block's law says of its range
@@ -204,8 +204,7 @@ module _ (A : Type 0) (D : Doing A) (code : Code) (limit : ℕ) (index : ℤ) (S
     arms_run no_arms r w a f pc st reach records waits fits has room next = nothing a f pc st next
     arms_run (made_else b) r w a f pc st reach records waits fits has room next = block_runs b r w a f pc st reach records waits fits has room next
     arms_run (then_arm line None b more) r w a f pc st reach records waits fits has room next =
-        let k = le-max_left (block_loops b) (arms_loops more) in
-        block_runs b r w a f pc st reach records waits fits has (record { above = room.above; loops = omega (arith, room.loops, k) }) next
+        block_runs b r w a f pc st reach records waits fits has room next
     arms_run (then_arm line (Some c) b more) r w a f pc st reach records waits fits has room next =
         let q = on A D p line in
         let cc1 = term_code q c in

@@ -1,5 +1,5 @@
 -- What the process of a program comes to is its sequential meaning, whatever its steps are made into,
--- where no loop is opened.
+-- where each loop that is opened does what it means.
 use Rattle.std.proofs.Common.{◌≡◌, ◌∙◌, ℕ, zero, suc, ℤ, pos, Bool, true, false, List, [], ◌∷◌, ◌++◌, Option, Some, None, Result, Ok, Err, refl, sym, ap, subst}
 use Rattle.std.specs.Prelude.{if◌then◌else◌}
 use Rattle.std.specs.Ordering.{int_eq}
@@ -9,7 +9,6 @@ use Rattle.ast.specs.Meaning as meaning
 use Rattle.ast.specs.Meaning.{Run, going_on, then_do, given, written, printed, step_value, turns, target, read_elements, exec_plain, grown, looped, exec, exec_block, exec_arms, looked_up, value}
 use Rattle.ast.specs.Record.{Printed, number, text, record_of}
 use Rattle.ast.specs.Results.{◌>>=◌}
-use Rattle.ast.specs.Store.{StoreOf}
 use Rattle.ast.specs.Symbols.{Extent, dimensions_in}
 use Rattle.ast.specs.Tree as tree
 use Rattle.ast.specs.Tree.{Ref, Term, Access, accessed, element, no_terms, PrintItem, value_item, text_item, DoHead, Kind, assign, print, read, stop, program, integer, dimension, parameters, do_loop, go_on, block_if, else_if, else_arm, end_if, logical_if, end, Node, Block, Arms}
@@ -18,42 +17,35 @@ use Rattle.ast.specs.declared.fault.End.{End}
 use Rattle.ast.specs.declared.fault.End.TheVariants.{Done, Stopped, Fault as Faulted}
 use Rattle.ast.specs.declared.fault.Fault.{Fault}
 use Rattle.ast.specs.declared.fault.Fault.TheVariants.{ZeroStep}
+use Rattle.machine.specs.View.{failure}
 use Rattle.expr_code.specs.Places.{Places, Home, loop_index, private_scalar, in_store, dimensions_at, home, home_of}
 use Rattle.expr_code.specs.Process.{answered_into, term_into}
 use Rattle.expr_code.proofs.Meaning.{Means, Named, on, on_all, scalar_meant, target_meant, term_meant}
 use Rattle.codegen.specs.Plain.{plain_node, plain_block, plain_arms}
 use Rattle.codegen.specs.Process as process
-use Rattle.codegen.specs.Process.{Doing, arms_into, block_into, elements_into, given_into, grown_into, is_last_stop, items_into, kind_into, node_into, serial_into, set_up_into, step_into, stored_into, turns_into, variable_into}
+use Rattle.codegen.specs.Process.{Doing, arms_into, block_into, elements_into, given_into, grown_into, is_last_stop, items_into, kind_into, node_into, serial_into, set_up_into, step_into, stored_into, turns_into, variable_into, loop_into, opened_into}
+use Rattle.codegen.proofs.Outcomes.{Outcome, failed as broken, told}
 
--- what a run comes to; what of the input is left belongs to it only as long as it goes on
-pub record Told : Type 0 where
-  pub store : StoreOf
-  pub output : List ℕ
-  pub end : End
-
-abbrev pub told : Run → Told
-told run = record { store = run.store; output = run.output; end = run.end }
-
-abbrev pub failed : Fault → ℕ → Run → Told
-failed e line run = record { store = run.store; output = run.output; end = Faulted e line }
+abbrev pub failed : Fault → ℕ → Run → Outcome
+failed e line run = broken (failure e line) run.output
 
 -- goes on with a value
-abbrev pub given_told : {V : Type 0} → Result V Fault → ℕ → Run → (V → Told) → Told
+abbrev pub given_told : {V : Type 0} → Result V Fault → ℕ → Run → (V → Outcome) → Outcome
 given_told (Ok x) line run next = next x
 given_told (Err e) line run next = failed e line run
 
 -- goes on where nothing has ended the run
-abbrev pub going_told : End → Run → (Run → Told) → Told
+abbrev pub going_told : End → Run → (Run → Outcome) → Outcome
 going_told Done run next = next run
 going_told _ run next = told run
 
-abbrev pub then_told : Run → (Run → Told) → Told
+abbrev pub then_told : Run → (Run → Outcome) → Outcome
 then_told run next = going_told run.end run next
 
 -- The steps' meanings. A run goes on as long as its end is Done; the list has what is left of the record
 -- of the input that was taken last.
-pub record Acts (A : Type 0) (D : Doing A) (p : Places) (meant : A → List ℤ → Run → Told) : Type 0 where
-  pub evaluates : (line : ℕ) (left : List ℤ) (run : Run) → Means A (D.evaluate line) (process.on A D p line) run.store Told (λ a. meant a left run) (λ e. failed e line run)
+pub record Acts (A : Type 0) (D : Doing A) (p : Places) (meant : A → List ℤ → Run → Outcome) : Type 0 where
+  pub evaluates : (line : ℕ) (left : List ℤ) (run : Run) → Means A (D.evaluate line) (process.on A D p line) run.store Outcome (λ a. meant a left run) (λ e. failed e line run)
   pub keeps : (r : Ref) (n : ℕ) (v : ℤ) (a : A) (left : List ℤ) (run : Run) → home_of p r.name ≡ in_store → meant (D.keep r (record { name = r.name; place = n }) v a) left run ≡ meant a left (written run r.name n v)
   pub sets : (r : Ref) (x : ℕ) (v : ℤ) (a : A) (left : List ℤ) (run : Run) → home_of p r.name ≡ private_scalar x → meant (D.set r x v a) left run ≡ meant a left (written run r.name 0 v)
   pub says : (bytes : List ℕ) (a : A) (left : List ℤ) (run : Run) → meant (D.say bytes a) left run ≡ meant a left (record run { output = run.output ++ bytes })
@@ -65,30 +57,30 @@ pub record Acts (A : Type 0) (D : Doing A) (p : Places) (meant : A → List ℤ 
 
 -- ---- laws of runs
 
-given_on : (r : Result ℤ Fault) (line : ℕ) (run : Run) (k : ℤ → Told) → on (λ e. failed e line run) r k ≡ given_told r line run k
+given_on : (r : Result ℤ Fault) (line : ℕ) (run : Run) (k : ℤ → Outcome) → on (λ e. failed e line run) r k ≡ given_told r line run k
 given_on (Ok v) line run k = refl
 given_on (Err e) line run k = refl
 
-given_all : {V : Type 0} (r : Result V Fault) (line : ℕ) (run : Run) (k : V → Told) → on_all (λ e. failed e line run) r k ≡ given_told r line run k
+given_all : {V : Type 0} (r : Result V Fault) (line : ℕ) (run : Run) (k : V → Outcome) → on_all (λ e. failed e line run) r k ≡ given_told r line run k
 given_all (Ok v) line run k = refl
 given_all (Err e) line run k = refl
 
-given_under : {V : Type 0} (r : Result V Fault) (line : ℕ) (run : Run) (f g : V → Told) → ((x : V) → f x ≡ g x) → given_told r line run f ≡ given_told r line run g
+given_under : {V : Type 0} (r : Result V Fault) (line : ℕ) (run : Run) (f g : V → Outcome) → ((x : V) → f x ≡ g x) → given_told r line run f ≡ given_told r line run g
 given_under (Ok v) line run f g h = h v
 given_under (Err e) line run f g h = refl
 
-given_then : {V : Type 0} (r : Result V Fault) (line : ℕ) (run : Run) (f : V → Run) (g : Run → Told) → given_told r line run (λ x. then_told (f x) g) ≡ then_told (given r line run f) g
+given_then : {V : Type 0} (r : Result V Fault) (line : ℕ) (run : Run) (f : V → Run) (g : Run → Outcome) → given_told r line run (λ x. then_told (f x) g) ≡ then_told (given r line run f) g
 given_then (Ok v) line run f g = refl
 given_then (Err e) line run f g = refl
 
-given_bound : {V W : Type 0} (r : Result V Fault) (make : V → Result W Fault) (line : ℕ) (run : Run) (k : W → Told) → given_told r line run (λ x. given_told (make x) line run k) ≡ given_told (r >>= make) line run k
+given_bound : {V W : Type 0} (r : Result V Fault) (make : V → Result W Fault) (line : ℕ) (run : Run) (k : W → Outcome) → given_told r line run (λ x. given_told (make x) line run k) ≡ given_told (r >>= make) line run k
 given_bound (Ok v) make line run k = refl
 given_bound (Err e) make line run k = refl
 
-then_done : (run : Run) (g : Run → Told) → run.end ≡ Done → then_told run g ≡ g run
+then_done : (run : Run) (g : Run → Outcome) → run.end ≡ Done → then_told run g ≡ g run
 then_done run g e = ap (λ (x : End). going_told x run g) e
 
-then_then : (run : Run) (f : Run → Run) (g : Run → Told) → then_told (then_do run f) g ≡ then_told run (λ r. then_told (f r) g)
+then_then : (run : Run) (f : Run → Run) (g : Run → Outcome) → then_told (then_do run f) g ≡ then_told run (λ r. then_told (f r) g)
 then_then run f g = by run.end refl
   where
     by : (x : End) → run.end ≡ x → then_told (going_on x run f) g ≡ going_told x run (λ r. then_told (f r) g)
@@ -96,7 +88,7 @@ then_then run f g = by run.end refl
     by (Stopped l) e = ap (λ (z : End). going_told z run g) e
     by (Faulted k l) e = ap (λ (z : End). going_told z run g) e
 
-then_under : (run : Run) (f g : Run → Told) → ((r : Run) → r.end ≡ Done → f r ≡ g r) → then_told run f ≡ then_told run g
+then_under : (run : Run) (f g : Run → Outcome) → ((r : Run) → r.end ≡ Done → f r ≡ g r) → then_told run f ≡ then_told run g
 then_under run f g h = by run.end refl
   where
     by : (x : End) → run.end ≡ x → going_told x run f ≡ going_told x run g
@@ -114,9 +106,9 @@ last_same (tree.plain s) (tree.then_node (tree.choose a) b) = refl
 last_same (tree.loop l h c) b = refl
 last_same (tree.choose a) b = refl
 
-module _ (A : Type 0) (D : Doing A) (p : Places) (meant : A → List ℤ → Run → Told) (M : Acts A D p meant) where
+module _ (A : Type 0) (D : Doing A) (p : Places) (meant : A → List ℤ → Run → Outcome) (M : Acts A D p meant) where
   -- a continuation that doesn't look at what is left of a record
-  abbrev after : A → Run → Told
+  abbrev after : A → Run → Outcome
   after a run = meant a [] run
 
   -- a reference's dimensions are found by its name
@@ -137,7 +129,7 @@ module _ (A : Type 0) (D : Doing A) (p : Places) (meant : A → List ℤ → Run
   stored_meant : (line : ℕ) (x : Access) (v : ℤ) (a : A) (left : List ℤ) (run : Run) → Named p (accessed x) → Free (home_of p x.ref.name) → meant (stored_into A D p line x v a) left run ≡ given_told (target p.symbols run.store x) line run (λ n. meant a left (written run x.ref.name n v))
   stored_meant line x v a left run known free =
       let ds = dimensions_at p.symbols x.ref.cell in
-      target_meant A (D.evaluate line) (process.on A D p line) run.store Told (λ b. meant b left run) (λ e. failed e line run) (M.evaluates line left run) x.ref x.subscripts (λ n. given_into A D p (home p ds x.ref.name) x.ref n v a) known
+      target_meant A (D.evaluate line) (process.on A D p line) run.store Outcome (λ b. meant b left run) (λ e. failed e line run) (M.evaluates line left run) x.ref x.subscripts (λ n. given_into A D p (home p ds x.ref.name) x.ref n v a) known
       ∙ given_all (target p.symbols run.store x) line run (λ n. meant (given_into A D p (home p ds x.ref.name) x.ref n v a) left run)
       ∙ placed (target p.symbols run.store x) refl
     where
@@ -171,7 +163,7 @@ module _ (A : Type 0) (D : Doing A) (p : Places) (meant : A → List ℤ → Run
   items_meant line (text_item t ∷ items) κ left run w =
       items_meant line items (λ ps. κ (text t ∷ ps)) left run w ∙ given_bound (printed (looked_up p.symbols run.store) items) (λ ps. Ok (text t ∷ ps)) line run (λ ps. meant (κ ps) left run)
   items_meant line (value_item e ∷ items) κ left run w =
-      term_meant A (D.evaluate line) (process.on A D p line) run.store Told (λ b. meant b left run) (λ k. failed k line run) (M.evaluates line left run) e (λ v. items_into A D p line items (λ ps. κ (number v ∷ ps))) w.0
+      term_meant A (D.evaluate line) (process.on A D p line) run.store Outcome (λ b. meant b left run) (λ k. failed k line run) (M.evaluates line left run) e (λ v. items_into A D p line items (λ ps. κ (number v ∷ ps))) w.0
       ∙ given_on (value (looked_up p.symbols run.store) e) line run (λ v. meant (items_into A D p line items (λ ps. κ (number v ∷ ps))) left run)
       ∙ given_under (value (looked_up p.symbols run.store) e) line run (λ v. meant (items_into A D p line items (λ ps. κ (number v ∷ ps))) left run) (λ v. given_told (printed (looked_up p.symbols run.store) items >>= λ ps. Ok (number v ∷ ps)) line run (λ ps. meant (κ ps) left run)) (λ v.
       items_meant line items (λ ps. κ (number v ∷ ps)) left run w.1 ∙ given_bound (printed (looked_up p.symbols run.store) items) (λ ps. Ok (number v ∷ ps)) line run (λ ps. meant (κ ps) left run))
@@ -192,7 +184,7 @@ module _ (A : Type 0) (D : Doing A) (p : Places) (meant : A → List ℤ → Run
       ∙ later line y.2 (target p.symbols run.store x) (λ n. meant (elements_into A D p line more (D.drop_record a)) y.1 (written (record run { input = y.2 }) x.ref.name n y.0)) (λ n. read_elements p.symbols line more y.1 (written (record run { input = y.2 }) x.ref.name n y.0)) (λ n. elements_meant line more a y.1 (written (record run { input = y.2 }) x.ref.name n y.0) w.2 e))
       ∙ given_then (next_integer left run.input) line run (λ y. given (target p.symbols run.store x) line run (λ n. read_elements p.symbols line more y.1 (written (record run { input = y.2 }) x.ref.name n y.0))) (after a)
     where
-      later : (line : ℕ) (i : List (List ℕ)) (r : Result ℕ Fault) (f : ℕ → Told) (g : ℕ → Run) → ((n : ℕ) → f n ≡ then_told (g n) (after a)) → given_told r line (record run { input = i }) f ≡ then_told (given r line run g) (after a)
+      later : (line : ℕ) (i : List (List ℕ)) (r : Result ℕ Fault) (f : ℕ → Outcome) (g : ℕ → Run) → ((n : ℕ) → f n ≡ then_told (g n) (after a)) → given_told r line (record run { input = i }) f ≡ then_told (given r line run g) (after a)
       later line i (Ok n) f g h = h n
       later line i (Err k) f g h = refl
 
@@ -206,7 +198,7 @@ module _ (A : Type 0) (D : Doing A) (p : Places) (meant : A → List ℤ → Run
 
   value_meant : (line : ℕ) (e : Term) (κ : ℤ → A) (left : List ℤ) (run : Run) → Named p e → meant (term_into A (D.evaluate line) (process.on A D p line) e κ) left run ≡ given_told (value (looked_up p.symbols run.store) e) line run (λ v. meant (κ v) left run)
   value_meant line e κ left run w =
-      term_meant A (D.evaluate line) (process.on A D p line) run.store Told (λ b. meant b left run) (λ k. failed k line run) (M.evaluates line left run) e κ w ∙ given_on (value (looked_up p.symbols run.store) e) line run (λ v. meant (κ v) left run)
+      term_meant A (D.evaluate line) (process.on A D p line) run.store Outcome (λ b. meant b left run) (λ k. failed k line run) (M.evaluates line left run) e κ w ∙ given_on (value (looked_up p.symbols run.store) e) line run (λ v. meant (κ v) left run)
 
   nothing_meant : (a : A) (run : Run) → run.end ≡ Done → meant a [] run ≡ then_told run (after a)
   nothing_meant a run e = sym (then_done run (after a) e)
@@ -266,7 +258,7 @@ module _ (A : Type 0) (D : Doing A) (p : Places) (meant : A → List ℤ → Run
 
   grown_meant : (line : ℕ) (r : Ref) (m3 : ℤ) (a : A) (run : Run) → Counts r → run.end ≡ Done → meant (grown_into A D p line r m3 a) [] run ≡ then_told (grown line r.name m3 run) (after a)
   grown_meant line r m3 a run w d =
-      scalar_meant A (D.evaluate line) (process.on A D p line) run.store Told (λ b. meant b [] run) (λ e. failed e line run) (M.evaluates line [] run) r (home p [] r.name) (λ v. D.local (answered_into A (D.evaluate line) (value_of Add v m3) (λ u. variable_into A D p r u (D.local a)))) w.scalar
+      scalar_meant A (D.evaluate line) (process.on A D p line) run.store Outcome (λ b. meant b [] run) (λ e. failed e line run) (M.evaluates line [] run) r (home p [] r.name) (λ v. D.local (answered_into A (D.evaluate line) (value_of Add v m3) (λ u. variable_into A D p r u (D.local a)))) w.scalar
       ∙ M.goes (answered_into A (D.evaluate line) (value_of Add (run.store r.name 0) m3) (λ u. variable_into A D p r u (D.local a))) [] run
       ∙ answered_told (value_of Add (run.store r.name 0) m3) line (λ u. variable_into A D p r u (D.local a)) [] run
       ∙ given_under (value_of Add (run.store r.name 0) m3) line run (λ u. meant (variable_into A D p r u (D.local a)) [] run) (λ u. then_told (written run r.name 0 u) (after a)) (λ u.
@@ -315,56 +307,64 @@ module _ (A : Type 0) (D : Doing A) (p : Places) (meant : A → List ℤ → Run
 
   -- ---- blocks
 
-  abbrev mutual
-    pub NodeNamed : Node → Type 0
-    NodeNamed (tree.plain s) = KindNamed s.kind
-    NodeNamed (tree.loop line h b) = HeadNamed h × BlockNamed b
-    NodeNamed (tree.choose arms) = ArmsNamed arms
+  -- opens: the loops whose iterations are run at once
+  module _ (opens : ℕ → Option ℕ) where
+    -- an opened loop does what the sequential one does
+    abbrev pub LoopNamed : Option ℕ → ℕ → DoHead → Block → Type 0 → Type 0
+    LoopNamed None line h b inner = HeadNamed h × inner
+    LoopNamed (Some n) line h b inner = (a : A) (run : Run) → run.end ≡ Done → meant (opened_into A D p line h n a) [] run ≡ then_told (exec p.symbols (tree.loop line h b) run) (after a)
 
-    pub BlockNamed : Block → Type 0
-    BlockNamed tree.no_nodes = Unit {0}
-    BlockNamed (tree.then_node n b) = NodeNamed n × BlockNamed b
+    abbrev mutual
+      pub NodeNamed : Node → Type 0
+      NodeNamed (tree.plain s) = KindNamed s.kind
+      NodeNamed (tree.loop line h b) = LoopNamed (opens h.variable.id) line h b (BlockNamed b)
+      NodeNamed (tree.choose arms) = ArmsNamed arms
 
-    pub ArmsNamed : Arms → Type 0
-    ArmsNamed tree.no_arms = Unit {0}
-    ArmsNamed (tree.then_arm line None b more) = BlockNamed b
-    ArmsNamed (tree.then_arm line (Some c) b more) = Named p c × BlockNamed b × ArmsNamed more
+      pub BlockNamed : Block → Type 0
+      BlockNamed tree.no_nodes = Unit {0}
+      BlockNamed (tree.then_node n b) = NodeNamed n × BlockNamed b
 
-  -- no loop is opened
-  abbrev none_open : ℕ → Option ℕ
-  none_open id = None
+      pub ArmsNamed : Arms → Type 0
+      ArmsNamed tree.no_arms = Unit {0}
+      ArmsNamed (tree.then_arm line None b more) = BlockNamed b
+      ArmsNamed (tree.then_arm line (Some c) b more) = Named p c × BlockNamed b × ArmsNamed more
 
-  unless_last : (b : Bool) (x a : A) (run last : Run) → run.end ≡ Done → meant x [] run ≡ then_told last (after a) → meant (if b then a else x) [] run ≡ then_told (if b then run else last) (after a)
-  unless_last true x a run last d h = nothing_meant a run d
-  unless_last false x a run last d h = h
+    loop_meant : (o : Option ℕ) (line : ℕ) (h : DoHead) (b : Block) (inner : Type 0) (a : A) (run : Run) → LoopNamed o line h b inner → ((x : A) (r : Run) → inner → r.end ≡ Done → meant (block_into A D p opens (plain_block b) x) [] r ≡ then_told (exec_block p.symbols b r) (after x)) → run.end ≡ Done
+        → meant (loop_into A D p o line h (λ x. block_into A D p opens (plain_block b) x) a) [] run ≡ then_told (exec p.symbols (tree.loop line h b) run) (after a)
+    loop_meant None line h b inner a run w body d = serial_meant line h (λ x. block_into A D p opens (plain_block b) x) (λ r. exec_block p.symbols b r) a run w.0 (λ x r e. body x r w.1 e) d
+    loop_meant (Some n) line h b inner a run w body d = w a run d
 
-  chosen_meant : (b : Bool) (x y : A) (a : A) (run one other : Run) → meant x [] run ≡ then_told one (after a) → meant y [] run ≡ then_told other (after a) → meant (if b then x else y) [] run ≡ then_told (if b then one else other) (after a)
-  chosen_meant true x y a run one other h k = h
-  chosen_meant false x y a run one other h k = k
+    unless_last : (b : Bool) (x a : A) (run last : Run) → run.end ≡ Done → meant x [] run ≡ then_told last (after a) → meant (if b then a else x) [] run ≡ then_told (if b then run else last) (after a)
+    unless_last true x a run last d h = nothing_meant a run d
+    unless_last false x a run last d h = h
 
-  mutual
-    pub node_meant : (n : Node) (a : A) (run : Run) → NodeNamed n → run.end ≡ Done → meant (node_into A D p none_open (plain_node n) a) [] run ≡ then_told (exec p.symbols n run) (after a)
-    node_meant (tree.plain s) a run w d = kind_meant s.line s.kind a run w d
-    node_meant (tree.loop line h b) a run w d = serial_meant line h (λ x. block_into A D p none_open (plain_block b) x) (λ r. exec_block p.symbols b r) a run w.0 (λ x r e. block_meant b x r w.1 e) d
-    node_meant (tree.choose arms) a run w d = arms_meant arms a run w d
+    chosen_meant : (b : Bool) (x y : A) (a : A) (run one other : Run) → meant x [] run ≡ then_told one (after a) → meant y [] run ≡ then_told other (after a) → meant (if b then x else y) [] run ≡ then_told (if b then one else other) (after a)
+    chosen_meant true x y a run one other h k = h
+    chosen_meant false x y a run one other h k = k
 
-    pub block_meant : (b : Block) (a : A) (run : Run) → BlockNamed b → run.end ≡ Done → meant (block_into A D p none_open (plain_block b) a) [] run ≡ then_told (exec_block p.symbols b run) (after a)
-    block_meant tree.no_nodes a run w d = nothing_meant a run d
-    block_meant (tree.then_node n b) a run w d =
-        ap (λ (z : Bool). meant (if z then a else node_into A D p none_open (plain_node n) (block_into A D p none_open (plain_block b) a)) [] run) (last_same n b)
-        ∙ unless_last (meaning.is_last_stop n b) (node_into A D p none_open (plain_node n) (block_into A D p none_open (plain_block b) a)) a run (then_do (exec p.symbols n run) (λ r. exec_block p.symbols b r)) d
-        (node_meant n (block_into A D p none_open (plain_block b) a) run w.0 d
-        ∙ then_under (exec p.symbols n run) (after (block_into A D p none_open (plain_block b) a)) (λ r. then_told (exec_block p.symbols b r) (after a)) (λ r e. block_meant b a r w.1 e)
-        ∙ sym (then_then (exec p.symbols n run) (λ r. exec_block p.symbols b r) (after a)))
+    mutual
+      pub node_meant : (n : Node) (a : A) (run : Run) → NodeNamed n → run.end ≡ Done → meant (node_into A D p opens (plain_node n) a) [] run ≡ then_told (exec p.symbols n run) (after a)
+      node_meant (tree.plain s) a run w d = kind_meant s.line s.kind a run w d
+      node_meant (tree.loop line h b) a run w d = loop_meant (opens h.variable.id) line h b (BlockNamed b) a run w (λ x r n e. block_meant b x r n e) d
+      node_meant (tree.choose arms) a run w d = arms_meant arms a run w d
 
-    pub arms_meant : (arms : Arms) (a : A) (run : Run) → ArmsNamed arms → run.end ≡ Done → meant (arms_into A D p none_open (plain_arms arms) a) [] run ≡ then_told (exec_arms p.symbols arms run) (after a)
-    arms_meant tree.no_arms a run w d = nothing_meant a run d
-    arms_meant (tree.then_arm line None b more) a run w d = block_meant b a run w d
-    arms_meant (tree.then_arm line (Some c) b more) a run w d =
-        value_meant line c (λ v. D.local (if is_true v then block_into A D p none_open (plain_block b) (D.local a) else arms_into A D p none_open (plain_arms more) a)) [] run w.0
-        ∙ given_under (value (looked_up p.symbols run.store) c) line run (λ v. meant (D.local (if is_true v then block_into A D p none_open (plain_block b) (D.local a) else arms_into A D p none_open (plain_arms more) a)) [] run) (λ v. then_told (if is_true v then exec_block p.symbols b run else exec_arms p.symbols more run) (after a)) (λ v.
-        M.goes (if is_true v then block_into A D p none_open (plain_block b) (D.local a) else arms_into A D p none_open (plain_arms more) a) [] run
-        ∙ chosen_meant (is_true v) (block_into A D p none_open (plain_block b) (D.local a)) (arms_into A D p none_open (plain_arms more) a) a run (exec_block p.symbols b run) (exec_arms p.symbols more run)
-        (block_meant b (D.local a) run w.1 d ∙ then_under (exec_block p.symbols b run) (after (D.local a)) (after a) (λ r e. M.goes a [] r))
-        (arms_meant more a run w.2 d))
-        ∙ given_then (value (looked_up p.symbols run.store) c) line run (λ v. if is_true v then exec_block p.symbols b run else exec_arms p.symbols more run) (after a)
+      pub block_meant : (b : Block) (a : A) (run : Run) → BlockNamed b → run.end ≡ Done → meant (block_into A D p opens (plain_block b) a) [] run ≡ then_told (exec_block p.symbols b run) (after a)
+      block_meant tree.no_nodes a run w d = nothing_meant a run d
+      block_meant (tree.then_node n b) a run w d =
+          ap (λ (z : Bool). meant (if z then a else node_into A D p opens (plain_node n) (block_into A D p opens (plain_block b) a)) [] run) (last_same n b)
+          ∙ unless_last (meaning.is_last_stop n b) (node_into A D p opens (plain_node n) (block_into A D p opens (plain_block b) a)) a run (then_do (exec p.symbols n run) (λ r. exec_block p.symbols b r)) d
+          (node_meant n (block_into A D p opens (plain_block b) a) run w.0 d
+          ∙ then_under (exec p.symbols n run) (after (block_into A D p opens (plain_block b) a)) (λ r. then_told (exec_block p.symbols b r) (after a)) (λ r e. block_meant b a r w.1 e)
+          ∙ sym (then_then (exec p.symbols n run) (λ r. exec_block p.symbols b r) (after a)))
+
+      pub arms_meant : (arms : Arms) (a : A) (run : Run) → ArmsNamed arms → run.end ≡ Done → meant (arms_into A D p opens (plain_arms arms) a) [] run ≡ then_told (exec_arms p.symbols arms run) (after a)
+      arms_meant tree.no_arms a run w d = nothing_meant a run d
+      arms_meant (tree.then_arm line None b more) a run w d = block_meant b a run w d
+      arms_meant (tree.then_arm line (Some c) b more) a run w d =
+          value_meant line c (λ v. D.local (if is_true v then block_into A D p opens (plain_block b) (D.local a) else arms_into A D p opens (plain_arms more) a)) [] run w.0
+          ∙ given_under (value (looked_up p.symbols run.store) c) line run (λ v. meant (D.local (if is_true v then block_into A D p opens (plain_block b) (D.local a) else arms_into A D p opens (plain_arms more) a)) [] run) (λ v. then_told (if is_true v then exec_block p.symbols b run else exec_arms p.symbols more run) (after a)) (λ v.
+          M.goes (if is_true v then block_into A D p opens (plain_block b) (D.local a) else arms_into A D p opens (plain_arms more) a) [] run
+          ∙ chosen_meant (is_true v) (block_into A D p opens (plain_block b) (D.local a)) (arms_into A D p opens (plain_arms more) a) a run (exec_block p.symbols b run) (exec_arms p.symbols more run)
+          (block_meant b (D.local a) run w.1 d ∙ then_under (exec_block p.symbols b run) (after (D.local a)) (after a) (λ r e. M.goes a [] r))
+          (arms_meant more a run w.2 d))
+          ∙ given_then (value (looked_up p.symbols run.store) c) line run (λ v. if is_true v then exec_block p.symbols b run else exec_arms p.symbols more run) (after a)

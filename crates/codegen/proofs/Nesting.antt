@@ -118,10 +118,10 @@ module _ (A : Type 0) (D : Doing A) (code : Code) (limit : ℕ) (index : ℤ) (S
       let q = on A D p line in
       let there : pc + 1 + 1 + 1 + 1 - n ≡ to = omega (arith, back) in
       scalar_runs A (D.evaluate line) code g line limit St (R.evaluates line g ok.indexed) q ok.privates few_privates refl r (home p [] r.name) ds (λ v. D.local (answered_into A (D.evaluate line) (value_of Add v m3) (λ u. variable_into A D p r u (D.local a)))) pc st refl w (omega (arith, room)) has.0 (λ v.
-      R.goes (answered_into A (D.evaluate line) (value_of Add v m3) (λ u. variable_into A D p r u (D.local a))) g g (pc + 1) (pc + 1 + 1) (v ∷ st) (m3 ∷ v ∷ st) ok.indexed (step_seen code g (counter left m3) line (pc + 1) (v ∷ st) refl (omega (arith, room)) has.2.0)
+      R.goes (answered_into A (D.evaluate line) (value_of Add v m3) (λ u. variable_into A D p r u (D.local a))) g g (pc + 1) (pc + 1 + 1) (v ∷ st) (m3 ∷ v ∷ st) ok.indexed refl (step_seen code g (counter left m3) line (pc + 1) (v ∷ st) refl (omega (arith, room)) has.2.0)
       (binary_answers A (D.evaluate line) code g line limit St (R.evaluates line g ok.indexed) Add v m3 (λ u. variable_into A D p r u (D.local a)) (pc + 1 + 1) st has.2.2.1 has.2.2.0 (λ u.
       scalar_given A D code limit index St R p few_privates r (home p [] r.name) ds u (D.local a) g line (pc + 1 + 1 + 1) st refl w ok has.2.2.2.0 (λ h k.
-      R.goes a h h (pc + 1 + 1 + 1 + 1) to st st (k.index ∙ ok.indexed) (back_seen code h n line (pc + 1 + 1 + 1 + 1) to st there has.2.2.2.2.0) (next h k)))))
+      R.goes a h h (pc + 1 + 1 + 1 + 1) to st st (k.index ∙ ok.indexed) refl (back_seen code h n line (pc + 1 + 1 + 1 + 1) to st there has.2.2.2.2.0) (next h k)))))
 
   turns_run : (n line : ℕ) (r : Ref) (ds : List Extent) (m3 : ℤ) (range : A → A) (is : List Instr) (a : A) (f : Frame) (cs : List Counter) (pc : ℕ) (st : List ℤ) → Reach code.variables r ds → Fits p index f → length st + 2 ≤ f.operands.room → Has pc (turns_code (on A D p line) r is)
       → ((b : A) (g : Frame) (c : Counter) → Keeps f g → ((h : Frame) → Keeps f h → St b (at code (with_loops h (c ∷ cs)) (pc + 1 + length is) st)) → St (range b) (at code (with_loops g (c ∷ cs)) (pc + 1) st))
@@ -135,7 +135,7 @@ module _ (A : Type 0) (D : Doing A) (code : Code) (limit : ℕ) (index : ℤ) (S
       let number : short (L + 1) ≡ L + 1 = short_is (L + 1) (omega (arith, all, size, few)) in
       let len : pc + 1 + (L + 1) ≡ pc + length (turns_code q r is) = omega (arith, size) in
       let here : slice_get code.instructions pc ≡ Some (instr line (acts.CountDown (L + 1))) = has.0 ∙ ap (λ (j : ℕ). Some (instr line (acts.CountDown j))) number in
-      R.goes a (with_loops g (counter 0 m3 ∷ cs)) (with_loops g cs) pc (pc + 1 + (L + 1)) st st (k.index ∙ fits.indexed) (count_out_seen code g (counter 0 m3) cs (L + 1) line pc st refl here) (subst (λ (j : ℕ). St a (at code (with_loops g cs) j st)) (sym len) (next g k))
+      R.goes a (with_loops g (counter 0 m3 ∷ cs)) (with_loops g cs) pc (pc + 1 + (L + 1)) st st (k.index ∙ fits.indexed) refl (count_out_seen code g (counter 0 m3) cs (L + 1) line pc st refl here) (subst (λ (j : ℕ). St a (at code (with_loops g cs) j st)) (sym len) (next g k))
   turns_run (suc n) line r ds m3 range is a f cs pc st w fits room has body next g k =
       let q = on A D p line in
       let L = length (is ++ grown_code q r) in
@@ -153,7 +153,7 @@ module _ (A : Type 0) (D : Doing A) (code : Code) (limit : ℕ) (index : ℤ) (S
       let within : pc + 1 + length is + 1 + 1 + 1 + 1 < limit = omega (arith, near, back.1) in
       let tail : Has (pc + 1 + length is) (grown_code q r ++ instr line (acts.Back (L + 1)) ∷ []) =
       (grown.0, grown.1, (grown.2.0, grown.2.1, (grown.2.2.0, grown.2.2.1, (grown.2.2.2.0, grown.2.2.2.1, (last, within, tt))))) in
-      R.goes (range (grown_into A D p line r m3 (turns_into A D p (λ b. range (grown_into A D p line r m3 b)) n a))) (with_loops g (counter (suc n) m3 ∷ cs)) (with_loops g (counter n m3 ∷ cs)) pc (pc + 1) st st (k.index ∙ fits.indexed)
+      R.goes (range (grown_into A D p line r m3 (turns_into A D p (λ b. range (grown_into A D p line r m3 b)) n a))) (with_loops g (counter (suc n) m3 ∷ cs)) (with_loops g (counter n m3 ∷ cs)) pc (pc + 1) st st (k.index ∙ fits.indexed) refl
       (count_seen code g n m3 cs (short (L + 1)) line pc st has.0)
       (body (grown_into A D p line r m3 (turns_into A D p (λ b. range (grown_into A D p line r m3 b)) n a)) g (counter n m3) k (λ h l.
       grown_run line r ds n m3 (turns_into A D p (λ b. range (grown_into A D p line r m3 b)) n a) h cs (L + 1) (pc + 1 + length is) pc st w (fits_on p index f h l fits) (room_on h l) target tail (λ u m.
@@ -165,7 +165,7 @@ module _ (A : Type 0) (D : Doing A) (code : Code) (limit : ℕ) (index : ℤ) (S
 
   step_runs : (line : ℕ) (e : Option Term) (κ : ℤ → A) (f : Frame) (pc : ℕ) (st : List ℤ) → StepReaches code p e → Fits p index f → Has pc (step_code (on A D p line) e) → length st + step_room e ≤ f.operands.room
       → ((v : ℤ) → St (κ v) (at code f (pc + length (step_code (on A D p line) e)) (v ∷ st))) → St (step_into A D p line e κ) (at code f pc st)
-  step_runs line None κ f pc st w fits has room next = R.goes (κ (pos 1)) f f pc (pc + 1) st (pos 1 ∷ st) fits.indexed (constant_seen code f (pos 1) line pc st has.0 (omega (arith, room))) (next (pos 1))
+  step_runs line None κ f pc st w fits has room next = R.goes (κ (pos 1)) f f pc (pc + 1) st (pos 1 ∷ st) fits.indexed refl (constant_seen code f (pos 1) line pc st has.0 (omega (arith, room))) (next (pos 1))
   step_runs line (Some e) κ f pc st w fits has room next = term_runs A (D.evaluate line) code f line limit St (R.evaluates line f fits.indexed) (on A D p line) fits.privates few_privates refl e κ pc st w has room next
 
   pub serial_runs : (line : ℕ) (h : DoHead) (ds : List Extent) (range : A → A) (is : List Instr) (a : A) (f : Frame) (pc : ℕ) (st : List ℤ) → Reach code.variables h.variable ds → HeadReaches code p h → Fits p index f → Has pc (serial_code (on A D p line) h is) → length st + max (head_room h) 2 ≤ f.operands.room → length f.counters.items < f.counters.room
@@ -226,7 +226,7 @@ module _ (A : Type 0) (D : Doing A) (code : Code) (limit : ℕ) (index : ℤ) (S
           let g = with_loops f (counter count m3 ∷ cs) in
           let ok = fits_loops f (counter count m3 ∷ cs) fits in
           let T = turns_into A D p (λ b. range (grown_into A D p line h.variable m3 b)) count a in
-          R.goes (variable_into A D p h.variable m1 T) f g n3 (n3 + 1) (m3 ∷ m2 ∷ m1 ∷ st) (m1 ∷ st) fits.indexed (set_up_seen code f m1 m2 m3 line n3 st e loops r3.0)
+          R.goes (variable_into A D p h.variable m1 T) f g n3 (n3 + 1) (m3 ∷ m2 ∷ m1 ∷ st) (m1 ∷ st) fits.indexed refl (set_up_seen code f m1 m2 m3 line n3 st e loops r3.0)
           (scalar_given A D code limit index St R p few_privates h.variable (home p [] h.variable.name) ds m1 T g line (n3 + 1) st refl w ok r3.2.0 (λ u m.
           let x = reloop f f u (counter count m3 ∷ cs) (keeps_same f) m in
           subst (λ (z : Frame). St T (at code z (n3 + 1 + 1) st)) (sym x.2)
@@ -251,13 +251,13 @@ module _ (A : Type 0) (D : Doing A) (code : Code) (limit : ℕ) (index : ℤ) (S
       let here : slice_get code.instructions pc ≡ Some (instr line (acts.SkipUnless (length body + 1))) = has.0 ∙ ap (λ (j : ℕ). Some (instr line (acts.SkipUnless j))) number in
       let skips : slice_get code.instructions (pc + 1 + length body) ≡ Some (instr line (acts.Skip (length others))) = back.0 ∙ ap (λ (j : ℕ). Some (instr line (acts.Skip j))) far in
       by (is_true v) refl here
-      (first (λ g k. R.goes a g g (pc + 1 + length body) (pc + 1 + length body + 1 + length others) st st (k.index ∙ fits.indexed) (skip_seen code g (length others) line (pc + 1 + length body) st skips) (subst (λ (j : ℕ). St a (at code g j st)) (sym len) (next g k))) (has_front code.instructions limit (pc + 1) body (S ∷ others) has.2))
+      (first (λ g k. R.goes a g g (pc + 1 + length body) (pc + 1 + length body + 1 + length others) st st (k.index ∙ fits.indexed) refl (skip_seen code g (length others) line (pc + 1 + length body) st skips) (subst (λ (j : ℕ). St a (at code g j st)) (sym len) (next g k))) (has_front code.instructions limit (pc + 1) body (S ∷ others) has.2))
       (second (λ g k. subst (λ (j : ℕ). St a (at code g j st)) (sym len) (next g k)) back.2)
     where
       by : (b : Bool) → is_true v ≡ b → slice_get code.instructions pc ≡ Some (instr line (acts.SkipUnless (length body + 1))) → St x (at code f (pc + 1) st) → St y (at code f (pc + 1 + length body + 1) st) → St (D.local (if b then x else y)) (at code f pc (v ∷ st))
       by true e h this other =
           let there : pc + 1 + 0 ≡ pc + 1 = omega arith in
-          R.goes x f f pc (pc + 1) (v ∷ st) st fits.indexed (unless_seen code f v (length body + 1) line pc st h ∙ ap (λ (b : Bool). shown code (at code f (pc + 1 + (if b then 0 else length body + 1)) st)) e ∙ ap (λ (j : ℕ). shown code (at code f j st)) there) this
+          R.goes x f f pc (pc + 1) (v ∷ st) st fits.indexed refl (unless_seen code f v (length body + 1) line pc st h ∙ ap (λ (b : Bool). shown code (at code f (pc + 1 + (if b then 0 else length body + 1)) st)) e ∙ ap (λ (j : ℕ). shown code (at code f j st)) there) this
       by false e h this other =
           let there : pc + 1 + (length body + 1) ≡ pc + 1 + length body + 1 = omega arith in
-          R.goes y f f pc (pc + 1 + length body + 1) (v ∷ st) st fits.indexed (unless_seen code f v (length body + 1) line pc st h ∙ ap (λ (b : Bool). shown code (at code f (pc + 1 + (if b then 0 else length body + 1)) st)) e ∙ ap (λ (j : ℕ). shown code (at code f j st)) there) other
+          R.goes y f f pc (pc + 1 + length body + 1) (v ∷ st) st fits.indexed refl (unless_seen code f v (length body + 1) line pc st h ∙ ap (λ (b : Bool). shown code (at code f (pc + 1 + (if b then 0 else length body + 1)) st)) e ∙ ap (λ (j : ℕ). shown code (at code f j st)) there) other

@@ -28,7 +28,7 @@ pub record Doing (A : Type 0) : Type 0 where
   pub local : A → A
   pub await : ℕ → ℕ → A → A
   pub advance : ℕ → A → A
-  pub opening : ℕ → ℤ → ℤ → A → A
+  pub opening : ℕ → ℕ → ℤ → ℤ → A → A
   pub stop : ℕ → A
 
 -- a STOP that END follows does what END does
@@ -101,7 +101,7 @@ module _ (A : Type 0) (D : Doing A) (p : Places) where
   abbrev pub opened_into : ℕ → DoHead → ℕ → A → A
   opened_into line h n a =
       term_into A (D.evaluate line) (on line) h.first (λ m1.
-      term_into A (D.evaluate line) (on line) h.last (λ m2. D.opening n m1 m2 a))
+      term_into A (D.evaluate line) (on line) h.last (λ m2. D.opening line n m1 m2 a))
 
   abbrev pub loop_into : Option ℕ → ℕ → DoHead → (A → A) → A → A
   loop_into None line h range a = serial_into line h range a

@@ -58,4 +58,5 @@ abbrev mutual
   pub arms_loops : PlanArms → ℕ
   arms_loops no_arms = 0
   arms_loops (made_else b) = block_loops b
-  arms_loops (then_arm line c b more) = max (block_loops b) (arms_loops more)
+  arms_loops (then_arm line None b more) = block_loops b
+  arms_loops (then_arm line (Some c) b more) = max (block_loops b) (arms_loops more)

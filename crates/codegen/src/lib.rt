@@ -1,9 +1,13 @@
-//! Code of programs. So far: of the statements that hold no others.
+//! Code of programs.
 #![tactic(auto)]
 
+mod nodes;
+mod programs;
+mod rooms;
 mod statements;
 
-pub use statements::emit_plain;
+pub use ast::Refusal as CompileRefusal;
+pub use programs::compile;
 
 #[cfg(test)]
 mod tests;

@@ -14,7 +14,8 @@ use expr_code::{Places, emit, emit_place, short};
 use machine::{Act, Instr, Piece};
 use std::alloc::{AllocError, Global};
 
-fn put(code: &mut Vec<Instr>, line: Line, act: Act) -> Result<(), AllocError>
+/// Appends an instruction.
+pub fn put(code: &mut Vec<Instr>, line: Line, act: Act) -> Result<(), AllocError>
     ensures { OnOk result (code.new.items ≡ code.old.items ++ instr line act ∷ []) }
 {
     code.push(Instr { line, act })?;

@@ -1,8 +1,9 @@
 use super::*;
+use crate::statements::emit_plain;
 use ast::{Access, Expr, Item, Kind, Line, Name, Program, RefId, Reference};
 use expr_code::Places;
 use loop_tree::ScalarSet;
-use machine::{Act, Instr, Piece};
+use machine::{Act, Code, Instr, Piece};
 use std::alloc::{AllocError, Global};
 use std::process::Abort;
 use std::test::Fail;
@@ -115,6 +116,34 @@ fn want_of_memory(rt: HostRuntime) -> Result<(), Fail> {
             let (code, records) = emitted(alloc, &statements)?;
             are_right(&rt, &code, &records);
             return Err(error.into());
+        }
+    }
+    Ok(())
+}
+
+/// A program without statements is a halt alone.
+fn halts(rt: &impl Abort, code: &Code) {
+    let halt = [Instr {
+        line: 0,
+        act: Act::Halt,
+    }];
+    assert_eq!(*rt; code.instructions.as_slice(), halt.as_slice());
+    assert_eq!(*rt; code.operands, 0);
+    assert_eq!(*rt; code.counters, 0);
+}
+
+#[test]
+fn want_of_memory_in_a_program(rt: HostRuntime) -> Result<(), Fail> {
+    let program = program(rt.alloc());
+    match compile(rt.alloc(), &program) {
+        Ok(code) => halts(&rt, &code),
+        Err(refusal) => {
+            assert_eq!(rt; refusal, CompileRefusal::Memory);
+            match compile(rt.alloc(), &program) {
+                Ok(code) => halts(&rt, &code),
+                Err(_) => panic!(rt; "a program that is short"),
+            }
+            return Err(AllocError.into());
         }
     }
     Ok(())

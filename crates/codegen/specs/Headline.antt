@@ -1,0 +1,50 @@
+-- The headline: whatever processors move, a run of a program's code that ends has printed and stored what
+-- the sequential program does, or has printed its output so far and reports its first fault; and no run
+-- that hasn't ended is without a next step.
+use Rattle.std.specs.Prelude.{◌≡◌, ◌<◌, ◌≤◌, ◌+◌, ◌*◌, ℕ, List, ◌++◌, length, Some, None}
+use Rattle.ast.specs.Meaning.{seq}
+use Rattle.ast.specs.Program.{ProgramTree}
+use Rattle.ast.specs.declared.fault.End.{End}
+use Rattle.machine.specs.Code.{Code}
+use Rattle.machine.specs.Solo.{Solo}
+use Rattle.machine.specs.State.{Machine, CodeStep, CodeRun, Init, Ended}
+
+-- so many processors and open iterations
+abbrev pub AreSizes : ℕ → ℕ → Type 0
+AreSizes p s = ((1 ≤ p) × (p ≤ 64)) × ((1 ≤ s) × (s ≤ 256))
+
+-- a text is a beginning of another
+abbrev pub IsBeginning : List ℕ → List ℕ → Type 0
+IsBeginning xs ys = (more : List ℕ) × (ys ≡ xs ++ more)
+
+-- A state of a run has printed a beginning of what the sequential program prints; if it has ended, its
+-- answer is the sequential program's; if it hasn't, some processor has a step.
+pub record Agrees (code : Code) (program : ProgramTree) (input : List ℕ) (p s : ℕ) (m : Machine) : Type 0 where
+  pub beginning : IsBeginning m.output (seq program input).output
+  pub answer : (e : End) → m.ended ≡ Some e → Ended m (seq program input).output (seq program input).end (seq program input).store
+  pub next : m.ended ≡ None → (q : ℕ) × (n : Machine) × (q < p) × CodeStep code s m q n
+
+-- The headline, for all inputs, processors, open iterations and runs.
+abbrev pub Headline : Code → ProgramTree → Type 0
+Headline code program =
+    (input : List ℕ) (p s : ℕ) (qs : List ℕ) (m : Machine) → AreSizes p s → CodeRun code s p (Init code input) qs m
+    → Agrees code program input p s m
+
+-- ---- how long runs are
+
+-- the run alone ends
+abbrev pub Ends : Code → List ℕ → Type 0
+Ends code input = (w : ℕ) × Solo code input w
+
+-- No run, ended or not, has more than three times the steps of one alone: an instruction costs at most a
+-- park, a pick and itself.
+abbrev pub Bounded : Code → List ℕ → Type 0
+Bounded code input =
+    (w : ℕ) → Solo code input w → (p s : ℕ) (qs : List ℕ) (m : Machine) → AreSizes p s → CodeRun code s p (Init code input) qs m
+    → length qs ≤ 3 * w
+
+-- Any run can be carried to its end within that number.
+abbrev pub Carried : Code → List ℕ → Type 0
+Carried code input =
+    (w : ℕ) → Solo code input w → (p s : ℕ) (qs : List ℕ) (m : Machine) → AreSizes p s → CodeRun code s p (Init code input) qs m
+    → (rs : List ℕ) × (n : Machine) × (e : End) × CodeRun code s p m rs n × (n.ended ≡ Some e) × (length qs + length rs ≤ 3 * w)
