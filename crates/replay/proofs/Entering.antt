@@ -28,7 +28,7 @@ pub held_within : {A : Type 0} (xs : List (Option A)) (q : ℕ) (u : A) → held
 unfolding held_of
 held_within xs q u e = within_held xs q u e
 
-place_below : (s k : ℕ) → 0 < s → k % s < s
+pub place_below : (s k : ℕ) → 0 < s → k % s < s
 place_below s k h = omega arith
 
 -- an iteration that is held

@@ -8,7 +8,7 @@ use Rattle.replay.specs.declared.short.Short.{Short}
 use Rattle.replay.specs.declared.short.Short.TheVariants.{Work, Share, PickMain, PickIteration, TakeTicket}
 use Rattle.replay.proofs.Wholes.{are_pushed}
 
-entries_kept : (ss : List Short) (s : Short) (ks new : List ℕ) → all_taken ss ≡ length ks → entries_of (ss ++ s ∷ []) (ks ++ new) ≡ entries_of ss ks ++ entry_of s new ∷ []
+pub entries_kept : (ss : List Short) (s : Short) (ks new : List ℕ) → all_taken ss ≡ length ks → entries_of (ss ++ s ∷ []) (ks ++ new) ≡ entries_of ss ks ++ entry_of s new ∷ []
 entries_kept [] s [] new h = refl
 entries_kept [] s (k ∷ ks) new h = absurd (omega (arith, h))
 entries_kept (Work q n ∷ ss) s ks new h = ap (λ (es : List Entry). entry_of (Work q n) ks ∷ es) (entries_kept ss s ks new (omega (arith, h)))
@@ -18,7 +18,7 @@ entries_kept (TakeTicket q ∷ ss) s ks new h = ap (λ (es : List Entry). entry_
 entries_kept (PickIteration q ∷ ss) s [] new h = absurd (omega (arith, h))
 entries_kept (PickIteration q ∷ ss) s (k ∷ ks) new h = ap (λ (es : List Entry). entry_of (PickIteration q) (k ∷ ks) ∷ es) (entries_kept ss s ks new (omega (arith, h)))
 
-taken_kept : (ss : List Short) (s : Short) → all_taken (ss ++ s ∷ []) ≡ all_taken ss + taken s
+pub taken_kept : (ss : List Short) (s : Short) → all_taken (ss ++ s ∷ []) ≡ all_taken ss + taken s
 taken_kept [] s = omega arith
 taken_kept (t ∷ ss) s = omega (arith, taken_kept ss s)
 

@@ -51,15 +51,15 @@ pub nobody : (xs : List (Option Standing)) (s : ℕ) → none_open xs ≡ true �
 unfolding standing
 nobody xs s h k = ap (λ o. active (numbered k o)) (none_standing xs (k % s) h)
 
-abbrev zeros_of : ℕ → List ℕ
+abbrev pub zeros_of : ℕ → List ℕ
 zeros_of n = replicate n 0
 
-zero_at : (n i : ℕ) → get_or (zeros_of n) i 0 ≡ 0
+pub zero_at : (n i : ℕ) → get_or (zeros_of n) i 0 ≡ 0
 zero_at zero i = refl
 zero_at (suc n) zero = refl
 zero_at (suc n) (suc i) = zero_at n i
 
-no_counts : (n : ℕ) → ◌≡◌ {A = ℕ → ℕ} (counts_of (zeros_of n)) (λ e. 0)
+pub no_counts : (n : ℕ) → ◌≡◌ {A = ℕ → ℕ} (counts_of (zeros_of n)) (λ e. 0)
 unfolding counts_of
 no_counts n = λ i e. by (eqb e 0) e i
   where

@@ -15,7 +15,7 @@ use Rattle.replay.specs.Parts.{Standing, value_in, store_of, held_of, numbered, 
 
 -- ---- one value of a map
 
-decide : (i k : ℕ) (P : Bool → Type 0) → (i ≡ k → P true) → ((i ≡ k → ⊥) → P false) → P (eqb i k)
+pub decide : (i k : ℕ) (P : Bool → Type 0) → (i ≡ k → P true) → ((i ≡ k → ⊥) → P false) → P (eqb i k)
 decide i k P at off = by (eqb i k) refl
   where
     by : (b : Bool) → eqb i k ≡ b → P b
@@ -63,6 +63,21 @@ standing_put xs s k b l old new = λ i j. standing_at xs s k b l old new j i
 pub standing_is : (xs : List (Option Standing)) (s k : ℕ) (o : Option Standing) → get_or xs (k % s) None ≡ o → Mine k o → standing xs s k ≡ o
 unfolding standing
 standing_is xs s k o e h = ap (numbered k) e ∙ numbered_mine k o h
+
+is_numbered : (k : ℕ) (b a : Standing) → numbered k (Some b) ≡ Some a → (Some b ≡ Some a) × (a.number ≡ k)
+is_numbered k b a = by (b.number == k) refl
+  where
+    by : (c : Bool) → (b.number == k) ≡ c → (if c then Some b else None) ≡ Some a → (Some b ≡ Some a) × (a.number ≡ k)
+    by true e f = (f, (let same : b ≡ a = cc in subst (λ (z : Standing). z.number ≡ k) same (eqb-true b.number k e)))
+    by false e f = cc
+
+numbered_there : (k : ℕ) (o : Option Standing) (a : Standing) → numbered k o ≡ Some a → (o ≡ Some a) × (a.number ≡ k)
+numbered_there k None a e = cc
+numbered_there k (Some b) a e = is_numbered k b a e
+
+pub standing_there : (xs : List (Option Standing)) (s k : ℕ) (a : Standing) → standing xs s k ≡ Some a → (get_or xs (k % s) None ≡ Some a) × (a.number ≡ k)
+unfolding standing
+standing_there xs s k a e = numbered_there k (get_or xs (k % s) None) a e
 
 -- a function of each value
 pub put_through : {A B : Type 0} (f : A → B) (g : ℕ → A) (k : ℕ) (v : A) → ◌≡◌ {A = ℕ → B} (λ i. f (put_at g k v i)) (put_at (λ i. f (g i)) k (f v))

@@ -91,7 +91,7 @@ parks_at x e v t s i u k l (n, inr h) = (
 pub parks_other : (x : View) (e v t s : ℕ) (w : Option Wait) → IsKernel x → e < length x.counts → (s ≡ t → ⊥) → Stands x s w → Stands (parked x e v t) s w
 parks_other x e v t s None k l d h =
     omega (arith, h, waiting_set s x.waiters e (queued (v, t) (waiters_at x e)) (omega (arith, k.events, l)), queued_times s t v (waiters_at x e) d)
-parks_other x e v t s (Some (until_count i u)) k l d h = parks_at x e v t s i u k l h
+parks_other x e v t s (Some (until_count i u)) k l d h = (h.0, parks_at x e v t s i u k l h.1)
 parks_other x e v t s (Some (until_retired u)) k l d h = parks_at x e v t s 0 u k l h
 
 -- ---- advancing
@@ -188,7 +188,7 @@ advances x e s None l k j h =
     let ws = waiters_at x e in
     let n = wakes x e in
     omega (arith, h, waiting_set s x.waiters e (drop n ws) (omega (arith, k.events, l)), split_times s n ws, times-append s x.ready (map (λ w. w.1) (take n ws)))
-advances x e s (Some (until_count i u)) l k j h = advances_at x e s i u k j h
+advances x e s (Some (until_count i u)) l k j h = (h.0, advances_at x e s i u k j h.1)
 advances x e s (Some (until_retired u)) l k j h = advances_at x e s 0 u k j h
 
 -- ---- taking up
@@ -215,7 +215,7 @@ taken_at x s t i u d (l, inr h) = (l, inr h)
 
 pub takes_other : (x : View) (s t : ℕ) (w : Option Wait) → (s ≡ t → ⊥) → Stands x s w → Stands (record x { ready = without t x.ready }) s w
 takes_other x s t None d h = omega (arith, h, times_without s t x.ready d)
-takes_other x s t (Some (until_count i u)) d h = taken_at x s t i u d h
+takes_other x s t (Some (until_count i u)) d h = (h.0, taken_at x s t i u d h.1)
 takes_other x s t (Some (until_retired u)) d h = taken_at x s t 0 u d h
 
 pub takes_itself : (x : View) (s : ℕ) → IsKernel x → 0 < times s x.ready → Stands (record x { ready = without s x.ready }) s None
@@ -239,7 +239,7 @@ ready_at x s e v k (l, inr h) r = absurd (ready_or_waiting x s e v (k.once s) r 
 
 pub ready_reached : (x : View) (s : ℕ) (w : Option Wait) → IsKernel x → Stands x s w → 0 < times s x.ready → (u : Wait) × (w ≡ Some u) × IsReached x u
 ready_reached x s None k h r = absurd (omega (arith, h, r))
-ready_reached x s (Some (until_count e v)) k h r = (until_count e v, refl, ready_at x s e v k h r)
+ready_reached x s (Some (until_count e v)) k h r = (until_count e v, refl, ready_at x s e v k h.1 r)
 ready_reached x s (Some (until_retired v)) k h r = (until_retired v, refl, ready_at x s 0 v k h r)
 
 reached_at : (x : View) (s e v : ℕ) → StandsAt x s e v → v ≤ count_at x e → 0 < times s x.ready
@@ -247,7 +247,7 @@ reached_at x s e v (l, inl h) r = h.1
 reached_at x s e v (l, inr h) r = absurd (omega (arith, h.0, r))
 
 pub reached_ready : (x : View) (s : ℕ) (u : Wait) → Stands x s (Some u) → IsReached x u → 0 < times s x.ready
-reached_ready x s (until_count e v) h r = reached_at x s e v h r
+reached_ready x s (until_count e v) h r = reached_at x s e v h.1 r
 reached_ready x s (until_retired v) h r = reached_at x s 0 v h r
 
 pub first_ready : (x : View) (s : ℕ) → first_of x.ready ≡ Some s → 0 < times s x.ready

@@ -7,7 +7,8 @@ use Rattle.std.proofs.lemmas.List.{get_or-set_same, get_or-set_other, length-set
 use Rattle.ec_kernel.specs.View.{View, IsKernel, count_at, advanced}
 use Rattle.machine.specs.Code.{Code}
 use Rattle.machine.specs.State.{Wait, the_main, iteration}
-use Rattle.replay.specs.Core.{IsCore, IsRunning}
+use Rattle.machine.specs.declared.code.Open.{Open}
+use Rattle.replay.specs.Core.{HaveIndices, IsCore, IsRunning}
 use Rattle.replay.specs.Parts.{Kept, Shared, Standing, held_of, wait_in}
 use Rattle.replay.specs.Waiting.{Stands}
 use Rattle.replay.proofs.Queues.{advances}
@@ -35,7 +36,7 @@ advanced_onward x e p l k j = record {
 }
 
 -- what stands in the place of iteration k is that iteration
-alone : (code : Code) (s k : ℕ) (x : Kept) (a : Standing) → IsCore code s x → get_or x.iterations (k % s) None ≡ Some a → a.number ≡ k → (j : ℕ) → j % s ≡ k % s → IsRunning s j x → j ≡ k
+pub alone : (code : Code) (s k : ℕ) (x : Kept) (a : Standing) → IsCore code s x → get_or x.iterations (k % s) None ≡ Some a → a.number ≡ k → (j : ℕ) → j % s ≡ k % s → IsRunning s j x → j ≡ k
 alone code s k x a i h n j e r =
     let same : a ≡ r.standing = (let z : Some a ≡ Some r.standing = sym h ∙ ap (λ (p : ℕ). get_or x.iterations p None) (sym e) ∙ r.here in cc) in
     sym r.number ∙ sym (ap (λ (z : Standing). z.number) same) ∙ n
@@ -43,15 +44,17 @@ alone code s k x a i h n j e r =
 -- ---- it goes on
 
 pub stays_core : (code : Code) (s k : ℕ) (x : Kept) (a b : Standing) (y : Shared) → IsCore code s x → get_or x.iterations (k % s) None ≡ Some a → a.number ≡ k → a.wait ≡ None → k % s < s
-    → b.number ≡ k → b.wait ≡ None → Onward x.shared.order y.order → length y.cells ≡ length x.shared.cells
+    → b.number ≡ k → b.wait ≡ None → Onward x.shared.order y.order → length y.cells ≡ length x.shared.cells → y.loop ≡ x.shared.loop
     → IsCore code s (record x { shared = y; iterations = set x.iterations (k % s) (Some b) })
-stays_core code s k x a b y i h n w l m v o c = record {
+stays_core code s k x a b y i h n w l m v o c same_loop = record {
   some = i.some;
   kernel = o.kernel;
   slots = o.slots ∙ i.slots;
   counts = o.counts ∙ i.counts;
   ticket = omega (arith, o.ticket, i.ticket);
+  turn = omega (arith, i.turn, o.first, o.ticket);
   cells = c ∙ i.cells;
+  indices = subst (λ (l : Option Open). HaveIndices code l) (sym same_loop) i.indices;
   room = length-set x.iterations (k % s) (Some b) ∙ i.room;
   main = o.stands 0 x.waiting i.main;
   each = λ j p. elim (cases_eq j (k % s)) [
@@ -99,7 +102,7 @@ idle_at xs q r u l e = elim (cases_eq r q) [
   | inr d ↦ (d, sym (get_or-set_other xs q r None None d) ∙ e)
 ]
 
-held_other : {A : Type 0} (xs : List (Option A)) (q r : ℕ) (u : A) → q < length xs → held_of (set xs q None) r ≡ Some u → (r ≡ q → ⊥) × (held_of xs r ≡ Some u)
+pub held_other : {A : Type 0} (xs : List (Option A)) (q r : ℕ) (u : A) → q < length xs → held_of (set xs q None) r ≡ Some u → (r ≡ q → ⊥) × (held_of xs r ≡ Some u)
 unfolding held_of
 held_other xs q r u l e = idle_at xs q r u l e
 
@@ -119,15 +122,17 @@ not_held code s q r j k x a i h n u d g e =
     d (i.apart r q (iteration k) (subst (λ (p : ℕ). held_of x.held r ≡ Some (iteration p)) j_is g) u)
 
 pub parks_core : (code : Code) (s q k : ℕ) (x : Kept) (a : Standing) (y : Shared) (w : Wait) → IsCore code s x → get_or x.iterations (k % s) None ≡ Some a → a.number ≡ k → k % s < s → held_of x.held q ≡ Some (iteration k) → q < length x.held
-    → Beside x.shared.order y.order (1 + k % s) (Some w) → count_at y.order 0 ≡ count_at x.shared.order 0 → length y.cells ≡ length x.shared.cells
+    → Beside x.shared.order y.order (1 + k % s) (Some w) → count_at y.order 0 ≡ count_at x.shared.order 0 → length y.cells ≡ length x.shared.cells → y.loop ≡ x.shared.loop
     → IsCore code s (record x { shared = y; iterations = set x.iterations (k % s) (Some (record a { wait = Some w })); held = set x.held q None })
-parks_core code s q k x a y w i h n l u b o f c = record {
+parks_core code s q k x a y w i h n l u b o f c same_loop = record {
   some = i.some;
   kernel = o.kernel;
   slots = o.slots ∙ i.slots;
   counts = o.counts ∙ i.counts;
   ticket = omega (arith, o.ticket, i.ticket);
+  turn = omega (arith, i.turn, f, o.ticket);
   cells = c ∙ i.cells;
+  indices = subst (λ (l : Option Open). HaveIndices code l) (sym same_loop) i.indices;
   room = length-set x.iterations (k % s) (Some now) ∙ i.room;
   main = o.others 0 x.waiting (λ z. omega (arith, z)) i.main;
   each = λ j p. elim (cases_eq j (k % s)) [
@@ -170,15 +175,17 @@ parks_core code s q k x a y w i h n l u b o f c = record {
     here = get_or-set_same x.iterations (k % s) (Some now) None (omega (arith, l, i.room))
 
 pub leaves_core : (code : Code) (s q k : ℕ) (x : Kept) (a : Standing) (y : Shared) → IsCore code s x → get_or x.iterations (k % s) None ≡ Some a → a.number ≡ k → k % s < s → held_of x.held q ≡ Some (iteration k) → q < length x.held
-    → count_at x.shared.order 0 ≡ k → Beside x.shared.order y.order (1 + k % s) None → count_at y.order 0 ≡ k + 1 → length y.cells ≡ length x.shared.cells
+    → count_at x.shared.order 0 ≡ k → Beside x.shared.order y.order (1 + k % s) None → count_at y.order 0 ≡ k + 1 → length y.cells ≡ length x.shared.cells → y.loop ≡ x.shared.loop
     → IsCore code s (record x { shared = y; iterations = set x.iterations (k % s) None; held = set x.held q None })
-leaves_core code s q k x a y i h n l u b t o f c = record {
+leaves_core code s q k x a y i h n l u b t o f c same_loop = record {
   some = i.some;
   kernel = o.kernel;
   slots = o.slots ∙ i.slots;
   counts = o.counts ∙ i.counts;
   ticket = omega (arith, o.ticket, i.ticket);
+  turn = omega (arith, (i.numbers (k % s) a h).2, n, f, o.ticket);
   cells = c ∙ i.cells;
+  indices = subst (λ (l : Option Open). HaveIndices code l) (sym same_loop) i.indices;
   room = length-set x.iterations (k % s) None ∙ i.room;
   main = o.others 0 x.waiting (λ z. omega (arith, z)) i.main;
   each = λ j p. elim (cases_eq j (k % s)) [

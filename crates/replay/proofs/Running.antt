@@ -255,7 +255,7 @@ onward : (code : Code) (p s : ℕ) (m n o : Machine) (qs : List ℕ) → CodeRun
 onward code p s m n o [] e r = subst (λ (z : Machine). Runs code p s z o) (sym e) r
 onward code p s m n o (q ∷ qs) e r = first code p s q m e.0 o e.1 e.2 (onward code p s e.0 n o qs e.3 r)
 
-picked_step : (code : Code) (s : ℕ) (c : Choice) (a : Point) (q : ℕ) (b : Point) → Picks code s c a q b → CodeStep code s a.machine q b.machine
+pub picked_step : (code : Code) (s : ℕ) (c : Choice) (a : Point) (q : ℕ) (b : Point) → Picks code s c a q b → CodeStep code s a.machine q b.machine
 picked_step code s c a q b h = record {
   going = h.going;
   turn = subst (λ (o : Option Who). Turn Frame Open (view code) trips_of (begin code) s o a.machine q b.machine) (sym h.idle) (c, h.takes);

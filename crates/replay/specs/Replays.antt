@@ -53,11 +53,11 @@ abbrev pub moved : Option Wait → View Frame Open → ℕ → kernel.View → k
 moved (Some w) v slot x = waits w slot x
 moved None v slot x = counted v x
 
--- one who is ready is taken up
+-- one who is ready is taken up, or a ticket is drawn
 abbrev pub taken : ℕ → Choice → kernel.View → kernel.View
 taken s take_main x = record x { ready = without (slot s the_main) x.ready }
 taken s (take_iteration k) x = record x { ready = without (slot s (iteration k)) x.ready }
-taken s take_ticket x = x
+taken s take_ticket x = record x { ticket = x.ticket + 1 }
 
 abbrev pub view_in : Code → Option Frame → View Frame Open
 view_in code None = stuck

@@ -13,8 +13,8 @@ abbrev pub StandsAt : View → ℕ → ℕ → ℕ → Type 0
 StandsAt x slot e v =
     (e < length x.counts) × (((v ≤ count_at x e) × (0 < times slot x.ready)) ⊎ ((count_at x e < v) × Waits v slot (waiters_at x e)))
 
--- a slot whose activity isn't parked stands nowhere
+-- a slot whose activity isn't parked stands nowhere; events have the numbers from 1 on
 abbrev pub Stands : View → ℕ → Option Wait → Type 0
 Stands x slot None = places slot x ≡ 0
-Stands x slot (Some (until_count e v)) = StandsAt x slot e v
+Stands x slot (Some (until_count e v)) = (0 < e) × StandsAt x slot e v
 Stands x slot (Some (until_retired v)) = StandsAt x slot 0 v

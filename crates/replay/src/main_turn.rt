@@ -106,7 +106,7 @@ fn store_last(shared: &mut Shared, code: &Code, variable: usize, value: i64)
 }
 
 /// The DO variable of a loop, by its place among the code's variables, and the loop's step.
-fn variable_and_step(code: &Code, number: u32) -> (usize, i64)
+pub fn variable_and_step(code: &Code, number: u32) -> (usize, i64)
     ensures variable { result.0 ≡ (loop_at (code_of code.now) number).variable }
     ensures step { result.1 ≡ (loop_at (code_of code.now) number).step }
 {

@@ -1,9 +1,9 @@
 //! Schedules.
 
-ghost use Rattle.std.specs.Prelude.{◌≡◌, ◌≢◌, ◌<◌, ◌++◌, ◌∷◌, [], IfOk, IfErr, OnOk, OnErr, length};
-ghost use Rattle.replay.specs.Kept.{entry_of, taken};
+ghost use Rattle.std.specs.Prelude.{◌≡◌, ◌≢◌, ◌<◌, ◌^◌, ◌++◌, ◌∷◌, [], IfOk, IfErr, OnOk, OnErr, length};
+ghost use Rattle.replay.specs.Kept.{entries_of, entry_of, taken};
 ghost use Rattle.replay.specs.Refusals.{Explains, Refuses, number_of};
-ghost use Rattle.replay.specs.Schedules.{AreSizes, IsAct, IsSchedule, SchedText, Schedule as ScheduleOf, text_before, text_of, picks, with_entry};
+ghost use Rattle.replay.specs.Schedules.{AreSizes, Entry as EntryOf, IsAct, IsSchedule, SchedText, Schedule as ScheduleOf, text_before, text_of, picks, with_entry};
 ghost use Rattle.replay.specs.View.{act as act_view, entry as entry_view};
 
 use crate::entry::{Act, Entry, Version};
@@ -59,6 +59,77 @@ impl Schedule {
             slots,
             shorts: Vec::new(alloc),
             picked: Vec::new(alloc),
+        }
+    }
+
+    /// Whether its picks are named.
+    pub fn version(&self) -> Version
+        ensures { result ≡ self.now.version }
+    {
+        self.version
+    }
+
+    /// How many processors there are, 1 to 64.
+    pub fn processors(&self) -> u16
+        ensures is { result ≡ self.now.processors }
+        ensures sizes { AreSizes self.now.processors self.now.slots }
+    {
+        self.processors
+    }
+
+    /// How many iterations may be open, 1 to 256.
+    pub fn slots(&self) -> u16
+        ensures { result ≡ self.now.slots }
+    {
+        self.slots
+    }
+
+    /// How many entries there are.
+    #[tactic(auto, using(crate::proofs::Keeping::length_entries))]
+    pub fn len(&self) -> usize
+        ensures is { result ≡ length self.now.entries }
+        ensures few { result < 2 ^ 63 }
+    {
+        self.shorts.len()
+    }
+
+    /// The entries, in order.
+    #[tactic(auto, using(crate::proofs::Keeping::length_entries))]
+    pub fn entries(&self) -> Entries<'_>
+        ensures entries { entries_of result.shorts.now result.picked.now ≡ self.now.entries }
+        ensures kept { IsSchedule self.now }
+        ensures few { length self.now.entries < 2 ^ 63 }
+    {
+        Entries::new(&self.shorts, &self.picked)
+    }
+
+    /// An equal schedule.
+    pub fn try_copy(&self) -> Result<Schedule, AllocError>
+        ensures { IfOk result (λ copy. copy ≡ self.now) }
+    {
+        let alloc = *self.shorts.allocator();
+        let mut shorts = Vec::new(alloc);
+        shorts.extend_from_slice(&self.shorts)?;
+        let mut picked = Vec::new(alloc);
+        picked.extend_from_slice(&self.picked)?;
+        Ok(Schedule {
+            version: self.version,
+            processors: self.processors,
+            slots: self.slots,
+            shorts,
+            picked,
+        })
+    }
+
+    /// Takes back the entry that was added last.
+    pub fn take_back(&mut self)
+        ensures { (x : ScheduleOf) (e : EntryOf) → self.old ≡ with_entry x e → self.new ≡ x }
+    {
+        let Some(last) = self.shorts.pop() else {
+            return;
+        };
+        if last.has_number() {
+            self.picked.pop();
         }
     }
 

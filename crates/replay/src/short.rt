@@ -12,6 +12,24 @@ pub enum Short {
     TakeTicket { processor: u8 },
 }
 
+impl Short {
+    ghost use Rattle.std.specs.Prelude.{◌≡◌, if◌then◌else◌};
+    ghost use Rattle.replay.specs.Kept.{taken};
+
+    /// Whether a number is kept beside it.
+    pub fn has_number(self) -> bool
+        ensures { taken self ≡ (if result then 1 else 0) }
+    {
+        match self {
+            Short::PickIteration { .. } => true,
+            Short::Work { .. }
+            | Short::Share { .. }
+            | Short::PickMain { .. }
+            | Short::TakeTicket { .. } => false,
+        }
+    }
+}
+
 /// The entries of a schedule, one after another.
 #[derive(Drop)]
 pub struct Entries<'a> {

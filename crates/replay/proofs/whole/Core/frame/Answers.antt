@@ -1,0 +1,7 @@
+use Rattle.std.proofs.Common.{sym, ◌∙◌}
+use Rattle.replay.proofs.Onwards.{not_there}
+use Rattle.replay.proofs.whole.Core.frame.Goals as goal
+
+pub returns-then-q-len : goal.returns-then-q-len
+returns-then-q-len c =
+    sym (not_there c.self.inside.input.now c.self.inside.activities c.self.inside.schedule c.args.self.now c.args.q c.len.result c.self.view_is (c.len.ensures ∙ c.self.inside.activities.held.ok.0) c.if-q-len.true)

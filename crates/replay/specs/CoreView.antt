@@ -1,0 +1,32 @@
+-- A core as its callers see it.
+use Rattle.std.specs.Prelude.{◌≡◌, ℕ, List, []}
+use Rattle.machine.specs.Code.{Code}
+use Rattle.replay.specs.Parts.{Kept, point_of}
+use Rattle.replay.specs.Replays.{Point, beginning}
+use Rattle.replay.specs.Schedules.{AreSizes, Entry, Schedule, with_entry}
+use Rattle.replay.specs.declared.entry.Version.TheVariants.{Second}
+
+-- its code and input, the schedule of what it did, and what it keeps
+pub record CoreView : Type 0 where
+  pub code : Code
+  pub input : List ℕ
+  pub schedule : Schedule
+  pub kept : Kept
+
+-- where it is
+abbrev pub point_at : CoreView → Point
+point_at x = point_of x.code.variables x.schedule.slots x.kept
+
+-- nothing has been done
+pub record IsNew (code : Code) (input : List ℕ) (p s : ℕ) (x : CoreView) : Type 0 where
+  pub sizes : AreSizes p s
+  pub code_is : x.code ≡ code
+  pub input_is : x.input ≡ input
+  pub schedule : x.schedule ≡ record { version = Second; processors = p; slots = s; entries = [] }
+  pub point : point_at x ≡ beginning code input s
+
+-- one entry was made
+pub record IsAfter (x : CoreView) (e : Entry) (y : CoreView) : Type 0 where
+  pub code_is : y.code ≡ x.code
+  pub input_is : y.input ≡ x.input
+  pub schedule : y.schedule ≡ with_entry x.schedule e

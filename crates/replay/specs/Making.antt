@@ -1,0 +1,35 @@
+-- What making an entry of a schedule came to.
+use Rattle.std.specs.Prelude.{◌≡◌, ℕ, List, Option, Some, None}
+use Rattle.machine.specs.Code.{Code}
+use Rattle.machine.specs.State.{Choice, take_main, take_iteration, take_ticket}
+use Rattle.replay.specs.Activities.{code_in, point_in}
+use Rattle.replay.specs.Replays.{Point, Does, Leads}
+use Rattle.replay.specs.Schedules.{Act, picks_main, picks, takes_ticket, Entry, IsAct}
+use Rattle.replay.specs.declared.activities.Activities.{Activities}
+use Rattle.replay.specs.declared.entry.Version.{Version}
+use Rattle.replay.specs.declared.entry.Version.TheVariants.{Second}
+
+-- the entry of a choice
+abbrev pub pick_of : Choice → Act
+pick_of take_main = picks_main
+pick_of (take_iteration k) = picks k
+pick_of take_ticket = takes_ticket
+
+-- What processor q does in an entry leads to this point alone, and an entry of the second version says
+-- the same.
+pub record MadeAs (v : Version) (code : Code) (s : ℕ) (x : Act) (a : Point) (q : ℕ) (y : Act) (b : Point) : Type 0 where
+  pub does : Does v code s x a q b
+  pub only : (c : Point) → Does v code s x a q c → c ≡ b
+  pub named : Does Second code s y a q b
+  pub allowed : IsAct Second y
+  pub same : v ≡ Second → y ≡ x
+
+-- the entry was made, or it can't be made
+abbrev pub Made : Version → Act → ℕ → Option Act → Activities → Activities → Type 0
+Made v x q (Some y) old new = MadeAs v (code_in old) old.slots x (point_in old) q y (point_in new)
+Made v x q None old new = (b : Point) → Does v (code_in old) old.slots x (point_in old) q b → ⊥
+
+-- entries lead to this point alone
+pub record LeadsOnly (v : Version) (code : Code) (s : ℕ) (a : Point) (es : List Entry) (b : Point) : Type 0 where
+  pub leads : Leads v code s a es b
+  pub only : (c : Point) → Leads v code s a es c → c ≡ b

@@ -1,0 +1,65 @@
+//! Answers of runs that have ended.
+
+ghost use Rattle.std.specs.Prelude.{◌≡◌, ◌≤◌, ◌+◌, IfOk, length, take, drop, true};
+ghost use Rattle.ast.specs.View.{cells as named_values};
+ghost use Rattle.machine.specs.CodeView.{code_of};
+ghost use Rattle.machine.specs.Laid.{are_distinct, are_laid, count_of, names_in};
+ghost use Rattle.replay.specs.Parts.{store_of};
+ghost use Rattle.replay.specs.Replayed.{stored};
+
+use crate::parts::Shared;
+use ast::{Answer, End, Store};
+use machine::{Code, Variable};
+use std::alloc::{AllocError, Global};
+
+/// The values of a variable.
+fn values(alloc: Global, variable: &Variable, cells: &[i64]) -> Result<Vec<i64>, AllocError>
+    requires { variable.now.start + variable.now.size ≤ length cells.now }
+    ensures { IfOk result (λ v. v.items ≡ take variable.now.size (drop variable.now.start cells.now)) }
+{
+    let mut values = Vec::new(alloc);
+    values.extend_from_slice(&cells[variable.start..][..variable.size])?;
+    Ok(values)
+}
+
+/// The store of variables whose values stand in cells.
+fn stored(alloc: Global, variables: &[Variable], cells: &[i64]) -> Result<Store, AllocError>
+    requires distinct { are_distinct (names_in variables.now) ≡ true }
+    requires laid { are_laid 0 variables.now ≡ true }
+    requires cells { length cells.now ≡ count_of variables.now }
+    ensures { IfOk result (λ store. named_values store ≡ stored variables.now (store_of variables.now cells.now)) }
+{
+    let mut store = Store::new(alloc);
+    for variable in variables {
+        store.push(variable.name, values(alloc, variable, cells)?)?;
+    }
+    Ok(store)
+}
+
+/// The answer of a run with this output that has ended so.
+pub fn answer(
+    alloc: Global,
+    code: &Code,
+    cells: &[i64],
+    output: Vec<u8>,
+    end: End,
+) -> Result<Answer, AllocError>
+    requires { length cells.now ≡ count_of (code_of code.now).variables }
+    ensures output { IfOk result (λ answer. answer.output.items ≡ output.items) }
+    ensures store { IfOk result (λ answer. named_values answer.store ≡ stored (code_of code.now).variables (store_of (code_of code.now).variables cells.now)) }
+    ensures end { IfOk result (λ answer. answer.end ≡ end) }
+{
+    let store = stored(alloc, &code.variables, cells)?;
+    Ok(Answer { output, store, end })
+}
+
+/// The answer of a run that has ended so, from what all activities share.
+pub fn answer_of(alloc: Global, code: &Code, shared: Shared, end: End) -> Result<Answer, AllocError>
+    requires { length shared.cells.items ≡ count_of (code_of code.now).variables }
+    ensures output { IfOk result (λ answer. answer.output.items ≡ shared.output.items) }
+    ensures store { IfOk result (λ answer. named_values answer.store ≡ stored (code_of code.now).variables (store_of (code_of code.now).variables shared.cells.items)) }
+    ensures end { IfOk result (λ answer. answer.end ≡ end) }
+{
+    let Shared { cells, output, .. } = shared;
+    answer(alloc, code, &cells, output, end)
+}

@@ -1,0 +1,156 @@
+//! Steps of activities with their entries in a schedule.
+
+ghost use Rattle.std.specs.Prelude.{◌≡◌, ◌≤◌, ◌<◌, IfOk, OnOk, OnErr, Some, None, false, true, is_some};
+ghost use Rattle.machine.specs.Frame.{Frame as PlainFrame};
+ghost use Rattle.machine.specs.FrameView.{frame_of};
+ghost use Rattle.machine.specs.Local.{locals};
+ghost use Rattle.replay.specs.Activities.{AreActivities, Stays, chosen, code_in, frame_at, kept_in, point_in, who};
+ghost use Rattle.replay.specs.Making.{pick_of as pick_act};
+ghost use Rattle.replay.specs.Parts.{held_of};
+ghost use Rattle.replay.specs.Replays.{Moves, Picks, Works, wait_of};
+ghost use Rattle.replay.specs.Schedules.{shares, works};
+ghost use Rattle.replay.specs.Tallies.{takes_parked};
+ghost use Rattle.replay.specs.Whole.{AreParts, Entered, IsMore, IsSame};
+
+use crate::activities::{Activities, Choice, Holder};
+use crate::entry::{Act, Entry};
+use crate::making::pick_of;
+use crate::schedule::Schedule;
+use crate::stepped::Tally;
+use machine::Frame;
+use std::alloc::AllocError;
+
+/// Whether an activity is parked.
+fn is_parked(activities: &Activities<'_>, holder: Holder) -> bool
+    requires { AreActivities activities.now }
+    ensures { result ≡ is_some (wait_of (point_in activities.now).machine (who holder)) }
+{
+    match holder {
+        Holder::Main => activities.main.wait.is_some(),
+        Holder::Iteration(number) => {
+            let place = (number % activities.slots as u128) as usize;
+            match &activities.iterations[place] {
+                Some(iteration) => iteration.number == number && iteration.wait.is_some(),
+                None => false,
+            }
+        }
+    }
+}
+
+/// Whether who is taken up was parked.
+fn was_parked(choice: Choice) -> bool
+    ensures { result ≡ takes_parked (chosen choice) }
+{
+    match choice {
+        Choice::Main | Choice::Iteration(_) => true,
+        Choice::Ticket => false,
+    }
+}
+
+/// Processor `q` makes the shared step of what it holds; where there is none it answers false, and
+/// nothing changes, as where memory is refused.
+pub fn share(
+    activities: &mut Activities<'_>,
+    schedule: &mut Schedule,
+    tally: &mut Tally,
+    q: usize,
+    holder: Holder,
+) -> Result<bool, AllocError>
+    requires parts { AreParts activities.old schedule.old tally.old }
+    requires processor { q < schedule.old.processors }
+    requires holds { held_of (kept_in activities.old).held q ≡ Some (who holder) }
+    ensures did { IfOk result (λ did. Entered did (record { processor = q; act = shares }) (λ a b. Moves (code_in activities.old) schedule.old.slots false a q b) activities.old schedule.old tally.old activities.new schedule.new tally.new) }
+    ensures err { OnErr result (IsSame activities.old schedule.old tally.old activities.new schedule.new tally.new) }
+    ensures parts { AreParts activities.new schedule.new tally.new }
+    ensures stays { Stays activities.old activities.new }
+{
+    let _ = schedule.len();
+    schedule.push(Entry {
+        processor: q as u8,
+        act: Act::Share,
+    })?;
+    match activities.share(q) {
+        Ok(true) => {
+            let parked = is_parked(activities, holder);
+            tally.count(1, parked);
+            Ok(true)
+        }
+        Ok(false) => {
+            schedule.take_back();
+            Ok(false)
+        }
+        Err(error) => {
+            schedule.take_back();
+            Err(error)
+        }
+    }
+}
+
+/// Processor `q`, which holds nothing, takes this up; where it can't it answers false, and nothing
+/// changes, as where memory is refused.
+pub fn pick(
+    activities: &mut Activities<'_>,
+    schedule: &mut Schedule,
+    tally: &mut Tally,
+    q: usize,
+    choice: Choice,
+) -> Result<bool, AllocError>
+    requires parts { AreParts activities.old schedule.old tally.old }
+    requires processor { q < schedule.old.processors }
+    ensures did { IfOk result (λ did. Entered did (record { processor = q; act = pick_act (chosen choice) }) (λ a b. Picks (code_in activities.old) schedule.old.slots (chosen choice) a q b) activities.old schedule.old tally.old activities.new schedule.new tally.new) }
+    ensures err { OnErr result (IsSame activities.old schedule.old tally.old activities.new schedule.new tally.new) }
+    ensures parts { AreParts activities.new schedule.new tally.new }
+    ensures stays { Stays activities.old activities.new }
+{
+    let _ = schedule.len();
+    schedule.push(Entry {
+        processor: q as u8,
+        act: pick_of(choice),
+    })?;
+    match activities.pick(q, choice) {
+        Ok(true) => {
+            tally.count(1, was_parked(choice));
+            Ok(true)
+        }
+        Ok(false) => {
+            schedule.take_back();
+            Ok(false)
+        }
+        Err(error) => {
+            schedule.take_back();
+            Err(error)
+        }
+    }
+}
+
+/// What processor `q` holds gets the frame to which so many local instructions of its own lead, from
+/// 1 to 1,024. Where memory is refused nothing changes.
+pub fn put(
+    activities: &mut Activities<'_>,
+    schedule: &mut Schedule,
+    tally: &mut Tally,
+    q: usize,
+    to: Frame,
+    made: u32,
+) -> Result<(), AllocError>
+    requires parts { AreParts activities.old schedule.old tally.old }
+    requires processor { q < schedule.old.processors }
+    requires going { activities.old.shared.ended ≡ None }
+    requires some { 1 ≤ made }
+    requires few { made ≤ 1024 }
+    requires leads { (from : PlainFrame) → frame_at q (point_in activities.old) ≡ Some from → locals (code_in activities.old).instructions made from ≡ Some (frame_of to) }
+    requires holds { is_some (frame_at q (point_in activities.old)) ≡ true }
+    ensures did { OnOk result (IsMore (record { processor = q; act = works made }) (λ a b. Works (code_in activities.old) schedule.old.slots made a q b) activities.old schedule.old tally.old activities.new schedule.new tally.new) }
+    ensures err { OnErr result (IsSame activities.old schedule.old tally.old activities.new schedule.new tally.new) }
+    ensures parts { AreParts activities.new schedule.new tally.new }
+    ensures stays { Stays activities.old activities.new }
+{
+    let _ = schedule.len();
+    schedule.push(Entry {
+        processor: q as u8,
+        act: Act::Work(made as u16),
+    })?;
+    activities.put(q, to);
+    tally.count(made, false);
+    Ok(())
+}

@@ -1,0 +1,316 @@
+//! The whole machine with its schedule.
+
+ghost use Rattle.std.specs.Prelude.{◌≡◌};
+ghost use Rattle.replay.specs.Activities.{chosen};
+ghost use Rattle.replay.specs.Stepping.{begun_by};
+
+use crate::activities::{Activities, Choice, Holder};
+use crate::answering::answer;
+use crate::entry::Version;
+use crate::parts::Shared;
+use crate::recording;
+use crate::schedule::Schedule;
+use crate::stepped::{CoreRefusal, HandIn, Stepped, Tally};
+use ast::Answer;
+use machine::{Code, Done, Frame};
+use std::alloc::{AllocError, Global};
+use std::marker::Model;
+
+/// The iteration that begins where this is taken up, the next ticket being known.
+fn begun_by(choice: Choice, ticket: u128) -> Option<u128>
+    ensures { result ≡ begun_by (chosen choice) ticket }
+{
+    match choice {
+        Choice::Ticket => Some(ticket),
+        Choice::Main | Choice::Iteration(_) => None,
+    }
+}
+
+/// What has gone out.
+fn output_of(activities: Activities<'_>) -> Vec<u8>
+    ensures { result.items ≡ activities.entry.shared.output.items }
+{
+    let Activities { shared, .. } = activities;
+    let Shared { output, .. } = shared;
+    output
+}
+
+/// A run of code on an input, with the schedule of what its processors did.
+#[derive(Drop)]
+pub struct Core<'c> {
+    input: &'c [u8],
+    activities: Activities<'c>,
+    schedule: Schedule,
+    tally: Tally,
+}
+
+impl<'c> Model for Core<'c> {
+    ghost use Rattle.replay.specs.CoreView.{CoreView};
+
+    ghost Value = { CoreView };
+
+    ghost use Rattle.replay.specs.Whole.{IsWhole, seen_as};
+
+    ghost view = { λ c. seen_as c.input.now c.activities c.schedule };
+
+    ghost invariant = { λ c. IsWhole c.input.now c.activities c.schedule c.tally };
+}
+
+impl<'c> Core<'c> {
+    ghost use Rattle.std.specs.Bool.{Decides};
+    ghost use Rattle.std.specs.Prelude.{◌≡◌, ◌<◌, IfOk, IfErr, IfSome, OnOk, OnErr, Some, None, option_map};
+    ghost use Rattle.machine.specs.CodeView.{code_of};
+    ghost use Rattle.machine.specs.FrameView.{frame_of};
+    ghost use Rattle.replay.specs.Activities.{chosen, frame_at, who};
+    ghost use Rattle.replay.specs.CoreView.{CoreView, IsNew, point_at};
+    ghost use Rattle.replay.specs.Parts.{held_of};
+    ghost use Rattle.replay.specs.Replayed.{IsAnswer};
+    ghost use Rattle.replay.specs.Replays.{Replays, beginning};
+    ghost use Rattle.replay.specs.Stepping.{CannotHandIn, HandsIn, IsFrom, IsGoing, KeepsGoing, NoCore, PicksUp, Steps, WentOrLocal};
+    ghost use Rattle.replay.specs.Tallies.{Tallies};
+    ghost use Rattle.replay.specs.declared.entry.Version.TheVariants.{Second};
+
+    /// A run at its beginning, of `p` processors, 1 to 64, with `s` iterations open at most, 1 to 256.
+    ///
+    /// # Errors
+    ///
+    /// 57 where p or s is out of its range; and want of memory.
+    pub fn new(
+        alloc: Global,
+        code: &'c Code,
+        input: &'c [u8],
+        p: u64,
+        s: u64,
+    ) -> Result<Core<'c>, CoreRefusal>
+        ensures new { IfOk result (IsNew (code_of code.now) input.now p s) }
+        ensures refused { IfErr result (NoCore p s) }
+    {
+        if p < 1 || p > 64 || s < 1 || s > 256 {
+            return Err(CoreRefusal::Refused { number: 57 });
+        }
+        let activities = Activities::new(alloc, code, input, p as usize, s as usize)?;
+        Ok(Core {
+            input,
+            activities,
+            schedule: Schedule::new(alloc, Version::Second, p as u16, s as u16),
+            tally: Tally { made: 0, again: 0 },
+        })
+    }
+
+    /// The code.
+    pub fn code(&self) -> &'c Code
+        ensures { code_of result.now ≡ self.now.code }
+    {
+        self.activities.code
+    }
+
+    /// The input.
+    pub fn input(&self) -> &'c [u8]
+        ensures { result.now ≡ self.now.input }
+    {
+        self.input
+    }
+
+    /// How many processors there are, 1 to 64.
+    pub fn processors(&self) -> usize
+        ensures { result ≡ self.now.schedule.processors }
+    {
+        usize::from(self.schedule.processors())
+    }
+
+    /// How many iterations may be open, 1 to 256.
+    pub fn slots(&self) -> usize
+        ensures { result ≡ self.now.schedule.slots }
+    {
+        usize::from(self.schedule.slots())
+    }
+
+    /// What the processors did so far. The state is its replay.
+    pub fn schedule(&self) -> &Schedule
+        ensures schedule { result.now ≡ self.now.schedule }
+        ensures replays { Replays self.now.code self.now.input self.now.schedule (point_at self.now) }
+    {
+        &self.schedule
+    }
+
+    /// A copy of the frame of what processor `q` holds.
+    pub fn frame(&self, q: usize) -> Result<Option<Frame>, AllocError>
+        ensures { IfOk result (λ o. option_map frame_of o ≡ frame_at q (point_at self.now)) }
+    {
+        if q >= self.activities.held.len() {
+            return Ok(None);
+        }
+        match self.activities.frame(q) {
+            Some(frame) => Ok(Some(frame.try_copy()?)),
+            None => Ok(None),
+        }
+    }
+
+    /// Processor `q` makes the shared step of what it holds.
+    fn share(&mut self, q: usize, holder: Holder) -> Result<Stepped, AllocError>
+        requires going { IsGoing self.old }
+        requires processor { q < self.old.schedule.processors }
+        requires holds { held_of self.old.kept.held q ≡ Some (who holder) }
+        ensures ok { IfOk result (λ stepped. Steps self.old q stepped self.new) }
+        ensures err { OnErr result (self.new ≡ self.old) }
+    {
+        let went = match recording::share(
+            &mut self.activities,
+            &mut self.schedule,
+            &mut self.tally,
+            q,
+            holder,
+        ) {
+            Ok(went) => went,
+            Err(error) => return Err(error),
+        };
+        if went {
+            return Ok(Stepped::Went(None));
+        }
+        Ok(Stepped::Idle)
+    }
+
+    /// Processor `q` takes this up.
+    fn take(&mut self, q: usize, choice: Choice) -> Result<Stepped, AllocError>
+        requires going { IsGoing self.old }
+        requires processor { q < self.old.schedule.processors }
+        ensures ok { IfOk result (λ stepped. PicksUp self.old q (chosen choice) stepped self.new) }
+        ensures err { OnErr result (self.new ≡ self.old) }
+    {
+        let ticket = self.activities.shared.kernel.next_ticket();
+        let went = match recording::pick(
+            &mut self.activities,
+            &mut self.schedule,
+            &mut self.tally,
+            q,
+            choice,
+        ) {
+            Ok(went) => went,
+            Err(error) => return Err(error),
+        };
+        if went {
+            return Ok(Stepped::Went(begun_by(choice, ticket)));
+        }
+        Ok(Stepped::Idle)
+    }
+
+    /// Processor `q` makes a shared step of what it holds. Where it holds nothing it picks: what became
+    /// ready first, and a ticket only where nothing is ready. Where memory is refused nothing changes.
+    pub fn step(&mut self, q: usize) -> Result<Stepped, AllocError>
+        ensures ok { IfOk result (λ stepped. Steps self.old q stepped self.new) }
+        ensures goes_on { KeepsGoing self.old }
+        ensures went { IfOk result (WentOrLocal self.old q) }
+        ensures err { OnErr result (self.new ≡ self.old) }
+    {
+        if self.activities.shared.ended.is_some() {
+            return Ok(Stepped::Ended);
+        }
+        if q >= self.activities.held.len() {
+            return Ok(Stepped::Idle);
+        }
+        match self.activities.held[q] {
+            Some(holder) => self.share(q, holder),
+            None => {
+                let choice = self.activities.choice();
+                self.take(q, choice)
+            }
+        }
+    }
+
+    /// Processor `q`, which holds nothing, takes this up where it may. Where memory is refused nothing
+    /// changes.
+    pub fn pick(&mut self, q: usize, choice: Choice) -> Result<Stepped, AllocError>
+        ensures ok { IfOk result (λ stepped. PicksUp self.old q (chosen choice) stepped self.new) }
+        ensures err { OnErr result (self.new ≡ self.old) }
+    {
+        if self.activities.shared.ended.is_some() {
+            return Ok(Stepped::Ended);
+        }
+        if q >= self.activities.held.len() {
+            return Ok(Stepped::Idle);
+        }
+        self.take(q, choice)
+    }
+
+    /// Whether local work leads from the frame of what processor `q` holds, in this code.
+    fn is_from(&self, q: usize, done: &Done<'_>) -> bool
+        ensures { Decides result (IsFrom self.now q (code_of done.now.code.now) (frame_of done.now.from)) }
+    {
+        if q >= self.activities.held.len() {
+            return false;
+        }
+        match self.activities.frame(q) {
+            Some(frame) => frame.is_same(done.from()) && self.activities.code.is_same(done.code()),
+            None => false,
+        }
+    }
+
+    /// What processor `q` holds gets the frame to which local work leads from its own.
+    ///
+    /// # Errors
+    ///
+    /// `Ended` where the run had ended; otherwise `Stranger` where the processor holds no activity, or
+    /// one with another frame, or the work is of other code; and want of memory. Nothing has changed
+    /// then.
+    pub fn hand_in(&mut self, q: usize, done: Done<'_>) -> Result<(), HandIn>
+        ensures ok { OnOk result (HandsIn self.old q (code_of done.entry.code.now) (frame_of done.entry.from) done.entry.made self.new) }
+        ensures frame { OnOk result (frame_at q (point_at self.new) ≡ Some (frame_of done.entry.to)) }
+        ensures refused { IfErr result (CannotHandIn self.old q (code_of done.entry.code.now) (frame_of done.entry.from)) }
+        ensures err { OnErr result (self.new ≡ self.old) }
+    {
+        if self.activities.shared.ended.is_some() {
+            return Err(HandIn::Ended);
+        }
+        if !self.is_from(q, &done) {
+            return Err(HandIn::Stranger);
+        }
+        let made = done.made();
+        let to = done.into_frame();
+        if let Err(error) = recording::put(
+            &mut self.activities,
+            &mut self.schedule,
+            &mut self.tally,
+            q,
+            to,
+            made,
+        ) {
+            return Err(error.into());
+        }
+        Ok(())
+    }
+
+    /// How many steps were made, and how many of them parked an activity or took up a parked one.
+    pub fn tally(&self) -> Tally
+        ensures { Tallies Second self.now.code self.now.schedule.slots (beginning self.now.code self.now.input self.now.schedule.slots) self.now.schedule.entries (point_at self.now) result.made result.again }
+    {
+        self.tally
+    }
+
+    /// The answer, where the run has ended.
+    pub fn answer(&self) -> Result<Option<Answer>, AllocError>
+        ensures some { IfOk result (λ o. IfSome o (IsAnswer self.now.code (point_at self.now).machine)) }
+        ensures none { IfOk result (λ o. o ≡ None → IsGoing self.now) }
+    {
+        let shared = &self.activities.shared;
+        let Some(end) = shared.ended else {
+            return Ok(None);
+        };
+        let alloc = *shared.output.allocator();
+        let mut output = Vec::new(alloc);
+        output.extend_from_slice(&shared.output)?;
+        Ok(Some(answer(alloc, self.activities.code, &shared.cells, output, end)?))
+    }
+
+    /// What has gone out so far, and the schedule.
+    pub fn into_parts(self) -> (Vec<u8>, Schedule)
+        ensures output { result.0.items ≡ (point_at self.entry).machine.output }
+        ensures schedule { result.1 ≡ self.entry.schedule }
+    {
+        let Core {
+            activities,
+            schedule,
+            ..
+        } = self;
+        (output_of(activities), schedule)
+    }
+}
