@@ -2,14 +2,14 @@
 use Rattle.std.proofs.Common.{◌≡◌, ℕ, List, Option, Result, Ok, Err, Vec, inl, inr, subst, sym}
 use Rattle.ast.specs.ProgramView.{program as program_of}
 use Rattle.std.specs.Global.{Global}
-use Rattle.doac.specs.Engines.{AfterFile, Checks, EndsAs, HasStatus, IsAccepted, IsRefused, IsVerdict, Tells, Works, Wrote, WrotePart, exit_of}
+use Rattle.doac.specs.Engines.{AfterFile, Checks, EndsAs, HasStatus, IsRefused, IsVerdict, Tells, Works, exit_of}
 use Rattle.doac.specs.declared.fault.EngineFault.{EngineFault}
-use Rattle.doac.specs.declared.fault.EngineFault.TheVariants.{Source, Input, Writing, Memory}
+use Rattle.doac.specs.declared.fault.EngineFault.TheVariants.{Source, Input, Schedule, Writing, Memory}
 use Rattle.doac.specs.declared.files.FileFault.{FileFault}
 use Rattle.doac.specs.declared.files.FileFault.TheVariants as files
 use Rattle.doac.specs.declared.files.FileFault.TheVariants.{Opening, Reading}
 use Rattle.doac.specs.declared.outcome.Outcome.{Outcome}
-use Rattle.doac.specs.declared.outcome.Outcome.TheVariants.{Completed, Refused, Faulted}
+use Rattle.doac.specs.declared.outcome.Outcome.TheVariants.{Completed, Refused, Faulted, NoSchedule}
 use Rattle.doac.specs.declared.verdict.Verdict.{Verdict}
 use Rattle.doac.specs.declared.verdict.Verdict.TheVariants as verdict
 
@@ -19,6 +19,7 @@ pub of_works : (allows : Outcome → List ℕ → Type 0) (old new : Option (Lis
 of_works allows old new (Ok outcome) status is wrote = inr (inr (record { outcome = outcome; text = wrote.text; allowed = wrote.allowed; is = is }))
 of_works allows old new (Err (Source e)) status is wrote = inl is
 of_works allows old new (Err (Input e)) status is wrote = inl is
+of_works allows old new (Err (Schedule e)) status is wrote = inl is
 of_works allows old new (Err (Writing e)) status is wrote = inl is
 of_works allows old new (Err Memory) status is wrote = inr (inl is)
 
@@ -32,6 +33,8 @@ allowed_by source (verdict.Refused number line) (Refused n l) text judged told =
     let shown : IsRefused source number line text = record { refusal = judged; shown = told.2 } in
     subst (λ m. IsRefused source m l text) (sym told.0) (subst (λ m. IsRefused source number m text) (sym told.1) shown)
 allowed_by source (verdict.Refused number line) (Faulted fault l) text judged told = absurd told
+allowed_by source (verdict.Accepted program) (NoSchedule number line) text judged told = absurd told
+allowed_by source (verdict.Refused number line) (NoSchedule n l) text judged told = absurd told
 
 pub of_verdict : (source : List ℕ) (v : Verdict) (old new : Option (List ℕ)) (r : Result Outcome EngineFault) → IsVerdict source v
     → Works (Tells v) old new r → Works (Checks source) old new r
@@ -39,6 +42,7 @@ of_verdict source v old new (Ok outcome) judged wrote =
     record { text = wrote.text; allowed = allowed_by source v outcome wrote.text judged wrote.allowed; grown = wrote.grown }
 of_verdict source v old new (Err (Source e)) judged wrote = wrote
 of_verdict source v old new (Err (Input e)) judged wrote = wrote
+of_verdict source v old new (Err (Schedule e)) judged wrote = wrote
 of_verdict source v old new (Err (Writing e)) judged wrote =
     record { outcome = wrote.outcome; text = wrote.text; allowed = allowed_by source v wrote.outcome wrote.text judged wrote.allowed; grown = wrote.grown }
 of_verdict source v old new (Err Memory) judged wrote = wrote

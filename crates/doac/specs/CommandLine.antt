@@ -6,7 +6,7 @@ use Rattle.clap.specs.declared.error.Error.{Error}
 use Rattle.clap.specs.declared.error.kind.ErrorKind.TheVariants.{DisplayHelp, DisplayVersion, OutOfMemory}
 use Rattle.clap.specs.declared.builder.action.ArgAction.TheVariants.{Set, SetTrue}
 use Rattle.doac.specs.declared.command.Command.{Command}
-use Rattle.doac.specs.declared.command.Command.TheVariants.{Check, Seq, Explain}
+use Rattle.doac.specs.declared.command.Command.TheVariants.{Check, Seq, Replay, Upgrade, Explain}
 use Rattle.doac.specs.declared.command.LineFault.{LineFault}
 use Rattle.doac.specs.declared.command.LineFault.TheVariants.{Help, Mistake, NoCommand, NoSuchNumber, Memory}
 
@@ -17,6 +17,18 @@ source = record (new_rule (codes "F")) { required = true; action = Some Set }
 -- INPUT, the file of the input
 abbrev pub input : Rule
 input = record (new_rule (codes "INPUT")) { action = Some Set }
+
+-- the same, where it can't be done without
+abbrev pub whole_input : Rule
+whole_input = record (new_rule (codes "INPUT")) { required = true; action = Some Set }
+
+-- SCHEDULE, the file of the schedule
+abbrev pub schedule : Rule
+schedule = record (new_rule (codes "SCHEDULE")) { required = true; action = Some Set }
+
+-- OUT, the file that gets a schedule
+abbrev pub out : Rule
+out = record (new_rule (codes "OUT")) { required = true; action = Some Set }
 
 -- --store
 abbrev pub store : Rule
@@ -32,6 +44,12 @@ check = with_rule (new_app (codes "check")) source
 abbrev pub seq : App
 seq = with_rule (with_rule (with_rule (new_app (codes "seq")) source) input) store
 
+abbrev pub replay : App
+replay = with_rule (with_rule (with_rule (new_app (codes "replay")) source) whole_input) schedule
+
+abbrev pub upgrade : App
+upgrade = with_rule (with_rule (with_rule (with_rule (new_app (codes "upgrade")) source) whole_input) schedule) out
+
 abbrev pub explain : App
 explain = with_rule (new_app (codes "explain")) number
 
@@ -40,7 +58,8 @@ abbrev pub wants_subcommand : App → App
 wants_subcommand a = record a { top = record a.top { subcommand_required = true; has_version = true } }
 
 abbrev pub doac : App
-doac = with_subcommand (with_subcommand (with_subcommand (wants_subcommand (new_app (codes "doac"))) check.top) seq.top) explain.top
+doac =
+    with_subcommand (with_subcommand (with_subcommand (with_subcommand (with_subcommand (wants_subcommand (new_app (codes "doac"))) check.top) seq.top) replay.top) upgrade.top) explain.top
 
 -- what clap makes of a flag
 abbrev pub IsFlag : Bool → Option Text → Type 0
@@ -49,10 +68,10 @@ IsFlag flag given = (given ≡ Some (codes "true") → flag ≡ true) × (given 
 abbrev pub is_within : ℕ → ℕ → ℕ → Bool
 is_within least most n = nat_le least n && nat_le n most
 
--- the numbers that are explained: of the rules for lines, for statements and for the profile; those of
--- the faults, 1 to 6, are among them
+-- the numbers that are explained: of the rules for lines, for statements and for the profile, of those
+-- for schedules, and of code that is too long; those of the faults, 1 to 6, are among them
 abbrev pub is_explained : ℕ → Bool
-is_explained n = is_within 1 8 n || is_within 20 27 n || is_within 30 43 n
+is_explained n = is_within 1 8 n || is_within 20 27 n || is_within 30 43 n || is_within 51 56 n || is_within 61 61 n
 
 -- a text writes an explained number, where a plus sign may stand first
 abbrev pub IsNumber : ℕ → Text → Type 0
@@ -65,6 +84,13 @@ Holds name values (Check source) = (name ≡ codes "check") × (first_of (codes 
 Holds name values (Seq source input store) =
     (name ≡ codes "seq") × (first_of (codes "F") values ≡ Some source.now)
     × (first_of (codes "INPUT") values ≡ option_map (λ i. i.now) input) × IsFlag store (one_of (codes "store") values)
+Holds name values (Replay source input schedule) =
+    (name ≡ codes "replay") × (first_of (codes "F") values ≡ Some source.now)
+    × (first_of (codes "INPUT") values ≡ Some input.now) × (first_of (codes "SCHEDULE") values ≡ Some schedule.now)
+Holds name values (Upgrade source input schedule out) =
+    (name ≡ codes "upgrade") × (first_of (codes "F") values ≡ Some source.now)
+    × (first_of (codes "INPUT") values ≡ Some input.now) × (first_of (codes "SCHEDULE") values ≡ Some schedule.now)
+    × (first_of (codes "OUT") values ≡ Some out.now)
 Holds name values (Explain None) = (name ≡ codes "explain") × (first_of (codes "N") values ≡ None)
 Holds name values (Explain (Some number)) =
     (name ≡ codes "explain") × (text : Text) × (first_of (codes "N") values ≡ Some text) × IsNumber number text
@@ -78,10 +104,17 @@ HeldIn (Some found) command = Holds found.0 found.1 command
 abbrev pub Names : List Text → Command → Type 0
 Names words command = (fault_of doac words ≡ []) × HeldIn (subcommand_of doac words) command
 
--- the subcommand is none of the program's, or lacks the file that it can't do without
+-- one of these has no value
+abbrev pub LacksOne : List Text → List Row → Type 0
+LacksOne [] values = ⊥
+LacksOne (x ∷ xs) values = (first_of x values ≡ None) ⊎ LacksOne xs values
+
+-- the subcommand is none of the program's, or lacks a file that it can't do without
 abbrev pub Lacks : Text → List Row → Type 0
 Lacks name values =
     (((name ≡ codes "check") ⊎ (name ≡ codes "seq")) → first_of (codes "F") values ≡ None)
+    × (name ≡ codes "replay" → LacksOne (codes "F" ∷ codes "INPUT" ∷ codes "SCHEDULE" ∷ []) values)
+    × (name ≡ codes "upgrade" → LacksOne (codes "F" ∷ codes "INPUT" ∷ codes "SCHEDULE" ∷ codes "OUT" ∷ []) values)
     × (name ≡ codes "explain" → ⊥)
 
 -- the subcommand asks to explain what is no explained number

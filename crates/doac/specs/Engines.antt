@@ -1,5 +1,5 @@
 -- What the engines do: which bytes they may write of a source text, and with which outcome.
-use Rattle.std.specs.Prelude.{◌≡◌, ◌⊎◌, ℕ, ◌<◌, Bool, IfSome, List, [], length, take, ⊤, Option, Some, None, option_map, Result, Ok, Err, Vec}
+use Rattle.std.specs.Prelude.{◌≡◌, ◌⊎◌, ℕ, ◌<◌, Bool, IfSome, List, [], length, take, ⊤, Option, Some, None, Result, Ok, Err, Vec}
 use Rattle.std.specs.Global.{Global}
 use Rattle.std.specs.Io.KnownBytes.{Appends, IsAtEnd, Keeps}
 use Rattle.ast.specs.Meaning.{seq}
@@ -11,16 +11,16 @@ use Rattle.profile_check.specs.Causes.{Refuses}
 use Rattle.profile_check.specs.Reads.{Reads}
 use Rattle.doac.specs.Shown.{accepted, refused, Shown}
 use Rattle.doac.specs.declared.fault.EngineFault.{EngineFault}
-use Rattle.doac.specs.declared.fault.EngineFault.TheVariants.{Source, Input, Writing, Memory}
-use Rattle.doac.specs.declared.command.Command.{Command}
-use Rattle.doac.specs.declared.command.Command.TheVariants.{Check, Seq, Explain}
+use Rattle.doac.specs.declared.fault.EngineFault.TheVariants.{Source, Input, Schedule, Writing, Memory}
 use Rattle.doac.specs.declared.files.FileFault.{FileFault}
 use Rattle.doac.specs.declared.files.FileFault.TheVariants as files
 use Rattle.doac.specs.declared.files.FileFault.TheVariants.{Opening, Reading}
+use Rattle.doac.specs.declared.files.Texts.{Texts}
+use Rattle.doac.specs.declared.files.Unread.{Unread}
 use Rattle.doac.specs.declared.fault.ReadFault.{ReadFault}
 use Rattle.doac.specs.declared.fault.ReadFault.TheVariants as reading
 use Rattle.doac.specs.declared.outcome.Outcome.{Outcome}
-use Rattle.doac.specs.declared.outcome.Outcome.TheVariants.{Completed, Refused, Faulted}
+use Rattle.doac.specs.declared.outcome.Outcome.TheVariants.{Completed, Refused, Faulted, NoSchedule}
 use Rattle.doac.specs.declared.verdict.Verdict.{Verdict}
 use Rattle.doac.specs.declared.verdict.Verdict.TheVariants as verdict
 
@@ -29,11 +29,13 @@ abbrev pub status_of : Outcome → ℕ
 status_of Completed = 0
 status_of (Refused number line) = 1
 status_of (Faulted fault line) = 2
+status_of (NoSchedule number line) = 6
 
 -- the exit status of an engine's fault
 abbrev pub fault_status : EngineFault → ℕ
 fault_status (Source e) = 4
 fault_status (Input e) = 4
+fault_status (Schedule e) = 4
 fault_status (Writing e) = 4
 fault_status Memory = 5
 
@@ -84,6 +86,7 @@ abbrev pub Checks : List ℕ → Outcome → List ℕ → Type 0
 Checks source Completed text = IsAccepted source text
 Checks source (Refused number line) text = IsRefused source number line text
 Checks source (Faulted fault line) text = ⊥
+Checks source (NoSchedule number line) text = ⊥
 
 -- the outcome of a run that ended so
 abbrev pub outcome_of : End → Outcome
@@ -107,6 +110,7 @@ abbrev pub Runs : Bool → List ℕ → List ℕ → Outcome → List ℕ → Ty
 Runs store source input Completed text = IsRun store source input Completed text
 Runs store source input (Refused number line) text = IsRefused source number line text
 Runs store source input (Faulted fault line) text = IsRun store source input (Faulted fault line) text
+Runs store source input (NoSchedule number line) text = ⊥
 
 -- a reader gives a text: all that it has left, where that is known
 abbrev pub Gives : Option (List ℕ) → List ℕ → Type 0
@@ -144,25 +148,28 @@ pub record WrotePart (allows : Outcome → List ℕ → Type 0) (old new : Optio
 abbrev pub Leaves : EngineFault → Option (List ℕ) → Option (List ℕ) → Type 0 → Type 0
 Leaves (Source e) old new part = Keeps old new
 Leaves (Input e) old new part = Keeps old new
+Leaves (Schedule e) old new part = Keeps old new
 Leaves (Writing e) old new part = part
 Leaves Memory old new part = Keeps old new
 
--- the same of an engine that reads no input
+-- the same of an engine that reads a source alone
 abbrev pub LeavesOfSource : EngineFault → Option (List ℕ) → Option (List ℕ) → Type 0 → Type 0
 LeavesOfSource (Source e) old new part = Keeps old new
 LeavesOfSource (Input e) old new part = ⊥
+LeavesOfSource (Schedule e) old new part = ⊥
 LeavesOfSource (Writing e) old new part = part
 LeavesOfSource Memory old new part = Keeps old new
 
--- where a fault leaves the readers: that of the source has left the input alone, and any other but
--- want of memory comes when the readers before it have given all
+-- where a fault leaves the readers of a source and an input: that of the source has left the input
+-- alone, and any other but want of memory comes when the readers before it have given all
 abbrev pub LeavesReaders : EngineFault → Option (List ℕ) → Option (List ℕ) → Option (List ℕ) → Type 0
 LeavesReaders (Source e) source old new = new ≡ old
 LeavesReaders (Input e) source old new = IsAtEnd source
+LeavesReaders (Schedule e) source old new = ⊥
 LeavesReaders (Writing e) source old new = IsAtEnd source × IsAtEnd new
 LeavesReaders Memory source old new = ⊤
 
--- the same of an engine that reads no input
+-- the same of an engine that reads a source alone
 abbrev pub LeavesReader : EngineFault → Option (List ℕ) → Type 0
 LeavesReader (Writing e) source = IsAtEnd source
 LeavesReader fault source = ⊤
@@ -180,6 +187,7 @@ abbrev pub WorksWith : Option (List ℕ) → (List ℕ → Outcome → List ℕ 
 WorksWith input allows old new (Ok outcome) = OfText input (λ given. Wrote (allows given) old new outcome)
 WorksWith input allows old new (Err (Source e)) = ⊥
 WorksWith input allows old new (Err (Input e)) = Keeps old new
+WorksWith input allows old new (Err (Schedule e)) = ⊥
 WorksWith input allows old new (Err (Writing e)) = OfText input (λ given. WrotePart (allows given) old new)
 WorksWith input allows old new (Err Memory) = Keeps old new
 
@@ -189,7 +197,7 @@ abbrev pub AfterRead : Result (Vec ℕ Global) ReadFault → (ReadFault → Engi
 AfterRead (Err fault) comes_to old new result made = (result ≡ Err (comes_to fault)) × Keeps old new
 AfterRead (Ok bytes) comes_to old new result made = made bytes.items
 
--- what a failed read of the source comes to, and of the input
+-- what a failed read of the source comes to, of the input, and of the schedule
 abbrev pub of_source : ReadFault → EngineFault
 of_source (reading.Reader e) = Source e
 of_source reading.Memory = Memory
@@ -197,6 +205,10 @@ of_source reading.Memory = Memory
 abbrev pub of_input : ReadFault → EngineFault
 of_input (reading.Reader e) = Input e
 of_input reading.Memory = Memory
+
+abbrev pub of_schedule : ReadFault → EngineFault
+of_schedule (reading.Reader e) = Schedule e
+of_schedule reading.Memory = Memory
 
 abbrev pub IsWriting : EngineFault → Type 0
 IsWriting (Writing e) = ⊤
@@ -227,9 +239,7 @@ abbrev pub OfGiven : Option (List ℕ) → (List ℕ → Type 0) → Type 0
 OfGiven None P = P []
 OfGiven (Some file) P = (given : List ℕ) × P given
 
--- the exit status of a command, by texts that its files may hold
-abbrev pub Obeys : Command → ℕ → Type 0
-Obeys (Check file) status = EndsAs status ((text : List ℕ) × HasStatus (Checks text) status)
-Obeys (Seq file input store) status =
-    EndsAs status ((text : List ℕ) × OfGiven (option_map (λ i. i.now) input) (λ given. HasStatus (Runs store text given) status))
-Obeys (Explain number) status = OfPrint status
+-- the same after several files were read
+abbrev pub AfterFiles : Result Texts Unread → ℕ → (Texts → Type 0) → Type 0
+AfterFiles (Err unread) status made = status ≡ file_status unread.fault
+AfterFiles (Ok texts) status made = made texts

@@ -32,6 +32,10 @@ accepted program = accepted_with program.count (loops_in program.block)
 abbrev pub refused : ℕ → ℕ → List ℕ
 refused number line = codes "REFUSED " ++ decimal number ++ at_line line
 
+-- the line of a schedule that is refused
+abbrev pub no_schedule : ℕ → ℕ → List ℕ
+no_schedule number line = codes "SCHEDULE " ++ decimal number ++ at_line line
+
 -- ---- ends of a run
 
 abbrev pub fault_number : Fault → ℕ

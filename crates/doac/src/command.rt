@@ -23,6 +23,19 @@ pub enum Command<'a> {
         input: Option<&'a str>,
         store: bool,
     },
+    /// `replay F INPUT SCHEDULE`: the run of the code of a source that a schedule describes.
+    Replay {
+        source: &'a str,
+        input: &'a str,
+        schedule: &'a str,
+    },
+    /// `upgrade F INPUT SCHEDULE OUT`: the schedule with its picks named, written to a file.
+    Upgrade {
+        source: &'a str,
+        input: &'a str,
+        schedule: &'a str,
+        out: &'a str,
+    },
     /// `explain [N]`: what this refusal or fault means; without a number, which numbers there are.
     Explain(Option<u8>),
 }
@@ -104,6 +117,8 @@ fn named<'a>(name: &str, given: &ArgMatches<'a>) -> Result<Command<'a>, LineFaul
     match name {
         "check" => checking(given),
         "seq" => running(given),
+        "replay" => replaying(given),
+        "upgrade" => upgrading(given),
         "explain" => explaining(given),
         _ => Err(LineFault::NoCommand),
     }
@@ -142,6 +157,44 @@ fn running<'a>(given: &ArgMatches<'a>) -> Result<Command<'a>, LineFault>
             store: flag(given, "store"),
         }),
         None => Err(LineFault::NoCommand),
+    }
+}
+
+fn replaying<'a>(given: &ArgMatches<'a>) -> Result<Command<'a>, LineFault>
+    ensures found { IfOk result (Holds (codes "replay") (rows_of (found_of given.now))) }
+    ensures refused { IfErr result (HoldsNone (codes "replay") (rows_of (found_of given.now))) }
+{
+    match (
+        text(given, "F"),
+        text(given, "INPUT"),
+        text(given, "SCHEDULE"),
+    ) {
+        (Some(source), Some(input), Some(schedule)) => Ok(Command::Replay {
+            source,
+            input,
+            schedule,
+        }),
+        _ => Err(LineFault::NoCommand),
+    }
+}
+
+fn upgrading<'a>(given: &ArgMatches<'a>) -> Result<Command<'a>, LineFault>
+    ensures found { IfOk result (Holds (codes "upgrade") (rows_of (found_of given.now))) }
+    ensures refused { IfErr result (HoldsNone (codes "upgrade") (rows_of (found_of given.now))) }
+{
+    match (
+        text(given, "F"),
+        text(given, "INPUT"),
+        text(given, "SCHEDULE"),
+        text(given, "OUT"),
+    ) {
+        (Some(source), Some(input), Some(schedule), Some(out)) => Ok(Command::Upgrade {
+            source,
+            input,
+            schedule,
+            out,
+        }),
+        _ => Err(LineFault::NoCommand),
     }
 }
 

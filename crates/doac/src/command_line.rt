@@ -2,7 +2,7 @@
 
 ghost use Rattle.std.specs.Prelude.{◌≡◌, IfErr, IfOk, false, map};
 ghost use Rattle.clap.specs.Words.{app_of, rule_of};
-ghost use Rattle.doac.specs.CommandLine.{Names, NamesNone, doac, input, number, source, store};
+ghost use Rattle.doac.specs.CommandLine.{Names, NamesNone, doac, input, number, out, schedule, source, store, whole_input};
 
 use crate::command::{LineFault, held};
 use clap::{Arg, ArgAction};
@@ -26,6 +26,36 @@ fn input<'a>(alloc: Global) -> Arg<'a>
     Arg::new(alloc, "INPUT")
         .action(ArgAction::Set)
         .help("The file of the input; without it the input is empty")
+}
+
+fn whole_input<'a>(alloc: Global) -> Arg<'a>
+    ensures rule { rule_of result ≡ whole_input }
+    ensures local { result.global ≡ false }
+{
+    Arg::new(alloc, "INPUT")
+        .required(true)
+        .action(ArgAction::Set)
+        .help("The file of the input")
+}
+
+fn schedule<'a>(alloc: Global) -> Arg<'a>
+    ensures rule { rule_of result ≡ schedule }
+    ensures local { result.global ≡ false }
+{
+    Arg::new(alloc, "SCHEDULE")
+        .required(true)
+        .action(ArgAction::Set)
+        .help("The file of the schedule")
+}
+
+fn out<'a>(alloc: Global) -> Arg<'a>
+    ensures rule { rule_of result ≡ out }
+    ensures local { result.global ≡ false }
+{
+    Arg::new(alloc, "OUT")
+        .required(true)
+        .action(ArgAction::Set)
+        .help("The file that gets the schedule with its picks named")
 }
 
 fn store<'a>(alloc: Global) -> Arg<'a>
@@ -59,6 +89,17 @@ fn parser<'a>(alloc: Global) -> Result<clap::Command<'a>, AllocError>
         .arg(source(alloc))?
         .arg(input(alloc))?
         .arg(store(alloc))?;
+    let replay = clap::Command::new(alloc, "replay")
+        .about("Repeats a run of the machine turn by turn, and writes what it prints")
+        .arg(source(alloc))?
+        .arg(whole_input(alloc))?
+        .arg(schedule(alloc))?;
+    let upgrade = clap::Command::new(alloc, "upgrade")
+        .about("Writes a schedule in the form that names what is picked")
+        .arg(source(alloc))?
+        .arg(whole_input(alloc))?
+        .arg(schedule(alloc))?
+        .arg(out(alloc))?;
     let explain = clap::Command::new(alloc, "explain")
         .about("Explains a refusal or a fault by its number")
         .arg(number(alloc))?;
@@ -68,6 +109,8 @@ fn parser<'a>(alloc: Global) -> Result<clap::Command<'a>, AllocError>
         .version("0.1.0")
         .subcommand(check)?
         .subcommand(seq)?
+        .subcommand(replay)?
+        .subcommand(upgrade)?
         .subcommand(explain)
 }
 

@@ -3,11 +3,15 @@
 
 ghost use Rattle.std.specs.Prelude.{◌≡◌, IfOk, IfErr};
 ghost use Rattle.doac.specs.Engines.{AfterRead, Checks, IsJudged, Leaves, LeavesOfSource, LeavesReader, LeavesReaders, OfText, Runs, Tells, Works, WorksWith, WroteAs, WrotePart, of_input, of_source};
+ghost use Rattle.doac.specs.Reading.{LeavesThree, OfTexts};
+ghost use Rattle.doac.specs.Schedules.{LeavesBoth, Replaying, UpgradeWorks, Upgrading, WroteUpgraded, WroteUpgradedPart};
 
 use crate::fault::{EngineFault, ReadFault};
 use crate::outcome::Outcome;
 use crate::page::{run, told};
+use crate::replays::{replayed, upgrade_texts};
 use crate::streams::read_all;
+use crate::texts::read_three;
 use crate::verdict::{Verdict, judged};
 use std::alloc::Global;
 use std::io::{Read, Write};
@@ -58,6 +62,41 @@ pub fn seq_texts<W: Write>(
 {
     let page = run(alloc, source, input, store)?;
     page.write(out)
+}
+
+/// Replays a schedule of a text on an input, and writes its records and what follows them: at a fault or
+/// a STOP its line. Where there is nothing to replay the line says why.
+///
+/// # Errors
+///
+/// A fault of the writer, with a beginning of the text written; or of memory, with nothing written.
+pub fn replay_texts<W: Write>(
+    alloc: Global,
+    source: &[u8],
+    input: &[u8],
+    schedule: &[u8],
+    out: &mut W,
+) -> Result<Outcome, EngineFault>
+    ensures { Works (Replaying source.now input.now schedule.now) (W.contents out.old) (W.contents out.new) result }
+{
+    let page = replayed(alloc, source, input, schedule)?;
+    page.write(out)
+}
+
+/// Upgrades a schedule of a text on an input: writes the text of the schedule with its picks named to
+/// `upgraded`, or where there is none the line that says why to `out`.
+fn upgrade_given<W: Write, V: Write>(
+    alloc: Global,
+    source: &[u8],
+    input: &[u8],
+    schedule: &[u8],
+    out: &mut W,
+    upgraded: &mut V,
+) -> Result<u8, EngineFault>
+    ensures { UpgradeWorks (Upgrading source.now input.now schedule.now) (W.contents out.old) (W.contents out.new) (V.contents upgraded.old) (V.contents upgraded.new) result }
+{
+    let made = upgrade_texts(alloc, source, input, schedule)?;
+    made.write(out, upgraded)
 }
 
 /// What `check` makes of its read.
@@ -152,4 +191,67 @@ pub fn seq<R: Read, I: Read, W: Write>(
     let read = read_all(alloc, source);
     let outcome = seq_read(alloc, read, input, store, out)?;
     Ok(outcome.status())
+}
+
+/// Replays a schedule of a source on an input, writes its records and what follows them, and gives the
+/// exit status: 0, 1 for a source that is refused, 2 for a fault, 6 for a schedule that is refused. The
+/// input is read after the source, and the schedule after the input.
+///
+/// # Errors
+///
+/// A fault of one of the readers, with nothing written; of the writer, with a beginning of the text
+/// written; or of memory, with nothing written.
+pub fn replay<R: Read, I: Read, S: Read, W: Write>(
+    alloc: Global,
+    source: &mut R,
+    input: &mut I,
+    schedule: &mut S,
+    out: &mut W,
+) -> Result<u8, EngineFault>
+    ensures ok { IfOk result (λ status. OfTexts (R.remaining source.old) (I.remaining input.old) (S.remaining schedule.old) (λ text given picks.
+        WroteAs (Replaying text given picks) (W.contents out.old) (W.contents out.new) status)) }
+    ensures err { IfErr result (λ fault. Leaves fault (W.contents out.old) (W.contents out.new)
+        (OfTexts (R.remaining source.old) (I.remaining input.old) (S.remaining schedule.old) (λ text given picks.
+        WrotePart (Replaying text given picks) (W.contents out.old) (W.contents out.new)))) }
+    ensures readers { IfErr result (λ fault.
+        LeavesThree fault (R.remaining source.new) (I.remaining input.old) (I.remaining input.new) (S.remaining schedule.old) (S.remaining schedule.new)) }
+{
+    let texts = read_three(alloc, source, input, schedule)?;
+    let outcome = replay_texts(alloc, &texts.source, &texts.input, &texts.schedule, out)?;
+    Ok(outcome.status())
+}
+
+/// Upgrades a schedule of a source on an input: writes the text of a schedule in which each pick is named
+/// to `upgraded`, or where there is none the line that says why to `out`, and gives the exit status: 0, 1
+/// for a source that is refused, 6 for a schedule that is refused. The readers are read as by [`replay`].
+///
+/// # Errors
+///
+/// A fault of one of the readers, with nothing written; of one of the writers, with a beginning of its
+/// text written and nothing to the other; or of memory, with nothing written.
+pub fn upgrade<R: Read, I: Read, S: Read, W: Write, V: Write>(
+    alloc: Global,
+    source: &mut R,
+    input: &mut I,
+    schedule: &mut S,
+    out: &mut W,
+    upgraded: &mut V,
+) -> Result<u8, EngineFault>
+    ensures ok { IfOk result (λ status. OfTexts (R.remaining source.old) (I.remaining input.old) (S.remaining schedule.old) (λ text given picks.
+        WroteUpgraded (Upgrading text given picks) (W.contents out.old) (W.contents out.new) (V.contents upgraded.old) (V.contents upgraded.new) status)) }
+    ensures err { IfErr result (λ fault. LeavesBoth fault (W.contents out.old) (W.contents out.new) (V.contents upgraded.old) (V.contents upgraded.new)
+        (OfTexts (R.remaining source.old) (I.remaining input.old) (S.remaining schedule.old) (λ text given picks.
+        WroteUpgradedPart (Upgrading text given picks) (W.contents out.old) (W.contents out.new) (V.contents upgraded.old) (V.contents upgraded.new)))) }
+    ensures readers { IfErr result (λ fault.
+        LeavesThree fault (R.remaining source.new) (I.remaining input.old) (I.remaining input.new) (S.remaining schedule.old) (S.remaining schedule.new)) }
+{
+    let texts = read_three(alloc, source, input, schedule)?;
+    upgrade_given(
+        alloc,
+        &texts.source,
+        &texts.input,
+        &texts.schedule,
+        out,
+        upgraded,
+    )
 }

@@ -6,6 +6,7 @@ ghost use Rattle.doac.specs.CommandLine as line;
 mod faults;
 mod lines;
 mod profile;
+mod schedules;
 mod statements;
 
 use crate::shown::fault_name;
@@ -15,16 +16,17 @@ use std::fmt::{Display, Formatter, Result as FmtResult, Write};
 use std::io;
 
 /// The greatest number that is explained.
-const GREATEST: u8 = 43;
+const GREATEST: u8 = 61;
 
 /// What a number is that of.
 #[derive(Clone, Copy, Debug, PartialEq, Eq)]
 pub enum Origin {
     Refusal,
     Fault(Fault),
+    Schedule,
 }
 
-/// A source and its input.
+/// A source and its input; of a schedule's refusal, the text of a schedule.
 #[derive(Clone, Copy)]
 pub struct Trial {
     pub source: &'static str,
@@ -72,6 +74,7 @@ impl<'a> Display for Heading<'a> {
         } = self.explanation;
         match origin {
             Origin::Refusal => write!(f, "REFUSED {number}: {sentence}"),
+            Origin::Schedule => write!(f, "SCHEDULE {number}: {sentence}"),
             Origin::Fault(fault) => {
                 write!(
                     f,
@@ -95,7 +98,11 @@ impl Display for Explanation {
 pub fn is_explained(number: u8) -> bool
     ensures { result ≡ line.is_explained number }
 {
-    is_within(1, 8, number) || is_within(20, 27, number) || is_within(30, 43, number)
+    is_within(1, 8, number)
+        || is_within(20, 27, number)
+        || is_within(30, 43, number)
+        || is_within(51, 56, number)
+        || is_within(61, 61, number)
 }
 
 fn is_within(least: u8, most: u8, number: u8) -> bool
@@ -112,7 +119,8 @@ pub fn refusal(number: u8) -> Option<Explanation>
     match number {
         0..=19 => lines::page(number),
         20..=29 => statements::page(number),
-        _ => profile::page(number),
+        30..=49 => profile::page(number),
+        _ => schedules::page(number),
     }
 }
 

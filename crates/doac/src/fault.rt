@@ -13,6 +13,9 @@ pub enum EngineFault {
     /// The input's reader failed.
     #[error("reading the input failed: {0}")]
     Input(io::Error),
+    /// The schedule's reader failed.
+    #[error("reading the schedule failed: {0}")]
+    Schedule(io::Error),
     /// The writer failed, or took no byte.
     #[error("writing failed: {0}")]
     Writing(io::Error),
@@ -43,7 +46,7 @@ impl From<AllocError> for ReadFault {
 
 impl EngineFault {
     ghost use Rattle.std.specs.Prelude.{◌≡◌};
-    ghost use Rattle.doac.specs.Engines.{fault_status, of_input, of_source};
+    ghost use Rattle.doac.specs.Engines.{fault_status, of_input, of_schedule, of_source};
 
     /// What a failed read of the source comes to.
     pub fn of_source(fault: ReadFault) -> Self
@@ -65,6 +68,16 @@ impl EngineFault {
         }
     }
 
+    /// The same of the schedule.
+    pub fn of_schedule(fault: ReadFault) -> Self
+        ensures { result ≡ of_schedule fault }
+    {
+        match fault {
+            ReadFault::Reader(error) => EngineFault::Schedule(error),
+            ReadFault::Memory => EngineFault::Memory,
+        }
+    }
+
     /// The exit status: 4 for a reader or a writer, 5 for memory.
     pub fn status(&self) -> u8
         ensures { result ≡ fault_status self.now }
@@ -72,6 +85,7 @@ impl EngineFault {
         match self {
             EngineFault::Source(_) => 4,
             EngineFault::Input(_) => 4,
+            EngineFault::Schedule(_) => 4,
             EngineFault::Writing(_) => 4,
             EngineFault::Memory => 5,
         }

@@ -48,3 +48,49 @@ pub fn read_file<R: Files + AllocGlobal>(rt: &R, name: &str) -> Result<Vec<u8>, 
         Err(ReadFault::Memory) => Err(FileFault::Memory),
     }
 }
+
+/// The names of the files that a replay takes.
+#[derive(Clone, Copy, Debug, PartialEq, Eq)]
+pub struct Names<'a> {
+    pub source: &'a str,
+    pub input: &'a str,
+    pub schedule: &'a str,
+}
+
+/// What these files hold.
+#[derive(Drop)]
+pub struct Texts {
+    pub source: Vec<u8>,
+    pub input: Vec<u8>,
+    pub schedule: Vec<u8>,
+}
+
+/// A file whose bytes couldn't be had.
+#[derive(Drop)]
+pub struct Unread<'a> {
+    pub name: &'a str,
+    pub fault: FileFault,
+}
+
+/// All bytes of a file of this name.
+fn read_named<'a, R: Files + AllocGlobal>(rt: &R, name: &'a str) -> Result<Vec<u8>, Unread<'a>> {
+    match read_file(rt, name) {
+        Ok(bytes) => Ok(bytes),
+        Err(fault) => Err(Unread { name, fault }),
+    }
+}
+
+/// All bytes of the files that a replay takes, read in this order.
+pub fn read_texts<'a, R: Files + AllocGlobal>(
+    rt: &R,
+    names: Names<'a>,
+) -> Result<Texts, Unread<'a>> {
+    let source = read_named(rt, names.source)?;
+    let input = read_named(rt, names.input)?;
+    let schedule = read_named(rt, names.schedule)?;
+    Ok(Texts {
+        source,
+        input,
+        schedule,
+    })
+}

@@ -1,4 +1,4 @@
-//! `doac`: checks and runs FORTRAN 77 programs.
+//! `doac`: checks and runs FORTRAN 77 programs, and repeats runs of the machine.
 #![tactic(auto)]
 
 mod columns;
@@ -14,11 +14,13 @@ mod message;
 mod outcome;
 mod page;
 mod program;
+mod replays;
 mod row;
 mod rows;
 mod shown;
 mod store;
 mod streams;
+mod texts;
 mod usage;
 mod verdict;
 mod visible;

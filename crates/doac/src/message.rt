@@ -20,12 +20,16 @@ pub struct Message<'a> {
 }
 
 impl<'a> Message<'a> {
-    /// The message of an outcome, if it has one.
+    /// The message of an outcome, if it has one; the file is the source's, or the schedule's where that is
+    /// refused.
     pub fn of(file: &'a str, source: &'a [u8], outcome: Outcome) -> Option<Self> {
         let (explanation, line) = match outcome {
             Outcome::Completed => return None,
             Outcome::Refused { number, line } => (refusal(number)?, line),
             Outcome::Faulted { fault: kind, line } => (fault(fault_number(kind))?, line),
+            Outcome::NoSchedule { number, line } => {
+                (refusal(number)?, Line::try_from(line).unwrap_or(Line::MAX))
+            }
         };
         Some(Message {
             file,
@@ -47,6 +51,7 @@ impl<'a> Display for Message<'a> {
         let verdict = match origin {
             Origin::Refusal => "refused",
             Origin::Fault(_) => "fault",
+            Origin::Schedule => "schedule refused",
         };
         write!(
             f,

@@ -15,13 +15,16 @@ pub enum Outcome {
     Refused { number: u8, line: Line },
     /// The run faulted at this line.
     Faulted { fault: Fault, line: Line },
+    /// The schedule was refused by this number, at this line of its own text.
+    NoSchedule { number: u8, line: usize },
 }
 
 impl Outcome {
     ghost use Rattle.std.specs.Prelude.{◌≡◌};
     ghost use Rattle.doac.specs.Engines.{status_of};
 
-    /// The exit status: 0, 1 for a source that was refused, 2 for a fault.
+    /// The exit status: 0, 1 for a source that was refused, 2 for a fault, 6 for a
+    /// schedule that was refused.
     pub fn status(self) -> u8
         ensures { result ≡ status_of self }
     {
@@ -29,6 +32,7 @@ impl Outcome {
             Outcome::Completed => 0,
             Outcome::Refused { .. } => 1,
             Outcome::Faulted { .. } => 2,
+            Outcome::NoSchedule { .. } => 6,
         }
     }
 }

@@ -63,7 +63,7 @@ fn accepted(alloc: Global, program: &Program) -> Result<Page, AllocError>
     })
 }
 
-fn refused(alloc: Global, number: u8, line: Line) -> Result<Page, AllocError>
+pub fn refused(alloc: Global, number: u8, line: Line) -> Result<Page, AllocError>
     ensures { IfOk result (λ page. (page.outcome ≡ Outcome.Refused number line)
         × (page.text.items ≡ refused number line)) }
 {
@@ -96,7 +96,7 @@ fn shown(alloc: Global, program: &Program, answer: Answer, store: bool) -> Resul
     })
 }
 
-fn outcome(end: End) -> Outcome
+pub fn outcome(end: End) -> Outcome
     ensures { result ≡ outcome_of end }
 {
     match end {
@@ -106,7 +106,7 @@ fn outcome(end: End) -> Outcome
     }
 }
 
-fn append_end(
+pub fn append_end(
     text: &mut Vec<u8>,
     end: End,
     rows: &mut [Row<'_>],

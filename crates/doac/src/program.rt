@@ -1,20 +1,24 @@
 //! The program: its words, its files, and what it says on standard error.
 
 ghost use Rattle.std.specs.Prelude.{◌≡◌, ℕ, List, option_map};
-ghost use Rattle.doac.specs.Engines.{AfterFile, Checks, EndsAs, HasStatus, Obeys, OfGiven, OfPrint, Runs, exit_of, file_status};
+ghost use Rattle.doac.specs.Engines.{AfterFile, AfterFiles, Checks, EndsAs, HasStatus, OfGiven, OfPrint, Runs, exit_of, file_status};
+ghost use Rattle.doac.specs.Commands.{Obeys};
+ghost use Rattle.doac.specs.Schedules.{Replaying, UpgradeEnds};
+ghost use Rattle.doac.specs.declared.files.Texts.{Texts};
 
 use crate::command::{Command, LineFault};
 use crate::command_line::command;
-use crate::engines::{seq_texts, tell_verdict};
+use crate::engines::{replay_texts, seq_texts, tell_verdict};
 use crate::explain;
 use crate::fault::EngineFault;
-use crate::files::{FileFault, read_file};
+use crate::files::{FileFault, Names, Texts, Unread, read_file, read_texts};
 use crate::message::{Message, Place};
 use crate::outcome::Outcome;
+use crate::replays::{Upgraded, upgrade_texts};
 use crate::verdict::{Verdict, judged};
 use crate::warnings::warn;
 use std::rt::{Env, Files};
-use std::{env, io};
+use std::{env, fs, io};
 
 /// Does what the words of the command line ask for, and gives the exit status.
 pub fn run<R: Env + Files + Print + Eprint + AllocGlobal>(rt: &R) -> u8 {
@@ -61,7 +65,7 @@ fn refuse_line<R: Print + Eprint>(rt: &R, fault: &LineFault) -> u8 {
         }
         _ => {
             let _ = rt.eprint(fault);
-            let _ = eprintln!(rt; "The commands are check, seq and explain.");
+            let _ = eprintln!(rt; "The commands are check, seq, replay, upgrade and explain.");
             fault.status()
         }
     }
@@ -89,6 +93,32 @@ fn obey<R: Files + Print + Eprint + AllocGlobal>(rt: &R, command: Command<'_>) -
             input,
             store,
         } => seq_files(rt, source, input, store),
+        Command::Replay {
+            source,
+            input,
+            schedule,
+        } => replay_files(
+            rt,
+            Names {
+                source,
+                input,
+                schedule,
+            },
+        ),
+        Command::Upgrade {
+            source,
+            input,
+            schedule,
+            out,
+        } => upgrade_files(
+            rt,
+            Names {
+                source,
+                input,
+                schedule,
+            },
+            out,
+        ),
         Command::Explain(Some(number)) => status_of_print(rt, explain::explain(rt, number)),
         Command::Explain(None) => status_of_print(rt, explain::list(rt)),
     }
@@ -190,6 +220,114 @@ fn seq_source<R: Print + Eprint + AllocGlobal>(
 {
     let outcome = seq_texts(rt.alloc(), text, input, store, &mut io::writer(rt));
     tell(rt, name, text, outcome)
+}
+
+fn replay_files<R: Files + Print + Eprint + AllocGlobal>(rt: &R, names: Names<'_>) -> u8
+    ensures { EndsAs result ((texts : Texts) × HasStatus (Replaying texts.source.items texts.input.items texts.schedule.items) result) }
+{
+    let texts = read_texts(rt, names);
+    replay_given(rt, names, texts)
+}
+
+/// What `replay` makes of the bytes of its files.
+fn replay_given<R: Print + Eprint + AllocGlobal>(
+    rt: &R,
+    names: Names<'_>,
+    texts: Result<Texts, Unread<'_>>,
+) -> u8
+    ensures { AfterFiles texts.entry result (λ texts. EndsAs result (HasStatus (Replaying texts.source.items texts.input.items texts.schedule.items) result)) }
+{
+    match texts {
+        Ok(texts) => replay_read(rt, names, &texts),
+        Err(Unread { name, fault }) => refuse_file(rt, name, &fault),
+    }
+}
+
+/// Replays the schedule of a file; standard error has its message.
+fn replay_read<R: Print + Eprint + AllocGlobal>(rt: &R, names: Names<'_>, texts: &Texts) -> u8
+    ensures { EndsAs result (HasStatus (Replaying texts.now.source.items texts.now.input.items texts.now.schedule.items) result) }
+{
+    let outcome = replay_texts(
+        rt.alloc(),
+        &texts.source,
+        &texts.input,
+        &texts.schedule,
+        &mut io::writer(rt),
+    );
+    tell_of(rt, names, texts, outcome)
+}
+
+fn upgrade_files<R: Files + Print + Eprint + AllocGlobal>(rt: &R, names: Names<'_>, out: &str) -> u8
+    ensures { EndsAs result ((texts : Texts) × UpgradeEnds texts.source.items texts.input.items texts.schedule.items result) }
+{
+    let texts = read_texts(rt, names);
+    upgrade_given(rt, names, out, texts)
+}
+
+/// What `upgrade` makes of the bytes of its files.
+fn upgrade_given<R: Files + Print + Eprint + AllocGlobal>(
+    rt: &R,
+    names: Names<'_>,
+    out: &str,
+    texts: Result<Texts, Unread<'_>>,
+) -> u8
+    ensures { AfterFiles texts.entry result (λ texts. EndsAs result (UpgradeEnds texts.source.items texts.input.items texts.schedule.items result)) }
+{
+    match texts {
+        Ok(texts) => upgrade_read(rt, names, out, &texts),
+        Err(Unread { name, fault }) => refuse_file(rt, name, &fault),
+    }
+}
+
+/// Writes the schedule of a file with its picks named to another one, which is made where there is
+/// something to write; standard error has its message.
+fn upgrade_read<R: Files + Print + Eprint + AllocGlobal>(
+    rt: &R,
+    names: Names<'_>,
+    out: &str,
+    texts: &Texts,
+) -> u8
+    ensures { EndsAs result (UpgradeEnds texts.now.source.items texts.now.input.items texts.now.schedule.items result) }
+{
+    match upgrade_texts(rt.alloc(), &texts.source, &texts.input, &texts.schedule) {
+        Ok(Upgraded::Text(text)) => status_of_write(rt, out, fs::write(rt, out, text.as_slice())),
+        Ok(Upgraded::Shown(page)) => {
+            let outcome = page.write(&mut io::writer(rt));
+            tell_of(rt, names, texts, outcome)
+        }
+        Err(_) => tell_of(rt, names, texts, Err(EngineFault::Memory)),
+    }
+}
+
+fn status_of_write<R: Eprint>(rt: &R, name: &str, written: io::Result<()>) -> u8
+    ensures { OfPrint result }
+{
+    match written {
+        Ok(()) => 0,
+        Err(error) => {
+            let file = name;
+            let _ = eprintln!(rt; "{}writing failed: {error}", Place { file, line: 0 });
+            4
+        }
+    }
+}
+
+/// Says on standard error what is wrong with a schedule's text, or with its source's.
+fn tell_of<R: Eprint>(
+    rt: &R,
+    names: Names<'_>,
+    texts: &Texts,
+    outcome: Result<Outcome, EngineFault>,
+) -> u8
+    ensures { result ≡ exit_of outcome }
+{
+    match outcome {
+        Ok(Outcome::NoSchedule { number, line }) => {
+            let outcome = Outcome::NoSchedule { number, line };
+            tell(rt, names.schedule, &texts.schedule, Ok(outcome))
+        }
+        outcome => tell(rt, names.source, &texts.source, outcome),
+    }
 }
 
 /// Says on standard error why a file's bytes can't be had, and gives the exit status.

@@ -1,7 +1,7 @@
 //! Lines of standard output.
 
 ghost use Rattle.std.specs.Prelude.{◌≡◌, ◌++◌, OnOk, decimal};
-ghost use Rattle.doac.specs.Shown.{accepted_with, at_line, refused, faulted, stopped, fault_name, fault_number};
+ghost use Rattle.doac.specs.Shown.{accepted_with, at_line, no_schedule, refused, faulted, stopped, fault_name, fault_number};
 
 use ast::{Fault, Line};
 use itoa::{Buffer, Integer};
@@ -42,6 +42,17 @@ pub fn append_refused(out: &mut Vec<u8>, number: u8, line: Line) -> Result<(), A
     out.extend_from_slice(b"REFUSED ")?;
     append_number(out, number)?;
     append_line(out, line)
+}
+
+/// Appends the line of a schedule that is refused.
+pub fn append_no_schedule(out: &mut Vec<u8>, number: u8, line: usize) -> Result<(), AllocError>
+    ensures { OnOk result (out.new.items ≡ out.old.items ++ no_schedule number line) }
+{
+    out.extend_from_slice(b"SCHEDULE ")?;
+    append_number(out, number)?;
+    out.extend_from_slice(b" LINE ")?;
+    append_number(out, line)?;
+    out.extend_from_slice(b"\n")
 }
 
 /// The number of a fault.

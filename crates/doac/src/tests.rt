@@ -1,9 +1,11 @@
+mod cores;
 mod meeting;
 mod overlap;
+mod replaying;
 
 use crate::command::{Command, LineFault};
 use crate::command_line::command;
-use crate::engines::{check, check_text, seq, seq_texts};
+use crate::engines::{check, check_text, replay_texts, seq, seq_texts};
 use crate::explain::{Explanation, Origin, fault, is_explained, refusal};
 use crate::fault::EngineFault;
 use crate::message::Message;
@@ -353,6 +355,23 @@ fn command_lines(rt: HostRuntime) -> Result<(), Fail> {
         }
     );
     assert_eq!(rt;
+        command(rt.alloc(), &["doac", "replay", "F", "I", "S"])?,
+        Command::Replay {
+            source: "F",
+            input: "I",
+            schedule: "S"
+        }
+    );
+    assert_eq!(rt;
+        command(rt.alloc(), &["doac", "upgrade", "F", "I", "S", "O"])?,
+        Command::Upgrade {
+            source: "F",
+            input: "I",
+            schedule: "S",
+            out: "O"
+        }
+    );
+    assert_eq!(rt;
         command(rt.alloc(), &["doac", "explain", "22"])?,
         Command::Explain(Some(22))
     );
@@ -366,7 +385,8 @@ fn command_lines(rt: HostRuntime) -> Result<(), Fail> {
     refused(&rt, &["doac", "seq", "--help"], 0);
     refused(&rt, &["doac"], 3);
     refused(&rt, &["doac", "list", "F"], 3);
-    refused(&rt, &["doac", "replay", "F", "I", "S"], 3);
+    refused(&rt, &["doac", "replay", "F", "I"], 3);
+    refused(&rt, &["doac", "upgrade", "F", "I", "S"], 3);
     refused(&rt, &["doac", "check", "F", "G"], 3);
     refused(&rt, &["doac", "check", "F", "--fast"], 3);
     refused(&rt, &["doac", "explain", "x"], 3);
@@ -757,6 +777,15 @@ fn trial(
     let outcome = match origin {
         Origin::Refusal => check_text(rt.alloc(), source, &mut out)?,
         Origin::Fault(_) => seq_texts(rt.alloc(), source, input.as_bytes(), false, &mut out)?,
+        Origin::Schedule => {
+            replay_texts(
+                rt.alloc(),
+                b"      END\n",
+                input.as_bytes(),
+                source,
+                &mut out,
+            )?
+        }
     };
     Ok(outcome)
 }
@@ -766,6 +795,9 @@ fn explained(rt: &(impl Abort + AllocGlobal), entry: &Explanation) -> Result<(),
     if !entry.example.source.is_empty() {
         match (example_ends(rt, entry)?, entry.origin) {
             (Outcome::Refused { number, .. }, Origin::Refusal) => {
+                assert_eq!(rt; number, entry.number);
+            }
+            (Outcome::NoSchedule { number, .. }, Origin::Schedule) => {
                 assert_eq!(rt; number, entry.number);
             }
             (Outcome::Faulted { fault: kind, .. }, Origin::Fault(wanted)) => {

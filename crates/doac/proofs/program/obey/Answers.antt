@@ -1,5 +1,5 @@
 use Rattle.std.proofs.Common.{subst, sym}
-use Rattle.doac.specs.Engines.{Obeys}
+use Rattle.doac.specs.Commands.{Obeys}
 use Rattle.doac.specs.declared.command.Command.{Command}
 use Rattle.doac.proofs.program.obey.Goals as goal
 

@@ -1,4 +1,4 @@
-use Rattle.std.proofs.Common.{List, option_map}
+use Rattle.std.proofs.Common.{option_map}
 use Rattle.doac.specs.Engines.{HasStatus, OfGiven, Runs}
 use Rattle.doac.proofs.Statuses.{after_file}
 use Rattle.doac.proofs.program.seq_files.Goals as goal
