@@ -1,3 +1,4 @@
 pub mod Cells
 mod Names
 pub mod Sizes
+pub mod Stops

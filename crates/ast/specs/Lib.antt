@@ -8,6 +8,7 @@ pub mod ProgramView
 pub mod Record
 pub mod References
 pub mod Results
+pub mod Stops
 pub mod Store
 pub mod Symbols
 pub mod Tree

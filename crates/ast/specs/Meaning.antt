@@ -93,6 +93,11 @@ abbrev pub is_last_stop : Node → Block → Bool
 is_last_stop (plain s) (then_node (plain t) no_nodes) = are_stop_and_end s.kind t.kind
 is_last_stop _ _ = false
 
+-- whether a block is a STOP that END follows
+abbrev pub is_last_stop_of : Block → Bool
+is_last_stop_of no_nodes = false
+is_last_stop_of (then_node n b) = is_last_stop n b
+
 -- the place of an element that is given a value
 abbrev pub target : List Symbol → StoreOf → Access → Result ℕ Fault
 target symbols store a = values (looked_up symbols store) a.subscripts >>= λ xs. place_in symbols a.ref.name xs

@@ -5,6 +5,7 @@
 pub mod answer;
 pub mod expression;
 pub mod fault;
+pub mod last_stop;
 pub mod name;
 pub mod program;
 pub mod refusal;
@@ -15,12 +16,10 @@ pub mod tree;
 pub use answer::Answer;
 pub use expression::{Access, Expr, Intrinsic, Operator, Prefix, RefId, Reference};
 pub use fault::{End, Fault};
+pub use last_stop::is_last_stop;
 pub use name::Name;
 pub use program::{Dimension, Program, Symbol, SymbolKind};
 pub use refusal::Refusal;
 pub use statement::{Bounds, Declarator, Definition, DoHead, Item, Kind, Label, Line, Stmt};
 pub use store::Store;
 pub use tree::{Arm, Node};
-
-#[cfg(test)]
-mod tests;

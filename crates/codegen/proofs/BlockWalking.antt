@@ -16,8 +16,8 @@ use Rattle.expr_code.specs.Places.{Places, Home, loop_index, private_scalar, in_
 use Rattle.expr_code.specs.Process.{term_into}
 use Rattle.codegen.specs.Process as process
 use Rattle.codegen.specs.Process.{Doing, arms_into, block_into, given_into, grown_into, is_last_stop, items_into, kind_into, node_into, serial_into, set_up_into, step_into, stored_into, turns_into, variable_into}
+use Rattle.codegen.specs.Program.{none_open}
 use Rattle.codegen.proofs.IterationSteps.{In}
-use Rattle.codegen.proofs.MainStanding.{none_open}
 use Rattle.codegen.proofs.Walking.{AllKnown, Known, Located, WalksTerms, home_at, target_walks, term_walks, used-append}
 
 -- ---- each plan has a path

@@ -1,15 +1,14 @@
 -- Code is emitted piece by piece: laws of what was appended, and of what was filled in.
-use Rattle.std.proofs.Common.{◌≡◌, ◌∙◌, ◌+◌, ◌-◌, ◌<◌, ◌≤◌, ℕ, zero, suc, Bool, true, false, List, [], ◌∷◌, ◌++◌, length, map, drop, take, Option, Some, None, refl, sym, ap, subst, get_or, arith, rules}
-use Rattle.std.specs.Prelude.{◌&&◌, if◌then◌else◌, set, Vec}
+use Rattle.std.proofs.Common.{◌≡◌, ◌∙◌, ◌+◌, ◌-◌, ◌<◌, ℕ, Bool, true, false, List, [], ◌∷◌, ◌++◌, length, map, drop, take, Option, Some, refl, sym, ap, subst, get_or, arith, rules}
+use Rattle.std.specs.Prelude.{if◌then◌else◌, set, Vec}
 use Rattle.std.specs.Global.{Global}
-use Rattle.std.proofs.lemmas.List.{append_assoc, append-nil, length-append, length-map, length-drop, length-set, drop_more, set_at, take_all}
-use Rattle.ast.specs.Meaning.{are_stop_and_end}
+use Rattle.std.proofs.lemmas.List.{append_assoc, length-append, length-map, length-drop, length-set, drop_more, set_at, take_all}
+use Rattle.ast.specs.Meaning.{is_last_stop_of}
 use Rattle.ast.specs.Tree as tree
-use Rattle.ast.specs.Tree.{Kind, Term, Node, plain, loop, choose, Block, no_nodes, then_node, Arms, no_arms, then_arm, Ref, arms as arms_tree}
-use Rattle.ast.specs.View.{arm as arm_of, arm_step, block_view, node as node_of, node_step, optional_term}
+use Rattle.ast.specs.Tree.{Term, Node, Block, no_nodes, then_node, Arms, then_arm, Ref, arms as arms_tree}
+use Rattle.ast.specs.View.{arm as arm_of, arm_step, block_view, node_step, optional_term}
 use Rattle.ast.specs.declared.expression.Expr.{Expr}
 use Rattle.ast.specs.declared.tree.Arm.{Arm, fold_out-Arm}
-use Rattle.ast.specs.declared.tree.Node.{Node as Code}
 use Rattle.machine.specs.Code.{Part}
 use Rattle.machine.specs.declared.code.Await.{Await}
 use Rattle.machine.specs.declared.code.Piece.{Piece}
@@ -17,108 +16,37 @@ use Rattle.machine.specs.declared.instr.Act.TheVariants as acts
 use Rattle.machine.specs.declared.instr.Instr.{Instr}
 use Rattle.expr_code.specs.Emitted.{instr, short, term_code}
 use Rattle.expr_code.specs.Places.{Places}
-use Rattle.codegen.specs.Emitted.{arms_awaits, arms_code, arms_records, block_awaits, block_code, block_records, chosen_code, grown_code, node_awaits, node_code, node_records, turns_code}
+use Rattle.codegen.specs.Emitted.{arms_code, block_code, block_records, chosen_code, grown_code, node_awaits, node_code, node_records, turns_code}
 use Rattle.codegen.specs.Plain.{plain_arms, plain_block, plain_node}
-use Rattle.codegen.specs.Process.{is_last_stop}
 use Rattle.codegen.specs.Program.{none_open}
 use Rattle.codegen.specs.Records.{pieces_of, records_of}
-use Rattle.codegen.specs.Serial.{Ends, body_left_open, closed, is_end, is_end_kind, is_last_stop_of, is_stop, is_stop_kind, records_in_arms, records_in_block, records_in_node, serial_arms, serial_block, serial_node}
+use Rattle.codegen.specs.Serial.{Ends, body_left_open, closed, records_in_arms, records_in_block, records_in_node, serial_arms, serial_block, serial_node}
 use Rattle.codegen.specs.declared.nodes.Pending.{Pending}
-
--- ---- a STOP that END follows
-
-kinds : (a b : Kind) → (is_stop_kind a && is_end_kind b) ≡ are_stop_and_end a b
-kinds tree.stop tree.end = refl
-kinds tree.stop _ = refl
-kinds _ _ = refl
-
-last_two : (n m : Node) → (is_stop n && is_end m) ≡ is_last_stop (plain_node n) (plain_block (then_node m no_nodes))
-last_two (plain s) (plain t) = kinds s.kind t.kind
-last_two (plain s) (loop l h b) = no_and (is_stop_kind s.kind)
-  where
-    no_and : (b : Bool) → (b && false) ≡ false
-    no_and true = refl
-    no_and false = refl
-last_two (plain s) (choose a) = no_and (is_stop_kind s.kind)
-  where
-    no_and : (b : Bool) → (b && false) ≡ false
-    no_and true = refl
-    no_and false = refl
-last_two (loop l h b) m = refl
-last_two (choose a) m = refl
-
-alone : (n : Node) → is_last_stop (plain_node n) (plain_block no_nodes) ≡ false
-alone (plain s) = refl
-alone (loop l h b) = refl
-alone (choose a) = refl
-
-more : (n m k : Node) (b : Block) → is_last_stop (plain_node n) (plain_block (then_node m (then_node k b))) ≡ false
-more (plain s) (plain t) k b = refl
-more (plain s) (loop l h c) k b = refl
-more (plain s) (choose a) k b = refl
-more (loop l h c) m k b = refl
-more (choose a) m k b = refl
-
-pub two_nodes : (ns : List Code) (n m : Code) → length ns ≡ 2 → n ≡ get_or ns 0 n → m ≡ get_or ns 1 m → (is_stop (node_of n) && is_end (node_of m)) ≡ is_last_stop_of (block_view ns)
-two_nodes [] n m l e f = absurd (omega (arith, l))
-two_nodes (a ∷ []) n m l e f = absurd (omega (arith, l))
-two_nodes (a ∷ b ∷ []) n m l e f =
-    ap (λ (x : Code). is_stop (node_of x) && is_end (node_of m)) e ∙ ap (λ (y : Code). is_stop (node_of a) && is_end (node_of y)) f ∙ last_two (node_of a) (node_of b)
-two_nodes (a ∷ b ∷ c ∷ ns) n m l e f = absurd (omega (arith, l))
-
-pub other_nodes : (ns : List Code) → (length ns ≡ 2 → ⊥) → false ≡ is_last_stop_of (block_view ns)
-other_nodes [] h = refl
-other_nodes (a ∷ []) h = sym (alone (node_of a))
-other_nodes (a ∷ b ∷ []) h = absurd (h refl)
-other_nodes (a ∷ b ∷ c ∷ ns) h = sym (more (node_of a) (node_of b) (node_of c) (block_view ns))
-
--- ---- plain blocks await nothing
-
-none_else : {X : Type 0} (b : Bool) (xs : List X) → xs ≡ [] → (if b then [] else xs) ≡ []
-none_else true xs h = refl
-none_else false xs h = h
-
-both_none : {X : Type 0} (xs ys : List X) → xs ≡ [] → ys ≡ [] → (xs ++ ys) ≡ []
-both_none xs ys h k = ap (λ zs. zs ++ ys) h ∙ k
+use Rattle.codegen.proofs.Stops.{last_told}
+use Rattle.codegen.proofs.Waiting.{block_waits, node_waits}
 
 module _ (p : Places) where
-  mutual
-    node_waits : (n : Node) → node_awaits p none_open (plain_node n) ≡ []
-    node_waits (plain s) = refl
-    node_waits (loop l h b) = block_waits b
-    node_waits (choose a) = arms_wait a
-
-    block_waits : (b : Block) → block_awaits p none_open (plain_block b) ≡ []
-    block_waits no_nodes = refl
-    block_waits (then_node n b) =
-        none_else (is_last_stop (plain_node n) (plain_block b)) (node_awaits p none_open (plain_node n) ++ block_awaits p none_open (plain_block b)) (both_none (node_awaits p none_open (plain_node n)) (block_awaits p none_open (plain_block b)) (node_waits n) (block_waits b))
-
-    arms_wait : (a : Arms) → arms_awaits p none_open (plain_arms a) ≡ []
-    arms_wait no_arms = refl
-    arms_wait (then_arm line None b more) = block_waits b
-    arms_wait (then_arm line (Some c) b more) = both_none (block_awaits p none_open (plain_block b)) (arms_awaits p none_open (plain_arms more)) (block_waits b) (arms_wait more)
-
   -- ---- blocks
 
   pub block_ends : (r : ℕ) (b : Block) → true ≡ is_last_stop_of b → serial_block p r b ≡ []
   block_ends r no_nodes h = refl
-  block_ends r (then_node n b) h = ap (λ (x : Bool). if x then [] else node_code p none_open r 0 (plain_node n) ++ block_code p none_open (r + length (node_records p none_open (plain_node n))) (0 + length (node_awaits p none_open (plain_node n))) (plain_block b)) (sym h)
+  block_ends r (then_node n b) h = ap (λ (x : Bool). if x then [] else node_code p none_open r 0 (plain_node n) ++ block_code p none_open (r + length (node_records p none_open (plain_node n))) (0 + length (node_awaits p none_open (plain_node n))) (plain_block b)) (sym (last_told true n b h))
 
   pub records_end : (b : Block) → true ≡ is_last_stop_of b → records_in_block p b ≡ []
   records_end no_nodes h = refl
-  records_end (then_node n b) h = ap (λ (x : Bool). if x then [] else node_records p none_open (plain_node n) ++ block_records p none_open (plain_block b)) (sym h)
+  records_end (then_node n b) h = ap (λ (x : Bool). if x then [] else node_records p none_open (plain_node n) ++ block_records p none_open (plain_block b)) (sym (last_told true n b h))
 
   pub block_goes : (r : ℕ) (n : Node) (b : Block) → false ≡ is_last_stop_of (then_node n b) → serial_block p r (then_node n b) ≡ serial_node p r n ++ serial_block p (r + length (records_in_node p n)) b
   block_goes r n b h =
-      ap (λ (x : Bool). if x then [] else node_code p none_open r 0 (plain_node n) ++ block_code p none_open (r + length (node_records p none_open (plain_node n))) (0 + length (node_awaits p none_open (plain_node n))) (plain_block b)) (sym h)
-      ∙ ap (λ (ws : List Await). node_code p none_open r 0 (plain_node n) ++ block_code p none_open (r + length (node_records p none_open (plain_node n))) (0 + length ws) (plain_block b)) (node_waits n)
+      ap (λ (x : Bool). if x then [] else node_code p none_open r 0 (plain_node n) ++ block_code p none_open (r + length (node_records p none_open (plain_node n))) (0 + length (node_awaits p none_open (plain_node n))) (plain_block b)) (sym (last_told false n b h))
+      ∙ ap (λ (ws : List Await). node_code p none_open r 0 (plain_node n) ++ block_code p none_open (r + length (node_records p none_open (plain_node n))) (0 + length ws) (plain_block b)) (node_waits p n)
 
   pub records_go : (n : Node) (b : Block) → false ≡ is_last_stop_of (then_node n b) → records_in_block p (then_node n b) ≡ records_in_node p n ++ records_in_block p b
-  records_go n b h = ap (λ (x : Bool). if x then [] else node_records p none_open (plain_node n) ++ block_records p none_open (plain_block b)) (sym h)
+  records_go n b h = ap (λ (x : Bool). if x then [] else node_records p none_open (plain_node n) ++ block_records p none_open (plain_block b)) (sym (last_told false n b h))
 
   pub arms_go : (r line : ℕ) (c : Term) (b : Block) (more : Arms)
       → serial_arms p r (then_arm line (Some c) b more) ≡ term_code (record p { line = line }) c ++ chosen_code (record p { line = line }) (serial_block p r b) (serial_arms p (r + length (records_in_block p b)) more)
-  arms_go r line c b more = ap (λ (ws : List Await). term_code (record p { line = line }) c ++ chosen_code (record p { line = line }) (serial_block p r b) (arms_code p none_open (r + length (block_records p none_open (plain_block b))) (0 + length ws) (plain_arms more))) (block_waits b)
+  arms_go r line c b more = ap (λ (ws : List Await). term_code (record p { line = line }) c ++ chosen_code (record p { line = line }) (serial_block p r b) (arms_code p none_open (r + length (block_records p none_open (plain_block b))) (0 + length ws) (plain_arms more))) (block_waits p b)
 
 -- ---- numbers of records
 

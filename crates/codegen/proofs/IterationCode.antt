@@ -13,11 +13,11 @@ use Rattle.expr_code.specs.Places.{Places}
 use Rattle.expr_code.proofs.Standing.{HasAt, at, seen}
 use Rattle.codegen.specs.Emitted.{block_awaits, block_code, block_records}
 use Rattle.codegen.specs.Process.{block_into}
+use Rattle.codegen.specs.Program.{none_open}
 use Rattle.codegen.specs.Room.{block_loops, block_room}
 use Rattle.codegen.proofs.Blocks.{BlockReaches, HasList, block_runs}
 use Rattle.codegen.proofs.IterationStanding.{Ready, Stands, Work, iteration_doing, iteration_does}
 use Rattle.codegen.proofs.IterationSteps.{Process, leave}
-use Rattle.codegen.proofs.MainStanding.{none_open}
 
 -- The code of a plan's body as the range of loop n: it stands at the loop's place and before a limit, a
 -- Retire behind it, and it has room.

@@ -34,4 +34,6 @@ pub mod ProgramStanding
 pub mod ProgramSteps
 pub mod Running
 pub mod Standing
+pub mod Stops
+pub mod Waiting
 pub mod Walking

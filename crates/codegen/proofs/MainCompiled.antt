@@ -19,16 +19,17 @@ use Rattle.expr_code.specs.Emitted.{given_act, instr, short, term_code}
 use Rattle.expr_code.specs.Places.{Places, dimensions_at, home}
 use Rattle.expr_code.proofs.Running.{Reaches}
 use Rattle.expr_code.proofs.Standing.{has_here, HasAt}
-use Rattle.codegen.specs.Emitted.{arms_awaits, arms_code, arms_records, block_awaits, block_code, block_records, chosen_code, elements_code, grown_code, if_serial, items_code, kind_code, kind_records, loop_code, node_awaits, node_code, node_records, serial_code, step_code, stored_code, turns_code, variable_code}
+use Rattle.codegen.specs.Emitted.{arms_code, arms_records, block_awaits, block_code, block_records, chosen_code, elements_code, grown_code, if_serial, items_code, kind_code, kind_records, loop_code, node_awaits, node_code, node_records, serial_code, step_code, stored_code, turns_code, variable_code}
 use Rattle.codegen.specs.Plain.{plain_arms, plain_block, plain_node}
 use Rattle.codegen.specs.Process.{is_last_stop}
+use Rattle.codegen.specs.Program.{main_places, none_open}
 use Rattle.codegen.specs.Room.{block_loops, block_room}
 use Rattle.codegen.proofs.Blocks.{ArmsReach, BlockReaches, HasList, LoopReaches, NodeReaches}
 use Rattle.codegen.proofs.MainReaching.{back_few, front_few, given_reaches, reaches, reference, both}
-use Rattle.codegen.proofs.MainStanding.{Compiled, none_open}
-use Rattle.codegen.proofs.MainSteps.{main_places}
+use Rattle.codegen.proofs.MainStanding.{Compiled}
 use Rattle.codegen.proofs.Nesting.{StepReaches}
 use Rattle.codegen.proofs.Running.{ElementsReach, ItemsReach, KindReaches}
+use Rattle.codegen.proofs.Waiting.{block_waits}
 use Rattle.std.proofs.lemmas.Bool.{and_parts}
 
 abbrev Short : List Instr → Type 0
@@ -296,30 +297,6 @@ module _ (p : Places) (opens : ℕ → Option ℕ) where
         let k2 = length-append (term_code q c) (chosen_code q body others) in
         let k3 = length-append body (instr line (acts.Skip (short (length others))) ∷ others) in
         omega (arith, h, k, k1, k2, k3)
-
-none_of : {X : Type 0} (xs ys : List X) → xs ≡ [] → ys ≡ [] → xs ++ ys ≡ []
-none_of xs ys h k = ap (λ (zs : List _). zs ++ ys) h ∙ k
-
-module _ (p : Places) where
-  none_last : (b : Bool) (ws : List Await) → ws ≡ [] → (if b then [] else ws) ≡ []
-  none_last true ws h = refl
-  none_last false ws h = h
-
-  mutual
-    node_waits : (n : Node) → node_awaits p none_open (plain_node n) ≡ []
-    node_waits (tree.plain s) = refl
-    node_waits (tree.loop line h b) = block_waits b
-    node_waits (tree.choose a) = arms_wait a
-
-    block_waits : (b : Block) → block_awaits p none_open (plain_block b) ≡ []
-    block_waits tree.no_nodes = refl
-    block_waits (tree.then_node n b) =
-        none_last (is_last_stop (plain_node n) (plain_block b)) (node_awaits p none_open (plain_node n) ++ block_awaits p none_open (plain_block b)) (none_of (node_awaits p none_open (plain_node n)) (block_awaits p none_open (plain_block b)) (node_waits n) (block_waits b))
-
-    arms_wait : (a : Arms) → arms_awaits p none_open (plain_arms a) ≡ []
-    arms_wait tree.no_arms = refl
-    arms_wait (tree.then_arm line None b more) = block_waits b
-    arms_wait (tree.then_arm line (Some c) b more) = none_of (block_awaits p none_open (plain_block b)) (arms_awaits p none_open (plain_arms more)) (block_waits b) (arms_wait more)
 
 -- ---- main's code, with a halt behind it
 

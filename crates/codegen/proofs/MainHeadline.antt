@@ -15,10 +15,11 @@ use Rattle.machine.specs.State.{Machine, CodeRun, Init}
 use Rattle.machine.specs.View.{Input, begin, main_frame, trips_of, view}
 use Rattle.machine.specs.declared.code.Open.{Open as Opened}
 use Rattle.codegen.specs.Headline.{Headline, IsBeginning, Ends, Bounded, Carried}
+use Rattle.codegen.specs.Program.{main_places, none_open}
 use Rattle.codegen.proofs.IterationSteps.{Process, gone}
 use Rattle.codegen.proofs.MainNaming.{block_named}
-use Rattle.codegen.proofs.MainStanding.{none_open, Compiled, Goes, main_process, main_stands, never}
-use Rattle.codegen.proofs.MainSteps.{Valid, main_acts, main_doing, main_places, meant}
+use Rattle.codegen.proofs.MainStanding.{Compiled, Goes, main_process, main_stands, never}
+use Rattle.codegen.proofs.MainSteps.{Valid, main_acts, main_doing, meant}
 use Rattle.codegen.proofs.Meaning.{block_meant, going_told, then_told}
 use Rattle.codegen.proofs.Outcomes.{Outcome, text_of, told, told_by}
 use Rattle.codegen.proofs.ProgramBound.{alone_takes, bounded as most_steps, carried as to_end, exactly, weighed}

@@ -12,11 +12,11 @@ use Rattle.ast.specs.Tree.{Ref, Access, accessed, Term, constant, truth, paramet
 use Rattle.expr_code.specs.Places.{Home, loop_index, home, home_of}
 use Rattle.expr_code.proofs.Finding.{dimensions_same}
 use Rattle.expr_code.proofs.Meaning.{AllNamed, Named}
+use Rattle.codegen.specs.Program.{main_places, none_open}
 use Rattle.machine.specs.Code.{Code}
 use Rattle.machine.specs.declared.code.Open.{Open as Opened}
 use Rattle.codegen.proofs.IterationSteps.{Process}
-use Rattle.codegen.proofs.MainStanding.{none_open}
-use Rattle.codegen.proofs.MainSteps.{main_acts, main_doing, main_places, meant}
+use Rattle.codegen.proofs.MainSteps.{main_acts, main_doing, meant}
 use Rattle.codegen.proofs.Outcomes.{Outcome}
 use Rattle.codegen.proofs.ProgramSteps.{Main}
 use Rattle.codegen.proofs.Meaning.{ArmsNamed, BlockNamed, Counts, ElementsNamed, HeadNamed, ItemsNamed, KindNamed, NodeNamed, StepNamed}

@@ -1,5 +1,5 @@
 -- Main's frame does what main's process does.
-use Rattle.std.proofs.Common.{◌≡◌, ◌∙◌, ◌+◌, ◌≤◌, ◌<◌, ◌^◌, ℕ, ℤ, pos, Bool, true, false, List, [], ◌∷◌, Option, Some, None, Result, Ok, Err, length, refl, ap, subst, arith}
+use Rattle.std.proofs.Common.{◌≡◌, ◌∙◌, ◌+◌, ◌≤◌, ◌<◌, ◌^◌, ℕ, ℤ, pos, Bool, true, false, List, [], ◌∷◌, Option, Some, Result, Ok, Err, length, refl, ap, subst, arith}
 use Rattle.std.specs.Prelude.{slice_get, if◌then◌else◌}
 use Rattle.std.specs.List.{IsDistinct}
 use Rattle.std.specs.Ordering.{int_eq}
@@ -23,9 +23,10 @@ use Rattle.expr_code.proofs.Standing.{HasAt, at, seen}
 use Rattle.codegen.specs.Emitted.{block_awaits, block_code, block_records}
 use Rattle.codegen.specs.Plain.{plain_block}
 use Rattle.codegen.specs.Process.{block_into}
+use Rattle.codegen.specs.Program.{main_places, none_open}
 use Rattle.codegen.specs.Room.{block_loops, block_room}
 use Rattle.codegen.proofs.Blocks.{BlockReaches, HasList, block_runs}
-use Rattle.codegen.proofs.MainSteps.{Valid, after_join, if_taken, loop_opened, main_doing, main_places, open_then}
+use Rattle.codegen.proofs.MainSteps.{Valid, after_join, if_taken, loop_opened, main_doing, open_then}
 use Rattle.codegen.proofs.ProgramStanding.{MainStands}
 use Rattle.codegen.proofs.ProgramSteps.{Main, astray, halt}
 use Rattle.codegen.proofs.Running.{Does}
@@ -101,10 +102,6 @@ module _ (code : Code) (may : ℕ → ℤ → ℤ → Bool) where
               refl,
               joined_stands (in_range (index_at code l l.trips)) line a f (pc + 1) st next,
             )
-
--- no loop is opened
-abbrev pub none_open : ℕ → Option ℕ
-none_open id = None
 
 abbrev pub never : ℕ → ℤ → ℤ → Bool
 never n m1 m2 = false

@@ -1,5 +1,5 @@
 -- What main does, one step after another, and what that comes to.
-use Rattle.std.proofs.Common.{◌≡◌, ◌∙◌, ℕ, ℤ, Bool, true, List, [], ◌∷◌, None, Result, Ok, Err, refl, sym}
+use Rattle.std.proofs.Common.{◌≡◌, ◌∙◌, ℕ, ℤ, Bool, true, List, [], ◌∷◌, Result, Ok, Err, refl, sym}
 use Rattle.std.specs.Prelude.{if◌then◌else◌}
 use Rattle.ast.specs.Exact.{in_range}
 use Rattle.ast.specs.Input.{taken, next_integer}
@@ -13,6 +13,7 @@ use Rattle.machine.specs.declared.code.Open.{Open as Opened}
 use Rattle.expr_code.specs.Places.{Places, in_store, loop_index, private_scalar, home, home_of}
 use Rattle.expr_code.specs.Process.{Steps}
 use Rattle.codegen.specs.Process.{Doing}
+use Rattle.codegen.specs.Program.{main_places}
 use Rattle.codegen.proofs.IterationSteps.{Process}
 use Rattle.codegen.proofs.Meaning.{Acts, given_told}
 use Rattle.codegen.proofs.Outcomes.{Outcome}
@@ -64,10 +65,6 @@ module _ (code : Code) (may : ℕ → ℤ → ℤ → Bool) where
   -- a loop that is opened
   abbrev pub Valid : Opened → Type 0
   Valid l = (m1 : ℤ) × (m2 : ℤ) × (l ≡ loop_opened l.number m1 m2) × (may l.number m1 m2 ≡ true)
-
--- main's variables are all in the store
-abbrev pub main_places : List Symbol → Places
-main_places symbols = record { symbols = symbols; privates = []; loop_name = None; line = 0 }
 
 -- ---- main's meaning is that of its statements
 

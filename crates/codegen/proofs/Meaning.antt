@@ -11,7 +11,7 @@ use Rattle.ast.specs.Record.{Printed, number, text, record_of}
 use Rattle.ast.specs.Results.{◌>>=◌}
 use Rattle.ast.specs.Symbols.{Extent, dimensions_in}
 use Rattle.ast.specs.Tree as tree
-use Rattle.ast.specs.Tree.{Ref, Term, Access, accessed, element, no_terms, PrintItem, value_item, text_item, DoHead, Kind, assign, print, read, stop, program, integer, dimension, parameters, do_loop, go_on, block_if, else_if, else_arm, end_if, logical_if, end, Node, Block, Arms}
+use Rattle.ast.specs.Tree.{Ref, Term, Access, accessed, PrintItem, value_item, text_item, DoHead, Kind, assign, print, read, stop, program, integer, dimension, parameters, do_loop, go_on, block_if, else_if, else_arm, end_if, logical_if, end, Node, Block, Arms}
 use Rattle.ast.specs.declared.expression.Operator.TheVariants.{Add}
 use Rattle.ast.specs.declared.fault.End.{End}
 use Rattle.ast.specs.declared.fault.End.TheVariants.{Done, Stopped, Fault as Faulted}
@@ -23,8 +23,9 @@ use Rattle.expr_code.specs.Process.{answered_into, term_into}
 use Rattle.expr_code.proofs.Meaning.{Means, Named, on, on_all, scalar_meant, target_meant, term_meant}
 use Rattle.codegen.specs.Plain.{plain_node, plain_block, plain_arms}
 use Rattle.codegen.specs.Process as process
-use Rattle.codegen.specs.Process.{Doing, arms_into, block_into, elements_into, given_into, grown_into, is_last_stop, items_into, kind_into, node_into, serial_into, set_up_into, step_into, stored_into, turns_into, variable_into, loop_into, opened_into}
+use Rattle.codegen.specs.Process.{Doing, arms_into, block_into, elements_into, given_into, grown_into, items_into, kind_into, node_into, serial_into, set_up_into, step_into, stored_into, turns_into, variable_into, loop_into, opened_into}
 use Rattle.codegen.proofs.Outcomes.{Outcome, failed as broken, told}
+use Rattle.codegen.proofs.Stops.{last_same}
 
 abbrev pub failed : Fault → ℕ → Run → Outcome
 failed e line run = broken (failure e line) run.output
@@ -95,16 +96,6 @@ then_under run f g h = by run.end refl
     by Done e = h run e
     by (Stopped l) e = refl
     by (Faulted k l) e = refl
-
--- a STOP that END follows is told alike in a program and in its plan
-last_same : (n : Node) (b : Block) → process.is_last_stop (plain_node n) (plain_block b) ≡ meaning.is_last_stop n b
-last_same (tree.plain s) tree.no_nodes = refl
-last_same (tree.plain s) (tree.then_node (tree.plain t) tree.no_nodes) = refl
-last_same (tree.plain s) (tree.then_node (tree.plain t) (tree.then_node n b)) = refl
-last_same (tree.plain s) (tree.then_node (tree.loop l h c) b) = refl
-last_same (tree.plain s) (tree.then_node (tree.choose a) b) = refl
-last_same (tree.loop l h c) b = refl
-last_same (tree.choose a) b = refl
 
 module _ (A : Type 0) (D : Doing A) (p : Places) (meant : A → List ℤ → Run → Outcome) (M : Acts A D p meant) where
   -- a continuation that doesn't look at what is left of a record

@@ -7,11 +7,7 @@ use Rattle.ast.specs.Program.{ProgramTree}
 use Rattle.ast.specs.declared.fault.End.{End}
 use Rattle.machine.specs.Code.{Code}
 use Rattle.machine.specs.Solo.{Solo}
-use Rattle.machine.specs.State.{Machine, CodeStep, CodeRun, Init, Ended}
-
--- so many processors and open iterations
-abbrev pub AreSizes : ℕ → ℕ → Type 0
-AreSizes p s = ((1 ≤ p) × (p ≤ 64)) × ((1 ≤ s) × (s ≤ 256))
+use Rattle.machine.specs.State.{Machine, AreSizes, CodeStep, CodeRun, Init, Ended}
 
 -- a text is a beginning of another
 abbrev pub IsBeginning : List ℕ → List ℕ → Type 0

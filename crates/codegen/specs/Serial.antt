@@ -1,6 +1,6 @@
 -- An account of the code: blocks of a program, whose loops are all serial.
-use Rattle.std.specs.Prelude.{◌≡◌, ℕ, ◌+◌, ◌-◌, Bool, true, false, max, Option, Some, None, List, [], ◌∷◌, ◌++◌, length, set}
-use Rattle.ast.specs.Tree.{Term, PrintItem, value_item, text_item, Arm, Kind, stop, end, Node, plain, Block, no_nodes, then_node, Arms}
+use Rattle.std.specs.Prelude.{◌≡◌, ℕ, ◌+◌, ◌-◌, max, Option, Some, None, List, [], ◌∷◌, ◌++◌, length, set}
+use Rattle.ast.specs.Tree.{Term, PrintItem, value_item, text_item, Arm, Node, Block, Arms}
 use Rattle.machine.specs.Code.{Part}
 use Rattle.machine.specs.declared.instr.Act.TheVariants as acts
 use Rattle.machine.specs.declared.instr.Instr.{Instr}
@@ -9,7 +9,6 @@ use Rattle.expr_code.specs.Emitted.{instr, short}
 use Rattle.expr_code.specs.Places.{Places}
 use Rattle.codegen.specs.Emitted.{arms_code, arms_records, block_code, block_records, node_code, node_records}
 use Rattle.codegen.specs.Plain.{plain_arms, plain_block, plain_node}
-use Rattle.codegen.specs.Process.{is_last_stop}
 use Rattle.codegen.specs.Program.{none_open}
 use Rattle.codegen.specs.Room.{block_loops, block_room}
 use Rattle.codegen.specs.declared.nodes.Pending.{Pending}
@@ -45,27 +44,6 @@ closed last (s ∷ ss) is = set (closed last ss is) s.place (instr s.line (acts.
 -- code comes to other code when these skips are filled in
 abbrev pub Ends : List Pending → List Instr → List Instr → Type 0
 Ends ss is js = closed (length is) ss is ≡ js
-
--- whether a block is a STOP that END follows
-abbrev pub is_last_stop_of : Block → Bool
-is_last_stop_of no_nodes = false
-is_last_stop_of (then_node n b) = is_last_stop (plain_node n) (plain_block b)
-
-abbrev pub is_stop_kind : Kind → Bool
-is_stop_kind stop = true
-is_stop_kind _ = false
-
-abbrev pub is_end_kind : Kind → Bool
-is_end_kind end = true
-is_end_kind _ = false
-
-abbrev pub is_stop : Node → Bool
-is_stop (plain s) = is_stop_kind s.kind
-is_stop _ = false
-
-abbrev pub is_end : Node → Bool
-is_end (plain s) = is_end_kind s.kind
-is_end _ = false
 
 -- ---- room, piece by piece
 

@@ -8,6 +8,3 @@ mod statements;
 
 pub use ast::Refusal as CompileRefusal;
 pub use programs::compile;
-
-#[cfg(test)]
-mod tests;

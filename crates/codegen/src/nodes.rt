@@ -3,7 +3,7 @@
 ghost use Rattle.std.specs.Prelude.{◌≡◌, ◌+◌, ◌++◌, ◌∷◌, [], OnOk, length, map, set};
 ghost use Rattle.ast.specs.Tree.{arms as arms_tree};
 ghost use Rattle.ast.specs.View.{arm as arm_of, block_view, head as head_of, node as node_of, optional_term, ref, term};
-ghost use Rattle.codegen.specs.Serial.{body_left_open, closed, records_in_arms, records_in_block, records_in_node, is_end, is_last_stop_of, is_stop, serial_arms, serial_block, serial_node};
+ghost use Rattle.codegen.specs.Serial.{body_left_open, closed, records_in_arms, records_in_block, records_in_node, serial_arms, serial_block, serial_node};
 ghost use Rattle.codegen.specs.Emitted.{grown_code, serial_code, step_code, turns_code, variable_code};
 ghost use Rattle.codegen.specs.Records.{records_of};
 ghost use Rattle.expr_code.specs.Emitted.{instr, short, term_code};
@@ -11,7 +11,7 @@ ghost use Rattle.expr_code.specs.PlacesView.{places_of};
 ghost use Rattle.machine.specs.declared.instr.Act.TheVariants.{SetUp};
 
 use crate::statements::{emit_plain, put};
-use ast::{Arm, DoHead, Expr, Kind, Line, Node, Operator, Reference};
+use ast::{Arm, DoHead, Expr, Line, Node, Operator, Reference, is_last_stop};
 use expr_code::{Places, emit, short};
 use machine::{Act, Instr, Piece};
 use std::alloc::{AllocError, Global};
@@ -227,35 +227,6 @@ fn emit_node(
             emit_loop(alloc, *line, head, range, places, records, code)
         }
         Node::Choice(arms) => emit_arms(alloc, arms, places, records, code),
-    }
-}
-
-fn is_stop(node: &Node) -> bool
-    ensures { result ≡ is_stop (node_of node.now) }
-{
-    match node {
-        Node::Plain(statement) => matches!(statement.kind, Kind::Stop),
-        Node::Loop(_, _, _) | Node::Choice(_) => false,
-    }
-}
-
-fn is_end(node: &Node) -> bool
-    ensures { result ≡ is_end (node_of node.now) }
-{
-    match node {
-        Node::Plain(statement) => matches!(statement.kind, Kind::End),
-        Node::Loop(_, _, _) | Node::Choice(_) => false,
-    }
-}
-
-/// Whether nodes are a STOP and the END that follows it.
-#[tactic(auto, using(crate::proofs::Emitting::two_nodes, crate::proofs::Emitting::other_nodes))]
-fn is_last_stop(nodes: &[Node]) -> bool
-    ensures { result ≡ is_last_stop_of (block_view nodes.now) }
-{
-    match nodes {
-        [first, second] => is_stop(first) && is_end(second),
-        _ => false,
     }
 }
 

@@ -2,16 +2,17 @@
 use Rattle.std.proofs.Common.{◌≡◌, ℕ, List, Option, Result, Ok, Err, Vec, inl, inr, subst, sym}
 use Rattle.ast.specs.ProgramView.{program as program_of}
 use Rattle.std.specs.Global.{Global}
-use Rattle.doac.specs.Engines.{AfterFile, Checks, EndsAs, HasStatus, IsRefused, IsVerdict, Tells, Works, exit_of}
-use Rattle.doac.specs.declared.fault.EngineFault.{EngineFault}
-use Rattle.doac.specs.declared.fault.EngineFault.TheVariants.{Source, Input, Schedule, Writing, Memory}
+use Rattle.engines.specs.Engines.{Checks, IsRefused, IsVerdict, Tells, Works}
+use Rattle.doac.specs.Statuses.{AfterFile, EndsAs, HasStatus, exit_of}
+use Rattle.engines.specs.declared.fault.EngineFault.{EngineFault}
+use Rattle.engines.specs.declared.fault.EngineFault.TheVariants.{Source, Input, Schedule, Writing, Memory}
 use Rattle.doac.specs.declared.files.FileFault.{FileFault}
 use Rattle.doac.specs.declared.files.FileFault.TheVariants as files
 use Rattle.doac.specs.declared.files.FileFault.TheVariants.{Opening, Reading}
-use Rattle.doac.specs.declared.outcome.Outcome.{Outcome}
-use Rattle.doac.specs.declared.outcome.Outcome.TheVariants.{Completed, Refused, Faulted, NoSchedule}
-use Rattle.doac.specs.declared.verdict.Verdict.{Verdict}
-use Rattle.doac.specs.declared.verdict.Verdict.TheVariants as verdict
+use Rattle.engines.specs.declared.outcome.Outcome.{Outcome}
+use Rattle.engines.specs.declared.outcome.Outcome.TheVariants.{Completed, Refused, Faulted, NoSchedule}
+use Rattle.engines.specs.declared.verdict.Verdict.{Verdict}
+use Rattle.engines.specs.declared.verdict.Verdict.TheVariants as verdict
 
 -- the status of work on texts
 pub of_works : (allows : Outcome → List ℕ → Type 0) (old new : Option (List ℕ)) (r : Result Outcome EngineFault) (status : ℕ)

@@ -1,10 +1,11 @@
 -- The command lines of the program, as clap reads them.
-use Rattle.std.specs.Prelude.{◌≡◌, ◌≢◌, ⊤, ◌⊎◌, ◌&&◌, ◌||◌, nat_le, ℕ, Bool, true, false, codes, List, [], ◌∷◌, Option, Some, None, option_map}
+use Rattle.std.specs.Prelude.{◌≡◌, ◌≢◌, ⊤, ◌⊎◌, ℕ, Bool, true, false, codes, List, [], ◌∷◌, Option, Some, None, option_map}
 use Rattle.std.specs.Str.Parse.{IsNumeral, digits_value, without_leading_plus}
 use Rattle.clap.specs.Words.{App, IsAmong, Row, Rule, Text, fault_of, first_of, kind_of, new_app, new_rule, one_of, subcommand_of, with_rule, with_subcommand}
 use Rattle.clap.specs.declared.error.Error.{Error}
 use Rattle.clap.specs.declared.error.kind.ErrorKind.TheVariants.{DisplayHelp, DisplayVersion, OutOfMemory}
 use Rattle.clap.specs.declared.builder.action.ArgAction.TheVariants.{Set, SetTrue}
+use Rattle.engines.specs.Explained.{is_explained}
 use Rattle.doac.specs.declared.command.Command.{Command}
 use Rattle.doac.specs.declared.command.Command.TheVariants.{Check, Seq, Replay, Upgrade, Explain}
 use Rattle.doac.specs.declared.command.LineFault.{LineFault}
@@ -64,14 +65,6 @@ doac =
 -- what clap makes of a flag
 abbrev pub IsFlag : Bool → Option Text → Type 0
 IsFlag flag given = (given ≡ Some (codes "true") → flag ≡ true) × (given ≡ Some (codes "false") → flag ≡ false) × (given ≡ None → flag ≡ false)
-
-abbrev pub is_within : ℕ → ℕ → ℕ → Bool
-is_within least most n = nat_le least n && nat_le n most
-
--- the numbers that are explained: of the rules for lines, for statements and for the profile, of those
--- for schedules, and of code that is too long; those of the faults, 1 to 6, are among them
-abbrev pub is_explained : ℕ → Bool
-is_explained n = is_within 1 8 n || is_within 20 27 n || is_within 30 43 n || is_within 51 56 n || is_within 61 61 n
 
 -- a text writes an explained number, where a plus sign may stand first
 abbrev pub IsNumber : ℕ → Text → Type 0

@@ -1,7 +1,7 @@
 -- The exit status of a command, by texts that its files may hold.
 use Rattle.std.specs.Prelude.{ℕ, List, option_map}
-use Rattle.doac.specs.Engines.{Checks, EndsAs, HasStatus, OfGiven, OfPrint, Runs}
-use Rattle.doac.specs.Schedules.{EndsReplay, EndsUpgrade}
+use Rattle.engines.specs.Engines.{Checks, Runs}
+use Rattle.doac.specs.Statuses.{EndsAs, EndsReplay, EndsUpgrade, HasStatus, OfGiven, OfPrint}
 use Rattle.doac.specs.declared.command.Command.{Command}
 use Rattle.doac.specs.declared.command.Command.TheVariants.{Check, Seq, Replay, Upgrade, Explain}
 

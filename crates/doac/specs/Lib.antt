@@ -1,7 +1,3 @@
 pub mod CommandLine
 pub mod Commands
-pub mod Engines
-pub mod Reading
-pub mod Schedules
-pub mod Shown
-pub mod View
+pub mod Statuses

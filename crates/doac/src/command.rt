@@ -5,9 +5,9 @@ ghost use Rattle.clap.specs.Words.{first_of, found_of, one_of, rows_of, subcomma
 ghost use Rattle.doac.specs.CommandLine.{HeldIn, HeldInNone, HoldsNone, Holds, IsFlag, IsNumber, MadeOf};
 ghost use Rattle.doac.specs.declared.command.LineFault.TheVariants.{Memory, NoSuchNumber};
 
-use crate::explain::is_explained;
 use clap::ArgMatches;
 use clap::error::ErrorKind;
+use engines::explain::is_explained;
 use std::alloc::AllocError;
 use thiserror::Error;
 

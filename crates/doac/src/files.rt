@@ -1,7 +1,6 @@
 //! The files that the program reads.
 
-use crate::fault::ReadFault;
-use crate::streams::read_all;
+use engines::{ReadFault, Texts, read_all};
 use std::rt::Files;
 use std::{fs, io};
 use thiserror::Error;
@@ -22,7 +21,7 @@ pub enum FileFault {
 
 impl FileFault {
     ghost use Rattle.std.specs.Prelude.{◌≡◌};
-    ghost use Rattle.doac.specs.Engines.{file_status};
+    ghost use Rattle.doac.specs.Statuses.{file_status};
 
     /// The exit status: 4 for the file, 5 for memory.
     pub fn status(&self) -> u8
@@ -55,14 +54,6 @@ pub struct Names<'a> {
     pub source: &'a str,
     pub input: &'a str,
     pub schedule: &'a str,
-}
-
-/// What these files hold.
-#[derive(Drop)]
-pub struct Texts {
-    pub source: Vec<u8>,
-    pub input: Vec<u8>,
-    pub schedule: Vec<u8>,
 }
 
 /// A file whose bytes couldn't be had.

@@ -1,22 +1,19 @@
 //! The program: its words, its files, and what it says on standard error.
 
 ghost use Rattle.std.specs.Prelude.{◌≡◌, ℕ, List, option_map};
-ghost use Rattle.doac.specs.Engines.{AfterFile, AfterFiles, Checks, EndsAs, HasStatus, OfGiven, OfPrint, Runs, exit_of, file_status};
+ghost use Rattle.engines.specs.Engines.{Checks, Runs};
+ghost use Rattle.engines.specs.Schedules.{Replaying};
+ghost use Rattle.engines.specs.declared.texts.Texts.{Texts};
 ghost use Rattle.doac.specs.Commands.{Obeys};
-ghost use Rattle.doac.specs.Schedules.{Replaying, UpgradeEnds};
-ghost use Rattle.doac.specs.declared.files.Texts.{Texts};
+ghost use Rattle.doac.specs.Statuses.{AfterFile, AfterFiles, EndsAs, HasStatus, OfGiven, OfPrint, UpgradeEnds, exit_of, file_status};
 
 use crate::command::{Command, LineFault};
 use crate::command_line::command;
-use crate::engines::{replay_texts, seq_texts, tell_verdict};
-use crate::explain;
-use crate::fault::EngineFault;
-use crate::files::{FileFault, Names, Texts, Unread, read_file, read_texts};
-use crate::message::{Message, Place};
-use crate::outcome::Outcome;
-use crate::replays::{Upgraded, upgrade_texts};
-use crate::verdict::{Verdict, judged};
-use crate::warnings::warn;
+use crate::files::{FileFault, Names, Unread, read_file, read_texts};
+use engines::{
+    EngineFault, Message, Outcome, Place, Texts, Upgraded, Verdict, explain, judged, replay_texts,
+    seq_texts, tell_verdict, upgrade_texts, warn,
+};
 use std::rt::{Env, Files};
 use std::{env, fs, io};
 

@@ -31,6 +31,3 @@
 mod kernel;
 
 pub use kernel::Kernel;
-
-#[cfg(test)]
-mod tests;

@@ -8,6 +8,3 @@ pub mod room;
 pub use emitting::{emit, emit_place};
 pub use places::{Places, short};
 pub use room::{operands, operands_of_place};
-
-#[cfg(test)]
-mod tests;

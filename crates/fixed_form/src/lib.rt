@@ -10,6 +10,3 @@ pub use ast::Refusal as LineRefusal;
 pub use labelled::Labelled;
 pub use line::{TEXT_WIDTH, is_end};
 pub use reading::statements;
-
-#[cfg(test)]
-mod tests;

@@ -15,7 +15,6 @@ pub mod Leading
 pub mod Nesting
 pub mod Offsets
 pub mod Placing
-pub mod Scanning
 pub mod Seats
 pub mod Storing
 pub mod Straight

@@ -12,7 +12,6 @@ pub mod Placed
 pub mod Printing
 pub mod Runs
 pub mod Running
-pub mod Scanning
 pub mod Shapes
 pub mod Slots
 pub mod Steps

@@ -4,11 +4,11 @@ ghost use Rattle.std.specs.Prelude.{◌≡◌};
 ghost use Rattle.ast.specs.Input.{next_integer, records_of, taken, well_formed, integers_of};
 ghost use Rattle.interpreter.specs.Runs.{Gives, GivesInteger, left};
 
-use crate::scanner::scan;
 use crate::stop::Stop;
 use ast::{Fault, Line};
 use bstr::{ByteSlice, Lines};
 use std::alloc::Global;
+use values::scan;
 
 /// The records of an input that are left, and the integers of the last one taken.
 #[derive(Drop)]

@@ -20,7 +20,6 @@ mod pairs;
 mod places;
 mod print;
 mod run;
-mod scanner;
 mod statements;
 mod stop;
 

@@ -6,7 +6,7 @@ ghost use Rattle.ast.specs.Program.{is_placed};
 ghost use Rattle.ast.specs.Tree.{arms as arms_tree, assign, loop, read};
 ghost use Rattle.ast.specs.View.{access as access_of, arm, block_view, head as head_of, node as node_of, optional_term, ref, statement as statement_of, term};
 ghost use Rattle.ast.specs.declared.fault.End.TheVariants.{Done};
-ghost use Rattle.interpreter.specs.Executing.{holds_at, is_end, is_last_stop_of, is_stop};
+ghost use Rattle.interpreter.specs.Executing.{holds_at};
 ghost use Rattle.interpreter.specs.Placed.{PlacedAccess, PlacedAccesses, PlacedArms, PlacedBlock, PlacedHead, PlacedKind, PlacedNode, PlacedOptional, PlacedTerm};
 ghost use Rattle.interpreter.specs.Runs.{Completes, GivesValue, Reaches, left, run_of, symbols_of};
 ghost use Rattle.interpreter.specs.View.{look, store_in, symbols_in};
@@ -16,7 +16,7 @@ use crate::machine::Machine;
 use crate::memory::Memory;
 use crate::print::print;
 use crate::stop::Stop;
-use ast::{Access, Arm, DoHead, Expr, Fault, Kind, Line, Node, Reference, Stmt};
+use ast::{Access, Arm, DoHead, Expr, Fault, Kind, Line, Node, Reference, Stmt, is_last_stop};
 use values::{add, trips};
 
 /// Gives an element another value.
@@ -142,35 +142,6 @@ fn step_value(memory: &Memory<'_>, line: Line, step: &Option<Expr>) -> Result<i6
     match step {
         None => Ok(1),
         Some(step) => value_at(memory, line, step),
-    }
-}
-
-fn is_stop(node: &Node) -> bool
-    ensures { result ≡ is_stop (node_of node.now) }
-{
-    match node {
-        Node::Plain(statement) => matches!(statement.kind, Kind::Stop),
-        Node::Loop(_, _, _) | Node::Choice(_) => false,
-    }
-}
-
-fn is_end(node: &Node) -> bool
-    ensures { result ≡ is_end (node_of node.now) }
-{
-    match node {
-        Node::Plain(statement) => matches!(statement.kind, Kind::End),
-        Node::Loop(_, _, _) | Node::Choice(_) => false,
-    }
-}
-
-/// Whether nodes are a STOP and the END that follows it.
-#[tactic(auto, using(crate::proofs::Blocks::two_nodes, crate::proofs::Blocks::other_nodes))]
-pub fn is_last_stop(nodes: &[Node]) -> bool
-    ensures { result ≡ is_last_stop_of (block_view nodes.now) }
-{
-    match nodes {
-        [first, second] => is_stop(first) && is_end(second),
-        _ => false,
     }
 }
 

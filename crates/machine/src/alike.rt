@@ -20,6 +20,7 @@ struct Written {
 }
 
 /// A form with a number.
+#[inline(always)]
 fn numbered(form: u8, number: i64) -> Written
     ensures { result ≡ numbered form number }
 {
@@ -37,6 +38,7 @@ fn numbered(form: u8, number: i64) -> Written
 }
 
 /// A form with the number of what it stands for.
+#[inline(always)]
 fn counted(form: u8, number: u32) -> Written
     ensures { result ≡ numbered form (pos number) }
 {
@@ -44,6 +46,7 @@ fn counted(form: u8, number: u32) -> Written
 }
 
 /// What an instruction is made of.
+#[inline(always)]
 fn content(act: Act) -> Written
     ensures { result ≡ content act }
 {
@@ -92,12 +95,14 @@ fn content(act: Act) -> Written
     }
 }
 
+#[inline(always)]
 fn same_axis(a: Axis, b: Axis) -> bool
     ensures { Decides result (a ≡ b) }
 {
-    a.lower == b.lower && a.width == b.width && a.stride == b.stride
+    a == b
 }
 
+#[inline(always)]
 fn same_content(a: Written, b: Written) -> bool
     ensures { Decides result (a ≡ b) }
 {
@@ -108,6 +113,7 @@ fn same_content(a: Written, b: Written) -> bool
         && a.prefix == b.prefix
 }
 
+#[inline(always)]
 fn same_instruction(a: Instr, b: Instr) -> bool
     ensures { Decides result (a ≡ b) }
 {
@@ -172,12 +178,6 @@ fn same_records(a: &[Vec<Piece>], b: &[Vec<Piece>]) -> bool
     true
 }
 
-fn same_await(a: Await, b: Await) -> bool
-    ensures { Decides result (a ≡ b) }
-{
-    a.event == b.event && a.distance == b.distance
-}
-
 fn same_awaits(a: &[Await], b: &[Await]) -> bool
     ensures { Decides result (a.now ≡ b.now) }
 {
@@ -185,7 +185,7 @@ fn same_awaits(a: &[Await], b: &[Await]) -> bool
         return false;
     }
     for i in 0..a.len() {
-        if !same_await(a[i], b[i]) {
+        if a[i] != b[i] {
             return false;
         }
     }
@@ -195,7 +195,7 @@ fn same_awaits(a: &[Await], b: &[Await]) -> bool
 fn same_variable(a: Variable, b: Variable) -> bool
     ensures { Decides result (a ≡ b) }
 {
-    a.name == b.name && a.start == b.start && a.size == b.size
+    a == b
 }
 
 fn same_variables(a: &[Variable], b: &[Variable]) -> bool

@@ -21,6 +21,3 @@ pub use frame::{Counter, Frame};
 pub use instr::{Act, Axis, Instr};
 pub use next::{Next, stands_next};
 pub use working::{Stop, local, stands_local};
-
-#[cfg(test)]
-mod tests;

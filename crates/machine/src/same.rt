@@ -5,7 +5,6 @@ ghost use Rattle.std.specs.Bool.{Decides};
 ghost use Rattle.machine.specs.FrameView.{frame_of, room_of, stack_of};
 
 use crate::frame::{Counter, Frame};
-use ast::{Fault, Line};
 
 /// What stands on a stack.
 fn used<T>(slots: &[T], top: usize) -> &[T]
@@ -25,23 +24,6 @@ fn room(top: usize, slots: usize) -> usize
     if top <= slots { slots } else { 0 }
 }
 
-/// Whether two numbers, or two that aren't there, are equal.
-fn same_private(a: Option<i64>, b: Option<i64>) -> bool
-    ensures { Decides result (a ≡ b) }
-{
-    match (a, b) {
-        (Some(a), Some(b)) => a == b,
-        (None, None) => true,
-        (Some(_), None) | (None, Some(_)) => false,
-    }
-}
-
-fn same_counter(a: Counter, b: Counter) -> bool
-    ensures { Decides result (a ≡ b) }
-{
-    a.left == b.left && a.step == b.step
-}
-
 fn same_numbers(a: &[i64], b: &[i64]) -> bool
     ensures { Decides result (a.now ≡ b.now) }
 {
@@ -55,7 +37,7 @@ fn same_privates(a: &[Option<i64>], b: &[Option<i64>]) -> bool
         return false;
     }
     for i in 0..a.len() {
-        if !same_private(a[i], b[i]) {
+        if a[i] != b[i] {
             return false;
         }
     }
@@ -69,7 +51,7 @@ fn same_counters(a: &[Counter], b: &[Counter]) -> bool
         return false;
     }
     for i in 0..a.len() {
-        if !same_counter(a[i], b[i]) {
+        if a[i] != b[i] {
             return false;
         }
     }
@@ -92,34 +74,11 @@ fn same_loops(a: &[Counter], top_a: usize, b: &[Counter], top_b: usize) -> bool
     room(top_a, a.len()) == room(top_b, b.len()) && same_counters(used(a, top_a), used(b, top_b))
 }
 
-fn same_number(a: Option<u128>, b: Option<u128>) -> bool
-    ensures { Decides result (a ≡ b) }
-{
-    match (a, b) {
-        (Some(a), Some(b)) => a == b,
-        (None, None) => true,
-        (Some(_), None) | (None, Some(_)) => false,
-    }
-}
-
-fn same_fault(a: Option<(Fault, Line)>, b: Option<(Fault, Line)>) -> bool
-    ensures { Decides result (a ≡ b) }
-{
-    match (a, b) {
-        (Some((a, l)), Some((b, m))) => a == b && l == m,
-        (None, None) => true,
-        (Some(_), None) | (None, Some(_)) => false,
-    }
-}
-
 /// Whether what frames have beside stacks and private scalars is equal.
 fn same_rest(a: &Frame, b: &Frame) -> bool
     ensures { Decides result ((a.now.place ≡ b.now.place) × (a.now.index ≡ b.now.index) × (a.now.number ≡ b.now.number) × (a.now.fault ≡ b.now.fault)) }
 {
-    a.place == b.place
-        && a.index == b.index
-        && same_number(a.number, b.number)
-        && same_fault(a.fault, b.fault)
+    a.place == b.place && a.index == b.index && a.number == b.number && a.fault == b.fault
 }
 
 /// Whether stacks and private scalars of frames are equal.

@@ -33,6 +33,3 @@ mod links;
 mod table;
 
 pub use links::{LAST, Links};
-
-#[cfg(test)]
-mod tests;

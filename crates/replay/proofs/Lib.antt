@@ -10,7 +10,6 @@ pub mod Queues
 pub mod Turning
 pub mod Leading
 pub mod Pieces
-pub mod Scanning
 pub mod Values
 pub mod Entering
 pub mod Remaining

@@ -4,7 +4,8 @@ use Rattle.std.proofs.lemmas.List.{length-append}
 use Rattle.replay.specs.Kept.{IsKept, entry_of, seen, taken}
 use Rattle.replay.specs.Reading.{entry_at, header_at, sizes_at}
 use Rattle.replay.specs.Refusals.{BeginsEntry, Explains, Refuses, number_of}
-use Rattle.replay.specs.Schedules.{Act, picks, AreSizes, Entry, IsAct, IsSchedule, SchedText, Schedule, entry_text, header, line_before, most_processors, text_before, with_entry}
+use Rattle.replay.specs.Schedules.{Act, picks, Entry, IsAct, IsSchedule, SchedText, Schedule, entry_text, header, line_before, text_before, with_entry}
+use Rattle.machine.specs.State.{AreSizes, most_processors}
 use Rattle.replay.specs.declared.entry.Version.{Version}
 use Rattle.replay.specs.declared.reading.NoEntry.{NoEntry}
 use Rattle.replay.specs.declared.reading.NoEntry.TheVariants.{Form, Processor}

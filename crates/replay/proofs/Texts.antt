@@ -7,7 +7,8 @@ use Rattle.std.proofs.lemmas.Bool.{and_parts, le-leb, leb-true, lt-ltb, ltb-true
 use Rattle.std.proofs.lemmas.Fmt.{decimal_digit}
 use Rattle.replay.specs.Reading.{act_at, after, bounded, burst_of, counted_at, entry_at, entry_by, entry_of, header_at, if_some, in_range, iteration_at, line_at, named_at, number_at, or_else, picked_at, size_at, sizes_at}
 use Rattle.replay.specs.Refusals.{BeginsEntry, IsNumber, is_digit}
-use Rattle.replay.specs.Schedules.{Act, works, shares, picks_main, picks, takes_ticket, AreSizes, Entry, IsAct, act_text, entry_text, header, line_before, longest_burst, most_processors, most_slots, sizes_text}
+use Rattle.replay.specs.Schedules.{Act, works, shares, picks_main, picks, takes_ticket, Entry, IsAct, act_text, entry_text, header, line_before, longest_burst, sizes_text}
+use Rattle.machine.specs.State.{AreSizes, most_processors, most_slots}
 use Rattle.replay.specs.declared.entry.Version.{Version}
 use Rattle.replay.specs.declared.entry.Version.TheVariants.{First, Second}
 use Rattle.replay.specs.declared.reading.NoEntry.TheVariants.{Form, Processor}

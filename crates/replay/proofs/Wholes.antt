@@ -2,7 +2,8 @@
 use Rattle.std.proofs.Common.{◌≡◌, ◌≢◌, ℕ, ◌<◌, ◌≤◌, List, [], ◌∷◌, ◌++◌, Option, Some, None, Result, Ok, Err, refl, sym, ap, subst, ◌∙◌, ◌⊎◌, inl, inr, arith}
 use Rattle.replay.specs.Reading.{entry_at, entry_by, header_at, in_range, sizes_at}
 use Rattle.replay.specs.Refusals.{BeginsEntry, GoesOn, NoHeader, NoSizes, Refuses}
-use Rattle.replay.specs.Schedules.{AreEntries, Entry, IsAct, SchedText, Schedule, entries_before, entry_text, header, line_before, most_processors, sizes_text, text_before, text_of, with_entry}
+use Rattle.replay.specs.Schedules.{AreEntries, Entry, IsAct, SchedText, Schedule, entries_before, entry_text, header, line_before, sizes_text, text_before, text_of, with_entry}
+use Rattle.machine.specs.State.{most_processors}
 use Rattle.replay.specs.declared.entry.Version.{Version}
 use Rattle.replay.specs.declared.reading.NoEntry.{NoEntry}
 use Rattle.replay.specs.declared.reading.NoEntry.TheVariants.{Processor}

@@ -3,7 +3,8 @@ use Rattle.std.specs.Prelude.{◌≡◌, ℕ, List, []}
 use Rattle.machine.specs.Code.{Code}
 use Rattle.replay.specs.Parts.{Kept, point_of}
 use Rattle.replay.specs.Replays.{Point, beginning}
-use Rattle.replay.specs.Schedules.{AreSizes, Entry, Schedule, with_entry}
+use Rattle.replay.specs.Schedules.{Entry, Schedule, with_entry}
+use Rattle.machine.specs.State.{AreSizes}
 use Rattle.replay.specs.declared.entry.Version.TheVariants.{Second}
 
 -- its code and input, the schedule of what it did, and what it keeps

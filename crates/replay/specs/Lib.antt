@@ -12,7 +12,6 @@ pub mod Reading
 pub mod Refusals
 pub mod Replayed
 pub mod Replays
-pub mod Scanning
 pub mod Schedules
 pub mod Sharing
 pub mod Stepping

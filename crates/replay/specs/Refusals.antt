@@ -2,7 +2,8 @@
 use Rattle.std.specs.Prelude.{◌≡◌, ◌≢◌, ◌≤◌, ◌+◌, ◌⊎◌, nat_le, Bool, true, false, not, ◌&&◌, ◌==◌, ℕ, List, [], ◌∷◌, ◌++◌, length, ⊤}
 use Rattle.std.specs.List.{list_all}
 use Rattle.std.specs.Str.Parse.{digits_value}
-use Rattle.replay.specs.Schedules.{Act, IsAct, AreSizes, Schedule, IsSchedule, act_text, header, line_before, sizes_text, text_before}
+use Rattle.replay.specs.Schedules.{Act, IsAct, Schedule, IsSchedule, act_text, header, line_before, sizes_text, text_before}
+use Rattle.machine.specs.State.{AreSizes}
 use Rattle.replay.specs.declared.entry.Version.{Version}
 use Rattle.replay.specs.declared.reading.NoEntry.{NoEntry}
 use Rattle.replay.specs.declared.reading.NoEntry.TheVariants.{Form, Processor}

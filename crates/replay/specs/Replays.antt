@@ -5,10 +5,10 @@ use Rattle.ec_kernel.specs.View.{first_of, without, parked, advanced, restarted,
 use Rattle.machine.specs.Code.{Code}
 use Rattle.machine.specs.Frame.{Frame}
 use Rattle.machine.specs.Local.{is_local}
-use Rattle.machine.specs.State.{Active, Machine, CodeRun, CodeStep, Init, Wait, until_count, until_retired, Who, the_main, iteration, Choice, take_main, take_iteration, take_ticket, Takes}
+use Rattle.machine.specs.State.{Active, Machine, CodeRun, CodeStep, Init, Wait, until_count, until_retired, Who, the_main, iteration, Choice, take_main, take_iteration, take_ticket, Takes, AreSizes}
 use Rattle.machine.specs.View.{View, advancing, leaving, opening, stuck, most_events, view, trips_of, begin}
 use Rattle.machine.specs.declared.code.Open.{Open}
-use Rattle.replay.specs.Schedules.{AreSizes, IsSchedule, Act, works, shares, picks_main, picks, takes_ticket, Entry, Schedule}
+use Rattle.replay.specs.Schedules.{IsSchedule, Act, works, shares, picks_main, picks, takes_ticket, Entry, Schedule}
 use Rattle.replay.specs.declared.entry.Version.{Version}
 use Rattle.replay.specs.declared.entry.Version.TheVariants.{First, Second}
 

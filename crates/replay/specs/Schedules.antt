@@ -1,5 +1,6 @@
 -- Schedules: what each processor did, turn by turn, and how that is written.
 use Rattle.std.specs.Prelude.{◌≡◌, ◌≤◌, ◌<◌, ◌^◌, ℕ, codes, decimal, List, [], ◌∷◌, ◌++◌, ⊤}
+use Rattle.machine.specs.State.{AreSizes}
 use Rattle.replay.specs.declared.entry.Version.{Version}
 use Rattle.replay.specs.declared.entry.Version.TheVariants.{First, Second}
 
@@ -25,12 +26,6 @@ pub record Schedule : Type 0 where
   pub slots : ℕ
   pub entries : List Entry
 
-abbrev pub most_processors : ℕ
-most_processors = 64
-
-abbrev pub most_slots : ℕ
-most_slots = 256
-
 -- the greatest number of local instructions of an entry
 abbrev pub longest_burst : ℕ
 longest_burst = 1024
@@ -47,9 +42,6 @@ IsAct First _ = ⊥
 abbrev pub AreEntries : Version → ℕ → List Entry → Type 0
 AreEntries v p [] = ⊤
 AreEntries v p (e ∷ es) = ((e.processor < p) × IsAct v e.act) × AreEntries v p es
-
-abbrev pub AreSizes : ℕ → ℕ → Type 0
-AreSizes p s = ((1 ≤ p) × (p ≤ most_processors)) × ((1 ≤ s) × (s ≤ most_slots))
 
 abbrev pub IsSchedule : Schedule → Type 0
 IsSchedule x = AreSizes x.processors x.slots × AreEntries x.version x.processors x.entries

@@ -3,12 +3,12 @@ use Rattle.std.specs.Prelude.{◌≡◌, ◌<◌, ◌⊎◌, ⊤, ℕ, true, fal
 use Rattle.ast.specs.declared.fault.End.{End}
 use Rattle.machine.specs.Code.{Code}
 use Rattle.machine.specs.Frame.{Frame}
-use Rattle.machine.specs.State.{Choice, take_ticket, CodeStep, Machine}
+use Rattle.machine.specs.State.{Choice, take_ticket, CodeStep, Machine, AreSizes}
 use Rattle.replay.specs.Activities.{frame_at}
 use Rattle.replay.specs.CoreView.{CoreView, IsAfter, point_at}
 use Rattle.replay.specs.Making.{pick_of}
 use Rattle.replay.specs.Replays.{Point, ByRule, Moves, Picks, Works, local_in}
-use Rattle.replay.specs.Schedules.{AreSizes, works, shares}
+use Rattle.replay.specs.Schedules.{works, shares}
 use Rattle.replay.specs.declared.stepped.CoreRefusal.{CoreRefusal}
 use Rattle.replay.specs.declared.stepped.CoreRefusal.TheVariants as refusals
 use Rattle.replay.specs.declared.stepped.HandIn.{HandIn}

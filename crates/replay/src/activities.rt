@@ -98,10 +98,9 @@ impl<'c> Activities<'c> {
     ghost use Rattle.machine.specs.Frame.{Frame as Plain};
     ghost use Rattle.machine.specs.FrameView.{frame_of};
     ghost use Rattle.machine.specs.Local.{locals};
-    ghost use Rattle.machine.specs.State.{Choice as PlainChoice};
+    ghost use Rattle.machine.specs.State.{Choice as PlainChoice, AreSizes};
     ghost use Rattle.replay.specs.Activities.{AreActivities, AreOf, Did, Stays, chosen, code_in, frame_at, frame_there, kept_in, point_in};
     ghost use Rattle.replay.specs.Replays.{ByRule, Moves, Picks, Point, Works, beginning};
-    ghost use Rattle.replay.specs.Schedules.{AreSizes};
 
     /// Main is ready, and nothing else has happened. There are 1 to 64 processors and 1 to 256 slots.
     pub fn new(

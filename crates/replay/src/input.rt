@@ -4,10 +4,10 @@ ghost use Rattle.std.specs.Prelude.{◌≡◌, [], IfOk, OnErr};
 ghost use Rattle.ast.specs.Input.{next_integer, records_of, taken};
 ghost use Rattle.replay.specs.PartsView.{Took, TookValue, input_of};
 
-use crate::scanner::scan;
 use ast::Fault;
 use bstr::{ByteSlice, Lines};
 use std::alloc::{AllocError, Global};
+use values::scan;
 
 /// The records of an input that are left, and the integers of the last one taken.
 #[derive(Drop)]

@@ -18,7 +18,6 @@ mod reading;
 mod recording;
 mod refusal;
 mod replaying;
-mod scanner;
 mod schedule;
 mod sharing;
 mod short;

@@ -2,7 +2,7 @@
 
 ghost use Rattle.std.specs.Prelude.{◌≡◌, ◌≤◌, option_map};
 ghost use Rattle.replay.specs.Reading.{act_at, after, bounded, counted_at, entry_at, header_at, line_at, picked_at, size_at, sizes_at};
-ghost use Rattle.replay.specs.Schedules.{most_processors};
+ghost use Rattle.machine.specs.State.{most_processors};
 ghost use Rattle.replay.specs.View.{act as act_of, entry as entry_of, read_as};
 
 use crate::entry::{Act, Entry, Version};

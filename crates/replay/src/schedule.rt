@@ -3,7 +3,8 @@
 ghost use Rattle.std.specs.Prelude.{◌≡◌, ◌≢◌, ◌<◌, ◌^◌, ◌++◌, ◌∷◌, [], IfOk, IfErr, OnOk, OnErr, length};
 ghost use Rattle.replay.specs.Kept.{entries_of, entry_of, taken};
 ghost use Rattle.replay.specs.Refusals.{Explains, Refuses, number_of};
-ghost use Rattle.replay.specs.Schedules.{AreSizes, Entry as EntryOf, IsAct, IsSchedule, SchedText, Schedule as ScheduleOf, text_before, text_of, picks, with_entry};
+ghost use Rattle.replay.specs.Schedules.{Entry as EntryOf, IsAct, IsSchedule, SchedText, Schedule as ScheduleOf, text_before, text_of, picks, with_entry};
+ghost use Rattle.machine.specs.State.{AreSizes};
 ghost use Rattle.replay.specs.View.{act as act_view, entry as entry_view};
 
 use crate::entry::{Act, Entry, Version};

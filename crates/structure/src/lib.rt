@@ -10,6 +10,3 @@ mod whole;
 pub use span::{Blocks, Span};
 pub use structure::Structure;
 pub use whole::blocks;
-
-#[cfg(test)]
-mod tests;

@@ -11,6 +11,3 @@ mod statements;
 
 pub use ast::Refusal as SyntaxRefusal;
 pub use statements::statement;
-
-#[cfg(test)]
-mod tests;

@@ -1,12 +1,13 @@
-use Rattle.std.proofs.Common.{rules, ◌≡◌, ◌+◌, ◌-◌, ◌++◌, ◌∷◌, [], false, length, map, drop, ℕ, List, Some, refl, sym, ap, subst, ◌∙◌}
-use Rattle.ast.specs.Tree.{Arms, Block, then_arm, then_node, arms as arms_tree}
-use Rattle.ast.specs.View.{arm as arm_of, block_view, node as node_of, optional_term, ref, term}
+use Rattle.std.proofs.Common.{rules, ◌≡◌, ◌+◌, ◌-◌, ◌++◌, ◌∷◌, [], false, length, map, drop, List, Some, refl, sym, ap, subst, ◌∙◌}
+use Rattle.ast.specs.Meaning.{is_last_stop_of}
+use Rattle.ast.specs.Tree.{then_arm, then_node, arms as arms_tree}
+use Rattle.ast.specs.View.{arm as arm_of, block_view, node as node_of, ref, term}
 use Rattle.expr_code.specs.Emitted.{short, term_code}
 use Rattle.expr_code.specs.PlacesView.{places_of}
 use Rattle.machine.specs.declared.instr.Instr.{Instr}
 use Rattle.codegen.specs.Emitted.{grown_code}
 use Rattle.codegen.specs.Records.{records_of}
-use Rattle.codegen.specs.Serial.{Ends, is_last_stop_of, records_in_arms, records_in_block, records_in_node, serial_arms, serial_block}
+use Rattle.codegen.specs.Serial.{Ends, records_in_arms, records_in_block, records_in_node, serial_arms, serial_block}
 use Rattle.codegen.specs.declared.nodes.Pending.{Pending}
 use Rattle.codegen.proofs.Emitting.{arm_here, item_here, rest_of, arm_next, arm_records_next, block_next, body_emitted, count_on, records_next, trips_emitted}
 use Rattle.codegen.proofs.nodes.+nodes.Goals as goal

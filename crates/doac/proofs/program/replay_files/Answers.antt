@@ -1,5 +1,5 @@
-use Rattle.doac.specs.Engines.{HasStatus}
-use Rattle.doac.specs.Schedules.{Replaying}
+use Rattle.engines.specs.Schedules.{Replaying}
+use Rattle.doac.specs.Statuses.{HasStatus}
 use Rattle.doac.proofs.Upgrading.{after_files}
 use Rattle.doac.proofs.program.replay_files.Goals as goal
 

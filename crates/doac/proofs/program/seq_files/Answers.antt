@@ -1,5 +1,6 @@
 use Rattle.std.proofs.Common.{option_map}
-use Rattle.doac.specs.Engines.{HasStatus, OfGiven, Runs}
+use Rattle.engines.specs.Engines.{Runs}
+use Rattle.doac.specs.Statuses.{HasStatus, OfGiven}
 use Rattle.doac.proofs.Statuses.{after_file}
 use Rattle.doac.proofs.program.seq_files.Goals as goal
 

@@ -1,4 +1,4 @@
-use Rattle.doac.specs.Schedules.{UpgradeEnds}
+use Rattle.doac.specs.Statuses.{UpgradeEnds}
 use Rattle.doac.proofs.Upgrading.{after_files}
 use Rattle.doac.proofs.program.upgrade_files.Goals as goal
 

@@ -1,6 +1,6 @@
 use Rattle.std.proofs.Common.{◌≡◌, rules, subst}
-use Rattle.doac.specs.Schedules.{Upgrading}
-use Rattle.doac.specs.declared.replays.Upgraded.TheVariants.{Text, Shown}
+use Rattle.engines.specs.Schedules.{Upgrading}
+use Rattle.engines.specs.declared.replays.Upgraded.TheVariants.{Text, Shown}
 use Rattle.doac.proofs.Upgrading.{of_page, of_text}
 use Rattle.doac.proofs.program.upgrade_read.Goals as goal
 

@@ -1,0 +1,28 @@
+//! Tests over the public calls of all crates, of what no clause says. They stand in a crate of their
+//! own, as each crate with tests is proved once more with them.
+#![tactic(auto)]
+
+#[cfg(test)]
+mod cores;
+#[cfg(test)]
+mod explanations;
+#[cfg(test)]
+mod kernels;
+#[cfg(test)]
+mod lines;
+#[cfg(test)]
+mod links;
+#[cfg(test)]
+mod meeting;
+#[cfg(test)]
+mod mistakes;
+#[cfg(test)]
+mod overlap;
+#[cfg(test)]
+mod replaying;
+#[cfg(test)]
+mod runs;
+#[cfg(test)]
+mod streams;
+#[cfg(test)]
+mod trees;

@@ -1,0 +1,477 @@
+//! Copies of trees and of stores.
+
+ghost use Rattle.std.specs.Prelude.{◌≡◌, ◌∷◌, codes};
+
+use ast::{
+    Access, Arm, Bounds, Declarator, Definition, Dimension, DoHead, Expr, Intrinsic, Item, Kind,
+    Line, Name, Node, Operator, Prefix, Program, RefId, Reference, Stmt, Store, Symbol, SymbolKind,
+};
+use std::alloc::{AllocError, Global};
+use std::process::Abort;
+use std::test::Fail;
+
+fn name(letter: u8) -> Name
+    ensures { result.letters ≡ letter ∷ codes "     " }
+{
+    Name {
+        letters: [letter, b' ', b' ', b' ', b' ', b' '],
+    }
+}
+
+fn reference(letter: u8) -> Reference {
+    Reference {
+        name: name(letter),
+        id: RefId(7),
+        cell: 4,
+    }
+}
+
+// ---- expressions
+
+/// -9
+fn minus_nine(alloc: Global) -> Result<Expr, AllocError> {
+    Ok(Expr::Unary(Prefix::Minus, Box::new(alloc, Expr::Constant(9))?))
+}
+
+fn is_minus_nine(expr: &Expr) -> bool {
+    match expr {
+        Expr::Unary(Prefix::Minus, operand) => matches!(&**operand, Expr::Constant(9)),
+        _ => false,
+    }
+}
+
+/// A(-9)
+fn element(alloc: Global) -> Result<Access, AllocError> {
+    Ok(Access {
+        reference: reference(b'A'),
+        subscripts: Vec::from_array(alloc, [minus_nine(alloc)?])?,
+    })
+}
+
+/// (A(-9)).EQ.MAX(N,.TRUE.), where N is 5
+fn comparison(alloc: Global) -> Result<Expr, AllocError> {
+    let inner = Expr::Element(element(alloc)?);
+    let left = Expr::Parentheses(Box::new(alloc, inner)?);
+    let arguments = Vec::from_array(alloc, [Expr::Parameter(name(b'N'), 5), Expr::Truth(true)])?;
+    let right = Expr::Call(Intrinsic::Max, arguments);
+    Ok(Expr::Binary(
+        Operator::Equal,
+        Box::new(alloc, left)?,
+        Box::new(alloc, right)?,
+    ))
+}
+
+fn is_element(access: &Access) -> bool {
+    access.reference == reference(b'A')
+        && match access.subscripts.as_slice() {
+            [subscript] => is_minus_nine(subscript),
+            _ => false,
+        }
+}
+
+fn is_left(expr: &Expr) -> bool {
+    match expr {
+        Expr::Parentheses(inner) => match &**inner {
+            Expr::Element(access) => is_element(access),
+            _ => false,
+        },
+        _ => false,
+    }
+}
+
+fn is_right(expr: &Expr) -> bool {
+    match expr {
+        Expr::Call(Intrinsic::Max, arguments) => match arguments.as_slice() {
+            [Expr::Parameter(n, 5), Expr::Truth(true)] => *n == name(b'N'),
+            _ => false,
+        },
+        _ => false,
+    }
+}
+
+fn is_comparison(expr: &Expr) -> bool {
+    match expr {
+        Expr::Binary(Operator::Equal, left, right) => is_left(left) && is_right(right),
+        _ => false,
+    }
+}
+
+#[test]
+fn want_of_memory_in_expressions(rt: HostRuntime) -> Result<(), Fail> {
+    let alloc = rt.alloc();
+    let expr = comparison(alloc)?;
+    match expr.try_copy(alloc) {
+        Ok(copy) => assert!(rt; is_comparison(&copy)),
+        Err(error) => {
+            assert!(rt; is_comparison(&expr.try_copy(alloc)?));
+            return Err(error.into());
+        }
+    }
+    Ok(())
+}
+
+// ---- statements, each on a line of its own, and labelled by twice that
+
+fn statement(line: Line, kind: Kind) -> Stmt
+    ensures { result.kind ≡ kind }
+{
+    Stmt {
+        line,
+        label: Some(line.wrapping_mul(2)),
+        kind,
+    }
+}
+
+/// A(-9:1)
+fn is_declarator(declared: &[Declarator]) -> bool {
+    match declared {
+        [Declarator { name: own, bounds }] => *own == name(b'A')
+            && match bounds.as_slice() {
+                [
+                    Bounds {
+                        lower: Some(lower),
+                        upper: Expr::Constant(1),
+                    },
+                ] => is_minus_nine(lower),
+                _ => false,
+            },
+        _ => false,
+    }
+}
+
+fn is_definition(defined: &[Definition]) -> bool {
+    match defined {
+        [definition] => definition.name == name(b'N') && is_minus_nine(&definition.value),
+        _ => false,
+    }
+}
+
+fn is_head(head: &DoHead) -> bool {
+    head.terminal == 30
+        && head.variable == reference(b'K')
+        && is_minus_nine(&head.first)
+        && matches!(&head.last, Expr::Constant(3))
+        && match &head.step {
+            Some(step) => is_minus_nine(step),
+            None => false,
+        }
+}
+
+fn are_items(items: &[Item]) -> bool {
+    match items {
+        [Item::Value(value), Item::Text(text)] => is_minus_nine(value)
+            && text.as_slice() == b"OK".as_slice(),
+        _ => false,
+    }
+}
+
+fn are_elements(elements: &[Access]) -> bool {
+    match elements {
+        [element] => is_element(element),
+        _ => false,
+    }
+}
+
+/// What stands on each line.
+fn is_kind(line: Line, kind: &Kind) -> bool {
+    match (line, kind) {
+        (1, Kind::Program(own)) => *own == name(b'P'),
+        (2, Kind::Integer(declared)) => is_declarator(declared),
+        (3, Kind::Dimension(declared)) => is_declarator(declared),
+        (4, Kind::Parameter(defined)) => is_definition(defined),
+        (5, Kind::Assign(target, value)) => is_element(target) && is_minus_nine(value),
+        (6, Kind::Do(head)) => is_head(head),
+        (7, Kind::Continue) => true,
+        (8, Kind::If(condition)) => is_minus_nine(condition),
+        (9, Kind::ElseIf(condition)) => is_minus_nine(condition),
+        (10, Kind::Else) => true,
+        (11, Kind::EndIf) => true,
+        (12, Kind::LogicalIf(condition, inner)) => is_minus_nine(condition)
+            && matches!(&**inner, Kind::Stop),
+        (13, Kind::Print(items)) => are_items(items),
+        (14, Kind::Read(elements)) => are_elements(elements),
+        (15, Kind::Stop) => true,
+        (16, Kind::End) => true,
+        _ => false,
+    }
+}
+
+fn is_statement(stmt: &Stmt) -> bool {
+    stmt.label == Some(stmt.line.wrapping_mul(2)) && is_kind(stmt.line, &stmt.kind)
+}
+
+fn copies(alloc: Global, list: &[Stmt]) -> Result<Vec<Stmt>, AllocError> {
+    let mut made = Vec::with_capacity(alloc, list.len())?;
+    for stmt in list {
+        made.push(stmt.try_copy(alloc)?)?;
+    }
+    Ok(made)
+}
+
+fn are_right(given: &[Stmt], count: usize) -> bool {
+    given.len() == count && given.iter().all(is_statement)
+}
+
+fn copy_each(rt: &impl Abort, alloc: Global, list: &[Stmt]) -> Result<(), Fail> {
+    match copies(alloc, list) {
+        Ok(made) => assert!(rt; are_right(&made, list.len())),
+        Err(error) => {
+            assert!(rt; are_right(&copies(alloc, list)?, list.len()));
+            return Err(error.into());
+        }
+    }
+    Ok(())
+}
+
+fn bounds(alloc: Global) -> Result<Vec<Declarator>, AllocError> {
+    let given = Bounds {
+        lower: Some(minus_nine(alloc)?),
+        upper: Expr::Constant(1),
+    };
+    Ok(Vec::from_array(
+        alloc,
+        [Declarator {
+            name: name(b'A'),
+            bounds: Vec::from_array(alloc, [given])?,
+        }],
+    )?)
+}
+
+#[test]
+fn want_of_memory_in_declarations(rt: HostRuntime) -> Result<(), Fail> {
+    let alloc = rt.alloc();
+    let list = [
+        statement(1, Kind::Program(name(b'P'))),
+        statement(2, Kind::Integer(bounds(alloc)?)),
+    ];
+    copy_each(&rt, alloc, &list)
+}
+
+#[test]
+fn want_of_memory_in_constants(rt: HostRuntime) -> Result<(), Fail> {
+    let alloc = rt.alloc();
+    let definition = Definition {
+        name: name(b'N'),
+        value: minus_nine(alloc)?,
+    };
+    let list = [
+        statement(3, Kind::Dimension(bounds(alloc)?)),
+        statement(4, Kind::Parameter(Vec::from_array(alloc, [definition])?)),
+    ];
+    copy_each(&rt, alloc, &list)
+}
+
+#[test]
+fn want_of_memory_in_assignments(rt: HostRuntime) -> Result<(), Fail> {
+    let alloc = rt.alloc();
+    let list = [
+        statement(5, Kind::Assign(element(alloc)?, minus_nine(alloc)?)),
+        statement(7, Kind::Continue),
+        statement(15, Kind::Stop),
+        statement(16, Kind::End),
+    ];
+    copy_each(&rt, alloc, &list)
+}
+
+fn head(alloc: Global) -> Result<DoHead, AllocError> {
+    Ok(DoHead {
+        terminal: 30,
+        variable: reference(b'K'),
+        first: minus_nine(alloc)?,
+        last: Expr::Constant(3),
+        step: Some(minus_nine(alloc)?),
+    })
+}
+
+#[test]
+fn want_of_memory_in_ranges_and_blocks(rt: HostRuntime) -> Result<(), Fail> {
+    let alloc = rt.alloc();
+    let list = [
+        statement(6, Kind::Do(head(alloc)?)),
+        statement(8, Kind::If(minus_nine(alloc)?)),
+        statement(9, Kind::ElseIf(minus_nine(alloc)?)),
+        statement(10, Kind::Else),
+        statement(11, Kind::EndIf),
+    ];
+    copy_each(&rt, alloc, &list)
+}
+
+#[test]
+fn want_of_memory_in_logical_ifs(rt: HostRuntime) -> Result<(), Fail> {
+    let alloc = rt.alloc();
+    let inner = Box::new(alloc, Kind::Stop)?;
+    copy_each(
+        &rt,
+        alloc,
+        &[statement(12, Kind::LogicalIf(minus_nine(alloc)?, inner))],
+    )
+}
+
+#[test]
+fn want_of_memory_in_lists(rt: HostRuntime) -> Result<(), Fail> {
+    let alloc = rt.alloc();
+    let text = Item::Text(Vec::from_slice(alloc, b"OK")?);
+    let items = Vec::from_array(alloc, [Item::Value(minus_nine(alloc)?), text])?;
+    let elements = Vec::from_array(alloc, [element(alloc)?])?;
+    let list = [
+        statement(13, Kind::Print(items)),
+        statement(14, Kind::Read(elements)),
+    ];
+    copy_each(&rt, alloc, &list)
+}
+
+// ---- programs and stores
+
+/// DO with a STOP in its range, and IF with an ELSE
+fn program(alloc: Global) -> Result<Program, AllocError> {
+    let variable = Reference {
+        name: name(b'K'),
+        id: RefId(0),
+        cell: 1,
+    };
+    let head = DoHead {
+        terminal: 30,
+        variable,
+        first: Expr::Constant(1),
+        last: Expr::Constant(3),
+        step: None,
+    };
+    let range = Vec::from_array(alloc, [Node::Plain(statement(15, Kind::Stop))])?;
+    let taken = Arm {
+        line: 8,
+        condition: Some(Expr::Truth(false)),
+        body: Vec::from_array(alloc, [Node::Plain(statement(7, Kind::Continue))])?,
+    };
+    let other = Arm {
+        line: 10,
+        condition: None,
+        body: Vec::new(alloc),
+    };
+    let arms = Vec::from_array(alloc, [taken, other])?;
+    let dimension = Dimension {
+        lower: -1,
+        upper: 1,
+    };
+    let array = Symbol {
+        name: name(b'A'),
+        kind: SymbolKind::Variable(Vec::from_slice(alloc, &[dimension])?),
+    };
+    let scalar = Symbol {
+        name: name(b'K'),
+        kind: SymbolKind::Variable(Vec::new(alloc)),
+    };
+    let constant = Symbol {
+        name: name(b'N'),
+        kind: SymbolKind::Constant(5),
+    };
+    Ok(Program {
+        symbols: Vec::from_array(alloc, [array, scalar, constant])?,
+        body: Vec::from_array(alloc, [Node::Loop(6, head, range), Node::Choice(arms)])?,
+        statements: 9,
+    })
+}
+
+fn are_symbols(symbols: &[Symbol]) -> bool {
+    match symbols {
+        [
+            Symbol {
+                name: array,
+                kind: SymbolKind::Variable(dimensions),
+            },
+            Symbol {
+                name: scalar,
+                kind: SymbolKind::Variable(none),
+            },
+            Symbol {
+                name: constant,
+                kind: SymbolKind::Constant(5),
+            },
+        ] => {
+            *array == name(b'A')
+                && *scalar == name(b'K')
+                && *constant == name(b'N')
+                && matches!(dimensions.as_slice(), [dimension] if dimension.lower == -1 && dimension.upper == 1)
+                && none.is_empty()
+        }
+        _ => false,
+    }
+}
+
+fn is_plain(body: &[Node], line: Line) -> bool {
+    match body {
+        [Node::Plain(stmt)] => stmt.line == line && is_statement(stmt),
+        _ => false,
+    }
+}
+
+fn is_loop(node: &Node) -> bool {
+    match node {
+        Node::Loop(6, head, range) => head.terminal == 30
+            && head.variable.name == name(b'K')
+            && head.variable.cell == 1
+            && matches!(&head.last, Expr::Constant(3))
+            && head.step.is_none()
+            && is_plain(range, 15),
+        _ => false,
+    }
+}
+
+fn is_choice(node: &Node) -> bool {
+    match node {
+        Node::Choice(arms) => match arms.as_slice() {
+            [taken, other] => taken.line == 8
+                && matches!(&taken.condition, Some(Expr::Truth(false)))
+                && is_plain(&taken.body, 7)
+                && other.line == 10
+                && other.condition.is_none()
+                && other.body.is_empty(),
+            _ => false,
+        },
+        _ => false,
+    }
+}
+
+fn is_program(program: &Program) -> bool {
+    are_symbols(&program.symbols)
+        && program.statements == 9
+        && match program.body.as_slice() {
+            [first, second] => is_loop(first) && is_choice(second),
+            _ => false,
+        }
+}
+
+#[test]
+fn want_of_memory_in_programs(rt: HostRuntime) -> Result<(), Fail> {
+    let given = program(rt.alloc())?;
+    match given.try_copy() {
+        Ok(copy) => assert!(rt; is_program(&copy)),
+        Err(error) => {
+            assert!(rt; is_program(&given.try_copy()?));
+            return Err(error.into());
+        }
+    }
+    Ok(())
+}
+
+fn is_store(store: &Store) -> bool {
+    store.len() == 3
+        && store.value(name(b'A'), 2) == Some(0)
+        && store.value(name(b'A'), 3).is_none()
+        && store.value(name(b'K'), 0) == Some(0)
+        && store.value(name(b'N'), 0).is_none()
+        && store.value(name(b'B'), 0).is_none()
+}
+
+#[test]
+fn want_of_memory_in_stores(rt: HostRuntime) -> Result<(), Fail> {
+    let alloc = rt.alloc();
+    let given = program(alloc)?;
+    match Store::zeros(alloc, &given.symbols) {
+        Ok(store) => assert!(rt; is_store(&store)),
+        Err(error) => {
+            assert!(rt; is_store(&Store::zeros(alloc, &given.symbols)?));
+            return Err(error.into());
+        }
+    }
+    Ok(())
+}

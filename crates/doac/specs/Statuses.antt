@@ -1,0 +1,65 @@
+-- Exit statuses of commands, by the texts that their files hold or may hold.
+use Rattle.std.specs.Prelude.{◌≡◌, ◌⊎◌, ℕ, List, [], Option, Some, None, Result, Ok, Err, Vec}
+use Rattle.std.specs.Global.{Global}
+use Rattle.engines.specs.Engines.{fault_status, status_of}
+use Rattle.engines.specs.Schedules.{Replaying, Upgrading, upgrade_status}
+use Rattle.engines.specs.declared.fault.EngineFault.{EngineFault}
+use Rattle.engines.specs.declared.outcome.Outcome.{Outcome}
+use Rattle.engines.specs.declared.replays.Upgraded.{Upgraded}
+use Rattle.engines.specs.declared.texts.Texts.{Texts}
+use Rattle.doac.specs.declared.files.FileFault.{FileFault}
+use Rattle.doac.specs.declared.files.FileFault.TheVariants.{Opening, Reading, Memory}
+use Rattle.doac.specs.declared.files.Unread.{Unread}
+
+-- the exit status of a file whose bytes can't be had
+abbrev pub file_status : FileFault → ℕ
+file_status (Opening e) = 4
+file_status (Reading e) = 4
+file_status Memory = 5
+
+-- the exit status of the program
+abbrev pub exit_of : Result Outcome EngineFault → ℕ
+exit_of (Ok outcome) = status_of outcome
+exit_of (Err fault) = fault_status fault
+
+-- the status is that of an outcome that is allowed with some text
+pub record HasStatus (allows : Outcome → List ℕ → Type 0) (status : ℕ) : Type 0 where
+  pub outcome : Outcome
+  pub text : List ℕ
+  pub allowed : allows outcome text
+  pub is : status ≡ status_of outcome
+
+-- the status of a file or of writing, of memory, or one that is allowed
+abbrev pub EndsAs : ℕ → Type 0 → Type 0
+EndsAs status allowed = (status ≡ 4) ⊎ ((status ≡ 5) ⊎ allowed)
+
+-- the status of a text that was printed: 0, or that of writing
+abbrev pub OfPrint : ℕ → Type 0
+OfPrint status = (status ≡ 0) ⊎ (status ≡ 4)
+
+-- the exit status after a file was read: that of its fault, or what is made of its bytes
+abbrev pub AfterFile : Result (Vec ℕ Global) FileFault → ℕ → (List ℕ → Type 0) → Type 0
+AfterFile (Err fault) status made = status ≡ file_status fault
+AfterFile (Ok bytes) status made = made bytes.items
+
+-- this holds of some input where a file is named, and of the empty one where none is
+abbrev pub OfGiven : Option (List ℕ) → (List ℕ → Type 0) → Type 0
+OfGiven None P = P []
+OfGiven (Some file) P = (given : List ℕ) × P given
+
+-- the same after several files were read
+abbrev pub AfterFiles : Result Texts Unread → ℕ → (Texts → Type 0) → Type 0
+AfterFiles (Err unread) status made = status ≡ file_status unread.fault
+AfterFiles (Ok texts) status made = made texts
+
+-- the status is that of what `upgrade` may come to
+pub record UpgradeEnds (source input schedule : List ℕ) (status : ℕ) : Type 0 where
+  pub upgraded : Upgraded
+  pub allowed : Upgrading source input schedule upgraded
+  pub is : status ≡ upgrade_status upgraded
+
+abbrev pub EndsReplay : ℕ → Type 0
+EndsReplay status = EndsAs status ((texts : Texts) × HasStatus (Replaying texts.source.items texts.input.items texts.schedule.items) status)
+
+abbrev pub EndsUpgrade : ℕ → Type 0
+EndsUpgrade status = EndsAs status ((texts : Texts) × UpgradeEnds texts.source.items texts.input.items texts.schedule.items status)

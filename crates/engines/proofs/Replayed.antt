@@ -1,0 +1,59 @@
+-- What is shown of a replay is what the sequential program prints, and how it ends.
+use Rattle.std.proofs.Common.{◌≡◌, ◌∙◌, false, List, [], ℕ, ◌++◌, Some, ap, map, subst, sym}
+use Rattle.ast.specs.Meaning.{seq}
+use Rattle.ast.specs.Program.{ProgramTree}
+use Rattle.ast.specs.ProgramView.{program as program_of}
+use Rattle.ast.specs.declared.answer.Answer.{Answer}
+use Rattle.ast.specs.declared.fault.End.{End}
+use Rattle.ast.specs.declared.fault.End.TheVariants.{Done, Stopped, Fault as FaultedAt}
+use Rattle.ast.specs.declared.program.Program.{Program}
+use Rattle.codegen.proofs.Compiling.{headline_law}
+use Rattle.codegen.specs.Program.{IsCodeOf}
+use Rattle.machine.specs.Code.{Code}
+use Rattle.replay.proofs.Running.{is_run}
+use Rattle.replay.specs.Replayed.{IsReplay}
+use Rattle.replay.specs.Schedules.{SchedText, Schedule}
+use Rattle.engines.specs.Engines.{outcome_of}
+use Rattle.engines.specs.Schedules.{IsReplayed, ShowsReplay}
+use Rattle.engines.specs.Shown.{EndShown, Extends, Row, row_of}
+use Rattle.engines.specs.declared.outcome.Outcome.{Outcome}
+
+-- without a store the rows don't count
+any_rows : (e : End) (old new : List Row) (text : List ℕ) → EndShown false old e text → EndShown false new e text
+any_rows Done old new text h = h
+any_rows (Stopped line) old new text h = h
+any_rows (FaultedAt fault line) old new text h = h
+
+by_end : (tree : ProgramTree) (code : Code) (input schedule : List ℕ) (outcome : Outcome) (text : List ℕ) (e : End) → outcome ≡ outcome_of e → IsReplayed tree code input schedule outcome text → ShowsReplay tree code input schedule outcome text
+by_end tree code input schedule outcome text Done h w = subst (λ (o : Outcome). IsReplayed tree code input schedule o text → ShowsReplay tree code input schedule o text) (sym h) (λ z. z) w
+by_end tree code input schedule outcome text (Stopped line) h w = subst (λ (o : Outcome). IsReplayed tree code input schedule o text → ShowsReplay tree code input schedule o text) (sym h) (λ z. z) w
+by_end tree code input schedule outcome text (FaultedAt fault line) h w = subst (λ (o : Outcome). IsReplayed tree code input schedule o text → ShowsReplay tree code input schedule o text) (sym h) (λ z. z) w
+
+same_some : (a b : End) → Some a ≡ Some b → a ≡ b
+same_some a b h = cc
+
+pub replayed_shown : (p : Program) (code : Code) (input : List ℕ) (x : Schedule) (schedule : List ℕ) (answer : Answer) (outcome : Outcome) (text : List ℕ) → IsCodeOf (program_of p) code → SchedText x schedule → IsReplay code input x answer
+    → outcome ≡ outcome_of answer.end → Extends (EndShown false [] answer.end) answer.output.items text → ShowsReplay (program_of p) code input schedule outcome text
+replayed_shown p code input x schedule answer outcome text compiled spelled r ended more =
+    let tree = program_of p in
+    let run = is_run code input x r.point spelled.schedule r.replays in
+    let agrees = headline_law p code compiled input x.processors x.slots run.0 r.point.machine spelled.schedule.0 run.1 in
+    let end = agrees.answer answer.end r.is.end in
+    let same : answer.end ≡ (seq tree input).end = same_some answer.end (seq tree input).end (sym r.is.end ∙ end.is) in
+    let outcome_is : outcome ≡ outcome_of (seq tree input).end = ended ∙ ap outcome_of same in
+    let rows = map (row_of (seq tree input).store) tree.symbols in
+    by_end tree code input schedule outcome text (seq tree input).end outcome_is (record {
+      old = x;
+      spelled = spelled;
+      point = r.point;
+      replays = r.replays;
+      ended = end.is;
+      run = record {
+        ended = outcome_is;
+        shown = record {
+          last = more.last;
+          ends = subst (λ (e : End). EndShown false rows e more.last) same (any_rows answer.end [] rows more.last more.fits);
+          whole = more.grown ∙ ap (λ (out : List ℕ). out ++ more.last) (r.is.output ∙ end.printed);
+        };
+      };
+    })

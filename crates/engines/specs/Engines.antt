@@ -1,0 +1,199 @@
+-- What the engines do: which bytes they may write of a source text, and with which outcome.
+use Rattle.std.specs.Prelude.{◌≡◌, ℕ, ◌<◌, Bool, IfSome, List, length, take, ⊤, Option, Result, Ok, Err, Vec}
+use Rattle.std.specs.Global.{Global}
+use Rattle.std.specs.Io.KnownBytes.{Appends, IsAtEnd, Keeps}
+use Rattle.ast.specs.Meaning.{seq}
+use Rattle.ast.specs.Program.{ProgramTree}
+use Rattle.ast.specs.ProgramView.{program as program_of}
+use Rattle.ast.specs.declared.fault.End.{End}
+use Rattle.ast.specs.declared.fault.End.TheVariants.{Done, Stopped, Fault as FaultedAt}
+use Rattle.profile_check.specs.Causes.{Refuses}
+use Rattle.profile_check.specs.Reads.{Reads}
+use Rattle.engines.specs.Shown.{accepted, refused, Shown}
+use Rattle.engines.specs.declared.fault.EngineFault.{EngineFault}
+use Rattle.engines.specs.declared.fault.EngineFault.TheVariants.{Source, Input, Schedule, Writing, Memory}
+use Rattle.engines.specs.declared.fault.ReadFault.{ReadFault}
+use Rattle.engines.specs.declared.fault.ReadFault.TheVariants as reading
+use Rattle.engines.specs.declared.outcome.Outcome.{Outcome}
+use Rattle.engines.specs.declared.outcome.Outcome.TheVariants.{Completed, Refused, Faulted, NoSchedule}
+use Rattle.engines.specs.declared.verdict.Verdict.{Verdict}
+use Rattle.engines.specs.declared.verdict.Verdict.TheVariants as verdict
+
+-- the exit status of an outcome
+abbrev pub status_of : Outcome → ℕ
+status_of Completed = 0
+status_of (Refused number line) = 1
+status_of (Faulted fault line) = 2
+status_of (NoSchedule number line) = 6
+
+-- the exit status of an engine's fault
+abbrev pub fault_status : EngineFault → ℕ
+fault_status (Source e) = 4
+fault_status (Input e) = 4
+fault_status (Schedule e) = 4
+fault_status (Writing e) = 4
+fault_status Memory = 5
+
+-- the source reads as a program, and this is its line
+pub record IsAccepted (source text : List ℕ) : Type 0 where
+  pub tree : ProgramTree
+  pub reads : Reads source tree
+  pub line : text ≡ accepted tree
+
+-- the source reads as no program, and the number has its cause at the line
+pub record IsRefusal (source : List ℕ) (number line : ℕ) : Type 0 where
+  pub unread : (tree : ProgramTree) → Reads source tree → ⊥
+  pub cause : Refuses source number line
+
+-- a source is what its verdict says
+abbrev pub IsVerdict : List ℕ → Verdict → Type 0
+IsVerdict source (verdict.Accepted program) = Reads source (program_of program)
+IsVerdict source (verdict.Refused number line) = IsRefusal source number line
+
+-- some source has the verdict
+abbrev pub IsJudged : Verdict → Type 0
+IsJudged v = (source : List ℕ) × IsVerdict source v
+
+-- what `check` may write of a verdict
+abbrev pub Tells : Verdict → Outcome → List ℕ → Type 0
+Tells (verdict.Accepted program) Completed text = text ≡ accepted (program_of program)
+Tells (verdict.Refused number line) (Refused n l) text = (n ≡ number) × (l ≡ line) × (text ≡ refused number line)
+Tells _ _ text = ⊥
+
+-- the source is refused so, and this is its line
+pub record IsRefused (source : List ℕ) (number line : ℕ) (text : List ℕ) : Type 0 where
+  pub refusal : IsRefusal source number line
+  pub shown : text ≡ refused number line
+
+-- what `check` may write of a source text
+abbrev pub Checks : List ℕ → Outcome → List ℕ → Type 0
+Checks source Completed text = IsAccepted source text
+Checks source (Refused number line) text = IsRefused source number line text
+Checks source (Faulted fault line) text = ⊥
+Checks source (NoSchedule number line) text = ⊥
+
+-- the outcome of a run that ended so
+abbrev pub outcome_of : End → Outcome
+outcome_of Done = Completed
+outcome_of (Stopped line) = Completed
+outcome_of (FaultedAt fault line) = Faulted fault line
+
+-- the program's run on the input has this outcome, and this is shown of it
+pub record ShowsRun (store : Bool) (tree : ProgramTree) (input : List ℕ) (outcome : Outcome) (text : List ℕ) : Type 0 where
+  pub ended : outcome ≡ outcome_of (seq tree input).end
+  pub shown : Shown store tree.symbols (seq tree input).output (seq tree input).end (seq tree input).store text
+
+-- the source reads as a program whose run on the input has this outcome, and this is shown of it
+pub record IsRun (store : Bool) (source input : List ℕ) (outcome : Outcome) (text : List ℕ) : Type 0 where
+  pub tree : ProgramTree
+  pub reads : Reads source tree
+  pub run : ShowsRun store tree input outcome text
+
+-- what `seq` may write of a source text and an input
+abbrev pub Runs : Bool → List ℕ → List ℕ → Outcome → List ℕ → Type 0
+Runs store source input Completed text = IsRun store source input Completed text
+Runs store source input (Refused number line) text = IsRefused source number line text
+Runs store source input (Faulted fault line) text = IsRun store source input (Faulted fault line) text
+Runs store source input (NoSchedule number line) text = ⊥
+
+-- a reader gives a text: all that it has left, where that is known
+abbrev pub Gives : Option (List ℕ) → List ℕ → Type 0
+Gives known text = IfSome known (λ bytes. text ≡ bytes)
+
+-- this holds of some text that a reader gives
+abbrev pub OfText : Option (List ℕ) → (List ℕ → Type 0) → Type 0
+OfText known P = (text : List ℕ) × Gives known text × P text
+
+-- known bytes stay at the front and grow by a beginning of a text, of which something is missing
+abbrev pub AppendsPart : Option (List ℕ) → Option (List ℕ) → List ℕ → Type 0
+AppendsPart old new text = (n : ℕ) × (n < length text) × Appends old new (take n text)
+
+-- the writer's bytes grew by a text that an outcome allows
+pub record Wrote (allows : Outcome → List ℕ → Type 0) (old new : Option (List ℕ)) (outcome : Outcome) : Type 0 where
+  pub text : List ℕ
+  pub allowed : allows outcome text
+  pub grown : Appends old new text
+
+-- the same, of an outcome with this status
+pub record WroteAs (allows : Outcome → List ℕ → Type 0) (old new : Option (List ℕ)) (status : ℕ) : Type 0 where
+  pub outcome : Outcome
+  pub is : status ≡ status_of outcome
+  pub wrote : Wrote allows old new outcome
+
+-- the writer's bytes grew by a beginning of a text that some outcome allows, not by all of it
+pub record WrotePart (allows : Outcome → List ℕ → Type 0) (old new : Option (List ℕ)) : Type 0 where
+  pub outcome : Outcome
+  pub text : List ℕ
+  pub allowed : allows outcome text
+  pub grown : AppendsPart old new text
+
+-- what a fault leaves: part of an allowed text where writing failed, and nothing where reading
+-- failed or memory was refused
+abbrev pub Leaves : EngineFault → Option (List ℕ) → Option (List ℕ) → Type 0 → Type 0
+Leaves (Source e) old new part = Keeps old new
+Leaves (Input e) old new part = Keeps old new
+Leaves (Schedule e) old new part = Keeps old new
+Leaves (Writing e) old new part = part
+Leaves Memory old new part = Keeps old new
+
+-- the same of an engine that reads a source alone
+abbrev pub LeavesOfSource : EngineFault → Option (List ℕ) → Option (List ℕ) → Type 0 → Type 0
+LeavesOfSource (Source e) old new part = Keeps old new
+LeavesOfSource (Input e) old new part = ⊥
+LeavesOfSource (Schedule e) old new part = ⊥
+LeavesOfSource (Writing e) old new part = part
+LeavesOfSource Memory old new part = Keeps old new
+
+-- where a fault leaves the readers of a source and an input: that of the source has left the input
+-- alone, and any other but want of memory comes when the readers before it have given all
+abbrev pub LeavesReaders : EngineFault → Option (List ℕ) → Option (List ℕ) → Option (List ℕ) → Type 0
+LeavesReaders (Source e) source old new = new ≡ old
+LeavesReaders (Input e) source old new = IsAtEnd source
+LeavesReaders (Schedule e) source old new = ⊥
+LeavesReaders (Writing e) source old new = IsAtEnd source × IsAtEnd new
+LeavesReaders Memory source old new = ⊤
+
+-- the same of an engine that reads a source alone
+abbrev pub LeavesReader : EngineFault → Option (List ℕ) → Type 0
+LeavesReader (Writing e) source = IsAtEnd source
+LeavesReader fault source = ⊤
+
+-- what work on texts that were read comes to: an outcome with an allowed text written; part of one
+-- where writing failed; nothing where memory was refused. No fault of reading comes of it.
+abbrev pub Works : (Outcome → List ℕ → Type 0) → Option (List ℕ) → Option (List ℕ) → Result Outcome EngineFault → Type 0
+Works allows old new (Ok outcome) = Wrote allows old new outcome
+Works allows old new (Err (Writing e)) = WrotePart allows old new
+Works allows old new (Err Memory) = Keeps old new
+Works allows old new (Err _) = ⊥
+
+-- the same of work that reads an input first, of which nothing is written where that fails
+abbrev pub WorksWith : Option (List ℕ) → (List ℕ → Outcome → List ℕ → Type 0) → Option (List ℕ) → Option (List ℕ) → Result Outcome EngineFault → Type 0
+WorksWith input allows old new (Ok outcome) = OfText input (λ given. Wrote (allows given) old new outcome)
+WorksWith input allows old new (Err (Source e)) = ⊥
+WorksWith input allows old new (Err (Input e)) = Keeps old new
+WorksWith input allows old new (Err (Schedule e)) = ⊥
+WorksWith input allows old new (Err (Writing e)) = OfText input (λ given. WrotePart (allows given) old new)
+WorksWith input allows old new (Err Memory) = Keeps old new
+
+-- what comes after a read: where it failed its fault, with nothing written; otherwise what is made
+-- of its bytes
+abbrev pub AfterRead : Result (Vec ℕ Global) ReadFault → (ReadFault → EngineFault) → Option (List ℕ) → Option (List ℕ) → Result Outcome EngineFault → (List ℕ → Type 0) → Type 0
+AfterRead (Err fault) comes_to old new result made = (result ≡ Err (comes_to fault)) × Keeps old new
+AfterRead (Ok bytes) comes_to old new result made = made bytes.items
+
+-- what a failed read of the source comes to, of the input, and of the schedule
+abbrev pub of_source : ReadFault → EngineFault
+of_source (reading.Reader e) = Source e
+of_source reading.Memory = Memory
+
+abbrev pub of_input : ReadFault → EngineFault
+of_input (reading.Reader e) = Input e
+of_input reading.Memory = Memory
+
+abbrev pub of_schedule : ReadFault → EngineFault
+of_schedule (reading.Reader e) = Schedule e
+of_schedule reading.Memory = Memory
+
+abbrev pub IsWriting : EngineFault → Type 0
+IsWriting (Writing e) = ⊤
+IsWriting fault = ⊥

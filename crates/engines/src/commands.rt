@@ -1,0 +1,257 @@
+//! The engines, over any readers and writers: they read to the end, work over values, and write
+//! what came of it.
+
+ghost use Rattle.std.specs.Prelude.{◌≡◌, IfOk, IfErr};
+ghost use Rattle.engines.specs.Engines.{AfterRead, Checks, IsJudged, Leaves, LeavesOfSource, LeavesReader, LeavesReaders, OfText, Runs, Tells, Works, WorksWith, WroteAs, WrotePart, of_input, of_source};
+ghost use Rattle.engines.specs.Reading.{LeavesThree, OfTexts};
+ghost use Rattle.engines.specs.Schedules.{LeavesBoth, Replaying, UpgradeWorks, Upgrading, WroteUpgraded, WroteUpgradedPart};
+
+use crate::fault::{EngineFault, ReadFault};
+use crate::outcome::Outcome;
+use crate::page::{run, told};
+use crate::replays::{replayed, upgrade_texts};
+use crate::streams::read_all;
+use crate::texts::read_three;
+use crate::verdict::{Verdict, judged};
+use std::alloc::Global;
+use std::io::{Read, Write};
+
+/// Writes the line of a verdict.
+///
+/// # Errors
+///
+/// A fault of the writer, with a beginning of the line written; or of memory, with nothing written.
+pub fn tell_verdict<W: Write>(
+    alloc: Global,
+    verdict: &Verdict,
+    out: &mut W,
+) -> Result<Outcome, EngineFault>
+    requires { IsJudged verdict.now }
+    ensures { Works (Tells verdict.now) (W.contents out.old) (W.contents out.new) result }
+{
+    let page = told(alloc, verdict)?;
+    page.write(out)
+}
+
+/// Checks a text and writes its line. The errors are those of [`tell_verdict`].
+pub fn check_text<W: Write>(
+    alloc: Global,
+    source: &[u8],
+    out: &mut W,
+) -> Result<Outcome, EngineFault>
+    ensures { Works (Checks source.now) (W.contents out.old) (W.contents out.new) result }
+{
+    let verdict = judged(alloc, source)?;
+    tell_verdict(alloc, &verdict, out)
+}
+
+/// Runs a text on an input, and writes its records and what follows them: at a fault or a STOP its
+/// line, and without either, where `store` says so, the store.
+///
+/// # Errors
+///
+/// A fault of the writer, with a beginning of the text written; or of memory, with nothing written.
+pub fn seq_texts<W: Write>(
+    alloc: Global,
+    source: &[u8],
+    input: &[u8],
+    store: bool,
+    out: &mut W,
+) -> Result<Outcome, EngineFault>
+    ensures { Works (Runs store source.now input.now) (W.contents out.old) (W.contents out.new) result }
+{
+    let page = run(alloc, source, input, store)?;
+    page.write(out)
+}
+
+/// Replays a schedule of a text on an input, and writes its records and what follows them: at a fault or
+/// a STOP its line. Where there is nothing to replay the line says why.
+///
+/// # Errors
+///
+/// A fault of the writer, with a beginning of the text written; or of memory, with nothing written.
+pub fn replay_texts<W: Write>(
+    alloc: Global,
+    source: &[u8],
+    input: &[u8],
+    schedule: &[u8],
+    out: &mut W,
+) -> Result<Outcome, EngineFault>
+    ensures { Works (Replaying source.now input.now schedule.now) (W.contents out.old) (W.contents out.new) result }
+{
+    let page = replayed(alloc, source, input, schedule)?;
+    page.write(out)
+}
+
+/// Upgrades a schedule of a text on an input: writes the text of the schedule with its picks named to
+/// `upgraded`, or where there is none the line that says why to `out`.
+fn upgrade_given<W: Write, V: Write>(
+    alloc: Global,
+    source: &[u8],
+    input: &[u8],
+    schedule: &[u8],
+    out: &mut W,
+    upgraded: &mut V,
+) -> Result<u8, EngineFault>
+    ensures { UpgradeWorks (Upgrading source.now input.now schedule.now) (W.contents out.old) (W.contents out.new) (V.contents upgraded.old) (V.contents upgraded.new) result }
+{
+    let made = upgrade_texts(alloc, source, input, schedule)?;
+    made.write(out, upgraded)
+}
+
+/// What `check` makes of its read.
+fn check_read<W: Write>(
+    alloc: Global,
+    source: Result<Vec<u8>, ReadFault>,
+    out: &mut W,
+) -> Result<Outcome, EngineFault>
+    ensures { AfterRead source of_source (W.contents out.old) (W.contents out.new) result
+        (λ text. Works (Checks text) (W.contents out.old) (W.contents out.new) result) }
+{
+    let source = source.map_err(EngineFault::of_source)?;
+    check_text(alloc, &source, out)
+}
+
+/// What `seq` makes of the read of its input, the source's having succeeded.
+fn seq_given<W: Write>(
+    alloc: Global,
+    source: &[u8],
+    input: Result<Vec<u8>, ReadFault>,
+    store: bool,
+    out: &mut W,
+) -> Result<Outcome, EngineFault>
+    ensures { AfterRead input of_input (W.contents out.old) (W.contents out.new) result
+        (λ given. Works (Runs store source.now given) (W.contents out.old) (W.contents out.new) result) }
+{
+    let input = input.map_err(EngineFault::of_input)?;
+    seq_texts(alloc, source, &input, store, out)
+}
+
+/// What `seq` makes of the read of its source: only where that succeeded is the input read.
+fn seq_read<I: Read, W: Write>(
+    alloc: Global,
+    source: Result<Vec<u8>, ReadFault>,
+    input: &mut I,
+    store: bool,
+    out: &mut W,
+) -> Result<Outcome, EngineFault>
+    ensures work { AfterRead source of_source (W.contents out.old) (W.contents out.new) result
+        (λ text. WorksWith (I.remaining input.old) (Runs store text) (W.contents out.old) (W.contents out.new) result) }
+    ensures untouched { IfErr source (λ _. I.remaining input.new ≡ I.remaining input.old) }
+    ensures readers { IfOk source (λ _. IfErr result (λ fault. LeavesReader fault (I.remaining input.new))) }
+{
+    let source = source.map_err(EngineFault::of_source)?;
+    let read = read_all(alloc, input);
+    seq_given(alloc, &source, read, store, out)
+}
+
+/// Checks a source, writes its line and gives the exit status: 0, or 1 for a source that is refused.
+///
+/// # Errors
+///
+/// A fault of the source's reader, with nothing written; of the writer, with a beginning of the line
+/// written; or of memory, with nothing written.
+pub fn check<R: Read, W: Write>(
+    alloc: Global,
+    source: &mut R,
+    out: &mut W,
+) -> Result<u8, EngineFault>
+    ensures ok { IfOk result (λ status. OfText (R.remaining source.old) (λ text.
+        WroteAs (Checks text) (W.contents out.old) (W.contents out.new) status)) }
+    ensures err { IfErr result (λ fault. LeavesOfSource fault (W.contents out.old) (W.contents out.new)
+        (OfText (R.remaining source.old) (λ text. WrotePart (Checks text) (W.contents out.old) (W.contents out.new)))) }
+    ensures readers { IfErr result (λ fault. LeavesReader fault (R.remaining source.new)) }
+{
+    let read = read_all(alloc, source);
+    let outcome = check_read(alloc, read, out)?;
+    Ok(outcome.status())
+}
+
+/// Runs a source on an input, writes its records and what follows them, and gives the exit status:
+/// 0, 1 for a source that is refused, 2 for a fault. The input is read after the source.
+///
+/// # Errors
+///
+/// A fault of one of the readers, with nothing written; of the writer, with a beginning of the text
+/// written; or of memory, with nothing written.
+pub fn seq<R: Read, I: Read, W: Write>(
+    alloc: Global,
+    source: &mut R,
+    input: &mut I,
+    store: bool,
+    out: &mut W,
+) -> Result<u8, EngineFault>
+    ensures ok { IfOk result (λ status. OfText (R.remaining source.old) (λ text. OfText (I.remaining input.old) (λ given.
+        WroteAs (Runs store text given) (W.contents out.old) (W.contents out.new) status))) }
+    ensures err { IfErr result (λ fault. Leaves fault (W.contents out.old) (W.contents out.new)
+        (OfText (R.remaining source.old) (λ text. OfText (I.remaining input.old) (λ given.
+        WrotePart (Runs store text given) (W.contents out.old) (W.contents out.new))))) }
+    ensures readers { IfErr result (λ fault. LeavesReaders fault (R.remaining source.new) (I.remaining input.old) (I.remaining input.new)) }
+{
+    let read = read_all(alloc, source);
+    let outcome = seq_read(alloc, read, input, store, out)?;
+    Ok(outcome.status())
+}
+
+/// Replays a schedule of a source on an input, writes its records and what follows them, and gives the
+/// exit status: 0, 1 for a source that is refused, 2 for a fault, 6 for a schedule that is refused. The
+/// input is read after the source, and the schedule after the input.
+///
+/// # Errors
+///
+/// A fault of one of the readers, with nothing written; of the writer, with a beginning of the text
+/// written; or of memory, with nothing written.
+pub fn replay<R: Read, I: Read, S: Read, W: Write>(
+    alloc: Global,
+    source: &mut R,
+    input: &mut I,
+    schedule: &mut S,
+    out: &mut W,
+) -> Result<u8, EngineFault>
+    ensures ok { IfOk result (λ status. OfTexts (R.remaining source.old) (I.remaining input.old) (S.remaining schedule.old) (λ text given picks.
+        WroteAs (Replaying text given picks) (W.contents out.old) (W.contents out.new) status)) }
+    ensures err { IfErr result (λ fault. Leaves fault (W.contents out.old) (W.contents out.new)
+        (OfTexts (R.remaining source.old) (I.remaining input.old) (S.remaining schedule.old) (λ text given picks.
+        WrotePart (Replaying text given picks) (W.contents out.old) (W.contents out.new)))) }
+    ensures readers { IfErr result (λ fault.
+        LeavesThree fault (R.remaining source.new) (I.remaining input.old) (I.remaining input.new) (S.remaining schedule.old) (S.remaining schedule.new)) }
+{
+    let texts = read_three(alloc, source, input, schedule)?;
+    let outcome = replay_texts(alloc, &texts.source, &texts.input, &texts.schedule, out)?;
+    Ok(outcome.status())
+}
+
+/// Upgrades a schedule of a source on an input: writes the text of a schedule in which each pick is named
+/// to `upgraded`, or where there is none the line that says why to `out`, and gives the exit status: 0, 1
+/// for a source that is refused, 6 for a schedule that is refused. The readers are read as by [`replay`].
+///
+/// # Errors
+///
+/// A fault of one of the readers, with nothing written; of one of the writers, with a beginning of its
+/// text written and nothing to the other; or of memory, with nothing written.
+pub fn upgrade<R: Read, I: Read, S: Read, W: Write, V: Write>(
+    alloc: Global,
+    source: &mut R,
+    input: &mut I,
+    schedule: &mut S,
+    out: &mut W,
+    upgraded: &mut V,
+) -> Result<u8, EngineFault>
+    ensures ok { IfOk result (λ status. OfTexts (R.remaining source.old) (I.remaining input.old) (S.remaining schedule.old) (λ text given picks.
+        WroteUpgraded (Upgrading text given picks) (W.contents out.old) (W.contents out.new) (V.contents upgraded.old) (V.contents upgraded.new) status)) }
+    ensures err { IfErr result (λ fault. LeavesBoth fault (W.contents out.old) (W.contents out.new) (V.contents upgraded.old) (V.contents upgraded.new)
+        (OfTexts (R.remaining source.old) (I.remaining input.old) (S.remaining schedule.old) (λ text given picks.
+        WroteUpgradedPart (Upgrading text given picks) (W.contents out.old) (W.contents out.new) (V.contents upgraded.old) (V.contents upgraded.new)))) }
+    ensures readers { IfErr result (λ fault.
+        LeavesThree fault (R.remaining source.new) (I.remaining input.old) (I.remaining input.new) (S.remaining schedule.old) (S.remaining schedule.new)) }
+{
+    let texts = read_three(alloc, source, input, schedule)?;
+    upgrade_given(
+        alloc,
+        &texts.source,
+        &texts.input,
+        &texts.schedule,
+        out,
+        upgraded,
+    )
+}

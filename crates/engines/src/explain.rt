@@ -1,0 +1,163 @@
+//! What the numbers of refusals and faults mean, and how that is printed.
+
+ghost use Rattle.std.specs.Prelude.{◌≡◌, IfSome, is_some};
+ghost use Rattle.engines.specs.Explained as numbers;
+
+mod faults;
+mod lines;
+mod profile;
+mod schedules;
+mod statements;
+
+use crate::shown::fault_name;
+use crate::visible::Visible;
+use ast::Fault;
+use std::fmt::{Display, Formatter, Result as FmtResult, Write};
+use std::io;
+
+/// The greatest number that is explained.
+const GREATEST: u8 = 61;
+
+/// What a number is that of.
+#[derive(Clone, Copy, Debug, PartialEq, Eq)]
+pub enum Origin {
+    Refusal,
+    Fault(Fault),
+    Schedule,
+}
+
+/// A source and its input; of a schedule's refusal, the text of a schedule.
+#[derive(Clone, Copy)]
+pub struct Trial {
+    pub source: &'static str,
+    pub input: &'static str,
+}
+
+/// What a number means: in a sentence, which messages say, and at length; with a source that has it
+/// and one that is cured. Either is empty where it would be too long.
+#[derive(Clone, Copy)]
+pub struct Explanation {
+    pub number: u8,
+    pub origin: Origin,
+    pub sentence: &'static str,
+    pub meaning: &'static str,
+    pub example: Trial,
+    pub advice: &'static str,
+    pub cure: Trial,
+}
+
+impl Display for Trial {
+    fn fmt<W: Write>(&self, f: &mut Formatter<W>) -> FmtResult {
+        if !self.source.is_empty() {
+            write!(f, "\n{}", self.source)?;
+        }
+        if !self.input.is_empty() {
+            write!(f, "\nwith the input\n\n{}", self.input)?;
+        }
+        Ok(())
+    }
+}
+
+/// The line that heads it in a list.
+#[derive(Drop)]
+struct Heading<'a> {
+    explanation: &'a Explanation,
+}
+
+impl<'a> Display for Heading<'a> {
+    fn fmt<W: Write>(&self, f: &mut Formatter<W>) -> FmtResult {
+        let Explanation {
+            number,
+            origin,
+            sentence,
+            ..
+        } = self.explanation;
+        match origin {
+            Origin::Refusal => write!(f, "REFUSED {number}: {sentence}"),
+            Origin::Schedule => write!(f, "SCHEDULE {number}: {sentence}"),
+            Origin::Fault(fault) => {
+                write!(
+                    f,
+                    "FAULT {number} {}: {sentence}",
+                    Visible::new(fault_name(*fault))
+                )
+            }
+        }
+    }
+}
+
+impl Display for Explanation {
+    fn fmt<W: Write>(&self, f: &mut Formatter<W>) -> FmtResult {
+        let heading = Heading { explanation: self };
+        write!(f, "{heading}.\n\n{}{}", self.meaning, self.example)?;
+        write!(f, "\nWhat to do: {}{}", self.advice, self.cure)
+    }
+}
+
+/// Whether a number is a refusal's. Each fault's is a refusal's too.
+pub fn is_explained(number: u8) -> bool
+    ensures { result ≡ numbers.is_explained number }
+{
+    is_within(1, 8, number)
+        || is_within(20, 27, number)
+        || is_within(30, 43, number)
+        || is_within(51, 56, number)
+        || is_within(61, 61, number)
+}
+
+fn is_within(least: u8, most: u8, number: u8) -> bool
+    ensures { result ≡ numbers.is_within least most number }
+{
+    least <= number && number <= most
+}
+
+/// What a refusal's number means.
+pub fn refusal(number: u8) -> Option<Explanation>
+    ensures number { IfSome result (λ explanation. explanation.number ≡ number) }
+    ensures whether { is_some result ≡ numbers.is_explained number }
+{
+    match number {
+        0..=19 => lines::page(number),
+        20..=29 => statements::page(number),
+        30..=49 => profile::page(number),
+        _ => schedules::page(number),
+    }
+}
+
+/// What a fault's number means.
+pub fn fault(number: u8) -> Option<Explanation>
+    ensures number { IfSome result (λ explanation. explanation.number ≡ number) }
+    ensures whether { is_some result ≡ numbers.is_within 1 6 number }
+{
+    faults::page(number)
+}
+
+/// Prints what a number means, as a refusal and as a fault.
+pub fn explain<P: Print>(rt: &P, number: u8) -> io::Result<()> {
+    if let Some(explanation) = refusal(number) {
+        print!(rt; "{explanation}")?;
+    }
+    if let Some(explanation) = fault(number) {
+        print!(rt; "\n{explanation}")?;
+    }
+    Ok(())
+}
+
+/// Prints the numbers, each with its sentence.
+pub fn list<P: Print>(rt: &P) -> io::Result<()> {
+    for number in 0..=GREATEST {
+        if let Some(explanation) = &refusal(number) {
+            println!(rt; "{}", Heading { explanation })?;
+        }
+    }
+    list_faults(rt)
+}
+
+fn list_faults<P: Print>(rt: &P) -> io::Result<()> {
+    for number in 0..=GREATEST {
+        if let Some(explanation) = &fault(number) {
+            println!(rt; "{}", Heading { explanation })?;
+        }
+    }
+    Ok(())
+}

@@ -1,0 +1,194 @@
+//! The faults, each with a program that has it and one that is cured.
+
+ghost use Rattle.std.specs.Prelude.{◌≡◌, IfSome, is_some};
+ghost use Rattle.engines.specs.Explained.{is_within};
+
+use crate::explain::{Explanation, Origin, Trial};
+use ast::Fault;
+
+/// What the fault of a number means, if there is one.
+pub fn page(number: u8) -> Option<Explanation>
+    ensures number { IfSome result (λ explanation. explanation.number ≡ number) }
+    ensures whether { is_some result ≡ is_within 1 6 number }
+{
+    match number {
+        1 => Some(OVERFLOW),
+        2 => Some(INDEX),
+        3 => Some(ZERO_DIVISOR),
+        4 => Some(ZERO_STEP),
+        5 => Some(END_OF_INPUT),
+        6 => Some(BAD_INPUT),
+        _ => None,
+    }
+}
+
+const OVERFLOW: Explanation = Explanation {
+    number: 1,
+    origin: Origin::Fault(Fault::Overflow),
+    sentence: "a result is too large for an INTEGER",
+    meaning: "An INTEGER holds the whole numbers from -9223372036854775808 to
+9223372036854775807. An operation of the line gave a number outside of them, here in
+the second statement:
+",
+    example: Trial {
+        source: "      K=9223372036854775807
+      K=K+1
+      END
+",
+        input: "",
+    },
+    advice: "print the values of the line's names in the line before, and look for the
+operation that leaves the range. A remainder is kept small by taking MOD after each
+step, and a count by stopping in time:
+",
+    cure: Trial {
+        source: "      K=9223372036854775807
+      IF (K.LT.9223372036854775807) K=K+1
+      END
+",
+        input: "",
+    },
+};
+
+const INDEX: Explanation = Explanation {
+    number: 2,
+    origin: Origin::Fault(Fault::Index),
+    sentence: "a subscript is out of bounds",
+    meaning: "Each subscript of an array's element lies from the lower bound of its dimension, which
+is 1 where none is declared, to the upper one. Here I is 4 in the last trip:
+",
+    example: Trial {
+        source: "      INTEGER A(3)
+      DO 10 I=1,4
+   10 A(I)=I
+      END
+",
+        input: "",
+    },
+    advice: "print the subscripts before the line, and look at the limits of the loops
+around it. If the subscripts are right, declare more elements:
+",
+    cure: Trial {
+        source: "      INTEGER A(4)
+      DO 10 I=1,4
+   10 A(I)=I
+      END
+",
+        input: "",
+    },
+};
+
+const ZERO_DIVISOR: Explanation = Explanation {
+    number: 3,
+    origin: Origin::Fault(Fault::ZeroDivisor),
+    sentence: "a division by zero",
+    meaning: "The divisor of a /, or the second argument of MOD, was 0 when the line ran. A name that
+was never assigned is 0, so this line faults wherever N has no value yet:
+",
+    example: Trial {
+        source: "      K=10/N
+      END
+",
+        input: "",
+    },
+    advice: "assign the divisor before the line, and look for a name that is spelled in
+two ways:
+",
+    cure: Trial {
+        source: "      N=5
+      K=10/N
+      END
+",
+        input: "",
+    },
+};
+
+const ZERO_STEP: Explanation = Explanation {
+    number: 4,
+    origin: Origin::Fault(Fault::ZeroStep),
+    sentence: "a DO that counts by zero",
+    meaning: "The third number of a DO is what its variable grows by after each trip, and it may not
+be 0. A name that was never assigned is 0:
+",
+    example: Trial {
+        source: "      DO 10 I=1,10,N
+   10 PRINT *,I
+      END
+",
+        input: "",
+    },
+    advice: "assign the step before the DO, or leave it out where it is 1. A step below
+zero counts down:
+",
+    cure: Trial {
+        source: "      DO 10 I=10,1,-1
+   10 PRINT *,I
+      END
+",
+        input: "",
+    },
+};
+
+const END_OF_INPUT: Explanation = Explanation {
+    number: 5,
+    origin: Origin::Fault(Fault::EndOfInput),
+    sentence: "there is no record left to read",
+    meaning: "Each READ takes at least one line of the input, and goes on to the next lines until
+all its items have values. With an input of two lines the third trip faults:
+",
+    example: Trial {
+        source: "      DO 10 I=1,3
+      READ *,K
+   10 PRINT *,K
+      END
+",
+        input: "7
+8
+",
+    },
+    advice: "add the lines that are missing, or read the number of lines first and loop
+that often. The input is the file named behind that of the source; without one it is
+empty:
+",
+    cure: Trial {
+        source: "      READ *,N
+      DO 10 I=1,N
+      READ *,K
+   10 PRINT *,K
+      END
+",
+        input: "2
+7
+8
+",
+    },
+};
+
+const BAD_INPUT: Explanation = Explanation {
+    number: 6,
+    origin: Origin::Fault(Fault::BadInput),
+    sentence: "a record that isn't made of integers",
+    meaning: "A line of the input holds integers, and between two of them blanks or one comma. Other
+characters, a comma with nothing on one side, and numbers outside of the INTEGER's
+range make it malformed, as 3,,4 and 3.5 and 2*1 are:
+",
+    example: Trial {
+        source: "      READ *,I,J
+      PRINT *,I+J
+      END
+",
+        input: "3,,4
+",
+    },
+    advice: "write every value out as a whole number, with blanks or a comma between
+them:
+",
+    cure: Trial {
+        source: "      READ *,I,J
+      PRINT *,I+J
+      END
+",
+        input: "3, -4
+",
+    },
+};

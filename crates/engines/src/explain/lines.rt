@@ -1,0 +1,240 @@
+//! The rules for lines, each with a source that breaks it and one that is cured.
+
+ghost use Rattle.std.specs.Prelude.{◌≡◌, IfSome, is_some};
+ghost use Rattle.engines.specs.Explained.{is_within};
+
+use crate::explain::{Explanation, Origin, Trial};
+
+/// What the rule of a number means, if it is one for lines.
+pub fn page(number: u8) -> Option<Explanation>
+    ensures number { IfSome result (λ explanation. explanation.number ≡ number) }
+    ensures whether { is_some result ≡ is_within 1 8 number }
+{
+    match number {
+        1 => Some(STRANGE_CHARACTER),
+        2 => Some(NO_LABEL),
+        3 => Some(LONE_CONTINUATION),
+        4 => Some(LONG_STATEMENT),
+        5 => Some(LABELLED_CONTINUATION),
+        6 => Some(LONG_SOURCE),
+        7 => Some(NO_END),
+        8 => Some(BEHIND_END),
+        _ => None,
+    }
+}
+
+const STRANGE_CHARACTER: Explanation = Explanation {
+    number: 1,
+    origin: Origin::Refusal,
+    sentence: "a character that may not stand in columns 1 to 72",
+    meaning: "Columns 1 to 72 of a statement's line hold letters, digits, blanks and the other
+characters of a keyboard. A tab is none of them, and neither is an accented letter, a
+minus or a quotation mark of a word processor, the mark that some editors put at the
+beginning of a file, or the CR of a line that doesn't end in CR LF. A comment line may
+hold anything, and so may the columns from 73 on. Here a tab stands before K:
+",
+    example: Trial {
+        source: "\tK=1
+      END
+",
+        input: "",
+    },
+    advice: "put blanks in the place of the tab. A statement begins in column 7, so six
+blanks stand before it:
+",
+    cure: Trial {
+        source: "      K=1
+      END
+",
+        input: "",
+    },
+};
+
+const NO_LABEL: Explanation = Explanation {
+    number: 2,
+    origin: Origin::Refusal,
+    sentence: "columns 1 to 5 hold something that is no label",
+    meaning: "A line that begins a statement has its label, if it has one, in columns 1 to 5: one
+to five digits that are not all zero. Everything else belongs in columns 7 to 72. A
+common cause is a statement that begins too far to the left:
+",
+    example: Trial {
+        source: "K=1
+      END
+",
+        input: "",
+    },
+    advice: "put six blanks before the statement. If the line is meant as a comment,
+put a C or a * into column 1:
+",
+    cure: Trial {
+        source: "C     SETS K
+      K=1
+      END
+",
+        input: "",
+    },
+};
+
+const LONE_CONTINUATION: Explanation = Explanation {
+    number: 3,
+    origin: Origin::Refusal,
+    sentence: "a continuation line that continues nothing",
+    meaning: "A line with a character other than a blank or 0 in column 6 goes on with the statement
+above it, and above this line there is none. A common cause is a statement that begins
+one column too far to the left, here in column 6:
+",
+    example: Trial {
+        source: "     K=1
+      END
+",
+        input: "",
+    },
+    advice: "write the statement from column 7 on, or put the line below the one that it
+continues:
+",
+    cure: Trial {
+        source: "      K=1
+     1+1
+      END
+",
+        input: "",
+    },
+};
+
+const LONG_STATEMENT: Explanation = Explanation {
+    number: 4,
+    origin: Origin::Refusal,
+    sentence: "a statement with too many lines",
+    meaning: "A statement has its first line and at most 19 continuation lines. The line of the
+refusal is the twentieth:
+",
+    example: Trial {
+        source: "      K=1
+     1+1
+     1+1
+     1+1
+     1+1
+     1+1
+     1+1
+     1+1
+     1+1
+     1+1
+     1+1
+     1+1
+     1+1
+     1+1
+     1+1
+     1+1
+     1+1
+     1+1
+     1+1
+     1+1
+     1+1
+      END
+",
+        input: "",
+    },
+    advice: "compute the first part in a statement of its own, and go on from its value:
+",
+    cure: Trial {
+        source: "      K=1+1+1+1+1+1+1+1+1+1
+      K=K+1+1+1+1+1+1+1+1+1+1+1
+      END
+",
+        input: "",
+    },
+};
+
+const LABELLED_CONTINUATION: Explanation = Explanation {
+    number: 5,
+    origin: Origin::Refusal,
+    sentence: "something stands before a continuation line",
+    meaning: "A line with a character other than a blank or 0 in column 6 is a continuation line, and
+its columns 1 to 5 are blank. A statement that begins too far to the left often looks
+like one, since one of its letters stands in column 6:
+",
+    example: Trial {
+        source: "      K=1
+PRINT*,K
+      END
+",
+        input: "",
+    },
+    advice: "begin the statement in column 7. A label belongs to the first line of its
+statement:
+",
+    cure: Trial {
+        source: "      K=1
+      PRINT *,K
+      END
+",
+        input: "",
+    },
+};
+
+const LONG_SOURCE: Explanation = Explanation {
+    number: 6,
+    origin: Origin::Refusal,
+    sentence: "the source is too long",
+    meaning: "A source has at most 65,535 lines, comments counted. The line of the refusal is the
+first one too many.
+",
+    example: Trial {
+        source: "",
+        input: "",
+    },
+    advice: "take out comment lines, or cut the program into two.
+",
+    cure: Trial {
+        source: "",
+        input: "",
+    },
+};
+
+const NO_END: Explanation = Explanation {
+    number: 7,
+    origin: Origin::Refusal,
+    sentence: "the source has no END",
+    meaning: "A program ends with a line that holds END alone, in columns 7 to 72. The line of the
+refusal is the number of lines that the source has, 0 for an empty file. The last line
+here has more than END:
+",
+    example: Trial {
+        source: "      PRINT *,1
+      END PROGRAM
+",
+        input: "",
+    },
+    advice: "write END as the last line, with six blanks before it and nothing behind it
+up to column 72:
+",
+    cure: Trial {
+        source: "      PRINT *,1
+      END
+",
+        input: "",
+    },
+};
+
+const BEHIND_END: Explanation = Explanation {
+    number: 8,
+    origin: Origin::Refusal,
+    sentence: "a line after END",
+    meaning: "END ends the program, and only comment lines and blank lines may follow it:
+",
+    example: Trial {
+        source: "      END
+      PRINT *,1
+",
+        input: "",
+    },
+    advice: "move the line before END, or take it out. A file holds one main program:
+",
+    cure: Trial {
+        source: "      PRINT *,1
+      END
+",
+        input: "",
+    },
+};

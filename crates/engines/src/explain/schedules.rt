@@ -1,0 +1,173 @@
+//! Refusals of schedules, each with a schedule of the program of END alone that has it and one that is
+//! cured; and that of code that is too long.
+
+ghost use Rattle.std.specs.Prelude.{◌≡◌, ◌||◌, IfSome, is_some};
+ghost use Rattle.engines.specs.Explained.{is_within};
+
+use crate::explain::{Explanation, Origin, Trial};
+
+/// What the refusal of a number means, if it is one of a schedule or of code.
+pub fn page(number: u8) -> Option<Explanation>
+    ensures number { IfSome result (λ explanation. explanation.number ≡ number) }
+    ensures whether { is_some result ≡ is_within 51 56 number || is_within 61 61 number }
+{
+    match number {
+        51 => Some(NO_HEADER),
+        52 => Some(NO_ENTRY),
+        53 => Some(NO_PROCESSOR),
+        54 => Some(NOT_POSSIBLE),
+        55 => Some(NOT_ENDED),
+        56 => Some(BEHIND_THE_END),
+        61 => Some(LONG_CODE),
+        _ => None,
+    }
+}
+
+/// The schedule of the program of END alone, on one processor.
+const WHOLE: Trial = Trial {
+    source: "DOACROSS SCHEDULE 2
+1 1
+0 M
+0 0
+",
+    input: "",
+};
+
+const NO_HEADER: Explanation = Explanation {
+    number: 51,
+    origin: Origin::Schedule,
+    sentence: "the schedule does not begin as one does",
+    meaning: "A schedule's first line is DOACROSS SCHEDULE 1 or DOACROSS SCHEDULE 2. The second holds
+the number of processors, 1 to 64, and how many iterations may be open, 1 to 256, with one
+blank between them. Each line ends in LF:
+",
+    example: Trial {
+        source: "DOACROSS SCHEDULE 2
+0 1
+",
+        input: "",
+    },
+    advice: "give the file that a run wrote, unchanged:
+",
+    cure: WHOLE,
+};
+
+const NO_ENTRY: Explanation = Explanation {
+    number: 52,
+    origin: Origin::Schedule,
+    sentence: "the line is no entry of a schedule",
+    meaning: "An entry is a processor's number, one blank, and what it does: a number from 1 to 1024 for
+so many local instructions, 0 for one shared step, and in the second form M, T or I and an
+iteration's number for what it takes up. Numbers are written without a zero before them,
+and each line ends in LF:
+",
+    example: Trial {
+        source: "DOACROSS SCHEDULE 2
+1 1
+0 M
+0  0
+",
+        input: "",
+    },
+    advice: "write the line in this form:
+",
+    cure: WHOLE,
+};
+
+const NO_PROCESSOR: Explanation = Explanation {
+    number: 53,
+    origin: Origin::Schedule,
+    sentence: "there is no such processor",
+    meaning: "Processors are numbered from 0 on, below the first number of the second line:
+",
+    example: Trial {
+        source: "DOACROSS SCHEDULE 2
+1 1
+0 M
+1 0
+",
+        input: "",
+    },
+    advice: "give the entry to a processor that is there, or let there be more of them:
+",
+    cure: WHOLE,
+};
+
+const NOT_POSSIBLE: Explanation = Explanation {
+    number: 54,
+    origin: Origin::Schedule,
+    sentence: "the processor can't do this now",
+    meaning: "The entries before the line can be followed, and this one can't: the processor holds
+nothing, or fewer local instructions stand next than the entry has, or one stands next
+where the entry is a shared step, or what it takes up isn't ready. Here main has no local
+instruction:
+",
+    example: Trial {
+        source: "DOACROSS SCHEDULE 2
+1 1
+0 M
+0 1
+",
+        input: "",
+    },
+    advice: "give the source and the input with which the schedule was made:
+",
+    cure: WHOLE,
+};
+
+const NOT_ENDED: Explanation = Explanation {
+    number: 55,
+    origin: Origin::Schedule,
+    sentence: "the run has not ended with the schedule",
+    meaning: "All entries can be followed, and then the run has not ended:
+",
+    example: Trial {
+        source: "DOACROSS SCHEDULE 2
+1 1
+0 M
+",
+        input: "",
+    },
+    advice: "see whether the end of the file is missing:
+",
+    cure: WHOLE,
+};
+
+const BEHIND_THE_END: Explanation = Explanation {
+    number: 56,
+    origin: Origin::Schedule,
+    sentence: "an entry stands behind the end of the run",
+    meaning: "With the entries before the line the run has ended:
+",
+    example: Trial {
+        source: "DOACROSS SCHEDULE 2
+1 1
+0 M
+0 0
+0 0
+",
+        input: "",
+    },
+    advice: "take the line and those behind it away:
+",
+    cure: WHOLE,
+};
+
+const LONG_CODE: Explanation = Explanation {
+    number: 61,
+    origin: Origin::Refusal,
+    sentence: "the program's code would be too long",
+    meaning: "The code of a program has at most 1048576 instructions. Only commands that run its code
+refuse a program for this; 'doac seq' runs it all the same. The refusal is of no line: LINE 0.
+",
+    example: Trial {
+        source: "",
+        input: "",
+    },
+    advice: "put what is written many times into a loop.
+",
+    cure: Trial {
+        source: "",
+        input: "",
+    },
+};

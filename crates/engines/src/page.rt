@@ -1,0 +1,151 @@
+//! What the engines write.
+
+ghost use Rattle.std.specs.Prelude.{◌≡◌, ◌≤◌, IfOk, OnOk, length, map};
+ghost use Rattle.ast.specs.Program.{loops_in};
+ghost use Rattle.ast.specs.ProgramView.{program as program_of};
+ghost use Rattle.ast.specs.View.{cells, symbol as symbol_of};
+ghost use Rattle.engines.specs.Engines.{IsJudged, Runs, ShowsRun, Tells, outcome_of};
+ghost use Rattle.engines.specs.Shown.{EndShown, Extends, accepted, refused};
+ghost use Rattle.engines.specs.View.{row_view, rows_from};
+
+use crate::fault::EngineFault;
+use crate::loops::loops_in;
+use crate::outcome::Outcome;
+use crate::row::Row;
+use crate::rows::rows;
+use crate::shown::{append_accepted, append_fault, append_refused, append_stopped};
+use crate::store::append_store;
+use crate::streams::write_all;
+use crate::verdict::{Verdict, judged};
+use ast::{Answer, End, Line, Program};
+use interpreter::run_seq;
+use std::alloc::{AllocError, Global};
+use std::io::Write;
+
+/// The text that an engine writes, and its outcome.
+#[derive(Drop)]
+pub struct Page {
+    pub text: Vec<u8>,
+    pub outcome: Outcome,
+}
+
+/// What `check` writes of a verdict.
+pub fn told(alloc: Global, verdict: &Verdict) -> Result<Page, AllocError>
+    requires { IsJudged verdict.now }
+    ensures { IfOk result (λ page. Tells verdict.now page.outcome page.text.items) }
+{
+    match verdict {
+        Verdict::Accepted(program) => accepted(alloc, program),
+        Verdict::Refused { number, line } => refused(alloc, *number, *line),
+    }
+}
+
+/// What `seq` writes of a source and an input; at END with the store where it is wanted.
+pub fn run(alloc: Global, source: &[u8], input: &[u8], store: bool) -> Result<Page, AllocError>
+    ensures { IfOk result (λ page. Runs store source.now input.now page.outcome page.text.items) }
+{
+    match judged(alloc, source)? {
+        Verdict::Accepted(program) => ran(alloc, &program, input, store),
+        Verdict::Refused { number, line } => refused(alloc, number, line),
+    }
+}
+
+fn accepted(alloc: Global, program: &Program) -> Result<Page, AllocError>
+    requires { loops_in (program_of program.now).block ≤ (program_of program.now).count }
+    ensures { IfOk result (λ page. (page.outcome ≡ Outcome.Completed)
+        × (page.text.items ≡ accepted (program_of program.now))) }
+{
+    let mut text = Vec::new(alloc);
+    append_accepted(&mut text, program.statements, loops_in(&program.body))?;
+    Ok(Page {
+        text,
+        outcome: Outcome::Completed,
+    })
+}
+
+pub fn refused(alloc: Global, number: u8, line: Line) -> Result<Page, AllocError>
+    ensures { IfOk result (λ page. (page.outcome ≡ Outcome.Refused number line)
+        × (page.text.items ≡ refused number line)) }
+{
+    let mut text = Vec::new(alloc);
+    append_refused(&mut text, number, line)?;
+    Ok(Page {
+        text,
+        outcome: Outcome::Refused { number, line },
+    })
+}
+
+fn ran(alloc: Global, program: &Program, input: &[u8], store: bool) -> Result<Page, AllocError>
+    ensures { IfOk result (λ page. ShowsRun store (program_of program.now) input.now page.outcome page.text.items) }
+{
+    let answer = run_seq(alloc, program, input)?;
+    shown(alloc, program, answer, store)
+}
+
+fn shown(alloc: Global, program: &Program, answer: Answer, store: bool) -> Result<Page, AllocError>
+    requires { length (cells answer.store) ≡ length program.now.symbols.items }
+    ensures { IfOk result (λ page. (page.outcome ≡ outcome_of answer.end)
+        × Extends (EndShown store (rows_from (cells answer.store) 0 (map symbol_of program.now.symbols.items)) answer.end) answer.output.items page.text.items) }
+{
+    let mut text = answer.output;
+    let mut rows = rows(alloc, &program.symbols, &answer.store)?;
+    append_end(&mut text, answer.end, &mut rows, store)?;
+    Ok(Page {
+        text,
+        outcome: outcome(answer.end),
+    })
+}
+
+pub fn outcome(end: End) -> Outcome
+    ensures { result ≡ outcome_of end }
+{
+    match end {
+        End::Done => Outcome::Completed,
+        End::Stopped(_) => Outcome::Completed,
+        End::Fault(fault, line) => Outcome::Faulted { fault, line },
+    }
+}
+
+pub fn append_end(
+    text: &mut Vec<u8>,
+    end: End,
+    rows: &mut [Row<'_>],
+    store: bool,
+) -> Result<(), AllocError>
+    ensures { OnOk result (Extends (EndShown store (map row_view rows.old) end) text.old.items text.new.items) }
+{
+    match end {
+        End::Fault(fault, line) => append_fault(text, fault, line),
+        End::Stopped(line) => append_stopped(text, line),
+        End::Done => append_wanted(text, rows, store),
+    }
+}
+
+fn append_wanted(text: &mut Vec<u8>, rows: &mut [Row<'_>], store: bool) -> Result<(), AllocError>
+    ensures { OnOk result (Extends (EndShown store (map row_view rows.old) End.Done) text.old.items text.new.items) }
+{
+    if store {
+        append_store(text, rows)
+    } else {
+        Ok(())
+    }
+}
+
+impl Page {
+    ghost use Rattle.std.specs.Prelude.{◌≡◌, IfOk, IfErr};
+    ghost use Rattle.std.specs.Io.KnownBytes.{Appends};
+    ghost use Rattle.engines.specs.Engines.{AppendsPart, IsWriting};
+
+    /// Writes the text.
+    pub fn write<W: Write>(&self, writer: &mut W) -> Result<Outcome, EngineFault>
+        ensures ok { IfOk result (λ outcome. (outcome ≡ self.now.outcome)
+            × Appends (W.contents writer.old) (W.contents writer.new) self.now.text.items) }
+        ensures err { IfErr result (λ fault. IsWriting fault
+            × AppendsPart (W.contents writer.old) (W.contents writer.new) self.now.text.items) }
+    {
+        match write_all(writer, &self.text) {
+            Ok(()) => Ok(self.outcome),
+            Err(error) => Err(EngineFault::Writing(error)),
+        }
+    }
+}

@@ -1,0 +1,28 @@
+//! What a source is judged to be.
+
+ghost use Rattle.std.specs.Prelude.{IfOk};
+ghost use Rattle.engines.specs.Engines.{IsVerdict};
+
+use ast::{Line, Program, Refusal};
+use profile_check::program;
+use std::alloc::{AllocError, Global};
+
+/// What a source is judged to be.
+#[derive(Drop)]
+pub enum Verdict {
+    /// A program of the profile.
+    Accepted(Program),
+    /// None: the first rule that it breaks, and the line.
+    Refused { number: u8, line: Line },
+}
+
+/// Judges a source.
+pub fn judged(alloc: Global, source: &[u8]) -> Result<Verdict, AllocError>
+    ensures { IfOk result (λ verdict. IsVerdict source.now verdict) }
+{
+    match program(alloc, source) {
+        Ok(program) => Ok(Verdict::Accepted(program)),
+        Err(Refusal::Refused { number, line }) => Ok(Verdict::Refused { number, line }),
+        Err(Refusal::Memory) => Err(AllocError),
+    }
+}

@@ -1,6 +1,0 @@
-use Rattle.std.proofs.Common.{arith}
-use Rattle.std.proofs.lemmas.Int.{ints}
-use Rattle.values.proofs.span.Goals as goal
-
-pub returns : goal.returns
-returns c = omega (arith, ints)
