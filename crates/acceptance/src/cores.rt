@@ -79,14 +79,14 @@ fn run(alloc: Global, code: &Code) -> Result<Vec<u8>, CoreRefusal> {
     if drive(&mut core).is_err() {
         drive(&mut core)?;
     }
-    Ok(core.schedule().text(alloc)?)
+    Ok(core.schedule().text()?)
 }
 
 /// The text of the upgrade of a schedule that leads to the end.
 fn upgraded(alloc: Global, code: &Code, text: &[u8]) -> Result<Vec<u8>, ReplayRefusal> {
     let schedule = Schedule::parse(alloc, text)?;
     let _ = replay(alloc, code, b"", &schedule)?;
-    Ok(upgrade(alloc, code, b"", &schedule)?.text(alloc)?)
+    Ok(upgrade(alloc, code, b"", &schedule)?.text()?)
 }
 
 #[test]

@@ -7,6 +7,10 @@ mod cores;
 #[cfg(test)]
 mod explanations;
 #[cfg(test)]
+mod grammar;
+#[cfg(test)]
+mod iterations;
+#[cfg(test)]
 mod kernels;
 #[cfg(test)]
 mod lines;
@@ -16,6 +20,8 @@ mod links;
 mod meeting;
 #[cfg(test)]
 mod mistakes;
+#[cfg(test)]
+mod nests;
 #[cfg(test)]
 mod overlap;
 #[cfg(test)]

@@ -155,7 +155,8 @@ module _ (code : Code) (program : ProgramTree) (compiled : Compiled code program
   ends =
       let c = goes_to_end 1 1 (omega arith) (omega arith) [] (Init code input) refl in
       let w = weighed Frame Opened (view code) trips_of (begin code) 1 none_of none_of no_events no_iterations (Valid code never) 1 (no_loops code) (main code program compiled input) (main_frame code) input (answer code program compiled input) (means code program compiled input) (standing code program compiled input) (inr (inr (none_valid code))) c.0 c.1 c.2 in
-      (w.0, record { turns = c.0; last = c.1; run = c.2; end = c.3; ended = c.4; weight = w.1 })
+      let solo : Solo code input w.0 = record { turns = c.0; last = c.1; run = c.2; end = c.3; ended = c.4; weight = w.1 } in
+      (w.0, solo, λ v other. solo_is v other ∙ sym (solo_is w.0 solo))
 
   pub bounded : Bounded code input
   bounded w solo p s qs m sizes run = let is = solo_is w solo in let most = at_most p s qs m run in omega (arith, is, most)

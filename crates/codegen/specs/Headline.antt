@@ -1,6 +1,6 @@
 -- The headline: whatever processors move, a run of a program's code that ends has printed and stored what
--- the sequential program does, or has printed its output so far and reports its first fault; and no run
--- that hasn't ended is without a next step.
+-- the sequential program does, or, where that program faults or stops, has printed its output so far and
+-- reports that fault or stop; and no run that hasn't ended is without a next step.
 use Rattle.std.specs.Prelude.{◌≡◌, ◌<◌, ◌≤◌, ◌+◌, ◌*◌, ℕ, List, ◌++◌, length, Some, None}
 use Rattle.ast.specs.Meaning.{seq}
 use Rattle.ast.specs.Program.{ProgramTree}
@@ -28,9 +28,9 @@ Headline code program =
 
 -- ---- how long runs are
 
--- the run alone ends
+-- the run alone ends, and its steps are one number
 abbrev pub Ends : Code → List ℕ → Type 0
-Ends code input = (w : ℕ) × Solo code input w
+Ends code input = (w : ℕ) × Solo code input w × ((v : ℕ) → Solo code input v → v ≡ w)
 
 -- No run, ended or not, has more than three times the steps of one alone: an instruction costs at most a
 -- park, a pick and itself.

@@ -1,9 +1,12 @@
 -- The exit status of a command, by texts that its files may hold.
-use Rattle.std.specs.Prelude.{ℕ, List, option_map}
+use Rattle.std.specs.Prelude.{◌⊎◌, ℕ, List, option_map}
+use Rattle.clap.specs.Words.{Text}
 use Rattle.engines.specs.Engines.{Checks, Runs}
-use Rattle.doac.specs.Statuses.{EndsAs, EndsReplay, EndsUpgrade, HasStatus, OfGiven, OfPrint}
+use Rattle.doac.specs.CommandLine.{Names, NamesNone}
+use Rattle.doac.specs.Statuses.{EndsAs, EndsLine, EndsReplay, EndsUpgrade, HasStatus, OfGiven, OfPrint}
 use Rattle.doac.specs.declared.command.Command.{Command}
 use Rattle.doac.specs.declared.command.Command.TheVariants.{Check, Seq, Replay, Upgrade, Explain}
+use Rattle.doac.specs.declared.command.LineFault.{LineFault}
 
 abbrev pub Obeys : Command → ℕ → Type 0
 Obeys (Check file) status = EndsAs status ((text : List ℕ) × HasStatus (Checks text) status)
@@ -12,3 +15,9 @@ Obeys (Seq file input store) status =
 Obeys (Replay source input schedule) status = EndsReplay status
 Obeys (Upgrade source input schedule out) status = EndsUpgrade status
 Obeys (Explain number) status = OfPrint status
+
+-- the exit status of the command that clap finds in the words, or of a fault that is true of them
+abbrev pub Follows : List Text → ℕ → Type 0
+Follows words status =
+    ((command : Command) × Names words command × Obeys command status)
+    ⊎ ((fault : LineFault) × NamesNone words fault × EndsLine fault status)

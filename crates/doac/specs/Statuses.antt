@@ -1,5 +1,5 @@
 -- Exit statuses of commands, by the texts that their files hold or may hold.
-use Rattle.std.specs.Prelude.{◌≡◌, ◌⊎◌, ℕ, List, [], Option, Some, None, Result, Ok, Err, Vec}
+use Rattle.std.specs.Prelude.{◌≡◌, ◌⊎◌, ⊤, ⊥, ℕ, List, [], Option, Some, None, Result, Ok, Err, Vec}
 use Rattle.std.specs.Global.{Global}
 use Rattle.engines.specs.Engines.{fault_status, status_of}
 use Rattle.engines.specs.Schedules.{Replaying, Upgrading, upgrade_status}
@@ -7,6 +7,9 @@ use Rattle.engines.specs.declared.fault.EngineFault.{EngineFault}
 use Rattle.engines.specs.declared.outcome.Outcome.{Outcome}
 use Rattle.engines.specs.declared.replays.Upgraded.{Upgraded}
 use Rattle.engines.specs.declared.texts.Texts.{Texts}
+use Rattle.doac.specs.CommandLine.{line_status}
+use Rattle.doac.specs.declared.command.LineFault.{LineFault}
+use Rattle.doac.specs.declared.command.LineFault.TheVariants.{Help}
 use Rattle.doac.specs.declared.files.FileFault.{FileFault}
 use Rattle.doac.specs.declared.files.FileFault.TheVariants.{Opening, Reading, Memory}
 use Rattle.doac.specs.declared.files.Unread.{Unread}
@@ -36,6 +39,15 @@ EndsAs status allowed = (status ≡ 4) ⊎ ((status ≡ 5) ⊎ allowed)
 -- the status of a text that was printed: 0, or that of writing
 abbrev pub OfPrint : ℕ → Type 0
 OfPrint status = (status ≡ 0) ⊎ (status ≡ 4)
+
+-- it is help, or the version, which is printed
+abbrev pub IsPrinted : LineFault → Type 0
+IsPrinted (Help text) = ⊤
+IsPrinted _ = ⊥
+
+-- the exit status of words that name no command; what is printed may fail to be written
+abbrev pub EndsLine : LineFault → ℕ → Type 0
+EndsLine fault status = (status ≡ line_status fault) ⊎ (IsPrinted fault × (status ≡ 4))
 
 -- the exit status after a file was read: that of its fault, or what is made of its bytes
 abbrev pub AfterFile : Result (Vec ℕ Global) FileFault → ℕ → (List ℕ → Type 0) → Type 0

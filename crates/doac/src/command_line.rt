@@ -73,7 +73,7 @@ fn number<'a>(alloc: Global) -> Arg<'a>
     ensures local { result.global ≡ false }
 {
     Arg::new(alloc, "N").action(ArgAction::Set).help(
-        "The number behind REFUSED or FAULT; without it all are listed",
+        "The number behind REFUSED, SCHEDULE or FAULT; without it all are listed",
     )
 }
 

@@ -1,11 +1,11 @@
 //! The program: its words, its files, and what it says on standard error.
 
-ghost use Rattle.std.specs.Prelude.{◌≡◌, ℕ, List, option_map};
+ghost use Rattle.std.specs.Prelude.{◌≡◌, ◌⊎◌, ℕ, List, map, option_map};
 ghost use Rattle.engines.specs.Engines.{Checks, Runs};
 ghost use Rattle.engines.specs.Schedules.{Replaying};
 ghost use Rattle.engines.specs.declared.texts.Texts.{Texts};
-ghost use Rattle.doac.specs.Commands.{Obeys};
-ghost use Rattle.doac.specs.Statuses.{AfterFile, AfterFiles, EndsAs, HasStatus, OfGiven, OfPrint, UpgradeEnds, exit_of, file_status};
+ghost use Rattle.doac.specs.Commands.{Follows, Obeys};
+ghost use Rattle.doac.specs.Statuses.{AfterFile, AfterFiles, EndsAs, EndsLine, HasStatus, OfGiven, OfPrint, UpgradeEnds, exit_of, file_status};
 
 use crate::command::{Command, LineFault};
 use crate::command_line::command;
@@ -14,17 +14,25 @@ use engines::{
     EngineFault, Message, Outcome, Place, Texts, Upgraded, Verdict, explain, judged, replay_texts,
     seq_texts, tell_verdict, upgrade_texts, warn,
 };
+use std::convert::AsStr;
 use std::rt::{Env, Files};
 use std::{env, fs, io};
 
 /// Does what the words of the command line ask for, and gives the exit status.
 pub fn run<R: Env + Files + Print + Eprint + AllocGlobal>(rt: &R) -> u8 {
     match words(rt) {
-        Ok(words) => match command(rt.alloc(), words.as_slice()) {
-            Ok(command) => obey(rt, command),
-            Err(fault) => refuse_line(rt, &fault),
-        },
+        Ok(words) => follow(rt, words.as_slice()),
         Err(error) => refuse_words(rt, &error),
+    }
+}
+
+/// Does what these words ask for, of which the first is the program's name.
+fn follow<S: AsStr, R: Files + Print + Eprint + AllocGlobal>(rt: &R, words: &[S]) -> u8
+    ensures { Follows (map S.text words.now) result }
+{
+    match command(rt.alloc(), words) {
+        Ok(command) => obey(rt, command),
+        Err(fault) => refuse_line(rt, &fault),
     }
 }
 
@@ -36,7 +44,9 @@ fn words<R: Env + AllocGlobal>(rt: &R) -> io::Result<Vec<String>> {
     Ok(words)
 }
 
-fn refuse_words<R: Eprint>(rt: &R, error: &io::Error) -> u8 {
+fn refuse_words<R: Eprint>(rt: &R, error: &io::Error) -> u8
+    ensures { (result ≡ 3) ⊎ (result ≡ 5) }
+{
     match error.kind() {
         io::ErrorKind::OutOfMemory => {
             let _ = eprintln!(rt; "doac: out of memory");
@@ -53,7 +63,9 @@ fn refuse_words<R: Eprint>(rt: &R, error: &io::Error) -> u8 {
     }
 }
 
-fn refuse_line<R: Print + Eprint>(rt: &R, fault: &LineFault) -> u8 {
+fn refuse_line<R: Print + Eprint>(rt: &R, fault: &LineFault) -> u8
+    ensures { EndsLine fault.now result }
+{
     match fault {
         LineFault::Help(text) => status_of_print(rt, rt.print(text)),
         LineFault::Memory => {

@@ -168,7 +168,7 @@ fn upgraded_schedule(
     ensures { IfOk result (Upgrades (code_of code.now) input.now text.now) }
 {
     match upgrade(alloc, code, input, schedule) {
-        Ok(named) => Ok(Upgraded::Text(named.text(alloc)?)),
+        Ok(named) => Ok(Upgraded::Text(named.text()?)),
         Err(ReplayRefusal::Refused { number, line }) => {
             Ok(Upgraded::Shown(unscheduled(alloc, number, line)?))
         }

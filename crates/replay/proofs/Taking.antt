@@ -6,7 +6,7 @@ use Rattle.replay.specs.Kept.{IsKept, all_taken, entries_of, entry_of, seen, tak
 use Rattle.replay.specs.Schedules.{AreEntries, Entry, Schedule, with_entry}
 use Rattle.replay.specs.declared.entry.Version.{Version}
 use Rattle.replay.specs.declared.short.Short.{Short}
-use Rattle.replay.proofs.Keeping.{entries_kept, taken_kept}
+use Rattle.replay.proofs.Keeping.{entries_kept, length_entries, taken_kept}
 
 are_front : (v : Version) (p : ℕ) (es : List Entry) (e : Entry) → AreEntries v p (es ++ e ∷ []) → AreEntries v p es
 are_front v p [] e h = tt
@@ -52,6 +52,10 @@ seen_back v p n ss all s ks new old x l e f t k h =
 
     is : entries_of all old ≡ entries_of ss ks ++ entry_of s new ∷ []
     is = ap (λ (xs : List Short). entries_of xs old) e ∙ ap (λ (ls : List ℕ). entries_of (ss ++ s ∷ []) ls) f ∙ entries_kept ss s ks new same
+
+-- there is one
+pub some_seen : (ss all : List Short) (s : Short) (ks : List ℕ) → all ≡ ss ++ s ∷ [] → entries_of all ks ≡ [] → ⊥
+some_seen ss all s ks e none = omega (arith, length_entries all ks, ap length none, ap length e, length-append ss (s ∷ []))
 
 -- there is none
 pub none_back : (v : Version) (p n : ℕ) (ks : List ℕ) (x : Schedule) (l : Entry) → seen v p n [] ks ≡ with_entry x l → ⊥

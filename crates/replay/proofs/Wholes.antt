@@ -3,7 +3,7 @@ use Rattle.std.proofs.Common.{◌≡◌, ◌≢◌, ℕ, ◌<◌, ◌≤◌, Lis
 use Rattle.replay.specs.Reading.{entry_at, entry_by, header_at, in_range, sizes_at}
 use Rattle.replay.specs.Refusals.{BeginsEntry, GoesOn, NoHeader, NoSizes, Refuses}
 use Rattle.replay.specs.Schedules.{AreEntries, Entry, IsAct, SchedText, Schedule, entries_before, entry_text, header, line_before, sizes_text, text_before, text_of, with_entry}
-use Rattle.machine.specs.State.{most_processors}
+use Rattle.machine.specs.State.{AreSizes, most_processors}
 use Rattle.replay.specs.declared.entry.Version.{Version}
 use Rattle.replay.specs.declared.reading.NoEntry.{NoEntry}
 use Rattle.replay.specs.declared.reading.NoEntry.TheVariants.{Processor}
@@ -47,25 +47,58 @@ left_over v p (x ∷ es) (y ∷ fs) rest few a b e =
     let same : ◌≡◌ {A = Result (Entry × List ℕ) NoEntry} (Ok (x, entries_before es rest)) (Ok (y, entries_before fs [])) = sym one ∙ ap (entry_at v p) e ∙ two in
     left_over v p es fs rest few a.1 b.1 (ap (λ (z : Entry × List ℕ). z.1) (ok_is (x, entries_before es rest) (y, entries_before fs []) same))
 
--- a text that goes on behind a schedule and is a schedule's goes on with entries
-goes_on_left : (bytes : List ℕ) (x : Schedule) (rest : List ℕ) (line : ℕ) → GoesOn bytes x rest line → (y : Schedule) → SchedText y bytes → Left x.version x.processors rest
-goes_on_left bytes x rest line g y s =
-    let same : text_before x rest ≡ text_of y = sym g.is ∙ s.spelled in
+-- a text that goes on behind a schedule and is a schedule's: both have the same first lines
+heads_same : (x y : Schedule) (rest : List ℕ) → AreSizes x.processors x.slots → AreSizes y.processors y.slots → text_before x rest ≡ text_of y
+    → ((x.version ≡ y.version) × (x.processors ≡ y.processors)) × ((x.slots ≡ y.slots) × (entries_before x.entries rest ≡ entries_before y.entries []))
+heads_same x y rest a b same =
     let heads : ◌≡◌ {A = Option (Version × List ℕ)} (Some (x.version, line_before (sizes_text x.processors x.slots) (entries_before x.entries rest)))
     (Some (y.version, line_before (sizes_text y.processors y.slots) (entries_before y.entries []))) =
     sym (header_again x.version _) ∙ ap header_at same ∙ header_again y.version _ in
     let behind = some_is (x.version, line_before (sizes_text x.processors x.slots) (entries_before x.entries rest))
     (y.version, line_before (sizes_text y.processors y.slots) (entries_before y.entries [])) heads in
-    let version : x.version ≡ y.version = ap (λ (z : Version × List ℕ). z.0) behind in
     let tail : line_before (sizes_text x.processors x.slots) (entries_before x.entries rest) ≡ line_before (sizes_text y.processors y.slots) (entries_before y.entries []) =
     ap (λ (z : Version × List ℕ). z.1) behind in
     let sizes = some_is (x.processors, x.slots, entries_before x.entries rest) (y.processors, y.slots, entries_before y.entries [])
-    (sym (sizes_again x.processors x.slots (entries_before x.entries rest) g.schedule.0) ∙ ap sizes_at tail ∙ sizes_again y.processors y.slots (entries_before y.entries []) s.schedule.0) in
-    let processors : x.processors ≡ y.processors = ap (λ (z : ℕ × ℕ × List ℕ). z.0) sizes in
-    let entries : entries_before x.entries rest ≡ entries_before y.entries [] = ap (λ (z : ℕ × ℕ × List ℕ). z.2) sizes in
-    let are : AreEntries x.version x.processors y.entries =
-    subst (λ (p : ℕ). AreEntries x.version p y.entries) (sym processors) (subst (λ (v : Version). AreEntries v y.processors y.entries) (sym version) s.schedule.1) in
-    left_over x.version x.processors x.entries y.entries rest g.schedule.0.0.1 g.schedule.1 are entries
+    (sym (sizes_again x.processors x.slots (entries_before x.entries rest) a) ∙ ap sizes_at tail ∙ sizes_again y.processors y.slots (entries_before y.entries []) b) in (
+      (ap (λ (z : Version × List ℕ). z.0) behind, ap (λ (z : ℕ × ℕ × List ℕ). z.0) sizes),
+      (ap (λ (z : ℕ × ℕ × List ℕ). z.1) sizes, ap (λ (z : ℕ × ℕ × List ℕ). z.2) sizes),
+    )
+
+-- the entries of the one may stand in the other
+entries_here : (x y : Schedule) → x.version ≡ y.version → x.processors ≡ y.processors → AreEntries y.version y.processors y.entries → AreEntries x.version x.processors y.entries
+entries_here x y version processors are =
+    subst (λ (p : ℕ). AreEntries x.version p y.entries) (sym processors) (subst (λ (v : Version). AreEntries v y.processors y.entries) (sym version) are)
+
+-- a text that goes on behind a schedule and is a schedule's goes on with entries
+goes_on_left : (bytes : List ℕ) (x : Schedule) (rest : List ℕ) (line : ℕ) → GoesOn bytes x rest line → (y : Schedule) → SchedText y bytes → Left x.version x.processors rest
+goes_on_left bytes x rest line g y s =
+    let h = heads_same x y rest g.schedule.0 s.schedule.0 (sym g.is ∙ s.spelled) in
+    left_over x.version x.processors x.entries y.entries rest g.schedule.0.0.1 g.schedule.1 (entries_here x y h.0.0 h.0.1 s.schedule.1) h.1.1
+
+-- lines of entries are of one list
+one_list : (v : Version) (p : ℕ) (es fs : List Entry) → p ≤ most_processors → AreEntries v p es → AreEntries v p fs
+    → entries_before es [] ≡ entries_before fs [] → es ≡ fs
+one_list v p [] [] few a b e = refl
+one_list v p [] (y ∷ fs) few a b e = absurd (never_empty (entry_text y) (entries_before fs []) (sym e))
+one_list v p (x ∷ es) [] few a b e = absurd (never_empty (entry_text x) (entries_before es []) e)
+one_list v p (x ∷ es) (y ∷ fs) few a b e =
+    let one = entry_is_read v p x (entries_before es []) few a.0.0 a.0.1 in
+    let two = entry_is_read v p y (entries_before fs []) few b.0.0 b.0.1 in
+    let same : ◌≡◌ {A = Result (Entry × List ℕ) NoEntry} (Ok (x, entries_before es [])) (Ok (y, entries_before fs [])) = sym one ∙ ap (entry_at v p) e ∙ two in
+    let both = ok_is (x, entries_before es []) (y, entries_before fs []) same in
+    ap (λ (z : Entry). z ∷ es) (ap (λ (z : Entry × List ℕ). z.0) both)
+    ∙ ap (λ (zs : List Entry). y ∷ zs) (one_list v p es fs few a.1 b.1 (ap (λ (z : Entry × List ℕ). z.1) both))
+
+-- a text is of one schedule
+pub one_schedule : (bytes : List ℕ) (x y : Schedule) → SchedText x bytes → SchedText y bytes → x ≡ y
+one_schedule bytes x y a b =
+    let h = heads_same x y [] a.schedule.0 b.schedule.0 (sym a.spelled ∙ b.spelled) in
+    let entries = one_list x.version x.processors x.entries y.entries a.schedule.0.0.1 a.schedule.1 (entries_here x y h.0.0 h.0.1 b.schedule.1) h.1.1 in
+    ap (λ (es : List Entry). schedule x.version x.processors x.slots es) entries ∙ ap (λ (v : Version). schedule v x.processors x.slots y.entries) h.0.0
+    ∙ ap (λ (p : ℕ). schedule y.version p x.slots y.entries) h.0.1 ∙ ap (λ (n : ℕ). schedule y.version y.processors n y.entries) h.1.0
+  where
+    schedule : Version → ℕ → ℕ → List Entry → Schedule
+    schedule v p n es = record { version = v; processors = p; slots = n; entries = es }
 
 no_entry_left : (v : Version) (p : ℕ) (rest : List ℕ) → p ≤ most_processors → rest ≢ [] → Left v p rest → ((q : ℕ) → BeginsEntry v q rest → ⊥) → ⊥
 no_entry_left v p rest few some l none = go l.entries l.are l.is

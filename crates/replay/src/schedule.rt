@@ -122,9 +122,10 @@ impl Schedule {
         })
     }
 
-    /// Takes back the entry that was added last.
+    /// Takes back the entry that was added last, if there is one.
     pub fn take_back(&mut self)
-        ensures { (x : ScheduleOf) (e : EntryOf) → self.old ≡ with_entry x e → self.new ≡ x }
+        ensures last { (x : ScheduleOf) (e : EntryOf) → self.old ≡ with_entry x e → self.new ≡ x }
+        ensures none { self.old.entries ≡ [] → self.new ≡ self.old }
     {
         let Some(last) = self.shorts.pop() else {
             return;
@@ -224,6 +225,7 @@ impl Schedule {
         ensures found { IfOk result (λ x. SchedText x bytes.now) }
         ensures refused { IfErr result (λ fault. Explains fault (λ number line. Refuses bytes.now number line)) }
         ensures only { IfErr result (λ fault. Explains fault (λ number line. (x : ScheduleOf) → SchedText x bytes.now → ⊥)) }
+        ensures one { (x y : ScheduleOf) → SchedText x bytes.now → SchedText y bytes.now → x ≡ y }
     {
         let Some((version, rest)) = header(bytes) else {
             return Err(ReplayRefusal::Refused {
@@ -245,10 +247,10 @@ impl Schedule {
     }
 
     /// The text of the schedule.
-    pub fn text(&self, alloc: Global) -> Result<Vec<u8>, AllocError>
+    pub fn text(&self) -> Result<Vec<u8>, AllocError>
         ensures { IfOk result (λ text. SchedText self.now text.items) }
     {
-        let mut out = Vec::new(alloc);
+        let mut out = Vec::new(*self.shorts.allocator());
         append_header(&mut out, self.version)?;
         append_sizes(&mut out, self.processors, self.slots)?;
         append_entries(&mut out, Entries::new(&self.shorts, &self.picked))?;

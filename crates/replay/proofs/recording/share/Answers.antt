@@ -10,4 +10,4 @@ returns-in-Ok-true-clause-did c =
 pub returns-in-Ok-false-clause-did : goal.returns-in-Ok-false-clause-did
 returns-in-Ok-false-clause-did c =
     let did = rw c.in-Ok-false.field-0-test at c.in-Ok-false.ensures.did in
-    share_none c.args.activities.now c.share.new.self c.args.schedule.now c.take_back.new.self c.args.tally.now c.args.q c.requires.parts did.0 did.1 (c.take_back.ensures _ _ c.in_ok-push.ensures.ok)
+    share_none c.args.activities.now c.share.new.self c.args.schedule.now c.take_back.new.self c.args.tally.now c.args.q c.requires.parts did.0 did.1 (c.take_back.ensures.last _ _ c.in_ok-push.ensures.ok)

@@ -1,6 +1,6 @@
 use Rattle.std.proofs.Common.{sym, ◌∙◌}
 use Rattle.replay.proofs.Parsing.{at_bytes, begun_at, no_sizes, only_refused, opened}
-use Rattle.replay.proofs.Wholes.{refused_only}
+use Rattle.replay.proofs.Wholes.{one_schedule, refused_only}
 use Rattle.replay.proofs.schedule.Schedule.parse.Goals as goal
 
 pub returns-in_default-sizes-clause-refused : goal.returns-in_default-sizes-clause-refused
@@ -33,3 +33,12 @@ returns-in-Err-clause-only c =
     let begun = begun_at c.args.bytes.now c.in-Some.version c.in-Some.rest.now c.in-Some-sizes.processors c.in-Some-sizes.slots c.in-Some-sizes.rest.now c.new-schedule.result
     (sym c.in-Some.ensures) (sym c.in-Some-sizes.ensures) c.new-schedule.ensures.new in
     only_refused c.args.bytes.now c.in-Err.refusal (at_bytes _ c.args.bytes.now c.in-Err.refusal begun c.in-Err.ensures.err)
+
+pub returns-in_default-sizes-clause-one : goal.returns-in_default-sizes-clause-one
+returns-in_default-sizes-clause-one c = one_schedule c.args.bytes.now
+
+pub returns-in-Ok-clause-one : goal.returns-in-Ok-clause-one
+returns-in-Ok-clause-one c = one_schedule c.args.bytes.now
+
+pub returns-in-Err-clause-one : goal.returns-in-Err-clause-one
+returns-in-Err-clause-one c = one_schedule c.args.bytes.now

@@ -1,0 +1,151 @@
+//! Trees of expressions.
+
+use ast::{Access, Expr, Name, Operator, Prefix, Refusal};
+use expressions::expr;
+use std::alloc::{AllocError, Global};
+use std::process::Abort;
+use std::test::Fail;
+
+/// The line of each text.
+const LINE: u32 = 9;
+
+fn is_constant(expr: &Expr, wanted: i64) -> bool {
+    match expr {
+        Expr::Constant(value) => *value == wanted,
+        _ => false,
+    }
+}
+
+fn is_named(access: &Access, name: &[u8; 6]) -> bool {
+    access.reference.name == Name { letters: *name }
+}
+
+/// -A
+fn is_minus_a(expr: &Expr) -> bool {
+    match expr {
+        Expr::Unary(Prefix::Minus, operand) => match &**operand {
+            Expr::Element(access) => is_named(access, b"A     ") && access.subscripts.is_empty(),
+            _ => false,
+        },
+        _ => false,
+    }
+}
+
+/// 2*(B12(1,3))
+fn is_product(expr: &Expr) -> bool {
+    match expr {
+        Expr::Binary(Operator::Multiply, left, right) => {
+            is_constant(left, 2) && is_in_parentheses(right)
+        }
+        _ => false,
+    }
+}
+
+/// (B12(1,3))
+fn is_in_parentheses(expr: &Expr) -> bool {
+    match expr {
+        Expr::Parentheses(inner) => match &**inner {
+            Expr::Element(access) => is_element(access),
+            _ => false,
+        },
+        _ => false,
+    }
+}
+
+/// B12(1,3)
+fn is_element(access: &Access) -> bool {
+    is_named(access, b"B12   ")
+        && match access.subscripts.as_slice() {
+            [first, second] => is_constant(first, 1) && is_constant(second, 3),
+            _ => false,
+        }
+}
+
+/// What [`SUM`] spells.
+fn is_sum(expr: &Expr) -> bool {
+    match expr {
+        Expr::Binary(Operator::Add, left, right) => is_minus_a(left) && is_product(right),
+        _ => false,
+    }
+}
+
+const SUM: &[u8] = b"-A+2*(B12(1,3))";
+
+#[test]
+fn want_of_memory_in_texts_of_expressions(rt: HostRuntime) -> Result<(), Fail> {
+    match expr(rt.alloc(), SUM, LINE) {
+        Err(Refusal::Memory) => {
+            assert!(rt; is_sum(&expr(rt.alloc(), SUM, LINE)?));
+            Err(AllocError)?
+        }
+        given => assert!(rt; is_sum(&given?)),
+    }
+    Ok(())
+}
+
+/// A text in so many parentheses.
+fn enclosed(alloc: Global, text: &[u8], times: usize) -> Result<Vec<u8>, AllocError> {
+    let mut made = Vec::new(alloc);
+    made.resize(times, b'(')?;
+    made.extend_from_slice(text)?;
+    made.resize(2 * times + text.len(), b')')?;
+    Ok(made)
+}
+
+/// What stands in so many parentheses, if it is so.
+fn inside(expr: &Expr, times: usize) -> Option<&Expr> {
+    let mut inner = expr;
+    for _ in 0..times {
+        match inner {
+            Expr::Parentheses(next) => inner = next,
+            _ => return None,
+        }
+    }
+    Some(inner)
+}
+
+fn is_refused(rt: &impl Abort, given: Result<Expr, Refusal>, number: u8) {
+    let wanted = Refusal::Refused { number, line: LINE };
+    assert_eq!(*rt; given.err(), Some(wanted));
+}
+
+#[test]
+fn parentheses_to_the_greatest_depth(rt: HostRuntime) -> Result<(), Fail> {
+    let deepest = expr(rt.alloc(), &enclosed(rt.alloc(), b"7", 127)?, LINE)?;
+    match inside(&deepest, 127) {
+        Some(inner) => assert!(rt; is_constant(inner, 7)),
+        None => panic!(rt; "127 parentheses"),
+    }
+    let over = enclosed(rt.alloc(), b"7", 128)?;
+    is_refused(&rt, expr(rt.alloc(), &over, LINE), 26);
+    Ok(())
+}
+
+#[test]
+fn long_lists(rt: HostRuntime) -> Result<(), Fail> {
+    let mut text = Vec::from_slice(rt.alloc(), b"MAX(1")?;
+    for _ in 1..1_000 {
+        text.extend_from_slice(b",1")?;
+    }
+    text.push(b')')?;
+    match expr(rt.alloc(), &text, LINE)? {
+        Expr::Element(access) => assert_eq!(rt; access.subscripts.len(), 1_000),
+        _ => panic!(rt; "a name with a list"),
+    }
+    Ok(())
+}
+
+#[test]
+fn refused_expressions(rt: HostRuntime) {
+    let refused: [(&[u8], u8); 6] = [
+        (b"1.5", 22),
+        (b"9223372036854775808", 23),
+        (b"ABCDEFG", 24),
+        (b"", 25),
+        (b"1+", 25),
+        (b"I.LT.J.LT.K", 25),
+    ];
+    for (text, number) in refused {
+        is_refused(&rt, expr(rt.alloc(), text, LINE), number);
+    }
+}

@@ -1,0 +1,358 @@
+//! Open loops of code made by hand, with several iterations open at once.
+
+use ast::{Answer, End, Fault, Line, Name, Operator};
+use machine::{
+    Act as Does, Await, Axis, Code, Done, Instr, Loop, Parts, Piece, Variable, stands_local,
+};
+use replay::{Choice, Core, HandIn, Schedule, Stepped, replay};
+use std::alloc::{AllocError, Global};
+use std::process::Abort;
+use std::test::Fail;
+
+/// How many rounds of turns each of these runs ends within.
+const ROUNDS: usize = 300;
+
+/// The dimension of A(0:4)
+const ELEMENTS: Axis = Axis {
+    lower: 0,
+    width: 5,
+    stride: 1,
+};
+
+/// Main opens the loop over 1 to 4, waits for its end, and prints K and I.
+const MAIN: [Does; 8] = [
+    Does::Constant(1),
+    Does::Constant(4),
+    Does::Open(0),
+    Does::Join,
+    Does::Load(2),
+    Does::Load(0),
+    Does::Print(0),
+    Does::Halt,
+];
+
+/// A(I)=A(I-1)+1, one iteration after another.
+const ELEMENT: [Does; 12] = [
+    Does::Await(0),
+    Does::Index,
+    Does::Constant(1),
+    Does::Binary(Operator::Subtract),
+    Does::Check(0, ELEMENTS),
+    Does::LoadElement(1),
+    Does::Constant(1),
+    Does::Binary(Operator::Add),
+    Does::Index,
+    Does::Check(0, ELEMENTS),
+    Does::StoreElement(1),
+    Does::Advance(1),
+];
+
+/// K=10*I and PRINT *,I, where each iteration has a K of its own.
+const RECORD: [Does; 6] = [
+    Does::Constant(10),
+    Does::Index,
+    Does::Binary(Operator::Multiply),
+    Does::SetPrivate(0),
+    Does::Index,
+    Does::Print(1),
+];
+
+/// K=6/(3-I)
+const QUOTIENT: [Does; 6] = [
+    Does::Constant(6),
+    Does::Constant(3),
+    Does::Index,
+    Does::Binary(Operator::Subtract),
+    Does::Binary(Operator::Divide),
+    Does::SetPrivate(0),
+];
+
+/// IF (I.EQ.3) STOP
+const STOP: [Does; 5] = [
+    Does::Index,
+    Does::Constant(3),
+    Does::Binary(Operator::Equal),
+    Does::SkipUnless(1),
+    Does::Stop,
+];
+
+fn name(letter: u8) -> Name {
+    Name {
+        letters: [letter, b' ', b' ', b' ', b' ', b' '],
+    }
+}
+
+/// I, A(0:4) and K, in one vector of cells.
+fn variables(alloc: Global) -> Result<Vec<Variable>, AllocError> {
+    let laid = [(b'I', 0, 1), (b'A', 1, 5), (b'K', 6, 1)];
+    let mut list = Vec::new(alloc);
+    for (letter, start, size) in laid {
+        list.push(Variable {
+            name: name(letter),
+            start,
+            size,
+        })?;
+    }
+    Ok(list)
+}
+
+/// Main, and an iteration of these pieces. The line of an instruction is its place.
+fn instructions(alloc: Global, main: &[Does], body: &[&[Does]]) -> Result<Vec<Instr>, AllocError> {
+    let mut acts = Vec::from_slice(alloc, main)?;
+    for piece in body {
+        acts.extend_from_slice(piece)?;
+    }
+    acts.push(Does::Retire(0))?;
+    let mut list = Vec::with_capacity(alloc, acts.len())?;
+    for (place, act) in acts.iter().enumerate() {
+        list.push(Instr {
+            line: place as Line,
+            act: *act,
+        })?;
+    }
+    Ok(list)
+}
+
+/// The code of main and of an iteration of its loop, whose step is 1 and whose K is private.
+fn assembled(
+    rt: &(impl Abort + AllocGlobal),
+    main: &[Does],
+    body: &[&[Does]],
+) -> Result<Code, AllocError> {
+    let alloc = rt.alloc();
+    let one = Loop {
+        body: main.len(),
+        variable: 0,
+        step: 1,
+        privates: vec![in alloc; 2]?,
+    };
+    let both = vec![in alloc; Piece::Operand, Piece::Operand]?;
+    let alone = vec![in alloc; Piece::Operand]?;
+    let order = Await {
+        event: 1,
+        distance: 1,
+    };
+    let parts = Parts {
+        instructions: instructions(alloc, main, body)?,
+        records: vec![in alloc; both, alone]?,
+        awaits: vec![in alloc; order]?,
+        variables: variables(alloc)?,
+        loops: vec![in alloc; one]?,
+        operands: 4,
+        counters: 0,
+        reports: Vec::new(alloc),
+    };
+    match Code::new(parts) {
+        Some(code) => Ok(code),
+        None => panic!(*rt; "the code is laid"),
+    }
+}
+
+/// A turn of a processor: its shared step, or so much of its local work, 1 to 1,024.
+fn turn(
+    rt: &impl Abort,
+    core: &mut Core<'_>,
+    processor: usize,
+    burst: u32,
+) -> Result<(), AllocError> {
+    let stepped = core.step(processor)?;
+    if let (Stepped::Idle, Some(frame)) = (stepped, core.frame(processor)?) {
+        let code = core.code();
+        if stands_local(code, &frame) && 1 <= burst && burst <= 1_024 {
+            match core.hand_in(processor, Done::work(code, frame, burst)?) {
+                Ok(()) => {}
+                Err(HandIn::Memory) => return Err(AllocError),
+                Err(_) => panic!(*rt; "the frame is the processor's own"),
+            }
+        }
+    }
+    Ok(())
+}
+
+/// The core of a run in which each processor has its turn, the last one first, until the end.
+fn driven<'c>(
+    rt: &(impl Abort + AllocGlobal),
+    code: &'c Code,
+    slots: u64,
+    burst: u32,
+) -> Result<Core<'c>, Fail> {
+    let mut core = Core::new(rt.alloc(), code, b"", 3, slots)?;
+    for _ in 0..ROUNDS {
+        for processor in [2, 1, 0] {
+            turn(rt, &mut core, processor, burst)?;
+        }
+    }
+    Ok(core)
+}
+
+/// What the core of a run that has ended answers. Its schedule, written and read again, replays to it.
+fn answered(rt: &(impl Abort + AllocGlobal), core: &Core<'_>) -> Result<Answer, Fail> {
+    let text = core.schedule().text()?;
+    let schedule = Schedule::parse(rt.alloc(), &text)?;
+    let replayed = replay(rt.alloc(), core.code(), b"", &schedule)?;
+    match core.answer()? {
+        Some(answer) => {
+            assert_eq!(*rt; answer.output.as_slice(), replayed.output.as_slice());
+            assert_eq!(*rt; answer.end, replayed.end);
+            Ok(answer)
+        }
+        None => panic!(*rt; "the run has ended"),
+    }
+}
+
+/// How each run of a code ends, whatever its slots and bursts.
+fn each_ends(
+    rt: &(impl Abort + AllocGlobal),
+    code: &Code,
+    output: &[u8],
+    end: End,
+) -> Result<(), Fail> {
+    for slots in [1, 2, 4] {
+        for burst in [1, 3, 1_024] {
+            let core = driven(rt, code, slots, burst)?;
+            let answer = answered(rt, &core)?;
+            assert_eq!(*rt; answer.output.as_slice(), output);
+            assert_eq!(*rt; answer.end, end);
+        }
+    }
+    Ok(())
+}
+
+#[test]
+fn elements_and_records_in_order(rt: HostRuntime) -> Result<(), Fail> {
+    let code = assembled(&rt, &MAIN, &[&ELEMENT, &RECORD])?;
+    each_ends(&rt, &code, b" 1\n 2\n 3\n 4\n 40 5\n", End::Done)?;
+    let core = driven(&rt, &code, 3, 1)?;
+    let answer = answered(&rt, &core)?;
+    for (letter, place, value) in [
+        (b'A', 0, 0),
+        (b'A', 1, 1),
+        (b'A', 4, 4),
+        (b'K', 0, 40),
+        (b'I', 0, 5),
+    ] {
+        assert_eq!(&rt; answer.store.value(name(letter), place), Some(value));
+    }
+    Ok(())
+}
+
+/// The third iteration's division, after its record.
+#[test]
+fn fault_of_an_iteration(rt: HostRuntime) -> Result<(), Fail> {
+    let code = assembled(&rt, &MAIN, &[&ELEMENT, &RECORD, &QUOTIENT])?;
+    each_ends(
+        &rt,
+        &code,
+        b" 1\n 2\n 3\n",
+        End::Fault(Fault::ZeroDivisor, 30),
+    )
+}
+
+/// The third iteration's STOP, before its record.
+#[test]
+fn stop_of_an_iteration(rt: HostRuntime) -> Result<(), Fail> {
+    let code = assembled(&rt, &MAIN, &[&STOP, &ELEMENT, &RECORD])?;
+    each_ends(&rt, &code, b" 1\n 2\n", End::Stopped(12))
+}
+
+/// The loop's variable grows out of 64 bits after the last trip.
+#[test]
+fn overflow_at_a_join(rt: HostRuntime) -> Result<(), Fail> {
+    let main = [
+        Does::Constant(9_223_372_036_854_775_806),
+        Does::Constant(9_223_372_036_854_775_807),
+        Does::Open(0),
+        Does::Join,
+        Does::Halt,
+    ];
+    let code = assembled(&rt, &main, &[])?;
+    each_ends(&rt, &code, b"", End::Fault(Fault::Overflow, 3))
+}
+
+/// A processor's turns until it holds nothing, or the run has ended.
+fn settle(rt: &impl Abort, core: &mut Core<'_>, processor: usize) -> Result<(), AllocError> {
+    for _ in 0..ROUNDS {
+        if core.frame(processor)?.is_none() {
+            break;
+        }
+        turn(rt, core, processor, 8)?;
+    }
+    Ok(())
+}
+
+/// A core whose main has opened a loop of two trips and waits for its end.
+fn opened<'c>(rt: &(impl Abort + AllocGlobal), code: &'c Code) -> Result<Core<'c>, Fail> {
+    let mut core = Core::new(rt.alloc(), code, b"", 2, 2)?;
+    assert_eq!(*rt; core.pick(0, Choice::Ticket)?, Stepped::Idle);
+    assert_eq!(*rt; core.pick(0, Choice::Main)?, Stepped::Went(None));
+    settle(rt, &mut core, 0)?;
+    Ok(core)
+}
+
+/// The code of a loop over 1 and 2, each of whose iterations prints its value.
+fn of_two_records(rt: &(impl Abort + AllocGlobal)) -> Result<Code, AllocError> {
+    let main = [
+        Does::Constant(1),
+        Does::Constant(2),
+        Does::Open(0),
+        Does::Join,
+        Does::Halt,
+    ];
+    assembled(rt, &main, &[&RECORD])
+}
+
+/// The second iteration comes to its end first, and waits there for the first one.
+#[test]
+fn retires_in_order(rt: HostRuntime) -> Result<(), Fail> {
+    let code = of_two_records(&rt)?;
+    let mut core = opened(&rt, &code)?;
+    assert_eq!(&rt; core.pick(0, Choice::Ticket)?, Stepped::Went(Some(0)));
+    assert_eq!(&rt; core.pick(1, Choice::Ticket)?, Stepped::Went(Some(1)));
+    settle(&rt, &mut core, 1)?;
+    for choice in [Choice::Ticket, Choice::Main, Choice::Iteration(1)] {
+        assert_eq!(&rt; core.pick(1, choice)?, Stepped::Idle);
+    }
+    settle(&rt, &mut core, 0)?;
+    assert_eq!(&rt; core.pick(0, Choice::Main)?, Stepped::Idle);
+    assert_eq!(&rt; core.pick(0, Choice::Iteration(1))?, Stepped::Went(None));
+    settle(&rt, &mut core, 0)?;
+    assert_eq!(&rt; core.pick(1, Choice::Main)?, Stepped::Went(None));
+    settle(&rt, &mut core, 1)?;
+    let answer = answered(&rt, &core)?;
+    assert_eq!(&rt; answer.output.as_slice(), b" 1\n 2\n".as_slice());
+    assert_eq!(&rt; core.pick(0, Choice::Main)?, Stepped::Ended);
+    assert_eq!(&rt; core.step(0)?, Stepped::Ended);
+    Ok(())
+}
+
+/// Local work that leads from the frame of what a processor holds.
+fn worked<'c>(rt: &impl Abort, core: &Core<'c>, processor: usize) -> Result<Done<'c>, AllocError> {
+    let code = core.code();
+    match core.frame(processor)? {
+        Some(frame) if stands_local(code, &frame) => Done::work(code, frame, 8),
+        _ => panic!(*rt; "a local instruction stands next"),
+    }
+}
+
+#[test]
+fn work_is_handed_in_once(rt: HostRuntime) -> Result<(), Fail> {
+    let code = of_two_records(&rt)?;
+    let mut core = opened(&rt, &code)?;
+    core.pick(0, Choice::Ticket)?;
+    core.pick(1, Choice::Ticket)?;
+    let stranger = worked(&rt, &core, 0)?;
+    assert_eq!(&rt; core.hand_in(1, stranger), Err(HandIn::Stranger));
+    let absent = worked(&rt, &core, 0)?;
+    assert_eq!(&rt; core.hand_in(2, absent), Err(HandIn::Stranger));
+    let first = worked(&rt, &core, 0)?;
+    let again = worked(&rt, &core, 0)?;
+    let late = worked(&rt, &core, 1)?;
+    assert_eq!(&rt; core.hand_in(0, first), Ok(()));
+    assert_eq!(&rt; core.hand_in(0, again), Err(HandIn::Stranger));
+    for _ in 0..ROUNDS {
+        turn(&rt, &mut core, 0, 8)?;
+        turn(&rt, &mut core, 1, 8)?;
+    }
+    assert_eq!(&rt; core.hand_in(1, late), Err(HandIn::Ended));
+    Ok(())
+}
