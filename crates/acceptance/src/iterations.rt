@@ -104,11 +104,10 @@ fn instructions(alloc: Global, main: &[Does], body: &[&[Does]]) -> Result<Vec<In
     }
     acts.push(Does::Retire(0))?;
     let mut list = Vec::with_capacity(alloc, acts.len())?;
-    for (place, act) in acts.iter().enumerate() {
-        list.push(Instr {
-            line: place as Line,
-            act: *act,
-        })?;
+    let mut line: Line = 0;
+    for act in &acts {
+        list.push(Instr { line, act: *act })?;
+        line = line.wrapping_add(1);
     }
     Ok(list)
 }
@@ -301,27 +300,48 @@ fn of_two_records(rt: &(impl Abort + AllocGlobal)) -> Result<Code, AllocError> {
     assembled(rt, &main, &[&RECORD])
 }
 
-/// The second iteration comes to its end first, and waits there for the first one.
+/// What comes of a pick.
+fn picks(
+    rt: &impl Abort,
+    core: &mut Core<'_>,
+    processor: usize,
+    choice: Choice,
+    wanted: Stepped,
+) -> Result<(), AllocError> {
+    assert_eq!(*rt; core.pick(processor, choice)?, wanted);
+    Ok(())
+}
+
+/// Each processor takes a ticket, and the second iteration comes to its end first.
+fn overtaken(rt: &impl Abort, core: &mut Core<'_>) -> Result<(), AllocError> {
+    picks(rt, core, 0, Choice::Ticket, Stepped::Went(Some(0)))?;
+    picks(rt, core, 1, Choice::Ticket, Stepped::Went(Some(1)))?;
+    settle(rt, core, 1)?;
+    for choice in [Choice::Ticket, Choice::Main, Choice::Iteration(1)] {
+        picks(rt, core, 1, choice, Stepped::Idle)?;
+    }
+    Ok(())
+}
+
+/// The first iteration retires, then the second one, and then main goes on.
+fn caught_up(rt: &impl Abort, core: &mut Core<'_>) -> Result<(), AllocError> {
+    settle(rt, core, 0)?;
+    picks(rt, core, 0, Choice::Main, Stepped::Idle)?;
+    picks(rt, core, 0, Choice::Iteration(1), Stepped::Went(None))?;
+    settle(rt, core, 0)?;
+    picks(rt, core, 1, Choice::Main, Stepped::Went(None))?;
+    settle(rt, core, 1)?;
+    picks(rt, core, 0, Choice::Main, Stepped::Ended)
+}
+
 #[test]
 fn retires_in_order(rt: HostRuntime) -> Result<(), Fail> {
     let code = of_two_records(&rt)?;
     let mut core = opened(&rt, &code)?;
-    assert_eq!(&rt; core.pick(0, Choice::Ticket)?, Stepped::Went(Some(0)));
-    assert_eq!(&rt; core.pick(1, Choice::Ticket)?, Stepped::Went(Some(1)));
-    settle(&rt, &mut core, 1)?;
-    for choice in [Choice::Ticket, Choice::Main, Choice::Iteration(1)] {
-        assert_eq!(&rt; core.pick(1, choice)?, Stepped::Idle);
-    }
-    settle(&rt, &mut core, 0)?;
-    assert_eq!(&rt; core.pick(0, Choice::Main)?, Stepped::Idle);
-    assert_eq!(&rt; core.pick(0, Choice::Iteration(1))?, Stepped::Went(None));
-    settle(&rt, &mut core, 0)?;
-    assert_eq!(&rt; core.pick(1, Choice::Main)?, Stepped::Went(None));
-    settle(&rt, &mut core, 1)?;
+    overtaken(&rt, &mut core)?;
+    caught_up(&rt, &mut core)?;
     let answer = answered(&rt, &core)?;
     assert_eq!(&rt; answer.output.as_slice(), b" 1\n 2\n".as_slice());
-    assert_eq!(&rt; core.pick(0, Choice::Main)?, Stepped::Ended);
-    assert_eq!(&rt; core.step(0)?, Stepped::Ended);
     Ok(())
 }
 
@@ -334,25 +354,48 @@ fn worked<'c>(rt: &impl Abort, core: &Core<'c>, processor: usize) -> Result<Done
     }
 }
 
+/// What comes of work from one processor's frame that is handed in by another.
+fn hands_in(
+    rt: &impl Abort,
+    core: &mut Core<'_>,
+    from: usize,
+    to: usize,
+    wanted: Result<(), HandIn>,
+) -> Result<(), AllocError> {
+    let done = worked(rt, core, from)?;
+    assert_eq!(*rt; core.hand_in(to, done), wanted);
+    Ok(())
+}
+
+/// Two iterations are held, and work of the first is handed in by the second's processor, by one that
+/// isn't there, and by its own.
+fn handed_in(rt: &impl Abort, core: &mut Core<'_>) -> Result<(), AllocError> {
+    picks(rt, core, 0, Choice::Ticket, Stepped::Went(Some(0)))?;
+    picks(rt, core, 1, Choice::Ticket, Stepped::Went(Some(1)))?;
+    hands_in(rt, core, 0, 1, Err(HandIn::Stranger))?;
+    hands_in(rt, core, 0, 2, Err(HandIn::Stranger))?;
+    let again = worked(rt, core, 0)?;
+    hands_in(rt, core, 0, 0, Ok(()))?;
+    assert_eq!(*rt; core.hand_in(0, again), Err(HandIn::Stranger));
+    Ok(())
+}
+
+/// Work that was done before the end is handed in behind it.
+fn handed_in_late(rt: &impl Abort, core: &mut Core<'_>) -> Result<(), AllocError> {
+    let late = worked(rt, core, 1)?;
+    for _ in 0..ROUNDS {
+        turn(rt, core, 0, 8)?;
+        turn(rt, core, 1, 8)?;
+    }
+    assert_eq!(*rt; core.hand_in(1, late), Err(HandIn::Ended));
+    Ok(())
+}
+
 #[test]
 fn work_is_handed_in_once(rt: HostRuntime) -> Result<(), Fail> {
     let code = of_two_records(&rt)?;
     let mut core = opened(&rt, &code)?;
-    core.pick(0, Choice::Ticket)?;
-    core.pick(1, Choice::Ticket)?;
-    let stranger = worked(&rt, &core, 0)?;
-    assert_eq!(&rt; core.hand_in(1, stranger), Err(HandIn::Stranger));
-    let absent = worked(&rt, &core, 0)?;
-    assert_eq!(&rt; core.hand_in(2, absent), Err(HandIn::Stranger));
-    let first = worked(&rt, &core, 0)?;
-    let again = worked(&rt, &core, 0)?;
-    let late = worked(&rt, &core, 1)?;
-    assert_eq!(&rt; core.hand_in(0, first), Ok(()));
-    assert_eq!(&rt; core.hand_in(0, again), Err(HandIn::Stranger));
-    for _ in 0..ROUNDS {
-        turn(&rt, &mut core, 0, 8)?;
-        turn(&rt, &mut core, 1, 8)?;
-    }
-    assert_eq!(&rt; core.hand_in(1, late), Err(HandIn::Ended));
+    handed_in(&rt, &mut core)?;
+    handed_in_late(&rt, &mut core)?;
     Ok(())
 }

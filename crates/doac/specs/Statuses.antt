@@ -1,5 +1,5 @@
 -- Exit statuses of commands, by the texts that their files hold or may hold.
-use Rattle.std.specs.Prelude.{◌≡◌, ◌⊎◌, ⊤, ⊥, ℕ, List, [], Option, Some, None, Result, Ok, Err, Vec}
+use Rattle.std.specs.Prelude.{◌≡◌, ◌⊎◌, ⊤, ℕ, List, [], Option, Some, None, Result, Ok, Err, Vec}
 use Rattle.std.specs.Global.{Global}
 use Rattle.engines.specs.Engines.{fault_status, status_of}
 use Rattle.engines.specs.Schedules.{Replaying, Upgrading, upgrade_status}
