@@ -40,7 +40,6 @@ fn assembled(rt: &(impl Abort + AllocGlobal), acts: &[Does]) -> Result<Code, All
         loops: vec![in alloc; one]?,
         operands: 2,
         counters: 0,
-        reports: Vec::new(alloc),
     };
     match Code::new(parts) {
         Some(code) => Ok(code),

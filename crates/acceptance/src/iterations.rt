@@ -139,7 +139,6 @@ fn assembled(
         loops: vec![in alloc; one]?,
         operands: 4,
         counters: 0,
-        reports: Vec::new(alloc),
     };
     match Code::new(parts) {
         Some(code) => Ok(code),

@@ -98,7 +98,6 @@ fn whole(alloc: Global, program: &Program) -> Result<Code, Refusal>
         loops: Vec::new(alloc),
         operands: of_block(&program.body) as usize,
         counters: loops_of_block(&program.body) as usize,
-        reports: Vec::new(alloc),
     };
     match Code::new(parts) {
         Some(code) => Ok(code),

@@ -5,4 +5,5 @@ pub mod Divides
 pub mod Divisors
 pub mod Meeting
 pub mod Promise
+pub mod Reformed
 mod Table

@@ -42,6 +42,7 @@ head_by step = record { terminal = 10; variable = record { name = 0 ∷ []; id =
 abbrev loop_by : Option Term → Loop
 loop_by step = record {
   around = None;
+  statement = 0;
   line = 1;
   head = head_by step;
   body = no_nodes;

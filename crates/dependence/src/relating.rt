@@ -15,7 +15,13 @@ use ast::{Expr, RefId};
 use loop_tree::{LoopView, Occurrence};
 use subscripts::{Affine, affine};
 
-fn by_forms(view: &LoopView<'_, '_>, dimension: usize, first: &Affine, second: &Affine) -> Relation
+/// What the forms of one dimension give.
+pub fn by_forms(
+    view: &LoopView<'_, '_>,
+    dimension: usize,
+    first: &Affine,
+    second: &Affine,
+) -> Relation
     ensures { result ≡ spec.dimension (seen view.now) dimension (form_in first.now) (form_in second.now) }
 {
     match first {
@@ -35,7 +41,7 @@ fn by_dimension(view: &LoopView<'_, '_>, dimension: usize, first: &Expr, second:
 }
 
 /// What one dimension gives, before what those behind it give.
-fn before(relation: Relation, rest: Relation) -> Relation
+pub fn before(relation: Relation, rest: Relation) -> Relation
     ensures { result ≡ spec.before relation rest }
 {
     match relation {

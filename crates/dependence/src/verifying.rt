@@ -70,7 +70,8 @@ fn says_apart(view: &LoopView<'_, '_>, reason: Reason, first: &Form, second: &Fo
     }
 }
 
-fn are_apart(view: &LoopView<'_, '_>, reason: Reason, first: &Affine, second: &Affine) -> bool
+/// Whether forms are apart by the test that a reason names.
+pub fn are_apart(view: &LoopView<'_, '_>, reason: Reason, first: &Affine, second: &Affine) -> bool
     ensures { result ≡ spec.on_forms (form_in first.now) (form_in second.now) (λ f g. spec.says_apart (seen view.now) reason f g) }
 {
     match first {
@@ -82,7 +83,8 @@ fn are_apart(view: &LoopView<'_, '_>, reason: Reason, first: &Affine, second: &A
     }
 }
 
-fn are_distant(view: &LoopView<'_, '_>, distance: u128, first: &Affine, second: &Affine) -> bool
+/// Whether the distance test gives forms just this distance.
+pub fn are_distant(view: &LoopView<'_, '_>, distance: u128, first: &Affine, second: &Affine) -> bool
     ensures { result ≡ spec.on_forms (form_in first.now) (form_in second.now) (λ f g. spec.is_only (spec.by_distance (seen view.now) f g) distance) }
 {
     match first {

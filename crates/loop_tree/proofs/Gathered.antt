@@ -15,7 +15,7 @@ abbrev mutual
   node_spans : Option ℕ → ℕ → ℕ → ℕ → Node → List Span
   node_spans around k n f (plain s) = []
   node_spans around k n f (loop l h b) =
-      with_end ((f + length (head_occurrences n h)) + length (block_occurrences (n + 1) b)) (span_at around l h b (f + length (head_occurrences n h)))
+      with_end ((f + length (head_occurrences n h)) + length (block_occurrences (n + 1) b)) (span_at around n l h b (f + length (head_occurrences n h)))
       ∷ block_spans (Some (k + 1)) (k + 1) (n + 1) (f + length (head_occurrences n h)) b
   node_spans around k n f (choose a) = arms_spans around k n (n + 1) f a
 
@@ -74,17 +74,17 @@ ended_between (x ∷ xs) ys s n = ap (λ zs. x ∷ zs) (ended_between xs ys s n)
 range_added : (around : Option ℕ) (l : ℕ) (h : DoHead) (b : Block) (c : Collected) (ls : List ℕ) (rs : List Occurrence) (ss : List Span)
     → ended (length c.spans) (grown (begun around l h b c) ls rs ss)
     ≡ grown c (l ∷ ls) (head_occurrences (length c.lines) h ++ rs)
-    (with_end ((length c.references + length (head_occurrences (length c.lines) h)) + length rs) (span_at around l h b (length c.references + length (head_occurrences (length c.lines) h))) ∷ ss)
+    (with_end ((length c.references + length (head_occurrences (length c.lines) h)) + length rs) (span_at around (length c.lines) l h b (length c.references + length (head_occurrences (length c.lines) h))) ∷ ss)
 range_added around l h b c ls rs ss =
     let hs = head_occurrences (length c.lines) h in
     let g = length (c.references ++ hs) in
     same
     (append_assoc c.lines (l ∷ []) ls)
     (append_assoc c.references hs rs)
-    (ap (λ xs. ended_at (length c.spans) (length ((c.references ++ hs) ++ rs)) xs) (append_assoc c.spans (span_at around l h b g ∷ []) ss)
-    ∙ ended_between c.spans ss (span_at around l h b g) (length ((c.references ++ hs) ++ rs))
-    ∙ ap (λ n. c.spans ++ with_end n (span_at around l h b g) ∷ ss) (length-append (c.references ++ hs) rs)
-    ∙ ap (λ n. c.spans ++ with_end (n + length rs) (span_at around l h b n) ∷ ss) (length-append c.references hs))
+    (ap (λ xs. ended_at (length c.spans) (length ((c.references ++ hs) ++ rs)) xs) (append_assoc c.spans (span_at around (length c.lines) l h b g ∷ []) ss)
+    ∙ ended_between c.spans ss (span_at around (length c.lines) l h b g) (length ((c.references ++ hs) ++ rs))
+    ∙ ap (λ n. c.spans ++ with_end n (span_at around (length c.lines) l h b g) ∷ ss) (length-append (c.references ++ hs) rs)
+    ∙ ap (λ n. c.spans ++ with_end (n + length rs) (span_at around (length c.lines) l h b n) ∷ ss) (length-append c.references hs))
 
 one_longer : {X : Type 0} (xs : List X) (x : X) → length (xs ++ x ∷ []) ≡ length xs + 1
 one_longer xs x = length-append xs (x ∷ [])
@@ -176,7 +176,7 @@ as_many : (all : List Occurrence) (ss : List Span) (ls : List Loop) → map (loo
 as_many all ss ls e = sym (length-map ss (loop_by all)) ∙ ap (λ xs. length xs) e
 
 with_references : (around : Option ℕ) (n line : ℕ) (h : DoHead) (b : Block) (g : ℕ) (all : List Occurrence) → Placed all g (block_occurrences (n + 1) b)
-    → loop_by all (with_end (g + length (block_occurrences (n + 1) b)) (span_at around line h b g)) ≡ loop_at around n line h b
+    → loop_by all (with_end (g + length (block_occurrences (n + 1) b)) (span_at around n line h b g)) ≡ loop_at around n line h b
 with_references around n line h b g all p = ap (λ rs. record (loop_at around n line h b) { references = rs }) (placed_part all g (block_occurrences (n + 1) b) p)
 
 mutual

@@ -6,4 +6,5 @@ pub mod Marked
 pub mod Numbers
 pub mod Placed
 pub mod Program
+pub mod Ranges
 pub mod References

@@ -13,6 +13,7 @@ use Rattle.loop_tree.specs.declared.occurrence.Occurrence.{Occurrence}
 abbrev pub span : Info → Span
 span i = record {
   around = i.around;
+  statement = i.statement;
   line = i.line;
   head = head i.head.now;
   body = block_view i.body.now;
@@ -30,6 +31,7 @@ collected c = record { lines = c.lines.items; references = map occurrence c.refe
 abbrev pub loop_shown : Info → List Occurrence → Loop
 loop_shown i os = record {
   around = i.around;
+  statement = i.statement;
   line = i.line;
   head = head i.head.now;
   body = block_view i.body.now;

@@ -8,6 +8,7 @@ use Rattle.loop_tree.specs.Occurrences.{Occurrence, first_line, head_occurrences
 -- a loop, its references by the places of the first and of the one behind the last
 pub record Span : Type 0 where
   pub around : Option ℕ
+  pub statement : ℕ
   pub line : ℕ
   pub head : DoHead
   pub body : Block
@@ -22,9 +23,11 @@ pub record Collected : Type 0 where
   pub references : List Occurrence
   pub spans : List Span
 
-abbrev pub span_at : Option ℕ → ℕ → DoHead → Block → ℕ → Span
-span_at around line h b n = record {
+-- of a DO that is statement i, whose range's references begin at place n
+abbrev pub span_at : Option ℕ → ℕ → ℕ → DoHead → Block → ℕ → Span
+span_at around i line h b n = record {
   around = around;
+  statement = i;
   line = line;
   head = h;
   body = b;
@@ -40,7 +43,7 @@ abbrev pub begun : Option ℕ → ℕ → DoHead → Block → Collected → Col
 begun around line h b c = record {
   lines = c.lines ++ line ∷ [];
   references = c.references ++ head_occurrences (length c.lines) h;
-  spans = c.spans ++ span_at around line h b (length (c.references ++ head_occurrences (length c.lines) h)) ∷ [];
+  spans = c.spans ++ span_at around (length c.lines) line h b (length (c.references ++ head_occurrences (length c.lines) h)) ∷ [];
 }
 
 abbrev pub with_end : ℕ → Span → Span
@@ -82,6 +85,7 @@ part xs n m = if nat_le n m && nat_le m (length xs) then take (m - n) (drop n xs
 abbrev pub loop_by : List Occurrence → Span → Loop
 loop_by rs s = record {
   around = s.around;
+  statement = s.statement;
   line = s.line;
   head = s.head;
   body = s.body;

@@ -1,5 +1,5 @@
 -- The loops of a program in the order of the text, numbered from 1.
-use Rattle.std.specs.Prelude.{ℕ, ℤ, zero, suc, ◌+◌, Bool, ◌==◌, if◌then◌else◌, List, [], ◌∷◌, ◌++◌, length, Option, Some, None, slice_get}
+use Rattle.std.specs.Prelude.{◌≡◌, ℕ, ℤ, zero, suc, ◌+◌, Bool, ◌==◌, if◌then◌else◌, List, [], ◌∷◌, ◌++◌, length, Option, Some, None, slice_get}
 use Rattle.std.specs.List.{list_any}
 use Rattle.ast.specs.Tree.{Ref, Terms, no_terms, then_term, DoHead, Kind, assign, read, Access, Node, plain, loop, choose, Block, no_nodes, then_node, Arms, no_arms, then_arm}
 use Rattle.loop_tree.specs.Constants.{step_of, trips_of}
@@ -45,11 +45,13 @@ abbrev mutual
   with_arms rs no_arms = rs
   with_arms rs (then_arm l c b more) = with_arms (with_block rs b) more
 
--- A loop: the number of the loop around it; its line; what its DO says; its range; its step where that
--- is constant, and how often its range is gone through where that is known; the references of its
--- range in order; the scalars that its range gives values, each once, by its first definition.
+-- A loop: the number of the loop around it; the number of its DO among the statements; its line; what
+-- its DO says; its range; its step where that is constant, and how often its range is gone through where
+-- that is known; the references of its range in order; the scalars that its range gives values, each
+-- once, by its first definition.
 pub record Loop : Type 0 where
   pub around : Option ℕ
+  pub statement : ℕ
   pub line : ℕ
   pub head : DoHead
   pub body : Block
@@ -62,6 +64,7 @@ pub record Loop : Type 0 where
 abbrev pub loop_at : Option ℕ → ℕ → ℕ → DoHead → Block → Loop
 loop_at around n line h b = record {
   around = around;
+  statement = n;
   line = line;
   head = h;
   body = b;
@@ -70,6 +73,10 @@ loop_at around n line h b = record {
   references = block_occurrences (n + 1) b;
   assigned = with_block [] b;
 }
+
+-- A loop is that of its DO and its range.
+abbrev pub IsWhole : Loop → Type 0
+IsWhole l = l ≡ loop_at l.around l.statement l.line l.head l.body
 
 -- The loops of statements that are numbered from n on, in a loop or in none; k loops come before.
 abbrev mutual
@@ -95,6 +102,9 @@ loops_of b = block_loops None 0 0 b
 abbrev pub loop_numbered : List Loop → ℕ → Option Loop
 loop_numbered ls zero = None
 loop_numbered ls (suc n) = slice_get ls n
+
+abbrev pub AreWhole : List Loop → Type 0
+AreWhole ls = (n : ℕ) (l : Loop) → loop_numbered ls n ≡ Some l → IsWhole l
 
 -- the loop around a loop, if it is in one
 abbrev pub loop_around : List Loop → Loop → Option Loop

@@ -19,6 +19,8 @@ use std::alloc::{AllocError, Global};
 pub struct Info<'p> {
     /// The number of the loop around it, from 1.
     pub around: Option<usize>,
+    /// The number of its DO among the program's statements, from 0.
+    pub statement: usize,
     pub line: Line,
     pub head: &'p DoHead,
     pub body: &'p [Node],
@@ -46,12 +48,13 @@ pub struct Collected<'p> {
 fn describe<'p>(
     alloc: Global,
     around: Option<usize>,
+    statement: usize,
     line: Line,
     head: &'p DoHead,
     range: &'p [Node],
     place: usize,
 ) -> Result<Info<'p>, AllocError>
-    ensures { IfOk result (λ i. span i ≡ spec.span_at around line (head_of head.now) (block_view range.now) place) }
+    ensures { IfOk result (λ i. span i ≡ spec.span_at around statement line (head_of head.now) (block_view range.now) place) }
 {
     let mut assigned = Scalars::new(alloc);
     add_assigned(&mut assigned, range)?;
@@ -59,6 +62,7 @@ fn describe<'p>(
     let trips = trips_of(alloc, head)?;
     Ok(Info {
         around,
+        statement,
         line,
         head,
         body: range,
@@ -84,7 +88,8 @@ fn begin<'p>(
     let statement = parts.lines.len();
     parts.lines.push(line)?;
     add_head(&mut parts.references, statement, head)?;
-    let info = describe(alloc, around, line, head, range, parts.references.len())?;
+    let place = parts.references.len();
+    let info = describe(alloc, around, statement, line, head, range, place)?;
     parts.loops.push(info)?;
     Ok(())
 }

@@ -113,7 +113,7 @@ impl<'p> LoopTree<'p> {
 }
 
 impl<'t, 'p> LoopView<'t, 'p> {
-    ghost use Rattle.std.specs.Prelude.{◌≡◌, ◌<◌, IfSome, map, option_map, true, ℕ};
+    ghost use Rattle.std.specs.Prelude.{◌≡◌, ◌<◌, IfSome, length, map, option_map, true, ℕ};
     ghost use Rattle.ast.specs.View.{block_view, head as head_of, ref};
     ghost use Rattle.loop_tree.specs.Loops.{has_cell, loop_around};
     ghost use Rattle.loop_tree.specs.Occurrences.{numbered};
@@ -129,6 +129,20 @@ impl<'t, 'p> LoopView<'t, 'p> {
             Some(number) => self.tree.find(number),
             None => None,
         }
+    }
+
+    /// How many loops the program has.
+    pub fn count(&self) -> usize
+        ensures { result ≡ length (all_seen self.now) }
+    {
+        self.tree.count()
+    }
+
+    /// The number of its DO among the program's statements, from 0.
+    pub fn statement(&self) -> usize
+        ensures { result ≡ (seen self.now).statement }
+    {
+        self.info.statement
     }
 
     /// The line of its DO.

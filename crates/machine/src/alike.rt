@@ -246,7 +246,7 @@ impl Code {
     ghost use Rattle.std.specs.Bool.{Decides};
     ghost use Rattle.machine.specs.CodeView.{code_of};
 
-    /// Whether two codes are equal, their reports aside. It looks at all instructions.
+    /// Whether two codes are equal. It looks at all instructions.
     pub fn is_same(&self, other: &Code) -> bool
         ensures { Decides result (code_of self.now ≡ code_of other.now) }
     {

@@ -15,7 +15,7 @@ mod same;
 mod stack;
 mod working;
 
-pub use code::{Await, Code, Loop, LoopReport, Open, Parts, Piece, Variable};
+pub use code::{Await, Code, Loop, Open, Parts, Piece, Variable};
 pub use done::Done;
 pub use frame::{Counter, Frame};
 pub use instr::{Act, Axis, Instr};

@@ -1,0 +1,146 @@
+//! Relations of references whose forms are made once for all pairs.
+
+ghost use Rattle.std.specs.Prelude.{◌≡◌, ◌+◌, ◌<◌, ◌^◌, IfOk, length, map};
+ghost use Rattle.dependence.specs.Formed as spec;
+ghost use Rattle.dependence.specs.Tests.{by_distance, is_only, is_verified, on_forms, relation as relation_of, says_apart};
+ghost use Rattle.loop_tree.specs.Occurrences.{Occurrence as Occurring};
+ghost use Rattle.loop_tree.specs.TreeView.{seen};
+ghost use Rattle.loop_tree.specs.View.{occurrence as occurrence_of};
+ghost use Rattle.subscripts.specs.View.{form_in};
+
+use crate::relating::{before, by_forms};
+use crate::relation::{Reason, Relation};
+use crate::verifying::{are_apart, are_distant};
+use loop_tree::{LoopView, Occurrence};
+use std::alloc::{AllocError, Global};
+use subscripts::{Affine, affine};
+
+/// The affine forms of a reference's subscripts, dimension by dimension; none of a scalar.
+pub fn forms(
+    alloc: Global,
+    view: &LoopView<'_, '_>,
+    occurrence: &Occurrence<'_>,
+) -> Result<Vec<Affine>, AllocError>
+    ensures { IfOk result (λ forms. map form_in forms.items ≡ spec.forms_of (seen view.now) (occurrence_of occurrence.now).subscripts) }
+{
+    let mut forms = Vec::with_capacity(alloc, occurrence.subscripts.len())?;
+    for subscript in occurrence.subscripts {
+        forms.push(affine(subscript, view))?;
+    }
+    Ok(forms)
+}
+
+/// What the dimensions from one on give.
+fn by_dimensions(
+    view: &LoopView<'_, '_>,
+    dimension: usize,
+    first: &[Affine],
+    second: &[Affine],
+) -> Relation
+    requires { dimension + length first.now < 2 ^ 64 }
+    ensures { result ≡ spec.by_forms (seen view.now) dimension (map form_in first.now) (map form_in second.now) }
+{
+    match first {
+        [] => Relation::Any,
+        [a, others @ ..] => match second {
+            [] => Relation::Any,
+            [b, rest @ ..] => before(
+                by_forms(view, dimension, a, b),
+                by_dimensions(view, dimension + 1, others, rest),
+            ),
+        },
+    }
+}
+
+/// The relation of a reference with the first forms in an iteration to one with the second in a later
+/// one, as `relate` has it.
+pub fn relate_forms(view: &LoopView<'_, '_>, first: &[Affine], second: &[Affine]) -> Relation
+    ensures { (a b : Occurring) → map form_in first.now ≡ spec.forms_of (seen view.now) a.subscripts → map form_in second.now ≡ spec.forms_of (seen view.now) b.subscripts → result ≡ relation_of (seen view.now) a b }
+{
+    by_dimensions(view, 1, first, second)
+}
+
+/// The nth of forms, counted from 1.
+fn nth(forms: &[Affine], number: usize) -> Option<&Affine>
+    ensures { spec.present (λ f. form_in f.now) result ≡ spec.nth_form (map form_in forms.now) number }
+{
+    match forms {
+        [] => None,
+        [first, others @ ..] => match number {
+            0 => None,
+            1 => Some(first),
+            _ => nth(others, number - 1),
+        },
+    }
+}
+
+fn is_apart(
+    view: &LoopView<'_, '_>,
+    reason: Reason,
+    first: Option<&Affine>,
+    second: Option<&Affine>,
+) -> bool
+    ensures { result ≡ on_forms (spec.present (λ f. form_in f.now) first.entry) (spec.present (λ f. form_in f.now) second.entry) (λ f g. says_apart (seen view.now) reason f g) }
+{
+    match first {
+        Some(first) => match second {
+            Some(second) => are_apart(view, reason, first, second),
+            None => false,
+        },
+        None => false,
+    }
+}
+
+fn is_distant(
+    view: &LoopView<'_, '_>,
+    distance: u128,
+    first: Option<&Affine>,
+    second: Option<&Affine>,
+) -> bool
+    ensures { result ≡ on_forms (spec.present (λ f. form_in f.now) first.entry) (spec.present (λ f. form_in f.now) second.entry) (λ f g. is_only (by_distance (seen view.now) f g) distance) }
+{
+    match first {
+        Some(first) => match second {
+            Some(second) => are_distant(view, distance, first, second),
+            None => false,
+        },
+        None => false,
+    }
+}
+
+fn is_given(
+    view: &LoopView<'_, '_>,
+    first: &[Affine],
+    second: &[Affine],
+    relation: Relation,
+) -> bool
+    ensures { result ≡ spec.verified_by (seen view.now) (map form_in first.now) (map form_in second.now) relation }
+{
+    match relation {
+        Relation::Apart(dimension, reason) => {
+            is_apart(view, reason, nth(first, dimension), nth(second, dimension))
+        }
+        Relation::Distance(dimension, distance) => {
+            is_distant(
+                view,
+                distance,
+                nth(first, dimension),
+                nth(second, dimension),
+            )
+        }
+        Relation::Any => true,
+    }
+}
+
+/// Whether the test that a relation names gives it, as `verify` has it, for a reference with the first
+/// forms in an iteration and one with the second in a later one.
+pub fn verify_forms(
+    view: &LoopView<'_, '_>,
+    first: &[Affine],
+    second: &[Affine],
+    relation: Relation,
+) -> bool
+    ensures { (a b : Occurring) → map form_in first.now ≡ spec.forms_of (seen view.now) a.subscripts → map form_in second.now ≡ spec.forms_of (seen view.now) b.subscripts → result ≡ is_verified (seen view.now) a b relation }
+{
+    is_given(view, first, second, relation)
+}
