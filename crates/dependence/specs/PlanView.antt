@@ -6,6 +6,7 @@ use Rattle.dependence.specs.Plan as plan
 use Rattle.dependence.specs.Plan.{PlanNode, PlanBlock, PlanArms, PlanTree, no_nodes, then_node, no_arms, made_else, then_arm}
 use Rattle.dependence.specs.declared.plan.LoopPlan.{LoopPlan}
 use Rattle.dependence.specs.declared.plan.LoopPlan.TheVariants.{Serial, Body}
+use Rattle.dependence.specs.declared.plan.PlanArm.{PlanArm, fold-PlanArm}
 use Rattle.dependence.specs.declared.plan.PlanStmt.{PlanStmt, fold-PlanStmt}
 use Rattle.dependence.specs.declared.plan.PlanStmt.TheOpen.{PlanStmt-F, PlanArm-F}
 
@@ -42,6 +43,9 @@ arm_step a = record { line = a.line; condition = optional_term a.condition; body
 
 abbrev pub plan_node : PlanStmt → PlanNode
 plan_node = fold-PlanStmt PlanNode ArmOf node_step arm_step
+
+abbrev pub arm_view : PlanArm → ArmOf
+arm_view = fold-PlanArm PlanNode ArmOf node_step arm_step
 
 abbrev pub plan_block : List PlanStmt → PlanBlock
 plan_block ns = block (map plan_node ns)

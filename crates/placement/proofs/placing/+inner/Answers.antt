@@ -1,0 +1,17 @@
+use Rattle.std.proofs.Common.{◌∙◌, map}
+use Rattle.ast.specs.Tree.{arms}
+use Rattle.ast.specs.View.{arm, block_view, head}
+use Rattle.dependence.specs.PlanView.{arm_view, plan_node}
+use Rattle.placement.specs.Listed.{awaited}
+use Rattle.placement.proofs.Listings as listings
+use Rattle.placement.proofs.placing.+inner.Goals as goal
+
+pub inner_loop-returns : goal.inner_loop-returns
+inner_loop-returns t c =
+    c.made_loop.ensures
+    ∙ listings.inner_loop c.args.spots.now.sources.items (awaited c.args.spots.now) c.args.line (head c.in_ok-copy.copy) (head c.args.head.now) c.args.statement c.in_ok-first.first (block_view c.args.range.now) (map plan_node c.in_ok-placed.placed.items) c.in_ok-copy.ensures c.in_ok-first.ensures c.in_ok-placed.ensures
+
+pub inner_choice-returns : goal.inner_choice-returns
+inner_choice-returns t c =
+    c.made_choice.ensures
+    ∙ listings.inner_choice c.args.spots.now.sources.items (awaited c.args.spots.now) c.args.statement c.in_ok-first.first (arms (map arm c.args.arms.now)) (map arm_view c.in_ok-placed.placed.items) c.in_ok-first.ensures c.in_ok-placed.ensures

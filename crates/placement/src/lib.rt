@@ -1,0 +1,12 @@
+//! Plans of loops: where their iterations wait and tell.
+#![tactic(auto)]
+
+mod analysis;
+mod counting;
+mod fitting;
+mod pairs;
+mod placing;
+mod planning;
+mod spots;
+
+pub use planning::{Placed, place, plan};

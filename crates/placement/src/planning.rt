@@ -1,0 +1,152 @@
+//! Plans of loops.
+
+ghost use Rattle.std.specs.Prelude.{◌≡◌, ◌≤◌, IfOk, length, false, map, true};
+ghost use Rattle.ast.specs.View.{letters};
+ghost use Rattle.dependence.specs.Kept.{IsNonzero, block_reads, most_events};
+ghost use Rattle.loop_tree.specs.TreeView.{seen};
+ghost use Rattle.placement.specs.Judged.{IsJudged, IsPlanned, IsSerial, MayOpen, hides};
+
+use crate::analysis::{Analysis, analyse};
+use crate::counting::add;
+use crate::fitting::{hide_inner, reads};
+use crate::placing::placed_range;
+use crate::spots::spots_of;
+use ast::Name;
+use dependence::LoopPlan;
+use loop_tree::{LoopView, ScalarSet};
+use privatise::private_scalars;
+use std::alloc::{AllocError, Global};
+
+/// What a loop is by itself.
+#[derive(Drop)]
+enum Judged {
+    /// It stays serial, for the reason of this number, from 1 to 4.
+    Serial(u8),
+    /// Its iterations may overlap.
+    Suits {
+        privates: ScalarSet,
+        analysis: Analysis,
+    },
+}
+
+/// A loop's plan, and whether its iterations might overlap if no loop around it were open.
+#[derive(Drop)]
+pub struct Placed {
+    pub plan: LoopPlan,
+    pub suits: bool,
+}
+
+/// Whether a step is a constant other than 0.
+fn is_nonzero(step: Option<i64>) -> bool
+    ensures yes { result ≡ true → IsNonzero step }
+    ensures no { result ≡ false → IsNonzero step → ⊥ }
+{
+    match step {
+        Some(step) => step != 0,
+        None => false,
+    }
+}
+
+/// Whether there is a READ in a loop.
+#[tactic(auto, using(crate::proofs::Fitted::has_read))]
+fn has_read(view: &LoopView<'_, '_>) -> bool
+    ensures { result ≡ block_reads (seen view.now).body }
+{
+    reads(view.body())
+}
+
+/// Whether the variables of all loops inside are among names.
+#[tactic(auto, using(crate::proofs::Fitted::hides_inner))]
+fn hides_inner(view: &LoopView<'_, '_>, names: &[Name]) -> bool
+    ensures { result ≡ hides (map letters names.now) (seen view.now) }
+{
+    hide_inner(view.body(), names)
+}
+
+fn judge(alloc: Global, view: &LoopView<'_, '_>) -> Result<Judged, AllocError>
+    ensures { IfOk result (λ judged. IsJudged (seen view.now) judged) }
+{
+    if !is_nonzero(view.step()) {
+        return Ok(Judged::Serial(1));
+    }
+    if has_read(view) {
+        return Ok(Judged::Serial(2));
+    }
+    let privates = private_scalars(alloc, view)?;
+    if !hides_inner(view, &privates.names) {
+        return Ok(Judged::Serial(3));
+    }
+    match analyse(alloc, view, &privates.names)? {
+        Some(analysis) => Ok(Judged::Suits { privates, analysis }),
+        None => Ok(Judged::Serial(4)),
+    }
+}
+
+/// The plan that opens a loop.
+fn opened(
+    alloc: Global,
+    view: &LoopView<'_, '_>,
+    privates: ScalarSet,
+    analysis: Analysis,
+) -> Result<LoopPlan, AllocError>
+    ensures { IfOk result (λ plan. MayOpen (seen view.now) (map letters privates.names.items) → length analysis.sources.items ≤ most_events → IsPlanned (seen view.now) plan) }
+{
+    let spots = spots_of(alloc, analysis.sources, &analysis.kept)?;
+    let first = add(view.statement(), 1)?;
+    let body = placed_range(alloc, &spots, first, view.body())?;
+    Ok(LoopPlan::Body {
+        body,
+        privates,
+        relations: analysis.relations,
+    })
+}
+
+/// The plan of a loop of which the caller knows whether it stands in one that is open, as
+/// [`plan`] gives it.
+pub fn place(alloc: Global, view: &LoopView<'_, '_>, inside: bool) -> Result<Placed, AllocError>
+    ensures planned { IfOk result (λ placed. IsPlanned (seen view.now) placed.plan) }
+    ensures inside { IfOk result (λ placed. inside ≡ true → IsSerial placed.plan) }
+{
+    match judge(alloc, view)? {
+        Judged::Serial(reason) => Ok(Placed {
+            plan: LoopPlan::Serial(reason),
+            suits: false,
+        }),
+        Judged::Suits { .. } if inside => Ok(Placed {
+            plan: LoopPlan::Serial(5),
+            suits: true,
+        }),
+        Judged::Suits { privates, analysis } => Ok(Placed {
+            plan: opened(alloc, view, privates, analysis)?,
+            suits: true,
+        }),
+    }
+}
+
+/// Whether a loop around this one might be open: then one is.
+fn is_inside(alloc: Global, view: &LoopView<'_, '_>) -> Result<bool, AllocError> {
+    let mut outer = view.around();
+    for _ in 0..view.count() {
+        match outer {
+            None => return Ok(false),
+            Some(around) => {
+                if place(alloc, &around, true)?.suits {
+                    return Ok(true);
+                }
+                outer = around.around();
+            }
+        }
+    }
+    Ok(false)
+}
+
+/// The plan of a loop: where its iterations wait and tell, or for which reason, from 1 to 5, it stays
+/// serial. The lowest that holds is given: its step is no constant other than 0; it has a READ; the
+/// variable of a loop inside isn't private; more than 64 statements are sources; a loop around it is
+/// open.
+pub fn plan(alloc: Global, view: &LoopView<'_, '_>) -> Result<LoopPlan, AllocError>
+    ensures { IfOk result (λ plan. IsPlanned (seen view.now) plan) }
+{
+    let inside = is_inside(alloc, view)?;
+    Ok(place(alloc, view, inside)?.plan)
+}
