@@ -4,9 +4,11 @@
 mod analysis;
 mod counting;
 mod fitting;
+mod laws;
 mod pairs;
 mod placing;
 mod planning;
 mod spots;
 
+pub use laws::{accepted, kept, outermost};
 pub use planning::{Placed, place, plan};

@@ -98,7 +98,7 @@ is_private l c h k = record { assigned = h; never = never }
         (only_early (block_walk c l.body)
         (subst (λ w. AtMost w (block_walk c l.body)) (early_result e (walk c t) (found_early c t u)) ((block_is c l.body).most e t p)))
 
-isnt_private : (l : Loop) (c : ℕ) → is_never_early (block_walk c l.body) ≡ false → Private l c → ⊥
+pub isnt_private : (l : Loop) (c : ℕ) → is_never_early (block_walk c l.body) ≡ false → Private l c → ⊥
 isnt_private l c k p =
     let x = block_is c l.body in
     p.never x.ending x.path x.is (early_found c x.path (result_early x.ending (walk c x.path) (x.reached ∙ is_it (block_walk c l.body) k)))

@@ -1,0 +1,178 @@
+-- What the check accepts: conditions on what is known at the places of a plan's body, and on what is
+-- claimed of each pair of references.
+use Rattle.std.specs.Prelude.{◌≡◌, ◌==◌, ◌+◌, nat_le, max, ℕ, ℤ, pos, Bool, true, false, not, ◌&&◌, ◌||◌, List, [], ◌∷◌, map, Option, Some, None, if◌then◌else◌}
+use Rattle.std.specs.List.{list_all, list_any}
+use Rattle.std.specs.Ordering.{int_eq}
+use Rattle.ast.specs.Store.{same_name}
+use Rattle.ast.specs.Tree.{Ref}
+use Rattle.loop_tree.specs.Loops.{Loop}
+use Rattle.loop_tree.specs.Occurrences.{Occurrence}
+use Rattle.loop_tree.specs.Paths.{Token, uses, defines, await, advance}
+use Rattle.dependence.specs.Kept.{block_reads, block_variables, most_events}
+use Rattle.dependence.specs.Plan.{PlanTree}
+use Rattle.dependence.specs.Tests.{is_verified}
+use Rattle.dependence.specs.declared.relation.Relation.{Relation}
+use Rattle.dependence.specs.declared.relation.Relation.TheVariants.{Apart, Distance, Any}
+use Rattle.plan_check.specs.Flow.{Known, Point, after_block, beginning, block_points, has_advanced, has_awaited, is_defined, is_free, outside}
+use Rattle.plan_check.specs.GoodPlan.{SameBody, named, token_of}
+
+abbrev pub has_name : List (List ℕ) → List ℕ → Bool
+has_name names name = list_any (λ (n : List ℕ). same_name n name) names
+
+-- ---- what the loop and the plan are by themselves
+
+abbrev pub is_step : Option ℤ → Bool
+is_step None = false
+is_step (Some s) = not (int_eq s (pos 0))
+
+abbrev pub is_proper : ℕ × ℕ → Bool
+is_proper n = nat_le 1 n.0 && (nat_le n.0 most_events && nat_le 1 n.1)
+
+abbrev pub has_named : List Ref → List ℕ → Bool
+has_named rs name = list_any (λ (r : Ref). same_name r.name name) rs
+
+abbrev pub fits : Loop → PlanTree → Bool
+fits l p =
+    is_step l.step
+    && (not (block_reads l.body)
+    && (list_all (λ (r : Ref). has_name p.privates r.name) (block_variables l.body)
+    && (list_all (λ (n : List ℕ). has_named l.assigned n) p.privates && list_all (λ (n : ℕ × ℕ). is_proper n) (named p.body))))
+
+-- ---- by paths
+
+-- what is known at the beginning of the plan's body: cells is more than the cells of its scalars
+abbrev pub first : ℕ → Known
+first cells = beginning cells (most_events + 1)
+
+abbrev pub is_late : PlanTree → Point → Bool
+is_late p (uses r, s) = not (has_name p.privates r.name) || is_defined s r.cell
+is_late p x = true
+
+abbrev pub never_early : ℕ → PlanTree → Bool
+never_early cells p = list_all (λ (x : Point). is_late p x) (block_points p.body (first cells))
+
+abbrev pub is_in_order : Point → Bool
+is_in_order (advance e, s) = is_free s e && has_awaited s e 1
+is_in_order x = true
+
+abbrev pub in_order : ℕ → PlanTree → Bool
+in_order cells p =
+    outside p.body
+    && (list_all (λ (x : Point). is_in_order x) (block_points p.body (first cells))
+    && list_all (λ (n : ℕ × ℕ). has_advanced (after_block p.body (first cells)) n.0) (named p.body))
+
+-- ---- by pairs
+
+-- what is known before each reference, in order
+abbrev pub at_references : List Point → List Known
+at_references [] = []
+at_references ((uses r, s) ∷ ps) = s ∷ at_references ps
+at_references ((defines r, s) ∷ ps) = s ∷ at_references ps
+at_references ((await e d, s) ∷ ps) = at_references ps
+at_references ((advance e, s) ∷ ps) = at_references ps
+
+-- their tokens
+abbrev pub reference_tokens : List Point → List Token
+reference_tokens [] = []
+reference_tokens ((uses r, s) ∷ ps) = uses r ∷ reference_tokens ps
+reference_tokens ((defines r, s) ∷ ps) = defines r ∷ reference_tokens ps
+reference_tokens ((await e d, s) ∷ ps) = reference_tokens ps
+reference_tokens ((advance e, s) ∷ ps) = reference_tokens ps
+
+abbrev pub tokens_of : List Occurrence → List Token
+tokens_of os = map token_of os
+
+-- a reference, and what is known before it
+abbrev pub Entry : Type 0
+Entry = Occurrence × Known
+
+abbrev pub entries : List Occurrence → List Known → List Entry
+entries [] ks = []
+entries (o ∷ os) [] = []
+entries (o ∷ os) (k ∷ ks) = (o, k) ∷ entries os ks
+
+abbrev pub entries_of : ℕ → Loop → PlanTree → List Entry
+entries_of cells l p = entries l.references (at_references (block_points p.body (first cells)))
+
+-- the first relation that is given for a pair
+abbrev pub claimed : List (ℕ × ℕ × Relation) → ℕ → ℕ → Option Relation
+claimed [] a b = None
+claimed (c ∷ cs) a b = if (c.0 == a) && (c.1 == b) then Some c.2 else claimed cs a b
+
+abbrev pub is_looked_at : Loop → PlanTree → Occurrence → Occurrence → Bool
+is_looked_at l p a b =
+    same_name a.ref.name b.ref.name
+    && (not (same_name a.ref.name l.head.variable.name) && (not (has_name p.privates a.ref.name) && (a.defines || b.defines)))
+
+-- a relation is given, and it is true
+abbrev pub is_true_claim : Loop → Occurrence → Occurrence → Option Relation → Bool
+is_true_claim l a b None = false
+is_true_claim l a b (Some r) = is_verified l a b r
+
+-- an event of the plan isn't advanced before a
+abbrev pub is_ahead : List (ℕ × ℕ) → Known → Bool
+is_ahead ns s = list_any (λ (n : ℕ × ℕ). is_free s n.0) ns
+
+-- such an event is awaited before b, no further back
+abbrev pub is_held : List (ℕ × ℕ) → Known → Known → ℕ → Bool
+is_held ns s t d = list_any (λ (n : ℕ × ℕ). is_free s n.0 && has_awaited t n.0 d) ns
+
+-- at which distance a pair is to be kept, if it is
+abbrev pub distance_of : Option Relation → Option ℕ
+distance_of None = None
+distance_of (Some (Apart n reason)) = None
+distance_of (Some (Distance n d)) = Some d
+distance_of (Some Any) = Some 1
+
+abbrev pub is_ahead_if : List (ℕ × ℕ) → Known → Option ℕ → Bool
+is_ahead_if ns s None = true
+is_ahead_if ns s (Some d) = is_ahead ns s
+
+abbrev pub is_held_if : List (ℕ × ℕ) → Known → Known → Option ℕ → Bool
+is_held_if ns s t None = true
+is_held_if ns s t (Some d) = is_held ns s t d
+
+-- of each pair that is looked at
+abbrev pub each_pair : Loop → PlanTree → List Entry → (Entry → Entry → Bool) → Bool
+each_pair l p es test = list_all (λ (x : Entry). list_all (λ (y : Entry). not (is_looked_at l p x.0 y.0) || test x y) es) es
+
+abbrev pub claim_of : PlanTree → Entry → Entry → Option Relation
+claim_of p x y = claimed p.relations x.0.ref.id y.0.ref.id
+
+abbrev pub all_ahead : ℕ → Loop → PlanTree → Bool
+all_ahead cells l p = each_pair l p (entries_of cells l p) (λ x y. is_ahead_if (named p.body) x.1 (distance_of (claim_of p x y)))
+
+abbrev pub all_held : ℕ → Loop → PlanTree → Bool
+all_held cells l p = each_pair l p (entries_of cells l p) (λ x y. is_held_if (named p.body) x.1 y.1 (distance_of (claim_of p x y)))
+
+abbrev pub all_true : ℕ → Loop → PlanTree → Bool
+all_true cells l p = each_pair l p (entries_of cells l p) (λ x y. is_true_claim l x.0 y.0 (claim_of p x y))
+
+-- The plan's body is the loop's, with awaits, advances and made ELSEs, and its references are those that
+-- the loop shows.
+pub record IsBody (cells : ℕ) (l : Loop) (p : PlanTree) : Type 0 where
+  pub same : SameBody l p
+  pub shown : tokens_of l.references ≡ reference_tokens (block_points p.body (first cells))
+
+-- What the check accepts. all_held implies all_ahead, which only tells one refusal from another.
+pub record Checked (cells : ℕ) (l : Loop) (p : PlanTree) : Type 0 where
+  pub fit : fits l p ≡ true
+  pub is_body : IsBody cells l p
+  pub early : never_early cells p ≡ true
+  pub ordered : in_order cells p ≡ true
+  pub ahead : all_ahead cells l p ≡ true
+  pub held : all_held cells l p ≡ true
+  pub true_claims : all_true cells l p ≡ true
+
+-- ---- how many cells are looked at
+
+-- one more than the greatest cell of scalars, but at least n
+abbrev pub cells_from : ℕ → List Ref → ℕ
+cells_from n [] = n
+cells_from n (r ∷ rs) = cells_from (max n (r.cell + 1)) rs
+
+abbrev pub cells_of : Loop → ℕ
+cells_of l = cells_from 0 l.assigned
+
+abbrev pub IsChecked : Loop → PlanTree → Type 0
+IsChecked l p = Checked (cells_of l) l p

@@ -1,0 +1,9 @@
+pub mod ArmView
+pub mod Checking
+pub mod Flow
+pub mod GoodPlan
+pub mod KnownView
+pub mod Mistakes
+pub mod SeenView
+pub mod Stripping
+pub mod Walking

@@ -1,0 +1,71 @@
+//! What is known of all paths that come to a place of a plan.
+
+ghost use Rattle.std.specs.Prelude.{◌≡◌, IfOk};
+ghost use Rattle.plan_check.specs.Flow as spec;
+ghost use Rattle.plan_check.specs.KnownView.{known};
+
+use crate::lists::{join_flags, join_nears, put, put_await, set_flags, set_nears};
+use std::alloc::{AllocError, Global};
+
+#[derive(Drop)]
+pub struct Known {
+    pub defined: Vec<bool>,
+    pub near: Vec<Option<u128>>,
+    pub free: Vec<bool>,
+    pub advanced: Vec<bool>,
+}
+
+impl Known {
+    ghost use Rattle.std.specs.Prelude.{◌≡◌, IfOk};
+    ghost use Rattle.loop_tree.specs.Paths.{await, advance};
+    ghost use Rattle.plan_check.specs.Flow as spec;
+    ghost use Rattle.plan_check.specs.KnownView.{known};
+
+    pub fn try_copy(&self, alloc: Global) -> Result<Known, AllocError>
+        ensures { IfOk result (λ copy. known copy ≡ known self.now) }
+    {
+        Ok(Known {
+            defined: Vec::from_slice(alloc, &self.defined)?,
+            near: Vec::from_slice(alloc, &self.near)?,
+            free: Vec::from_slice(alloc, &self.free)?,
+            advanced: Vec::from_slice(alloc, &self.advanced)?,
+        })
+    }
+
+    pub fn define(&mut self, cell: usize)
+        ensures { known self.new ≡ spec.defined_too (known self.old) cell }
+    {
+        put(&mut self.defined, cell, true);
+    }
+
+    pub fn await_event(&mut self, event: usize, distance: u128)
+        ensures { known self.new ≡ spec.step (await event distance) (known self.old) }
+    {
+        put_await(&mut self.near, event, distance);
+    }
+
+    pub fn advance_event(&mut self, event: usize)
+        ensures { known self.new ≡ spec.step (advance event) (known self.old) }
+    {
+        put(&mut self.free, event, false);
+        put(&mut self.advanced, event, true);
+    }
+
+    pub fn join(&mut self, other: &Known)
+        ensures { known self.new ≡ spec.joined (known self.old) (known other.now) }
+    {
+        join_flags(&mut self.defined, &other.defined);
+        join_nears(&mut self.near, &other.near);
+        join_flags(&mut self.free, &other.free);
+        join_flags(&mut self.advanced, &other.advanced);
+    }
+
+    pub fn end(&mut self)
+        ensures { known self.new ≡ spec.nowhere (known self.old) }
+    {
+        set_flags(&mut self.defined);
+        set_nears(&mut self.near);
+        set_flags(&mut self.free);
+        set_flags(&mut self.advanced);
+    }
+}

@@ -1,0 +1,97 @@
+//! What a walk over a plan's body notes.
+
+ghost use Rattle.std.specs.Prelude.{◌≡◌, OnOk, map};
+ghost use Rattle.ast.specs.View.{letters, ref};
+ghost use Rattle.plan_check.specs.KnownView.{known as known_of};
+ghost use Rattle.plan_check.specs.SeenView.{note, seen as seen_of};
+ghost use Rattle.plan_check.specs.Checking.{has_name as is_among};
+ghost use Rattle.plan_check.specs.Walking as spec;
+
+use crate::known::Known;
+use crate::lists::{flag_at, has_awaited};
+use ast::{Name, Reference};
+use std::alloc::{AllocError, Global};
+
+/// A reference, and what is known of the events before it.
+#[derive(Drop)]
+pub struct Note {
+    pub reference: Reference,
+    pub defines: bool,
+    pub near: Vec<Option<u128>>,
+    pub free: Vec<bool>,
+}
+
+#[derive(Drop)]
+pub struct Seen {
+    pub early: bool,
+    pub disorder: bool,
+    pub notes: Vec<Note>,
+}
+
+fn has_name(names: &[Name], name: Name) -> bool
+    ensures { result ≡ is_among (map letters names.now) name.letters }
+{
+    for other in names {
+        if *other == name {
+            return true;
+        }
+    }
+    false
+}
+
+fn push_note(
+    alloc: Global,
+    seen: &mut Seen,
+    reference: &Reference,
+    defines: bool,
+    known: &Known,
+) -> Result<(), AllocError>
+    ensures { OnOk result (seen_of seen.new ≡ spec.noted (ref reference.now) defines (known_of known.now) (seen_of seen.old)) }
+{
+    let made = Note {
+        reference: *reference,
+        defines,
+        near: Vec::from_slice(alloc, &known.near)?,
+        free: Vec::from_slice(alloc, &known.free)?,
+    };
+    seen.notes.push(made)?;
+    Ok(())
+}
+
+/// A reference is read.
+pub fn note_use(
+    alloc: Global,
+    seen: &mut Seen,
+    privates: &[Name],
+    reference: &Reference,
+    known: &Known,
+) -> Result<(), AllocError>
+    ensures { OnOk result (seen_of seen.new ≡ spec.used (map letters privates.now) (ref reference.now) (known_of known.now) (seen_of seen.old)) }
+{
+    if has_name(privates, reference.name) && !flag_at(&known.defined, reference.cell) {
+        seen.early = true;
+    }
+    push_note(alloc, seen, reference, false, known)
+}
+
+/// A reference is given a value.
+pub fn note_definition(
+    alloc: Global,
+    seen: &mut Seen,
+    privates: &[Name],
+    reference: &Reference,
+    known: &Known,
+) -> Result<(), AllocError>
+    ensures { OnOk result (seen_of seen.new ≡ spec.given (map letters privates.now) (ref reference.now) (known_of known.now) (seen_of seen.old)) }
+{
+    push_note(alloc, seen, reference, true, known)
+}
+
+/// An event is advanced.
+pub fn note_advance(seen: &mut Seen, privates: &[Name], event: usize, known: &Known)
+    ensures { seen_of seen.new ≡ spec.moved_on (map letters privates.now) event (known_of known.now) (seen_of seen.old) }
+{
+    if !(flag_at(&known.free, event) && has_awaited(&known.near, event, 1)) {
+        seen.disorder = true;
+    }
+}

@@ -1,0 +1,168 @@
+//! Expressions and statements that hold no others.
+
+ghost use Rattle.std.specs.Prelude.{◌≡◌, OnOk, map};
+ghost use Rattle.ast.specs.Tree.{accessed, terms};
+ghost use Rattle.ast.specs.View.{access as access_of, head as head_of, item as item_of, kind as kind_of, letters, optional_term, term};
+ghost use Rattle.plan_check.specs.KnownView.{known as known_of};
+ghost use Rattle.plan_check.specs.SeenView.{seen as seen_of};
+ghost use Rattle.plan_check.specs.Walking as spec;
+
+use crate::known::Known;
+use crate::seen::{Seen, note_definition, note_use};
+use ast::{Access, DoHead, Expr, Item, Kind, Name};
+use std::alloc::{AllocError, Global};
+
+#[cycle(terms)]
+fn pass_terms(
+    alloc: Global,
+    seen: &mut Seen,
+    privates: &[Name],
+    expressions: &[Expr],
+    known: &Known,
+) -> Result<(), AllocError>
+    ensures { OnOk result (seen_of seen.new ≡ spec.seen_terms (map letters privates.now) (terms (map term expressions.now)) (known_of known.now) (seen_of seen.old)) }
+{
+    for expression in expressions {
+        pass_term(alloc, seen, privates, expression, known)?;
+    }
+    Ok(())
+}
+
+#[cycle(terms)]
+fn pass_element(
+    alloc: Global,
+    seen: &mut Seen,
+    privates: &[Name],
+    access: &Access,
+    known: &Known,
+) -> Result<(), AllocError>
+    ensures { OnOk result (seen_of seen.new ≡ spec.seen_term (map letters privates.now) (accessed (access_of access.now)) (known_of known.now) (seen_of seen.old)) }
+{
+    pass_terms(alloc, seen, privates, &access.subscripts, known)?;
+    note_use(alloc, seen, privates, &access.reference, known)
+}
+
+#[cycle(terms)]
+pub fn pass_term(
+    alloc: Global,
+    seen: &mut Seen,
+    privates: &[Name],
+    expression: &Expr,
+    known: &Known,
+) -> Result<(), AllocError>
+    ensures { OnOk result (seen_of seen.new ≡ spec.seen_term (map letters privates.now) (term expression.now) (known_of known.now) (seen_of seen.old)) }
+{
+    match expression {
+        Expr::Constant(_) | Expr::Truth(_) | Expr::Parameter(_, _) => Ok(()),
+        Expr::Element(access) => pass_element(alloc, seen, privates, access, known),
+        Expr::Call(_, arguments) => pass_terms(alloc, seen, privates, arguments, known),
+        Expr::Parentheses(inner) => pass_term(alloc, seen, privates, inner, known),
+        Expr::Unary(_, operand) => pass_term(alloc, seen, privates, operand, known),
+        Expr::Binary(_, left, right) => {
+            pass_term(alloc, seen, privates, left, known)?;
+            pass_term(alloc, seen, privates, right, known)
+        }
+    }
+}
+
+pub fn pass_optional(
+    alloc: Global,
+    seen: &mut Seen,
+    privates: &[Name],
+    expression: &Option<Expr>,
+    known: &Known,
+) -> Result<(), AllocError>
+    ensures { OnOk result (seen_of seen.new ≡ spec.seen_optional (map letters privates.now) (optional_term expression.now) (known_of known.now) (seen_of seen.old)) }
+{
+    match expression {
+        Some(expression) => pass_term(alloc, seen, privates, expression, known),
+        None => Ok(()),
+    }
+}
+
+fn pass_items(
+    alloc: Global,
+    seen: &mut Seen,
+    privates: &[Name],
+    items: &[Item],
+    known: &Known,
+) -> Result<(), AllocError>
+    ensures { OnOk result (seen_of seen.new ≡ spec.seen_items (map letters privates.now) (map item_of items.now) (known_of known.now) (seen_of seen.old)) }
+{
+    for item in items {
+        match item {
+            Item::Value(value) => pass_term(alloc, seen, privates, value, known)?,
+            Item::Text(_) => {}
+        }
+    }
+    Ok(())
+}
+
+fn pass_target(
+    alloc: Global,
+    seen: &mut Seen,
+    privates: &[Name],
+    target: &Access,
+    known: &Known,
+) -> Result<(), AllocError>
+    ensures { OnOk result (seen_of seen.new ≡ spec.seen_target (map letters privates.now) (access_of target.now) (known_of known.now) (seen_of seen.old)) }
+{
+    pass_terms(alloc, seen, privates, &target.subscripts, known)?;
+    note_definition(alloc, seen, privates, &target.reference, known)
+}
+
+pub fn pass_kind(
+    alloc: Global,
+    known: &mut Known,
+    seen: &mut Seen,
+    privates: &[Name],
+    kind: &Kind,
+) -> Result<(), AllocError>
+    ensures seen { OnOk result (seen_of seen.new ≡ spec.seen_kind (map letters privates.now) (kind_of kind.now) (known_of known.old) (seen_of seen.old)) }
+    ensures known { OnOk result (known_of known.new ≡ spec.known_kind (map letters privates.now) (kind_of kind.now) (known_of known.old)) }
+{
+    match kind {
+        Kind::Assign(target, value) => {
+            pass_term(alloc, seen, privates, value, known)?;
+            pass_target(alloc, seen, privates, target, known)?;
+            known.define(target.reference.cell);
+            Ok(())
+        }
+        Kind::Print(items) => pass_items(alloc, seen, privates, items, known),
+        Kind::Stop => {
+            known.end();
+            Ok(())
+        }
+        Kind::Read(_)
+        | Kind::Program(_)
+        | Kind::Integer(_)
+        | Kind::Dimension(_)
+        | Kind::Parameter(_)
+        | Kind::Do(_)
+        | Kind::Continue
+        | Kind::If(_)
+        | Kind::ElseIf(_)
+        | Kind::Else
+        | Kind::EndIf
+        | Kind::LogicalIf(_, _)
+        | Kind::End => Ok(()),
+    }
+}
+
+pub fn pass_head(
+    alloc: Global,
+    known: &mut Known,
+    seen: &mut Seen,
+    privates: &[Name],
+    head: &DoHead,
+) -> Result<(), AllocError>
+    ensures seen { OnOk result (seen_of seen.new ≡ spec.seen_head (map letters privates.now) (head_of head.now) (known_of known.old) (seen_of seen.old)) }
+    ensures known { OnOk result (known_of known.new ≡ spec.known_head (map letters privates.now) (head_of head.now) (known_of known.old)) }
+{
+    pass_term(alloc, seen, privates, &head.first, known)?;
+    pass_term(alloc, seen, privates, &head.last, known)?;
+    pass_optional(alloc, seen, privates, &head.step, known)?;
+    note_definition(alloc, seen, privates, &head.variable, known)?;
+    known.define(head.variable.cell);
+    Ok(())
+}
