@@ -1,4 +1,5 @@
 pub mod Acceptance
+pub mod Analysed
 pub mod Awaiting
 pub mod Fitting
 pub mod Judged

@@ -1,7 +1,10 @@
 //! What is kept of a loop's dependences.
 
-ghost use Rattle.std.specs.Prelude.{◌≤◌, IfOk, IfSome, length};
-ghost use Rattle.dependence.specs.Kept.{most_events};
+ghost use Rattle.std.specs.Prelude.{IfOk, map};
+ghost use Rattle.ast.specs.View.{letters};
+ghost use Rattle.loop_tree.specs.TreeView.{seen};
+ghost use Rattle.placement.specs.Analysed.{IsFound};
+ghost use Rattle.privatise.specs.Privates.{ArePrivate};
 
 use crate::pairs::{Pairs, Shared};
 use ast::{Name, RefId};
@@ -89,7 +92,7 @@ pub fn analyse(
     view: &LoopView<'_, '_>,
     privates: &[Name],
 ) -> Result<Option<Analysis>, AllocError>
-    ensures few { IfOk result (λ found. IfSome found (λ analysis. length analysis.sources.items ≤ most_events)) }
+    ensures { IfOk result (λ found. ArePrivate (seen view.now) (map letters privates.now) → IsFound (seen view.now) (map letters privates.now) found) }
 {
     let pairs = Pairs::new(alloc, view, privates)?;
     let mut analysis = Analysis {

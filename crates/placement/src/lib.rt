@@ -10,5 +10,6 @@ mod placing;
 mod planning;
 mod spots;
 
+pub use analysis::Kept;
 pub use laws::{accepted, kept, outermost};
 pub use planning::{Placed, place, plan};

@@ -6,7 +6,7 @@ ghost use Rattle.dependence.specs.Kept.{IsNonzero, block_reads, most_events};
 ghost use Rattle.loop_tree.specs.TreeView.{seen};
 ghost use Rattle.placement.specs.Judged.{IsJudged, IsPlanned, IsSerial, MayOpen, hides};
 
-use crate::analysis::{Analysis, analyse};
+use crate::analysis::{Analysis, Kept, analyse};
 use crate::counting::add;
 use crate::fitting::{hide_inner, reads};
 use crate::placing::placed_range;
@@ -29,11 +29,17 @@ enum Judged {
     },
 }
 
-/// A loop's plan, and whether its iterations might overlap if no loop around it were open.
+/// A loop's plan, and what it is made of.
 #[derive(Drop)]
 pub struct Placed {
     pub plan: LoopPlan,
+    /// Whether its iterations might overlap if no loop around it were open.
     pub suits: bool,
+    /// Of a plan with a body, the statements that are sources, in order: their events have the numbers
+    /// from 1 on.
+    pub sources: Vec<usize>,
+    /// Of a plan with a body, what is kept, in order, each once.
+    pub kept: Vec<Kept>,
 }
 
 /// Whether a step is a constant other than 0.
@@ -88,38 +94,44 @@ fn opened(
     view: &LoopView<'_, '_>,
     privates: ScalarSet,
     analysis: Analysis,
-) -> Result<LoopPlan, AllocError>
-    ensures { IfOk result (λ plan. MayOpen (seen view.now) (map letters privates.names.items) → length analysis.sources.items ≤ most_events → IsPlanned (seen view.now) plan) }
+) -> Result<Placed, AllocError>
+    ensures { IfOk result (λ placed. IsJudged (seen view.now) (judged.Suits privates analysis) → IsOpened (seen view.now) placed) }
 {
     let spots = spots_of(alloc, analysis.sources, &analysis.kept)?;
     let first = add(view.statement(), 1)?;
     let body = placed_range(alloc, &spots, first, view.body())?;
-    Ok(LoopPlan::Body {
-        body,
-        privates,
-        relations: analysis.relations,
+    Ok(Placed {
+        plan: LoopPlan::Body {
+            body,
+            privates,
+            relations: analysis.relations,
+        },
+        suits: true,
+        sources: spots.sources,
+        kept: analysis.kept,
     })
+}
+
+/// A loop that stays serial.
+fn serial(alloc: Global, reason: u8, suits: bool) -> Placed
+    ensures { result.plan ≡ Serial reason × (result.suits ≡ suits) }
+{
+    Placed {
+        plan: LoopPlan::Serial(reason),
+        suits,
+        sources: Vec::new(alloc),
+        kept: Vec::new(alloc),
+    }
 }
 
 /// The plan of a loop of which the caller knows whether it stands in one that is open, as
 /// [`plan`] gives it.
 pub fn place(alloc: Global, view: &LoopView<'_, '_>, inside: bool) -> Result<Placed, AllocError>
-    ensures planned { IfOk result (λ placed. IsPlanned (seen view.now) placed.plan) }
-    ensures inside { IfOk result (λ placed. inside ≡ true → IsSerial placed.plan) }
 {
     match judge(alloc, view)? {
-        Judged::Serial(reason) => Ok(Placed {
-            plan: LoopPlan::Serial(reason),
-            suits: false,
-        }),
-        Judged::Suits { .. } if inside => Ok(Placed {
-            plan: LoopPlan::Serial(5),
-            suits: true,
-        }),
-        Judged::Suits { privates, analysis } => Ok(Placed {
-            plan: opened(alloc, view, privates, analysis)?,
-            suits: true,
-        }),
+        Judged::Serial(reason) => Ok(serial(alloc, reason, false)),
+        Judged::Suits { .. } if inside => Ok(serial(alloc, 5, true)),
+        Judged::Suits { privates, analysis } => opened(alloc, view, privates, analysis),
     }
 }
 

@@ -1,6 +1,10 @@
 //! Where events are awaited and advanced, by what is kept.
 
-ghost use Rattle.std.specs.Prelude.{◌≡◌, ◌<◌, IfOk, OnOk, length};
+ghost use Rattle.std.specs.Prelude.{◌≡◌, ◌<◌, IfOk, OnOk, length, map, ℕ};
+ghost use Rattle.loop_tree.specs.Loops.{Loop};
+ghost use Rattle.placement.specs.Analysed.{AreTriples, triple};
+ghost use Rattle.placement.specs.Listed.{awaited};
+ghost use Rattle.placement.specs.Placement.{AreAwaits, AreSources};
 
 use crate::analysis::Kept;
 use crate::placing::Spots;
@@ -33,7 +37,8 @@ fn lengthen(
 
 /// The spots of sources in order, and of what is kept in order.
 pub fn spots_of(alloc: Global, sources: Vec<usize>, kept: &[Kept]) -> Result<Spots, AllocError>
-    ensures { IfOk result (λ spots. spots.sources.items ≡ sources.items) }
+    ensures sources { IfOk result (λ spots. spots.sources.items ≡ sources.items) }
+    ensures awaits { IfOk result (λ spots. (l : Loop) → AreSources l sources.items → AreTriples l (map triple kept.now) → (t : ℕ) → AreAwaits l sources.items t (awaited spots t)) }
 {
     let mut awaits = Vec::new(alloc);
     for one in kept {
