@@ -1,6 +1,7 @@
 pub mod Acceptance
 pub mod Around
 pub mod Awaiting
+pub mod Cells
 pub mod Claims
 pub mod Early
 pub mod Eligible
@@ -10,6 +11,7 @@ pub mod Fitted
 pub mod Going
 pub mod Holding
 pub mod Inner
+pub mod Judging
 pub mod Keeping
 pub mod Listings
 pub mod Lists
