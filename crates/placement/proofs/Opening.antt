@@ -13,15 +13,16 @@ use Rattle.placement.specs.Listed.{awaited}
 use Rattle.placement.specs.Placement.{AreAwaits, AreSources, IsPlacedBody}
 use Rattle.placement.specs.Placing.{placed_block}
 use Rattle.placement.specs.declared.analysis.Analysis.{Analysis}
+use Rattle.placement.specs.declared.analysis.Kept.{Kept}
 use Rattle.placement.specs.declared.placing.Spots.{Spots}
 use Rattle.placement.specs.declared.planning.Placed.{Placed}
 use Rattle.placement.proofs.Judging.{hindered, suiting}
 
 -- what is awaited at the spots of sources is what is kept
-abbrev pub AreSpots : Analysis → Spots → Type 0
-AreSpots a s = (l : Loop) → AreSources l a.sources.items → AreTriples l (map triple a.kept.items) → (t : ℕ) → AreAwaits l a.sources.items t (awaited s t)
+abbrev pub AreSpots : List ℕ → List Kept → Spots → Type 0
+AreSpots sources kept s = (l : Loop) → AreSources l sources → AreTriples l (map triple kept) → (t : ℕ) → AreAwaits l sources t (awaited s t)
 
-pub placed_body : (l : Loop) (p : PlanTree) (a : Analysis) (s : Spots) (o : ℕ) (b : Block) → IsPlain l p.privates → AreAnalysed l p.privates a → s.sources.items ≡ a.sources.items → AreSpots a s
+pub placed_body : (l : Loop) (p : PlanTree) (a : Analysis) (s : Spots) (o : ℕ) (b : Block) → IsPlain l p.privates → AreAnalysed l p.privates a → s.sources.items ≡ a.sources.items → AreSpots a.sources.items a.kept.items s
     → o ≡ l.statement + 1 → b ≡ l.body → p.body ≡ placed_block s.sources.items (awaited s) o b → p.relations ≡ map (λ q. (q.0.0, q.1.0, q.2)) a.relations.items → IsPlacedBody l p
 placed_body l p a s o b plain found same spots e f h r = record {
   privates = plain.privates;
@@ -35,7 +36,7 @@ placed_body l p a s o b plain found same spots e f h r = record {
 
 module _ (l : Loop) (whole : IsWhole l) (told : are_told (known l) ≡ true) (placed : Placed) where
   pub stays_serial : (inside : Bool) (n : ℕ) → IsHindered l n → placed.plan ≡ Serial n → placed.suits ≡ false → IsPlaced l inside placed
-  stays_serial inside n h p s = let g = hindered l whole told n h in inr (s, g.0, n, p, g.1)
+  stays_serial inside n h p s = let g = hindered l whole told n h in inr (s, g.0, (n, p, g.1))
 
   suits : (names : List (List ℕ)) (a : Analysis) → IsPlain l names → hides names l ≡ true → AreAnalysed l names a → Suits l
   suits names a plain h found = suiting l whole told names a plain h found

@@ -40,6 +40,10 @@ IsJudged l (judged.Serial n) = IsHindered l n
 IsJudged l (judged.Suits privates analysis) =
     IsPlain l (map letters privates.names.items) × (hides (map letters privates.names.items) l ≡ true) × AreAnalysed l (map letters privates.names.items) analysis
 
+abbrev pub suits_by : Judged → Bool
+suits_by (judged.Serial n) = false
+suits_by (judged.Suits privates analysis) = true
+
 -- ---- placement
 
 abbrev pub IsSuiting : Loop → Bool → Type 0

@@ -33,6 +33,21 @@ enum Judged {
     },
 }
 
+impl Judged {
+    ghost use Rattle.std.specs.Prelude.{◌≡◌};
+    ghost use Rattle.placement.specs.Judged.{suits_by};
+
+    /// Whether its iterations may overlap.
+    fn suits(&self) -> bool
+        ensures { result ≡ suits_by self.now }
+    {
+        match self {
+            Judged::Serial(_) => false,
+            Judged::Suits { .. } => true,
+        }
+    }
+}
+
 /// A loop's plan, and what it is made of.
 #[derive(Drop)]
 pub struct Placed {
@@ -99,8 +114,7 @@ fn opened(
     privates: ScalarSet,
     analysis: Analysis,
 ) -> Result<Placed, AllocError>
-    ensures suits { IfOk result (λ placed. placed.suits ≡ true) }
-    ensures opened { IfOk result (λ placed. IsJudged (seen view.now) (judged.Suits privates analysis) → IsOpened (seen view.now) placed) }
+    ensures { IfOk result (λ placed. (placed.suits ≡ true) × (IsJudged (seen view.now) (judged.Suits privates analysis) → IsOpened (seen view.now) placed)) }
 {
     let spots = spots_of(alloc, analysis.sources, &analysis.kept)?;
     let first = add(view.statement(), 1)?;
@@ -145,10 +159,8 @@ pub fn place(alloc: Global, view: &LoopView<'_, '_>, inside: bool) -> Result<Pla
 fn suits(alloc: Global, view: &LoopView<'_, '_>) -> Result<bool, AllocError>
     ensures { IfOk result (λ yes. IsWhole (seen view.now) → IsSuiting (seen view.now) yes) }
 {
-    match judge(alloc, view)? {
-        Judged::Serial(_) => Ok(false),
-        Judged::Suits { .. } => Ok(true),
-    }
+    let judged = judge(alloc, view)?;
+    Ok(judged.suits())
 }
 
 /// Whether one of the loops around this one may be open; `most` of them are looked at.
