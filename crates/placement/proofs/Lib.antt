@@ -10,6 +10,7 @@ pub mod Fitted
 pub mod Going
 pub mod Holding
 pub mod Inner
+pub mod Insertion
 pub mod Keeping
 pub mod Listings
 pub mod Lists
@@ -20,6 +21,8 @@ pub mod Outside
 pub mod Positive
 pub mod Privates
 pub mod Ranges
+pub mod Seconds
 pub mod Sources
 pub mod Stripping
+pub mod Triples
 pub mod Variables
