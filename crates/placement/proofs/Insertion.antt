@@ -1,9 +1,14 @@
 -- Sources in order, with one more.
-use Rattle.std.proofs.Common.{◌≡◌, ◌∙◌, ◌+◌, ◌<◌, ◌≤◌, ◌⊎◌, inl, inr, ℕ, Bool, true, false, ◌&&◌, List, [], ◌∷◌, length, refl, ap, sym, subst, ⊎_elim, arith, if◌then◌else◌}
-use Rattle.std.specs.Prelude.{◌==◌, nat_lt}
-use Rattle.std.proofs.lemmas.Bool.{and_from, eqb-true, eqb-false, lt-ltb, ltb-true, ltb-false}
+use Rattle.std.proofs.Common.{◌≡◌, ◌∙◌, ◌+◌, ◌<◌, ◌≤◌, ◌⊎◌, inl, inr, ℕ, zero, suc, Bool, true, false, ◌&&◌, List, [], ◌∷◌, length, get_or, refl, ap, sym, subst, ⊎_elim, arith, if◌then◌else◌}
+use Rattle.std.specs.Prelude.{◌==◌, nat_lt, Ok, Err}
+use Rattle.std.specs.List.{insert}
+use Rattle.std.specs.List.Sorted.{IsBinarySearchResult}
+use Rattle.std.specs.Ordering.{nat_cmp}
+use Rattle.std.proofs.lemmas.Bool.{and_from, cases_eq, eq-eqb, eqb-true, eqb-false, le-ltb, lt-ltb, ltb-false, ne_eqb}
+use Rattle.std.proofs.lemmas.List.Sorted.{searched}
 use Rattle.placement.specs.Looked.{with_source}
 use Rattle.placement.specs.Placement.{is_ascending}
+use Rattle.placement.specs.Spotted.{event_of}
 use Rattle.placement.proofs.Few.{above, tail_ascending}
 use Rattle.plan_check.proofs.Members.{In}
 
@@ -62,3 +67,90 @@ with_longer s (x ∷ xs) = by (nat_lt s x) (s == x) (with_longer s xs)
     by true c more = omega arith
     by false true more = omega arith
     by false false more = omega (arith, more)
+
+-- ---- by a binary search
+
+get_in : (xs : List ℕ) (j : ℕ) → j < length xs → In (get_or xs j 0) xs
+get_in [] j l = absurd (omega (arith, l))
+get_in (x ∷ xs) zero l = inl refl
+get_in (x ∷ xs) (suc j) l = inr (get_in xs j (omega (arith, l)))
+
+pub rising : (xs : List ℕ) → is_ascending xs ≡ true → (i j : ℕ) → i < j → j < length xs → get_or xs i 0 < get_or xs j 0
+rising [] h i j l m = absurd (omega (arith, m))
+rising (x ∷ xs) h i zero l m = absurd (omega (arith, l))
+rising (x ∷ xs) h zero (suc j) l m = above x xs h (get_or xs j 0) (get_in xs j (omega (arith, m)))
+rising (x ∷ xs) h (suc i) (suc j) l m = rising xs (tail_ascending x xs h) i j (omega (arith, l)) (omega (arith, m))
+
+rising_to : (xs : List ℕ) → is_ascending xs ≡ true → (i j : ℕ) → i ≤ j → j < length xs → get_or xs i 0 ≤ get_or xs j 0
+rising_to xs h i j l m = ⊎_elim (λ e. subst (λ (k : ℕ). get_or xs i 0 ≤ get_or xs k 0) e (omega arith)) (λ ne. let g = rising xs h i j (omega (arith, l, ne)) m in omega (arith, g)) (cases_eq i j)
+
+has_it : (s : ℕ) (xs : List ℕ) (i : ℕ) → is_ascending xs ≡ true → i < length xs → get_or xs i 0 ≡ s → xs ≡ with_source s xs
+has_it s [] i h l e = absurd (omega (arith, l))
+has_it s (x ∷ xs) zero h l e = by (nat_lt s x) (s == x) (le-ltb s x (omega (arith, e))) (eq-eqb s x (sym e))
+  where
+    by : (b c : Bool) → b ≡ false → c ≡ true → x ∷ xs ≡ (if b then s ∷ x ∷ xs else if c then x ∷ xs else x ∷ with_source s xs)
+    by true c p q = cc
+    by false true p q = refl
+    by false false p q = cc
+has_it s (x ∷ xs) (suc i) h l e =
+    let low : x < s = subst (λ (y : ℕ). x < y) e (above x xs h (get_or xs i 0) (get_in xs i (omega (arith, l)))) in
+    by (nat_lt s x) (s == x) (le-ltb s x (omega (arith, low))) (ne_eqb s x (λ q. omega (arith, low, q))) (has_it s xs i (tail_ascending x xs h) (omega (arith, l)) e)
+  where
+    by : (b c : Bool) → b ≡ false → c ≡ false → xs ≡ with_source s xs → x ∷ xs ≡ (if b then s ∷ x ∷ xs else if c then x ∷ xs else x ∷ with_source s xs)
+    by true c p q more = cc
+    by false true p q more = cc
+    by false false p q more = ap (λ (ys : List ℕ). x ∷ ys) more
+
+put : (s : ℕ) (xs : List ℕ) (i : ℕ) → i ≤ length xs → ((k : ℕ) → k < i → get_or xs k 0 < s) → ((k : ℕ) → i ≤ k → k < length xs → s < get_or xs k 0) → insert xs i s ≡ with_source s xs
+put s [] zero l low high = refl
+put s [] (suc i) l low high = absurd (omega (arith, l))
+put s (x ∷ xs) zero l low high = by (nat_lt s x) (s == x) (lt-ltb s x (high 0 (omega arith) (omega arith)))
+  where
+    by : (b c : Bool) → b ≡ true → s ∷ x ∷ xs ≡ (if b then s ∷ x ∷ xs else if c then x ∷ xs else x ∷ with_source s xs)
+    by true c p = refl
+    by false c p = cc
+put s (x ∷ xs) (suc i) l low high =
+    let less : x < s = low 0 (omega arith) in
+    by (nat_lt s x) (s == x) (le-ltb s x (omega (arith, less))) (ne_eqb s x (λ q. omega (arith, less, q)))
+    (put s xs i (omega (arith, l)) (λ k m. low (suc k) (omega (arith, m))) (λ k m n. high (suc k) (omega (arith, m)) (omega (arith, n))))
+  where
+    by : (b c : Bool) → b ≡ false → c ≡ false → insert xs i s ≡ with_source s xs → x ∷ insert xs i s ≡ (if b then s ∷ x ∷ xs else if c then x ∷ xs else x ∷ with_source s xs)
+    by true c p q more = cc
+    by false true p q more = cc
+    by false false p q more = ap (λ (ys : List ℕ). x ∷ ys) more
+
+pub search_found : (s : ℕ) (xs : List ℕ) (i : ℕ) → is_ascending xs ≡ true → IsBinarySearchResult (λ y. nat_cmp y s) xs (Ok i) → xs ≡ with_source s xs
+search_found s xs i h is = let g = searched xs s (Ok i) is (rising_to xs h) in has_it s xs i h g.0 g.1
+
+pub search_missed : (s : ℕ) (xs : List ℕ) (i : ℕ) → is_ascending xs ≡ true → IsBinarySearchResult (λ y. nat_cmp y s) xs (Err i) → insert xs i s ≡ with_source s xs
+search_missed s xs i h is = let g = searched xs s (Err i) is (rising_to xs h) in put s xs i g.0 g.1 g.2
+
+-- ---- events
+
+counted : (k s : ℕ) (xs : List ℕ) (i : ℕ) → i ≤ length xs → ((j : ℕ) → j < i → get_or xs j 0 < s) → (i < length xs → s ≤ get_or xs i 0) → i + k ≡ event_of k xs s
+counted k s [] zero l low high = omega arith
+counted k s [] (suc i) l low high = absurd (omega (arith, l))
+counted k s (x ∷ xs) zero l low high = by (nat_lt x s) (le-ltb x s (high (omega arith)))
+  where
+    by : (b : Bool) → b ≡ false → 0 + k ≡ (if b then event_of (k + 1) xs s else k)
+    by true e = cc
+    by false e = omega arith
+counted k s (x ∷ xs) (suc i) l low high =
+    let more = counted (k + 1) s xs i (omega (arith, l)) (λ j m. low (suc j) (omega (arith, m))) (λ m. high (omega (arith, m))) in
+    by (nat_lt x s) (lt-ltb x s (low 0 (omega arith))) (omega (arith, more))
+  where
+    by : (b : Bool) → b ≡ true → suc i + k ≡ event_of (k + 1) xs s → suc i + k ≡ (if b then event_of (k + 1) xs s else k)
+    by true e more = more
+    by false e more = cc
+
+pub event_found : (s : ℕ) (xs : List ℕ) (i : ℕ) → IsBinarySearchResult (λ y. nat_cmp y s) xs (Ok i) → is_ascending xs ≡ true → i + 1 ≡ event_of 1 xs s
+event_found s xs i is h =
+    let g = searched xs s (Ok i) is (rising_to xs h) in
+    let at = g.1 in
+    let within = g.0 in
+    counted 1 s xs i (omega (arith, within)) (λ j m. let r = rising xs h j i m within in omega (arith, r, at)) (λ m. omega (arith, at))
+
+pub event_missed : (s : ℕ) (xs : List ℕ) (i : ℕ) → IsBinarySearchResult (λ y. nat_cmp y s) xs (Err i) → is_ascending xs ≡ true → i + 1 ≡ event_of 1 xs s
+event_missed s xs i is h =
+    let g = searched xs s (Err i) is (rising_to xs h) in
+    counted 1 s xs i g.0 g.1 (λ m. let r = g.2 i (omega arith) m in omega (arith, r))

@@ -1,4 +1,5 @@
 pub mod Acceptance
+pub mod Analysing
 pub mod Around
 pub mod Awaiting
 pub mod Claims
@@ -20,6 +21,7 @@ pub mod Ordering
 pub mod Outside
 pub mod Positive
 pub mod Privates
+pub mod Pushing
 pub mod Ranges
 pub mod Seconds
 pub mod Sources

@@ -60,10 +60,10 @@ places_more test n (x ∷ os) o = by (test x) (places_more test (n + 1) os o)
 -- the sources of dependences, in order
 pub record Sourced (ss : List ℕ) (ks : List Triple) : Type 0 where
   pub ascending : is_ascending ss ≡ true
-  pub sound : (s : ℕ) → In s ss → (k : Triple) × In k ks × (k.1.0 ≡ s)
-  pub whole : (k : Triple) → In k ks → In k.1.0 ss
+  pub sound : (s : ℕ) → In s ss → (k : Triple) × In k ks × (k.1 ≡ s)
+  pub whole : (k : Triple) → In k ks → In k.1 ss
 
-more_sourced : (s : ℕ) (ss : List ℕ) (ks qs : List Triple) → ((k : Triple) → In k qs → k.1.0 ≡ s) → Sourced ss ks
+more_sourced : (s : ℕ) (ss : List ℕ) (ks qs : List Triple) → ((k : Triple) → In k qs → k.1 ≡ s) → Sourced ss ks
     → Sourced (if nat_lt (length ks) (length (ks ++ qs)) then with_source s ss else ss) (ks ++ qs)
 more_sourced s ss ks [] h are =
     let none : ks ++ [] ≡ ks = append_nil ks in
@@ -82,7 +82,7 @@ more_sourced s ss ks (q ∷ qs) h are =
     by true e = record {
       ascending = with_ascending s ss are.ascending;
       sound = λ x i. ⊎_elim (λ e. (q, in_right q ks (q ∷ qs) (inl refl), h q (inl refl) ∙ sym e)) (λ j. let g = are.sound x j in (g.0, in_left g.0 ks (q ∷ qs) g.1, g.2)) (in_with s ss x i);
-      whole = λ k i. ⊎_elim (λ j. with_keeps s ss k.1.0 (are.whole k j)) (λ j. subst (λ (x : ℕ). In x (with_source s ss)) (sym (h k j)) (has_with s ss)) (in_which k ks (q ∷ qs) i);
+      whole = λ k i. ⊎_elim (λ j. with_keeps s ss k.1 (are.whole k j)) (λ j. subst (λ (x : ℕ). In x (with_source s ss)) (sym (h k j)) (has_with s ss)) (in_which k ks (q ∷ qs) i);
     }
 
 -- ---- those that one is looked at with
@@ -195,7 +195,7 @@ module _ (l : Loop) (ps : List (List ℕ)) where
       by false p more (inr j) = let m = more j in (inr m.0, m.1)
 
   -- those of all are those of the shared
-  pub shared_relations : (as os : List Occurrence) → relations_of l ps (shared_of l ps as) os ≡ relations_of l ps as os
+  pub shared_relations : (firsts os : List Occurrence) → relations_of l ps (shared_of l ps firsts) os ≡ relations_of l ps firsts os
   shared_relations [] os = refl
   shared_relations (a ∷ more) os = by (is_own l ps a.ref) refl (shared_relations more os)
     where
@@ -204,7 +204,7 @@ module _ (l : Loop) (ps : List (List ℕ)) where
       by true p e = e ∙ sym (ap (λ (rs : List (ℕ × ℕ × Relation)). rs ++ relations_of l ps more os) (with_relations a os ∙ ap (λ (xs : List Occurrence). map (relation_by l a) xs) (none_of a os p)))
       by false p e = ap (λ (rs : List (ℕ × ℕ × Relation)). relations_with l ps a os ++ rs) e
 
-  pub shared_kept : (as os : List Occurrence) → kept_of (shared_of l ps as) os ≡ kept_of as os
+  pub shared_kept : (firsts os : List Occurrence) → kept_of (shared_of l ps firsts) os ≡ kept_of firsts os
   shared_kept [] os = refl
   shared_kept (a ∷ more) os = by (is_own l ps a.ref) refl (shared_kept more os)
     where
@@ -287,14 +287,14 @@ module _ (l : Loop) (ps : List (List ℕ)) where
       first_kept : (a : Occurrence) (f : Found) → In a sh → (after_first l p a f).kept ≡ f.kept ++ kept_with a (seconds a l.references)
       first_kept a f i = ap (λ (g : Found). g.kept) (first_found a f i) ∙ each_kept a (seconds a l.references) f
 
-      all_relations : (as : List Occurrence) (f : Found) → ((a : Occurrence) → In a as → In a sh) → (after_all l p as f).relations ≡ f.relations ++ relations_of l ps as l.references
+      all_relations : (firsts : List Occurrence) (f : Found) → ((a : Occurrence) → In a firsts → In a sh) → (after_all l p firsts f).relations ≡ f.relations ++ relations_of l ps firsts l.references
       all_relations [] f h = sym (append_nil f.relations)
       all_relations (a ∷ more) f h =
           all_relations more (after_first l p a f) (λ b i. h b (inr i))
           ∙ ap (λ (rs : List (ℕ × ℕ × Relation)). rs ++ relations_of l ps more l.references) (first_relations a f (h a (inl refl)))
           ∙ append_assoc f.relations (relations_with l ps a l.references) (relations_of l ps more l.references)
 
-      all_kept : (as : List Occurrence) (f : Found) → ((a : Occurrence) → In a as → In a sh) → (after_all l p as f).kept ≡ f.kept ++ kept_of as l.references
+      all_kept : (firsts : List Occurrence) (f : Found) → ((a : Occurrence) → In a firsts → In a sh) → (after_all l p firsts f).kept ≡ f.kept ++ kept_of firsts l.references
       all_kept [] f h = sym (append_nil f.kept)
       all_kept (a ∷ more) f h =
           all_kept more (after_first l p a f) (λ b i. h b (inr i))
@@ -303,13 +303,13 @@ module _ (l : Loop) (ps : List (List ℕ)) where
 
       -- ---- the sources of what is kept
 
-      kept_source : (a : Occurrence) (bs : List Occurrence) (k : Triple) → In k (kept_with a bs) → k.1.0 ≡ a.statement
+      kept_source : (a : Occurrence) (bs : List Occurrence) (k : Triple) → In k (kept_with a bs) → k.1 ≡ a.statement
       kept_source a [] k i = absurd i
       kept_source a (b ∷ bs) k i = ⊎_elim (λ j. by (kept_distance (relation l a b)) j) (λ j. kept_source a bs k j) (in_which k (kept_by l a b) (kept_with a bs) i)
         where
-          by : (d : Option ℕ) → In k (triple_of a b d) → k.1.0 ≡ a.statement
+          by : (d : Option ℕ) → In k (triple_of a b d) → k.1 ≡ a.statement
           by None j = absurd j
-          by (Some d) (inl e) = ap (λ (t : Triple). t.1.0) e
+          by (Some d) (inl e) = ap (λ (t : Triple). t.1) e
           by (Some d) (inr j) = absurd j
 
       first_sourced : (a : Occurrence) (f : Found) → In a sh → Sourced f.sources f.kept → Sourced (after_first l p a f).sources (after_first l p a f).kept
@@ -324,7 +324,7 @@ module _ (l : Loop) (ps : List (List ℕ)) where
               (more_sourced a.statement f.sources f.kept qs (λ k j. kept_source a (seconds a l.references) k j) h)) in
           subst (λ (r : Found). Sourced r.sources r.kept) (sym whole) (subst (λ (ks : List Triple). Sourced (with_new_source a.statement f g).sources ks) (sym kept) right)
 
-      all_sourced : (as : List Occurrence) (f : Found) → ((a : Occurrence) → In a as → In a sh) → Sourced f.sources f.kept → Sourced (after_all l p as f).sources (after_all l p as f).kept
+      all_sourced : (firsts : List Occurrence) (f : Found) → ((a : Occurrence) → In a firsts → In a sh) → Sourced f.sources f.kept → Sourced (after_all l p firsts f).sources (after_all l p firsts f).kept
       all_sourced [] f h s = s
       all_sourced (a ∷ more) f h s = all_sourced more (after_first l p a f) (λ b i. h b (inr i)) (first_sourced a f (h a (inl refl)) s)
 

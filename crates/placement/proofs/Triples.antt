@@ -35,15 +35,15 @@ at_distance Any d k = ap (λ (y : ℕ). Some y) (sym k)
 
 module _ (l : Loop) (ps : List (List ℕ)) where
   -- the pair of a dependence that is kept
-  record Pair (as os : List Occurrence) (k : Triple) : Type 0 where
+  record Pair (firsts os : List Occurrence) (k : Triple) : Type 0 where
     a : Occurrence
     b : Occurrence
-    a_in : In a as
+    a_in : In a firsts
     b_in : In b os
     looked_at : is_looked_at l ps a b ≡ true
-    source : a.statement ≡ k.1.0
+    source : a.statement ≡ k.1
     sink : b.statement ≡ k.0
-    distance : kept_distance (relation l a b) ≡ Some k.1.1
+    distance : kept_distance (relation l a b) ≡ Some k.2
 
   in_seconds : (a b : Occurrence) (os : List Occurrence) → In b (seconds l ps a os) → In b os × (is_looked_at l ps a b ≡ true)
   in_seconds a b [] i = absurd i
@@ -64,9 +64,9 @@ module _ (l : Loop) (ps : List (List ℕ)) where
       by false e more (inl q) = absurd (true≢false (sym h ∙ ap (λ (y : Occurrence). is_looked_at l ps a y) q ∙ e))
       by false e more (inr j) = more j
 
-  in_triple : (a b : Occurrence) (d : Option ℕ) (k : Triple) → In k (triple_of a b d) → (a.statement ≡ k.1.0) × (b.statement ≡ k.0) × (d ≡ Some k.1.1)
+  in_triple : (a b : Occurrence) (d : Option ℕ) (k : Triple) → In k (triple_of a b d) → (a.statement ≡ k.1) × (b.statement ≡ k.0) × (d ≡ Some k.2)
   in_triple a b None k i = absurd i
-  in_triple a b (Some d) k (inl e) = (sym (ap (λ (t : Triple). t.1.0) e), sym (ap (λ (t : Triple). t.0) e), ap (λ (y : ℕ). Some y) (sym (ap (λ (t : Triple). t.1.1) e)))
+  in_triple a b (Some d) k (inl e) = (sym (ap (λ (t : Triple). t.1) e), sym (ap (λ (t : Triple). t.0) e), ap (λ (y : ℕ). Some y) (sym (ap (λ (t : Triple). t.2) e)))
   in_triple a b (Some d) k (inr i) = absurd i
 
   in_with : (a : Occurrence) (bs : List Occurrence) (k : Triple) → In k (kept_with l ps a bs) → (b : Occurrence) × In b bs × In k (kept_by l a b)
@@ -79,22 +79,22 @@ module _ (l : Loop) (ps : List (List ℕ)) where
   with_in a b (x ∷ bs) k (inl e) j = in_left k (kept_by l a x) (kept_with l ps a bs) (subst (λ (y : Occurrence). In k (kept_by l a y)) e j)
   with_in a b (x ∷ bs) k (inr i) j = in_right k (kept_by l a x) (kept_with l ps a bs) (with_in a b bs k i j)
 
-  pair_of : (as os : List Occurrence) (k : Triple) → In k (kept_of l ps as os) → Pair as os k
+  pair_of : (firsts os : List Occurrence) (k : Triple) → In k (kept_of l ps firsts os) → Pair firsts os k
   pair_of [] os k i = absurd i
-  pair_of (x ∷ as) os k i =
+  pair_of (x ∷ firsts) os k i =
       ⊎_elim
       (λ j. let g = in_with x (seconds l ps x os) k j in
       let s = in_seconds x g.0 os g.1 in
       let t = in_triple x g.0 (kept_distance (relation l x g.0)) k g.2 in
       record { a = x; b = g.0; a_in = inl refl; b_in = s.0; looked_at = s.1; source = t.0; sink = t.1; distance = t.2 })
-      (λ j. let p = pair_of as os k j in record { a = p.a; b = p.b; a_in = inr p.a_in; b_in = p.b_in; looked_at = p.looked_at; source = p.source; sink = p.sink; distance = p.distance })
-      (in_which k (kept_with l ps x (seconds l ps x os)) (kept_of l ps as os) i)
+      (λ j. let p = pair_of firsts os k j in record { a = p.a; b = p.b; a_in = inr p.a_in; b_in = p.b_in; looked_at = p.looked_at; source = p.source; sink = p.sink; distance = p.distance })
+      (in_which k (kept_with l ps x (seconds l ps x os)) (kept_of l ps firsts os) i)
 
-  of_pair : (a b : Occurrence) (d : ℕ) (as os : List Occurrence) → In a as → In b os → is_looked_at l ps a b ≡ true → kept_distance (relation l a b) ≡ Some d → In (b.statement, a.statement, d) (kept_of l ps as os)
+  of_pair : (a b : Occurrence) (d : ℕ) (firsts os : List Occurrence) → In a firsts → In b os → is_looked_at l ps a b ≡ true → kept_distance (relation l a b) ≡ Some d → In (b.statement, a.statement, d) (kept_of l ps firsts os)
   of_pair a b d [] os i j h e = absurd i
-  of_pair a b d (x ∷ as) os (inr i) j h e = in_right (b.statement, a.statement, d) (kept_with l ps x (seconds l ps x os)) (kept_of l ps as os) (of_pair a b d as os i j h e)
-  of_pair a b d (x ∷ as) os (inl q) j h e =
-      in_left (b.statement, a.statement, d) (kept_with l ps x (seconds l ps x os)) (kept_of l ps as os)
+  of_pair a b d (x ∷ firsts) os (inr i) j h e = in_right (b.statement, a.statement, d) (kept_with l ps x (seconds l ps x os)) (kept_of l ps firsts os) (of_pair a b d firsts os i j h e)
+  of_pair a b d (x ∷ firsts) os (inl q) j h e =
+      in_left (b.statement, a.statement, d) (kept_with l ps x (seconds l ps x os)) (kept_of l ps firsts os)
       (subst (λ (y : Occurrence). In (b.statement, a.statement, d) (kept_with l ps y (seconds l ps y os))) q
       (with_in a b (seconds l ps a os) (b.statement, a.statement, d) (seconds_in a b os j h)
       (subst (λ (o : Option ℕ). In (b.statement, a.statement, d) (triple_of a b o)) (sym e) (inl refl))))
@@ -113,7 +113,7 @@ module _ (l : Loop) (ps : List (List ℕ)) where
         let q = scalar_of l ps privates x.0 x.1 in
         record { ref = q.0; among = contained q.0 l.assigned q.1; is = q.2 ∙ same_is x.0 name x.2; private = q.3 }
 
-    pub kept_sound : (k : Triple) → In k (kept_of l ps l.references l.references) → Kept l k.1.0 k.0 k.1.1
+    pub kept_sound : (k : Triple) → In k (kept_of l ps l.references l.references) → Kept l k.1 k.0 k.2
     kept_sound k i =
         let p = pair_of l.references l.references k i in
         let x = and_parts (same_name p.a.ref.name p.b.ref.name) _ p.looked_at in
@@ -126,7 +126,7 @@ module _ (l : Loop) (ps : List (List ℕ)) where
           shared = λ v. true≢false (sym (private_name p.a.ref.name v) ∙ not-true (has_name ps p.a.ref.name) z.0);
           source = p.source;
           sink = p.sink;
-          at = kept_at (relation l p.a p.b) k.1.1 p.distance;
+          at = kept_at (relation l p.a p.b) k.2 p.distance;
         }
 
     no_name : (name : List ℕ) → (PrivateName l name → ⊥) → has_name ps name ≡ false
@@ -149,6 +149,6 @@ module _ (l : Loop) (ps : List (List ℕ)) where
     pub sources_kept : (ss : List ℕ) → Sourced ss (kept_of l ps l.references l.references) → AreSources l ss
     sources_kept ss are = record {
       ascending = are.ascending;
-      kept = λ s c. let g = are.sound s (among s ss c) in let k = kept_sound g.0 g.1 in (g.0.0, g.0.1.1, subst (λ (x : ℕ). Kept l x g.0.0 g.0.1.1) g.2 k);
+      kept = λ s c. let g = are.sound s (among s ss c) in let k = kept_sound g.0 g.1 in (g.0.0, g.0.2, subst (λ (x : ℕ). Kept l x g.0.0 g.0.2) g.2 k);
       all = λ s t d k. contained s ss (are.whole (t, s, d) (kept_whole s t d k));
     }

@@ -10,6 +10,7 @@ use Rattle.dependence.specs.declared.relation.Relation.{Relation}
 use Rattle.dependence.specs.declared.relation.Relation.TheVariants.{Apart, Distance, Any}
 use Rattle.loop_tree.specs.Loops.{Loop}
 use Rattle.loop_tree.specs.Occurrences.{Occurrence}
+use Rattle.loop_tree.specs.Told.{are_told, known}
 use Rattle.loop_tree.specs.View.{occurrence}
 use Rattle.placement.specs.Analysed.{Triple, triple}
 use Rattle.placement.specs.Fitting.{has_name}
@@ -60,6 +61,7 @@ pub record AreGrouped (p : Pairs) : Type 0 where
   pub defining : (cell : ℕ) → defining_at p cell ≡ places (is_definition_of cell) 0 (shared_in p)
 
 pub record ArePairs (l : Loop) (privates : List (List ℕ)) (p : Pairs) : Type 0 where
+  pub told : are_told (known l) ≡ true
   pub shared : shared_in p ≡ shared_of l privates l.references
   pub forms : All (HasForms l) p.shared.items
   pub grouped : AreGrouped p

@@ -3,6 +3,7 @@
 ghost use Rattle.std.specs.List.{All, Contains};
 ghost use Rattle.std.specs.Prelude.{◌≡◌, ◌↔◌, ◌<◌, ◌≤◌, ◌⊎◌, IfOk, OnOk, length, map, slice_get, true};
 ghost use Rattle.ast.specs.View.{letters};
+ghost use Rattle.dependence.specs.Tests.{relation as relation_of};
 ghost use Rattle.loop_tree.specs.TreeView.{seen};
 ghost use Rattle.placement.specs.Analysed.{IsFound, Triple, are_sorted, triple};
 ghost use Rattle.placement.specs.Looked as spec;
@@ -61,6 +62,15 @@ fn add_source(sources: &mut Vec<usize>, statement: usize) -> Result<(), AllocErr
     }
 }
 
+/// The relation of a reference in one iteration to another in a later one.
+fn related(view: &LoopView<'_, '_>, first: &Shared<'_>, second: &Shared<'_>) -> Relation
+    requires first { HasForms (seen view.now) first.now }
+    requires second { HasForms (seen view.now) second.now }
+    ensures { result ≡ relation_of (seen view.now) (occurrence_in first.now) (occurrence_in second.now) }
+{
+    relate_forms(view, &first.forms, &second.forms)
+}
+
 /// Looks at a reference in one iteration and another in a later one.
 fn look_at(
     view: &LoopView<'_, '_>,
@@ -72,7 +82,7 @@ fn look_at(
     requires second { HasForms (seen view.now) second.now }
     ensures { OnOk result (found_in analysis.new ≡ spec.after_pair (seen view.now) (occurrence_in first.now) (occurrence_in second.now) (found_in analysis.old)) }
 {
-    let relation = relate_forms(view, &first.forms, &second.forms);
+    let relation = related(view, first, second);
     let id = first.occurrence.reference.id;
     let other = second.occurrence.reference.id;
     analysis.relations.push((id, other, relation))?;

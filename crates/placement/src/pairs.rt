@@ -45,7 +45,7 @@ fn add<'p>(
     shared: Shared<'p>,
 ) -> Result<(), AllocError>
     requires { spec.AreGrouped pairs.old }
-    ensures shared { OnOk result (pairs.new.shared.items ≡ pairs.old.shared.items ++ shared ∷ []) }
+    ensures shared { OnOk result (pairs.new.shared.items ≡ pairs.old.shared.items ++ shared.entry ∷ []) }
     ensures grouped { OnOk result (spec.AreGrouped pairs.new) }
 {
     let place = pairs.shared.len();

@@ -9,7 +9,7 @@ use Rattle.placement.proofs.pairs.Pairs.new.Given as goal
 
 abbrev pub invariant-loop-occurrence : goal.invariant-loop-occurrence
 invariant-loop-occurrence l = record {
-  shared : shared_in l.pairs ++ shared_of (seen l.view) (map letters l.privates) (map occurrence (drop l.occurrence-index l.references)) ≡ shared_of (seen l.view) (map letters l.privates) (seen l.view).references;
+  shared : shared_in l.pairs ++ shared_of (seen l.view) (map letters l.privates) (map occurrence (drop l.occurrence-index l.occurrence-items)) ≡ shared_of (seen l.view) (map letters l.privates) (seen l.view).references;
   forms : All (HasForms (seen l.view)) l.pairs.shared.items;
   grouped : AreGrouped l.pairs;
 }
