@@ -9,6 +9,7 @@ pub mod Entries
 pub mod Few
 pub mod Fitted
 pub mod Going
+pub mod Grouping
 pub mod Holding
 pub mod Inner
 pub mod Insertion
@@ -24,6 +25,7 @@ pub mod Privates
 pub mod Pushing
 pub mod Ranges
 pub mod Seconds
+pub mod Sorting
 pub mod Sources
 pub mod Stripping
 pub mod Triples

@@ -1,5 +1,5 @@
 -- The references that one is looked at with: by their places among those that iterations share.
-use Rattle.std.proofs.Common.{◌≡◌, ◌∙◌, ◌+◌, ◌<◌, inl, inr, ℕ, Bool, true, false, not, ◌&&◌, ◌||◌, List, [], ◌∷◌, ◌++◌, length, map, refl, ap, sym, subst, ⊎_elim, Option, Some, None, arith, append_assoc, append_nil, length-append, if◌then◌else◌}
+use Rattle.std.proofs.Common.{◌≡◌, ◌∙◌, ◌+◌, ◌<◌, inl, inr, ℕ, Bool, true, false, not, ◌&&◌, ◌||◌, List, [], ◌∷◌, ◌++◌, length, map, refl, ap, sym, subst, ⊎_elim, Option, Some, None, arith, append_assoc, append-nil, length-append, if◌then◌else◌}
 use Rattle.std.specs.Prelude.{◌==◌, nat_lt, slice_get}
 use Rattle.std.specs.List.{list_all}
 use Rattle.std.proofs.lemmas.Bool.{and_parts, le-ltb, lt-ltb, true≢false}
@@ -66,7 +66,7 @@ pub record Sourced (ss : List ℕ) (ks : List Triple) : Type 0 where
 more_sourced : (s : ℕ) (ss : List ℕ) (ks qs : List Triple) → ((k : Triple) → In k qs → k.1 ≡ s) → Sourced ss ks
     → Sourced (if nat_lt (length ks) (length (ks ++ qs)) then with_source s ss else ss) (ks ++ qs)
 more_sourced s ss ks [] h are =
-    let none : ks ++ [] ≡ ks = append_nil ks in
+    let none : ks ++ [] ≡ ks = append-nil ks in
     subst (λ (rs : List Triple). Sourced (if nat_lt (length ks) (length rs) then with_source s ss else ss) rs) (sym none)
     (ap_if (nat_lt (length ks) (length ks)) (le-ltb (length ks) (length ks) (omega arith)))
   where
@@ -135,11 +135,11 @@ module _ (l : Loop) (ps : List (List ℕ)) where
       by false e = e
 
   each_relations : (a : Occurrence) (bs : List Occurrence) (f : Found) → (after_each a bs f).relations ≡ f.relations ++ map (relation_by l a) bs
-  each_relations a [] f = sym (append_nil f.relations)
+  each_relations a [] f = sym (append-nil f.relations)
   each_relations a (b ∷ bs) f = each_relations a bs (after_pair l a b f) ∙ append_assoc f.relations (relation_by l a b ∷ []) (map (relation_by l a) bs)
 
   each_kept : (a : Occurrence) (bs : List Occurrence) (f : Found) → (after_each a bs f).kept ≡ f.kept ++ kept_with a bs
-  each_kept a [] f = sym (append_nil f.kept)
+  each_kept a [] f = sym (append-nil f.kept)
   each_kept a (b ∷ bs) f = each_kept a bs (after_pair l a b f) ∙ append_assoc f.kept (kept_by l a b) (kept_with a bs)
 
   each_sources : (a : Occurrence) (bs : List Occurrence) (f : Found) → (after_each a bs f).sources ≡ f.sources
@@ -253,7 +253,7 @@ module _ (l : Loop) (ps : List (List ℕ)) where
         ∙ sym (looked a b own ∙ ap (λ (x : Bool). same_name a.ref.name b.ref.name && (x || b.defines)) d)
 
     module _ (p : Pairs) (are : ArePairs l ps p) where
-      sh : List Occurrence
+      abbrev sh : List Occurrence
       sh = shared_of l ps l.references
 
       partners : (a : Occurrence) → In a sh → partners_of p a ≡ places (is_looked_at l ps a) 0 sh
@@ -288,14 +288,14 @@ module _ (l : Loop) (ps : List (List ℕ)) where
       first_kept a f i = ap (λ (g : Found). g.kept) (first_found a f i) ∙ each_kept a (seconds a l.references) f
 
       all_relations : (firsts : List Occurrence) (f : Found) → ((a : Occurrence) → In a firsts → In a sh) → (after_all l p firsts f).relations ≡ f.relations ++ relations_of l ps firsts l.references
-      all_relations [] f h = sym (append_nil f.relations)
+      all_relations [] f h = sym (append-nil f.relations)
       all_relations (a ∷ more) f h =
           all_relations more (after_first l p a f) (λ b i. h b (inr i))
           ∙ ap (λ (rs : List (ℕ × ℕ × Relation)). rs ++ relations_of l ps more l.references) (first_relations a f (h a (inl refl)))
           ∙ append_assoc f.relations (relations_with l ps a l.references) (relations_of l ps more l.references)
 
       all_kept : (firsts : List Occurrence) (f : Found) → ((a : Occurrence) → In a firsts → In a sh) → (after_all l p firsts f).kept ≡ f.kept ++ kept_of firsts l.references
-      all_kept [] f h = sym (append_nil f.kept)
+      all_kept [] f h = sym (append-nil f.kept)
       all_kept (a ∷ more) f h =
           all_kept more (after_first l p a f) (λ b i. h b (inr i))
           ∙ ap (λ (rs : List Triple). rs ++ kept_of more l.references) (first_kept a f (h a (inl refl)))

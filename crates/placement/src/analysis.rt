@@ -54,7 +54,8 @@ fn distance(relation: Relation) -> Option<u128>
 /// Adds a statement to others in order, if it isn't among them.
 fn add_source(sources: &mut Vec<usize>, statement: usize) -> Result<(), AllocError>
     requires { is_ascending sources.old.items ≡ true }
-    ensures { OnOk result (sources.new.items ≡ spec.with_source statement sources.old.items) }
+    ensures added { OnOk result (sources.new.items ≡ spec.with_source statement sources.old.items) }
+    ensures ascending { OnOk result (is_ascending sources.new.items ≡ true) }
 {
     match sources.binary_search(&statement) {
         Ok(_) => Ok(()),
@@ -80,7 +81,8 @@ fn look_at(
 ) -> Result<(), AllocError>
     requires first { HasForms (seen view.now) first.now }
     requires second { HasForms (seen view.now) second.now }
-    ensures { OnOk result (found_in analysis.new ≡ spec.after_pair (seen view.now) (occurrence_in first.now) (occurrence_in second.now) (found_in analysis.old)) }
+    ensures sources { analysis.new.sources ≡ analysis.old.sources }
+    ensures found { OnOk result (found_in analysis.new ≡ spec.after_pair (seen view.now) (occurrence_in first.now) (occurrence_in second.now) (found_in analysis.old)) }
 {
     let relation = related(view, first, second);
     let id = first.occurrence.reference.id;
@@ -96,6 +98,25 @@ fn look_at(
     Ok(())
 }
 
+/// Looks at a reference in one iteration with the one at a place, if there is one, in a later one.
+fn look_at_place(
+    view: &LoopView<'_, '_>,
+    shared: &[Shared<'_>],
+    first: &Shared<'_>,
+    place: usize,
+    analysis: &mut Analysis,
+) -> Result<(), AllocError>
+    requires first { HasForms (seen view.now) first.now }
+    requires all { All (HasForms (seen view.now)) shared.now }
+    ensures sources { analysis.new.sources ≡ analysis.old.sources }
+    ensures found { OnOk result (found_in analysis.new ≡ spec.after_some (seen view.now) (occurrence_in first.now) (slice_get (map occurrence_in shared.now) place) (found_in analysis.old)) }
+{
+    match shared.get(place) {
+        Some(second) => look_at(view, first, second, analysis),
+        None => Ok(()),
+    }
+}
+
 /// Looks at a reference in one iteration with those at places in a later one.
 fn look_at_all(
     view: &LoopView<'_, '_>,
@@ -106,12 +127,11 @@ fn look_at_all(
 ) -> Result<(), AllocError>
     requires first { HasForms (seen view.now) first.now }
     requires all { All (HasForms (seen view.now)) shared.now }
-    ensures { OnOk result (found_in analysis.new ≡ spec.after_places (seen view.now) (map occurrence_in shared.now) (occurrence_in first.now) places.now (found_in analysis.old)) }
+    ensures sources { OnOk result (analysis.new.sources ≡ analysis.old.sources) }
+    ensures found { OnOk result (found_in analysis.new ≡ spec.after_places (seen view.now) (map occurrence_in shared.now) (occurrence_in first.now) places.now (found_in analysis.old)) }
 {
     for place in places {
-        if let Some(second) = shared.get(*place) {
-            look_at(view, first, second, analysis)?;
-        }
+        look_at_place(view, shared, first, *place, analysis)?;
     }
     Ok(())
 }

@@ -4,6 +4,7 @@ ghost use Rattle.std.specs.Prelude.{◌≡◌, ◌++◌, ◌==◌, [], ◌∷◌
 ghost use Rattle.ast.specs.View.{letters, ref};
 ghost use Rattle.loop_tree.specs.TreeView.{seen};
 ghost use Rattle.loop_tree.specs.View.{occurrence as occurrence_of};
+ghost use Rattle.placement.specs.Listed.{list_at};
 ghost use Rattle.placement.specs.Looked as spec;
 
 use crate::fitting::has_name;
@@ -38,6 +39,21 @@ fn is_own(view: &LoopView<'_, '_>, privates: &[Name], reference: &Reference) -> 
     reference.name == view.head().variable.name || has_name(privates, reference.name)
 }
 
+/// Adds the place of a reference to those of its variable, if it gives that a value.
+fn add_defining(
+    alloc: Global,
+    defining: &mut Vec<Vec<usize>>,
+    occurrence: &Occurrence<'_>,
+    place: usize,
+) -> Result<(), AllocError>
+    ensures { OnOk result ((n : ℕ) → list_at defining.new.items n ≡ list_at defining.old.items n ++ (if spec.is_definition_of n (occurrence_of occurrence.now) then place ∷ [] else [])) }
+{
+    if occurrence.defines {
+        push_at(alloc, defining, occurrence.reference.cell, place)?;
+    }
+    Ok(())
+}
+
 /// Adds a shared reference.
 fn add<'p>(
     alloc: Global,
@@ -51,9 +67,7 @@ fn add<'p>(
     let place = pairs.shared.len();
     let cell = shared.occurrence.reference.cell;
     push_at(alloc, &mut pairs.all, cell, place)?;
-    if shared.occurrence.defines {
-        push_at(alloc, &mut pairs.defining, cell, place)?;
-    }
+    add_defining(alloc, &mut pairs.defining, &shared.occurrence, place)?;
     pairs.shared.push(shared)?;
     Ok(())
 }
