@@ -27,6 +27,7 @@ pub mod Ranges
 pub mod Seconds
 pub mod Sorting
 pub mod Sources
+pub mod Spotting
 pub mod Stripping
 pub mod Triples
 pub mod Variables
