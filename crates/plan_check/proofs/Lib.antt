@@ -1,14 +1,1 @@
-pub mod Bridge
-pub mod Changes
-pub mod Equal
-pub mod Facts
-pub mod Flowing
-pub mod Glue
-pub mod Members
-pub mod Naming
-pub mod Parallel
-pub mod Sound
-pub mod Stripped
-pub mod Telling
-pub mod Tokens
-pub mod Turning
+pub mod Events

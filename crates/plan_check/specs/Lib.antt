@@ -1,9 +1,4 @@
-pub mod ArmView
-pub mod Checking
-pub mod Flow
-pub mod GoodPlan
-pub mod KnownView
-pub mod Mistakes
-pub mod SeenView
-pub mod Stripping
-pub mod Walking
+pub mod ClaimsView
+pub mod Entries
+pub mod EntryView
+pub mod Judging

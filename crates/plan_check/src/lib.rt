@@ -1,13 +1,23 @@
 //! The check of plans.
 #![tactic(auto)]
 
+mod advances;
 mod bodies;
+mod claims;
+mod distinct;
+mod entry;
+mod events;
 mod expressions;
 mod fault;
+mod fits;
+mod given;
+mod judge;
 mod known;
 mod law;
 mod lists;
 mod seen;
+mod shown;
+mod start;
 mod statements;
 mod terms;
 mod walk;
