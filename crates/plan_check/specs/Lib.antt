@@ -1,4 +1,15 @@
+pub mod Checking
+pub mod Checks
 pub mod ClaimsView
 pub mod Entries
 pub mod EntryView
+pub mod Flow
+pub mod GivenView
+pub mod GoodPlan
 pub mod Judging
+pub mod KnownView
+pub mod Mistakes
+pub mod SeenView
+pub mod Stripping
+pub mod Walked
+pub mod Walking

@@ -18,7 +18,7 @@ fn has_event(events: &[usize], event: usize) -> bool
 }
 
 /// Adds an event, unless it is among them.
-#[tactic(auto, using(crate::proofs::Events::any_more, crate::proofs::Events::any_same))]
+#[tactic(auto, using(crate::proofs::EachOnce::any_more, crate::proofs::EachOnce::any_same))]
 fn add_event(events: &mut Vec<usize>, event: usize) -> Result<(), AllocError>
     ensures { OnOk result ((test : ℕ → Bool) → list_any test events.new.items ≡ (list_any test events.old.items || test event)) }
 {

@@ -3,6 +3,7 @@
 
 mod advances;
 mod bodies;
+mod checking;
 mod claims;
 mod distinct;
 mod entry;
@@ -22,5 +23,6 @@ mod statements;
 mod terms;
 mod walk;
 
+pub use checking::check;
 pub use fault::{Mistake, PlanFault};
 pub use law::checked_is_good;
