@@ -22,13 +22,13 @@ absorbed false b h = cc
 
 pub any_same : (test : ℕ → Bool) (es : List ℕ) (e : ℕ) → has_event es e ≡ true → list_any test es ≡ (list_any test es || test e)
 any_same test [] e h = cc
-any_same test (x ∷ es) e h = by (x == e) refl
+any_same test (x ∷ es) e h = by (x == e) refl (λ k. any_same test es e k)
   where
     swap : (a b c : Bool) → a ≡ c → (a || b) ≡ ((a || b) || c)
     swap true b c h = refl
     swap false b true h = cc
     swap false true false h = refl
     swap false false false h = refl
-    by : (q : Bool) → (x == e) ≡ q → list_any test (x ∷ es) ≡ (list_any test (x ∷ es) || test e)
-    by true k = swap (test x) (list_any test es) (test e) (ap test (eqb-true x e k))
-    by false k = ap (λ b. test x || b) (any_same test es e (sym (ap (λ q. q || has_event es e) k) ∙ h)) ∙ or_assoc (test x) (list_any test es) (test e)
+    by : (q : Bool) → (x == e) ≡ q → (has_event es e ≡ true → list_any test es ≡ (list_any test es || test e)) → list_any test (x ∷ es) ≡ (list_any test (x ∷ es) || test e)
+    by true k rest = swap (test x) (list_any test es) (test e) (ap test (eqb-true x e k))
+    by false k rest = ap (λ b. test x || b) (rest (sym (ap (λ q. q || has_event es e) k) ∙ h)) ∙ or_assoc (test x) (list_any test es) (test e)

@@ -5,11 +5,14 @@ pub mod Equal
 pub mod Facts
 pub mod Flowing
 pub mod Glue
+pub mod Grouped
+pub mod Judged
 pub mod Members
 pub mod Naming
 pub mod Parallel
 pub mod Ranks
 pub mod Reading
+pub mod Rows
 pub mod Sound
 pub mod Stripped
 pub mod Telling

@@ -22,7 +22,7 @@ module _ (l : Loop) (p : PlanTree) where
       none Untrue lt has = absurd (omega (arith, lt))
 
   pub other_body : fits l p ≡ true → (IsBody (cells_of l) l p → ⊥) → IsFirst l p OtherBody
-  other_body fit no = record { has = no; first = λ n lt has. none n lt has }
+  other_body fit fails = record { has = fails; first = λ n lt has. none n lt has }
     where
       none : (n : Mistake) → rank_of n < rank_of OtherBody → Has l p n → ⊥
       none Unfit lt has = cc
@@ -34,7 +34,7 @@ module _ (l : Loop) (p : PlanTree) where
       none Untrue lt has = absurd (omega (arith, lt))
 
   pub early : fits l p ≡ true → IsBody (cells_of l) l p → never_early (cells_of l) p ≡ false → IsFirst l p Early
-  early fit body no = record { has = no; first = λ n lt has. none n lt has }
+  early fit body fails = record { has = fails; first = λ n lt has. none n lt has }
     where
       none : (n : Mistake) → rank_of n < rank_of Early → Has l p n → ⊥
       none Unfit lt has = cc
@@ -46,7 +46,7 @@ module _ (l : Loop) (p : PlanTree) where
       none Untrue lt has = absurd (omega (arith, lt))
 
   pub disorder : fits l p ≡ true → IsBody (cells_of l) l p → never_early (cells_of l) p ≡ true → in_order (cells_of l) p ≡ false → IsFirst l p Disorder
-  disorder fit body late no = record { has = no; first = λ n lt has. none n lt has }
+  disorder fit body late fails = record { has = fails; first = λ n lt has. none n lt has }
     where
       none : (n : Mistake) → rank_of n < rank_of Disorder → Has l p n → ⊥
       none Unfit lt has = cc
@@ -58,7 +58,7 @@ module _ (l : Loop) (p : PlanTree) where
       none Untrue lt has = absurd (omega (arith, lt))
 
   pub behind : IsOrderly l p → all_ahead (cells_of l) l p ≡ false → IsFirst l p Behind
-  behind ok no = record { has = no; first = λ n lt has. none n lt has }
+  behind ok fails = record { has = fails; first = λ n lt has. none n lt has }
     where
       none : (n : Mistake) → rank_of n < rank_of Behind → Has l p n → ⊥
       none Unfit lt has = let h = ok.fit in cc
@@ -70,7 +70,7 @@ module _ (l : Loop) (p : PlanTree) where
       none Untrue lt has = absurd (omega (arith, lt))
 
   pub unawaited : IsOrderly l p → all_ahead (cells_of l) l p ≡ true → all_held (cells_of l) l p ≡ false → IsFirst l p Unawaited
-  unawaited ok ahead no = record { has = no; first = λ n lt has. none n lt has }
+  unawaited ok ahead fails = record { has = fails; first = λ n lt has. none n lt has }
     where
       none : (n : Mistake) → rank_of n < rank_of Unawaited → Has l p n → ⊥
       none Unfit lt has = let h = ok.fit in cc
@@ -82,7 +82,7 @@ module _ (l : Loop) (p : PlanTree) where
       none Untrue lt has = absurd (omega (arith, lt))
 
   pub untrue : IsOrderly l p → all_ahead (cells_of l) l p ≡ true → all_held (cells_of l) l p ≡ true → all_true (cells_of l) l p ≡ false → IsFirst l p Untrue
-  untrue ok ahead held no = record { has = no; first = λ n lt has. none n lt has }
+  untrue ok ahead held fails = record { has = fails; first = λ n lt has. none n lt has }
     where
       none : (n : Mistake) → rank_of n < rank_of Untrue → Has l p n → ⊥
       none Unfit lt has = let h = ok.fit in cc

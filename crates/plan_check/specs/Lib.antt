@@ -6,6 +6,8 @@ pub mod EntryView
 pub mod Flow
 pub mod GivenView
 pub mod GoodPlan
+pub mod Grouping
+pub mod GroupsView
 pub mod Judging
 pub mod KnownView
 pub mod Mistakes

@@ -1,6 +1,6 @@
 //! The check of a plan.
 
-ghost use Rattle.std.specs.Prelude.{◌≡◌, IfErr, IfOk, Some, map, true};
+ghost use Rattle.std.specs.Prelude.{◌≡◌, ◌&&◌, IfErr, IfOk, Some, not, true};
 ghost use Rattle.std.specs.Bool.{Decides};
 ghost use Rattle.dependence.specs.PlanView.{plan_of};
 ghost use Rattle.loop_tree.specs.TreeView.{seen};
@@ -22,6 +22,7 @@ use crate::events::events_of;
 use crate::fault::{Mistake, PlanFault};
 use crate::fits::fits;
 use crate::given::Given;
+use crate::groups::groups_of;
 use crate::judge::{Verdict, judge};
 use crate::shown::are_shown;
 use crate::start::{Walked, walk_over};
@@ -54,6 +55,12 @@ fn shows(view: &LoopView<'_, '_>, plan: &Given<'_>, walked: &Walked) -> bool
     are_shown(view.references(), &walked.seen.notes)
 }
 
+fn are_ordered(outside: bool, disorder: bool, advanced: bool) -> bool
+    ensures { result ≡ (outside && (not disorder && advanced)) }
+{
+    outside && !disorder && advanced
+}
+
 /// Whether events are advanced once, each behind an await of the iteration before, and all of them
 /// where the end is reached.
 fn is_in_order(
@@ -66,9 +73,11 @@ fn is_in_order(
     requires walked { IsWalked (seen view.now) (given plan.now) (known_of walked.now.known) (seen_of walked.now.seen) }
     ensures { result ≡ in_order (cells_of (seen view.now)) (given plan.now) }
 {
-    outside(plan.body)
-        && !walked.seen.disorder
-        && all_advanced(events, &walked.known.advanced)
+    are_ordered(
+        outside(plan.body),
+        walked.seen.disorder,
+        all_advanced(events, &walked.known.advanced),
+    )
 }
 
 /// Judges all pairs of the loop's references.
@@ -88,7 +97,15 @@ fn judge_all(
     let named = distinct(alloc, events)?;
     let claims = claims_of(alloc, plan.relations)?;
     let entries = entries_of(alloc, view, view.references(), &walked.seen.notes)?;
-    Ok(judge(view, &named, &claims, plan.privates, &entries))
+    let groups = groups_of(alloc, &entries)?;
+    Ok(judge(
+        view,
+        &named,
+        &claims,
+        plan.privates,
+        &entries,
+        &groups,
+    ))
 }
 
 /// The fault of pairs, if there is one.

@@ -37,6 +37,7 @@ fn entry_of<'a, 'p>(
 }
 
 /// The references one by one, each with its note.
+#[tactic(auto, using(crate::proofs::Rows::no_notes))]
 pub fn entries_of<'a, 'p>(
     alloc: Global,
     view: &LoopView<'_, '_>,

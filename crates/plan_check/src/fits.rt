@@ -70,7 +70,8 @@ fn are_proper(events: &[(usize, u128)]) -> bool
 /// private names are those of scalars that the range gives values, and the events that the plan names
 /// are from 1 to 64, at distances of at least 1.
 pub fn fits(view: &LoopView<'_, '_>, plan: &Given<'_>, events: &[(usize, u128)]) -> bool
-    ensures { events.now ≡ named (given plan.now).body → result ≡ spec.fits (seen view.now) (given plan.now) }
+    requires { events.now ≡ named (given plan.now).body }
+    ensures { result ≡ spec.fits (seen view.now) (given plan.now) }
 {
     is_step(view.step())
         && !has_read(view)

@@ -7,10 +7,13 @@ ghost use Rattle.loop_tree.specs.View.{occurrence as occurrence_of};
 ghost use Rattle.plan_check.specs.Checking.{distance_of as distance_in};
 ghost use Rattle.plan_check.specs.ClaimsView.{claim_in};
 ghost use Rattle.plan_check.specs.EntryView.{entry as entry_of, verdict as verdict_of};
+ghost use Rattle.plan_check.specs.Grouping.{with_groups};
+ghost use Rattle.plan_check.specs.GroupsView.{groups as groups_of};
 ghost use Rattle.plan_check.specs.Judging as spec;
 
 use crate::claims::Claims;
 use crate::entry::Entry;
+use crate::groups::Groups;
 use crate::lists::{flag_at, has_awaited};
 use ast::Name;
 use dependence::{Relation, has_name, is_given};
@@ -129,9 +132,9 @@ fn judge_partners(
     events: &[usize],
     claims: &Claims,
     first: &Entry<'_, '_>,
-    partners: &[Entry<'_, '_>],
+    partners: &[&Entry<'_, '_>],
 )
-    ensures { verdict_of verdict.new ≡ spec.with_partners (seen view.now) events.now (claim_in claims.now) (entry_of first.now) (map entry_of partners.now) (verdict_of verdict.old) }
+    ensures { verdict_of verdict.new ≡ spec.with_partners (seen view.now) events.now (claim_in claims.now) (entry_of first.now) (map (λ e. entry_of e.now) partners.now) (verdict_of verdict.old) }
 {
     for second in partners {
         judge_pair(verdict, view, events, claims, first, second);
@@ -153,24 +156,25 @@ fn judge_entry(
     claims: &Claims,
     privates: &[Name],
     first: &Entry<'_, '_>,
-    partners: &[Entry<'_, '_>],
+    partners: &[&Entry<'_, '_>],
 )
-    ensures { verdict_of verdict.new ≡ spec.with_entry (seen view.now) events.now (claim_in claims.now) (map letters privates.now) (entry_of first.now) (map entry_of partners.now) (verdict_of verdict.old) }
+    ensures { verdict_of verdict.new ≡ spec.with_entry (seen view.now) events.now (claim_in claims.now) (map letters privates.now) (entry_of first.now) (map (λ e. entry_of e.now) partners.now) (verdict_of verdict.old) }
 {
     if !is_own(view, privates, first.occurrence) {
         judge_partners(verdict, view, events, claims, first, partners);
     }
 }
 
-/// Judges all pairs.
+/// Judges each reference with those of its variable.
 pub fn judge(
     view: &LoopView<'_, '_>,
     events: &[usize],
     claims: &Claims,
     privates: &[Name],
     entries: &[Entry<'_, '_>],
+    groups: &Groups<'_, '_, '_>,
 ) -> Verdict
-    ensures { verdict_of result ≡ spec.with_all (seen view.now) events.now (claim_in claims.now) (map letters privates.now) (map entry_of entries.now) (map entry_of entries.now) spec.best }
+    ensures { verdict_of result ≡ with_groups (seen view.now) events.now (claim_in claims.now) (map letters privates.now) (groups_of groups.now) (map entry_of entries.now) spec.best }
 {
     let mut verdict = Verdict {
         ahead: true,
@@ -185,7 +189,7 @@ pub fn judge(
             claims,
             privates,
             first,
-            entries,
+            groups.row(first.occurrence.reference.cell),
         );
     }
     verdict

@@ -12,6 +12,7 @@ mod expressions;
 mod fault;
 mod fits;
 mod given;
+mod groups;
 mod judge;
 mod known;
 mod law;

@@ -3,5 +3,5 @@ use Rattle.std.specs.List.{list_all}
 use Rattle.plan_check.specs.Checking.{is_proper}
 use Rattle.plan_check.proofs.fits.are_proper.Given as goal
 
-abbrev pub invariant-loop-item : goal.invariant-loop-item
-invariant-loop-item l = list_all (λ n. is_proper n) (drop l.item-index l.events) ≡ list_all (λ n. is_proper n) l.events
+abbrev pub invariant-loop-event : goal.invariant-loop-event
+invariant-loop-event l = list_all (λ n. is_proper n) (drop l.event-index l.events) ≡ list_all (λ n. is_proper n) l.events

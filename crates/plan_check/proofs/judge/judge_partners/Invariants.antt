@@ -7,5 +7,5 @@ use Rattle.plan_check.proofs.judge.judge_partners.Given as goal
 
 abbrev pub invariant-loop-second : goal.invariant-loop-second
 invariant-loop-second l =
-    with_partners (seen l.view) l.events (claim_in l.claims) (entry l.first) (map entry (drop l.second-index l.partners)) (verdict l.verdict)
-    ≡ with_partners (seen l.view) l.events (claim_in l.claims) (entry l.first) (map entry l.partners) (verdict l.fn.verdict)
+    with_partners (seen l.view) l.events (claim_in l.claims) (entry l.first) (map (λ e. entry e.now) (drop l.second-index l.partners)) (verdict l.verdict)
+    ≡ with_partners (seen l.view) l.events (claim_in l.claims) (entry l.first) (map (λ e. entry e.now) l.partners) (verdict l.fn.verdict)
