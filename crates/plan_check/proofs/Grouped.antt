@@ -1,5 +1,5 @@
 -- References of one cell are all that a reference is to be judged with.
-use Rattle.std.proofs.Common.{◌≡◌, ◌∙◌, ◌==◌, ℕ, Bool, true, false, ◌&&◌, ◌||◌, List, [], ◌∷◌, ◌++◌, Option, ap, refl, sym}
+use Rattle.std.proofs.Common.{◌≡◌, ◌∙◌, ◌==◌, ℕ, Bool, true, false, ◌&&◌, ◌||◌, List, [], ◌∷◌, ◌++◌, Option, Some, None, slice_get, ap, refl, sym}
 use Rattle.std.specs.Prelude.{if◌then◌else◌}
 use Rattle.std.specs.List.{list_all}
 use Rattle.std.proofs.lemmas.Bool.{and_from, and_parts}
@@ -10,7 +10,7 @@ use Rattle.loop_tree.specs.Loops.{Loop}
 use Rattle.loop_tree.specs.Occurrences.{Occurrence}
 use Rattle.loop_tree.specs.Told.{are_told, iff, is_told, known, references}
 use Rattle.plan_check.specs.Entries.{entries_by, entry_by}
-use Rattle.plan_check.specs.Grouping.{at_cell, cell_of, row_at, with_groups}
+use Rattle.plan_check.specs.Grouping.{at_cell, cell_of, chosen, row_at, with_chosen, with_groups, with_optional, with_places, with_row}
 use Rattle.plan_check.specs.Judging.{Entry, Verdict, by_claim, is_own, is_pair, with_all, with_entry, with_pair, with_partners}
 use Rattle.plan_check.specs.Walking.{Note}
 
@@ -63,15 +63,24 @@ module _ (l : Loop) (events : List ℕ) (claim : ℕ → ℕ → Option Relation
       by true e = of_cell x ys (with_pair l events claim x y v) told.1
       by false e = of_cell x ys v told.1 ∙ ap (λ (w : Verdict). with_partners l events claim x ys w) (sym (no_pair x y v told.0 e))
 
-  pub by_groups : (privates : List (List ℕ)) (rows : List (List Entry)) (xs ys : List Entry) (v : Verdict) → AreTold xs ys → ((c : ℕ) → row_at rows c ≡ at_cell c ys)
-      → with_groups l events claim privates rows xs v ≡ with_all l events claim privates xs ys v
-  by_groups privates rows [] ys v t r = refl
-  by_groups privates rows (x ∷ xs) ys v t r =
-      let q = and_parts (list_all (λ (y : Entry). is_told x.occurrence.ref y.occurrence.ref) ys) (list_all (λ (x : Entry). list_all (λ (y : Entry). is_told x.occurrence.ref y.occurrence.ref) ys) xs) t in
-      ap (λ (w : Verdict). with_groups l events claim privates rows xs w) (same (is_own l privates x.occurrence) q.0)
-      ∙ by_groups privates rows xs ys (with_entry l events claim privates x ys v) q.1 r
+  of_places : (x : Entry) (es : List Entry) (ns : List ℕ) (v : Verdict) → with_places l events claim x es ns v ≡ with_partners l events claim x (chosen es ns) v
+  of_places x es [] v = refl
+  of_places x es (n ∷ ns) v = by (slice_get es n) (λ w. of_places x es ns w)
     where
-      same : (b : Bool) → list_all (λ (y : Entry). is_told x.occurrence.ref y.occurrence.ref) ys ≡ true
-          → (if b then v else with_partners l events claim x (row_at rows (cell_of x)) v) ≡ (if b then v else with_partners l events claim x ys v)
+      by : (o : Option Entry) → ((w : Verdict) → with_places l events claim x es ns w ≡ with_partners l events claim x (chosen es ns) w)
+          → with_places l events claim x es ns (with_optional l events claim x o v) ≡ with_partners l events claim x (with_chosen o (chosen es ns)) v
+      by None h = h v
+      by (Some y) h = h (with_pair l events claim x y v)
+
+  pub by_groups : (privates : List (List ℕ)) (rows : List (List ℕ)) (xs es : List Entry) (v : Verdict) → AreTold xs es → ((c : ℕ) → chosen es (row_at rows c) ≡ at_cell c es)
+      → with_groups l events claim privates rows es xs v ≡ with_all l events claim privates xs es v
+  by_groups privates rows [] es v t r = refl
+  by_groups privates rows (x ∷ xs) es v t r =
+      let q = and_parts (list_all (λ (y : Entry). is_told x.occurrence.ref y.occurrence.ref) es) (list_all (λ (x : Entry). list_all (λ (y : Entry). is_told x.occurrence.ref y.occurrence.ref) es) xs) t in
+      ap (λ (w : Verdict). with_groups l events claim privates rows es xs w) (same (is_own l privates x.occurrence) q.0)
+      ∙ by_groups privates rows xs es (with_entry l events claim privates x es v) q.1 r
+    where
+      same : (b : Bool) → list_all (λ (y : Entry). is_told x.occurrence.ref y.occurrence.ref) es ≡ true
+          → (if b then v else with_places l events claim x es (row_at rows (cell_of x)) v) ≡ (if b then v else with_partners l events claim x es v)
       same true h = refl
-      same false h = ap (λ (zs : List Entry). with_partners l events claim x zs v) (r (cell_of x)) ∙ of_cell x ys v h
+      same false h = of_places x es (row_at rows (cell_of x)) v ∙ ap (λ (zs : List Entry). with_partners l events claim x zs v) (r (cell_of x)) ∙ of_cell x es v h

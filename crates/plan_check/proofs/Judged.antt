@@ -13,7 +13,7 @@ use Rattle.plan_check.specs.Checking.{all_ahead, all_held, all_true, cells_of, c
 use Rattle.plan_check.specs.Entries.{entries_by, joined_entry}
 use Rattle.plan_check.specs.Flow.{Known, Point, flag_at, outside}
 use Rattle.plan_check.specs.GoodPlan.{named, token_of}
-use Rattle.plan_check.specs.Grouping.{at_cell, row_at, with_groups}
+use Rattle.plan_check.specs.Grouping.{at_cell, chosen, row_at, with_groups}
 use Rattle.plan_check.specs.Judging.{Entry, Verdict, best, with_all}
 use Rattle.plan_check.specs.Walked.{IsWalked, points_of}
 use Rattle.plan_check.specs.Walking.{Note, Seen, token_noted}
@@ -55,8 +55,8 @@ pub judged : (l : Loop) (p : PlanTree) (k : Known) (s : Seen) → IsWalked l p k
     → (events : List ℕ) (ns : List (ℕ × ℕ)) → ((test : ℕ → Bool) → list_any test events ≡ list_any (λ (n : ℕ × ℕ). test n.0) ns) → ns ≡ named p.body
     → (claim : ℕ → ℕ → Option Relation) → ((a b : ℕ) → claim a b ≡ claimed p.relations a b)
     → (es : List Entry) → es ≡ entries_by l l.references s.notes
-    → (rows : List (List Entry)) → ((c : ℕ) → row_at rows c ≡ at_cell c es)
-    → (v : Verdict) → v ≡ with_groups l events claim p.privates rows es best → IsJudged l p v
+    → (rows : List (List ℕ)) → ((c : ℕ) → chosen es (row_at rows c) ≡ at_cell c es)
+    → (v : Verdict) → v ≡ with_groups l events claim p.privates rows es es best → IsJudged l p v
 judged l p k s w told events ns named_by e claim claims es is rows grouped v h =
     let all : List checking.Entry = entries_of (cells_of l) l p in
     let same : es ≡ map (joined_entry l) all = is ∙ w.entries l.references in

@@ -1,22 +1,22 @@
 //! References by their variables.
 
-ghost use Rattle.std.specs.Prelude.{◌≡◌, ◌<◌, IfOk, OnOk, length, map, ℕ};
+ghost use Rattle.std.specs.Prelude.{◌≡◌, ◌<◌, ◌==◌, IfOk, OnOk, length, map, ℕ};
 ghost use Rattle.plan_check.specs.EntryView.{entry as entry_of};
-ghost use Rattle.plan_check.specs.Grouping.{at_cell, row_at, with_one};
+ghost use Rattle.plan_check.specs.Grouping.{at_cell, chosen, row_at, with_place};
 ghost use Rattle.plan_check.specs.GroupsView.{groups as rows_of};
 
 use crate::entry::Entry;
 use std::alloc::{AllocError, Global};
 
-/// References by the cells of their variables.
+/// The places of references by the cells of their variables.
 #[derive(Drop)]
-pub struct Groups<'e, 'a, 'p> {
-    rows: Vec<Vec<&'e Entry<'a, 'p>>>,
+pub struct Groups {
+    rows: Vec<Vec<usize>>,
 }
 
 /// Has a row for each cell up to one.
-fn lengthen(alloc: Global, groups: &mut Groups<'_, '_, '_>, cell: usize) -> Result<(), AllocError>
-    ensures same { (c : ℕ) → row_at (rows_of groups.new) c ≡ row_at (rows_of groups.old) c }
+fn lengthen(alloc: Global, groups: &mut Groups, cell: usize) -> Result<(), AllocError>
+    ensures same { OnOk result ((c : ℕ) → row_at (rows_of groups.new) c ≡ row_at (rows_of groups.old) c) }
     ensures long { OnOk result (cell < length groups.new.rows.items) }
 {
     while groups.rows.len() <= cell {
@@ -25,51 +25,52 @@ fn lengthen(alloc: Global, groups: &mut Groups<'_, '_, '_>, cell: usize) -> Resu
     Ok(())
 }
 
-/// Adds a reference to the row of its variable's cell.
-fn join<'e, 'a, 'p>(
-    alloc: Global,
-    groups: &mut Groups<'e, 'a, 'p>,
-    entry: &'e Entry<'a, 'p>,
-) -> Result<(), AllocError>
-    ensures { OnOk result ((c : ℕ) → row_at (rows_of groups.new) c ≡ with_one c (entry_of entry.now) (row_at (rows_of groups.old) c)) }
+/// Adds a place to a row.
+fn add(groups: &mut Groups, cell: usize, place: usize) -> Result<(), AllocError>
+    requires { cell < length groups.old.rows.items }
+    ensures { OnOk result ((c : ℕ) → row_at (rows_of groups.new) c ≡ with_place (c == cell) place (row_at (rows_of groups.old) c)) }
 {
-    let cell = entry.occurrence.reference.cell;
-    lengthen(alloc, groups, cell)?;
-    groups.rows[cell].push(entry)?;
+    groups.rows[cell].push(place)?;
     Ok(())
 }
 
+fn join(alloc: Global, groups: &mut Groups, cell: usize, place: usize) -> Result<(), AllocError>
+    ensures { OnOk result ((c : ℕ) → row_at (rows_of groups.new) c ≡ with_place (c == cell) place (row_at (rows_of groups.old) c)) }
+{
+    lengthen(alloc, groups, cell)?;
+    add(groups, cell, place)
+}
+
 /// The groups of references.
-#[tactic(auto, using(crate::proofs::Rows::one_more))]
-pub fn groups_of<'e, 'a, 'p>(
-    alloc: Global,
-    entries: &'e [Entry<'a, 'p>],
-) -> Result<Groups<'e, 'a, 'p>, AllocError>
-    ensures { IfOk result (λ groups. (c : ℕ) → row_at (rows_of groups) c ≡ at_cell c (map entry_of entries.now)) }
+pub fn groups_of(alloc: Global, entries: &[Entry<'_, '_>]) -> Result<Groups, AllocError>
+    ensures { IfOk result (λ groups. (c : ℕ) → chosen (map entry_of entries.now) (row_at (rows_of groups) c) ≡ at_cell c (map entry_of entries.now)) }
 {
     let mut groups = Groups {
         rows: Vec::new(alloc),
     };
-    for entry in entries {
-        join(alloc, &mut groups, entry)?;
+    for place in 0..entries.len() {
+        join(
+            alloc,
+            &mut groups,
+            entries[place].occurrence.reference.cell,
+            place,
+        )?;
     }
     Ok(groups)
 }
 
-impl<'e, 'a, 'p> Groups<'e, 'a, 'p> {
-    ghost use Rattle.std.specs.Prelude.{◌≡◌, map};
-    ghost use Rattle.plan_check.specs.EntryView.{entry as entry_of};
+impl Groups {
+    ghost use Rattle.std.specs.Prelude.{◌≡◌};
     ghost use Rattle.plan_check.specs.Grouping.{row_at};
     ghost use Rattle.plan_check.specs.GroupsView.{groups as rows_of};
 
     /// Those of a cell.
-    pub fn row(&self, cell: usize) -> &[&'e Entry<'a, 'p>]
-        ensures { map (λ e. entry_of e.now) result.now ≡ row_at (rows_of self.now) cell }
+    pub fn row(&self, cell: usize) -> &[usize]
+        ensures { result.now ≡ row_at (rows_of self.now) cell }
     {
-        if cell < self.rows.len() {
-            &self.rows[cell]
-        } else {
-            &[]
+        if cell >= self.rows.len() {
+            return &[];
         }
+        &self.rows[cell]
     }
 }

@@ -7,7 +7,7 @@ ghost use Rattle.loop_tree.specs.View.{occurrence as occurrence_of};
 ghost use Rattle.plan_check.specs.Checking.{distance_of as distance_in};
 ghost use Rattle.plan_check.specs.ClaimsView.{claim_in};
 ghost use Rattle.plan_check.specs.EntryView.{entry as entry_of, verdict as verdict_of};
-ghost use Rattle.plan_check.specs.Grouping.{with_groups};
+ghost use Rattle.plan_check.specs.Grouping.{with_groups, with_places, with_row};
 ghost use Rattle.plan_check.specs.GroupsView.{groups as groups_of};
 ghost use Rattle.plan_check.specs.Judging as spec;
 
@@ -125,19 +125,22 @@ fn judge_pair(
     }
 }
 
-/// Judges a reference with each of others.
+/// Judges a reference with those at places.
 fn judge_partners(
     verdict: &mut Verdict,
     view: &LoopView<'_, '_>,
     events: &[usize],
     claims: &Claims,
     first: &Entry<'_, '_>,
-    partners: &[&Entry<'_, '_>],
+    entries: &[Entry<'_, '_>],
+    places: &[usize],
 )
-    ensures { verdict_of verdict.new ≡ spec.with_partners (seen view.now) events.now (claim_in claims.now) (entry_of first.now) (map (λ e. entry_of e.now) partners.now) (verdict_of verdict.old) }
+    ensures { verdict_of verdict.new ≡ with_places (seen view.now) events.now (claim_in claims.now) (entry_of first.now) (map entry_of entries.now) places.now (verdict_of verdict.old) }
 {
-    for second in partners {
-        judge_pair(verdict, view, events, claims, first, second);
+    for place in places {
+        if *place < entries.len() {
+            judge_pair(verdict, view, events, claims, first, &entries[*place]);
+        }
     }
 }
 
@@ -156,12 +159,13 @@ fn judge_entry(
     claims: &Claims,
     privates: &[Name],
     first: &Entry<'_, '_>,
-    partners: &[&Entry<'_, '_>],
+    entries: &[Entry<'_, '_>],
+    places: &[usize],
 )
-    ensures { verdict_of verdict.new ≡ spec.with_entry (seen view.now) events.now (claim_in claims.now) (map letters privates.now) (entry_of first.now) (map (λ e. entry_of e.now) partners.now) (verdict_of verdict.old) }
+    ensures { verdict_of verdict.new ≡ with_row (seen view.now) events.now (claim_in claims.now) (map letters privates.now) (entry_of first.now) (map entry_of entries.now) places.now (verdict_of verdict.old) }
 {
     if !is_own(view, privates, first.occurrence) {
-        judge_partners(verdict, view, events, claims, first, partners);
+        judge_partners(verdict, view, events, claims, first, entries, places);
     }
 }
 
@@ -172,9 +176,9 @@ pub fn judge(
     claims: &Claims,
     privates: &[Name],
     entries: &[Entry<'_, '_>],
-    groups: &Groups<'_, '_, '_>,
+    groups: &Groups,
 ) -> Verdict
-    ensures { verdict_of result ≡ with_groups (seen view.now) events.now (claim_in claims.now) (map letters privates.now) (groups_of groups.now) (map entry_of entries.now) spec.best }
+    ensures { verdict_of result ≡ with_groups (seen view.now) events.now (claim_in claims.now) (map letters privates.now) (groups_of groups.now) (map entry_of entries.now) (map entry_of entries.now) spec.best }
 {
     let mut verdict = Verdict {
         ahead: true,
@@ -189,6 +193,7 @@ pub fn judge(
             claims,
             privates,
             first,
+            entries,
             groups.row(first.occurrence.reference.cell),
         );
     }
