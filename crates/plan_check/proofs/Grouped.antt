@@ -54,14 +54,15 @@ module _ (l : Loop) (events : List ℕ) (claim : ℕ → ℕ → Option Relation
   of_cell : (x : Entry) (ys : List Entry) (v : Verdict) → list_all (λ (y : Entry). is_told x.occurrence.ref y.occurrence.ref) ys ≡ true
       → with_partners l events claim x (at_cell (cell_of x) ys) v ≡ with_partners l events claim x ys v
   of_cell x [] v h = refl
-  of_cell x (y ∷ ys) v h = by (cell_of x == cell_of y) refl
+  of_cell x (y ∷ ys) v h = by (cell_of x == cell_of y) refl (λ w k. of_cell x ys w k)
     where
       told : (is_told x.occurrence.ref y.occurrence.ref ≡ true) × (list_all (λ (y : Entry). is_told x.occurrence.ref y.occurrence.ref) ys ≡ true)
       told = and_parts (is_told x.occurrence.ref y.occurrence.ref) (list_all (λ (y : Entry). is_told x.occurrence.ref y.occurrence.ref) ys) h
       by : (b : Bool) → (cell_of x == cell_of y) ≡ b
+          → ((w : Verdict) → list_all (λ (y : Entry). is_told x.occurrence.ref y.occurrence.ref) ys ≡ true → with_partners l events claim x (at_cell (cell_of x) ys) w ≡ with_partners l events claim x ys w)
           → with_partners l events claim x (if b then y ∷ at_cell (cell_of x) ys else at_cell (cell_of x) ys) v ≡ with_partners l events claim x ys (with_pair l events claim x y v)
-      by true e = of_cell x ys (with_pair l events claim x y v) told.1
-      by false e = of_cell x ys v told.1 ∙ ap (λ (w : Verdict). with_partners l events claim x ys w) (sym (no_pair x y v told.0 e))
+      by true e rest = rest (with_pair l events claim x y v) told.1
+      by false e rest = rest v told.1 ∙ ap (λ (w : Verdict). with_partners l events claim x ys w) (sym (no_pair x y v told.0 e))
 
   of_places : (x : Entry) (es : List Entry) (ns : List ℕ) (v : Verdict) → with_places l events claim x es ns v ≡ with_partners l events claim x (chosen es ns) v
   of_places x es [] v = refl

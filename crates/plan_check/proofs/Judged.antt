@@ -2,6 +2,8 @@
 use Rattle.std.proofs.Common.{◌≡◌, ◌∙◌, ℕ, Bool, true, false, not, ◌&&◌, List, [], ◌∷◌, map, Option, ap, refl, sym, subst}
 use Rattle.std.specs.Bool.{Decides}
 use Rattle.std.specs.List.{list_all, list_any}
+use Rattle.dependence.specs.Hiding.{hides}
+use Rattle.dependence.specs.Kept.{block_reads}
 use Rattle.dependence.specs.Plan.{PlanTree}
 use Rattle.dependence.specs.declared.relation.Relation.{Relation}
 use Rattle.loop_tree.specs.Loops.{Loop}
@@ -9,7 +11,7 @@ use Rattle.loop_tree.specs.Occurrences.{Occurrence}
 use Rattle.loop_tree.specs.Paths.{Token}
 use Rattle.loop_tree.specs.Told.{are_told, is_told, known}
 use Rattle.plan_check.specs.Checking as checking
-use Rattle.plan_check.specs.Checking.{all_ahead, all_held, all_true, cells_of, claimed, entries_of, in_order, is_in_order, tokens_of}
+use Rattle.plan_check.specs.Checking.{all_ahead, all_held, all_true, cells_of, claimed, entries_of, fits, has_named, in_order, is_in_order, is_proper, is_step, tokens_of}
 use Rattle.plan_check.specs.Entries.{entries_by, joined_entry}
 use Rattle.plan_check.specs.Flow.{Known, Point, flag_at, outside}
 use Rattle.plan_check.specs.GoodPlan.{named, token_of}
@@ -45,6 +47,17 @@ ordered_by l p k s ns w e a c r h i j =
     twice : (b : Bool) → not (not b) ≡ b
     twice true = refl
     twice false = refl
+
+pub fit_by : (l : Loop) (p : PlanTree) (ns : List (ℕ × ℕ)) (a b h s q r : Bool) → ns ≡ named p.body → r ≡ (a && (not b && (h && (s && q)))) → a ≡ is_step l.step → b ≡ block_reads l.body → h ≡ hides p.privates l
+    → s ≡ list_all (λ (n : List ℕ). has_named l.assigned n) p.privates → q ≡ list_all (λ (n : ℕ × ℕ). is_proper n) ns → r ≡ fits l p
+fit_by l p ns a b h s q r e is ea eb eh es eq =
+    let named_all = list_all (λ (n : List ℕ). has_named l.assigned n) p.privates in
+    is
+    ∙ ap (λ x. x && (not b && (h && (s && q)))) ea
+    ∙ ap (λ x. is_step l.step && (not x && (h && (s && q)))) eb
+    ∙ ap (λ x. is_step l.step && (not (block_reads l.body) && (x && (s && q)))) eh
+    ∙ ap (λ x. is_step l.step && (not (block_reads l.body) && (hides p.privates l && (x && q)))) es
+    ∙ ap (λ x. is_step l.step && (not (block_reads l.body) && (hides p.privates l && (named_all && x)))) (eq ∙ ap (λ ms. list_all (λ (n : ℕ × ℕ). is_proper n) ms) e)
 
 pub record IsJudged (l : Loop) (p : PlanTree) (v : Verdict) : Type 0 where
   pub ahead : v.ahead ≡ all_ahead (cells_of l) l p

@@ -1,5 +1,7 @@
+pub mod Appending
 pub mod Bridge
 pub mod Changes
+pub mod Claimed
 pub mod EachOnce
 pub mod Equal
 pub mod Facts

@@ -1,10 +1,13 @@
 -- Of several mistakes the first is told.
-use Rattle.std.proofs.Common.{◌≡◌, ◌<◌, true, false, arith}
+use Rattle.std.proofs.Common.{◌≡◌, ◌<◌, true, false, arith, Result, Ok, Err, IfOk}
 use Rattle.dependence.specs.Plan.{PlanTree}
 use Rattle.loop_tree.specs.Loops.{Loop}
+use Rattle.loop_tree.specs.Told.{are_in_turn, are_told, known, references}
 use Rattle.plan_check.specs.Checking.{IsBody, IsChecked, all_ahead, all_held, all_true, cells_of, fits, in_order, never_early}
+use Rattle.plan_check.specs.GoodPlan.{GoodPlan}
 use Rattle.plan_check.specs.Mistakes.{Has, IsFirst, rank_of}
 use Rattle.plan_check.specs.Walked.{IsOrderly}
+use Rattle.plan_check.proofs.Sound.{accepted_is_good}
 use Rattle.plan_check.specs.declared.fault.Mistake.{Mistake}
 use Rattle.plan_check.specs.declared.fault.Mistake.TheVariants.{Early, Disorder, Behind, Unawaited, Untrue, OtherBody, Unfit}
 
@@ -103,3 +106,7 @@ module _ (l : Loop) (p : PlanTree) where
     held = held;
     true_claims = claims;
   }
+
+pub good_if : {X E : Type 0} (l : Loop) (p : PlanTree) (r : Result X E) → are_in_turn (references l.references) ≡ true → are_told (known l) ≡ true → IfOk r (λ _. IsChecked l p) → IfOk r (λ _. GoodPlan l p)
+good_if l p (Ok x) turn told ok = accepted_is_good (cells_of l) l p turn told ok
+good_if l p (Err e) turn told ok = tt

@@ -1,5 +1,5 @@
 -- What a walk answers.
-use Rattle.std.proofs.Common.{◌≡◌, ◌∙◌, Bool, true, false, not, ◌&&◌, List, map, ap, refl, sym}
+use Rattle.std.proofs.Common.{◌≡◌, ◌∙◌, Bool, true, false, not, ◌&&◌, Result, Ok, Err, IfOk, List, map, ap, refl, sym}
 use Rattle.std.specs.List.{list_all}
 use Rattle.std.proofs.lemmas.Bool.{and_parts}
 use Rattle.dependence.specs.Kept.{block_reads}
@@ -12,6 +12,9 @@ use Rattle.plan_check.specs.Entries.{entries_by}
 use Rattle.plan_check.specs.Flow.{Known}
 use Rattle.plan_check.specs.GoodPlan.{SameBody}
 use Rattle.plan_check.specs.Judging as judging
+use Rattle.plan_check.specs.KnownView.{known as known_of}
+use Rattle.plan_check.specs.SeenView.{seen as seen_of}
+use Rattle.plan_check.specs.declared.start.Walked.{Walked}
 use Rattle.plan_check.specs.Walked.{IsWalked, points_of}
 use Rattle.plan_check.specs.Walking.{Note, Seen, known_block, nothing_seen, seen_block, token_noted}
 use Rattle.plan_check.proofs.Bridge.{NoReads, block_known, block_seen, noticed_all}
@@ -38,3 +41,9 @@ is_walked l p k s fit same e f =
       tokens = ap (λ (ns : List Note). map token_noted ns) noted ∙ tokens_are p (points_of l p);
       entries = λ os. ap (λ (ns : List Note). entries_by l os ns) noted ∙ entries_are p l os (points_of l p);
     }
+
+pub walked_if : {E : Type 0} (l : Loop) (p : PlanTree) (r : Result Walked E) → fits l p ≡ true → SameBody l p
+    → IfOk r (λ w. known_of w.known ≡ known_block p.privates p.body (first (cells_of l))) → IfOk r (λ w. seen_of w.seen ≡ seen_block p.privates p.body (first (cells_of l)) nothing_seen)
+    → IfOk r (λ w. IsWalked l p (known_of w.known) (seen_of w.seen))
+walked_if l p (Ok w) fit same e f = is_walked l p (known_of w.known) (seen_of w.seen) fit same e f
+walked_if l p (Err x) fit same e f = tt

@@ -38,7 +38,6 @@ fn is_same_body(view: &LoopView<'_, '_>, plan: &Given<'_>) -> bool
 }
 
 /// Walks over the body of a plan that fits and has the loop's body.
-#[tactic(auto, using(crate::proofs::Walks::is_walked))]
 fn walk(alloc: Global, view: &LoopView<'_, '_>, plan: &Given<'_>) -> Result<Walked, AllocError>
     requires fits { is_fit (seen view.now) (given plan.now) ≡ true }
     requires same { SameBody (seen view.now) (given plan.now) }

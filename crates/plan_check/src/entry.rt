@@ -1,6 +1,6 @@
 //! References with what is known of them.
 
-ghost use Rattle.std.specs.Prelude.{◌≡◌, IfOk, length, map};
+ghost use Rattle.std.specs.Prelude.{◌≡◌, IfOk, map, min};
 ghost use Rattle.loop_tree.specs.TreeView.{seen};
 ghost use Rattle.loop_tree.specs.View.{occurrence as occurrence_of};
 ghost use Rattle.plan_check.specs.EntryView.{entry as entry_of};
@@ -21,6 +21,12 @@ pub struct Entry<'a, 'p> {
     pub forms: Vec<Affine>,
 }
 
+fn shorter(first: usize, second: usize) -> usize
+    ensures { result ≡ min first second }
+{
+    first.min(second)
+}
+
 fn entry_of<'a, 'p>(
     alloc: Global,
     view: &LoopView<'_, '_>,
@@ -37,7 +43,6 @@ fn entry_of<'a, 'p>(
 }
 
 /// The references one by one, each with its note.
-#[tactic(auto, using(crate::proofs::Rows::no_notes))]
 pub fn entries_of<'a, 'p>(
     alloc: Global,
     view: &LoopView<'_, '_>,
@@ -47,10 +52,9 @@ pub fn entries_of<'a, 'p>(
     ensures { IfOk result (λ made. map entry_of made.items ≡ entries_by (seen view.now) (map occurrence_of references.now) (map note_of notes.now)) }
 {
     let mut entries = Vec::new(alloc);
-    let mut place = 0;
-    while place < references.len() && place < notes.len() {
+    let count = shorter(references.len(), notes.len());
+    for place in 0..count {
         entries.push(entry_of(alloc, view, &references[place], &notes[place])?)?;
-        place += 1;
     }
     Ok(entries)
 }

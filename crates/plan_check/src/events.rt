@@ -18,6 +18,7 @@ fn add_arms(list: &mut Vec<(usize, u128)>, arms: &[PlanArm]) -> Result<(), Alloc
     Ok(())
 }
 
+#[tactic(auto, using(crate::proofs::Appending::one_behind, crate::proofs::Appending::two_behind, crate::proofs::Appending::none_behind))]
 #[cycle(events)]
 fn add_node(list: &mut Vec<(usize, u128)>, node: &PlanStmt) -> Result<(), AllocError>
     ensures { OnOk result ((b : PlanBlock) → list.old.items ++ named (then_node (plan_node node.now) b) ≡ list.new.items ++ named b) }

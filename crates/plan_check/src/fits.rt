@@ -1,6 +1,6 @@
 //! What a loop and a plan are by themselves.
 
-ghost use Rattle.std.specs.Prelude.{◌≡◌, map, ℕ};
+ghost use Rattle.std.specs.Prelude.{◌≡◌, ◌&&◌, map, not};
 ghost use Rattle.std.specs.List.{list_all};
 ghost use Rattle.ast.specs.View.{letters, ref};
 ghost use Rattle.loop_tree.specs.TreeView.{seen};
@@ -66,6 +66,12 @@ fn are_proper(events: &[(usize, u128)]) -> bool
     true
 }
 
+fn is_fit(step: bool, read: bool, hidden: bool, assigned: bool, proper: bool) -> bool
+    ensures { result ≡ (step && (not read && (hidden && (assigned && proper)))) }
+{
+    step && !read && hidden && assigned && proper
+}
+
 /// Whether the step is a constant other than 0, there is no READ, inner DO variables are private,
 /// private names are those of scalars that the range gives values, and the events that the plan names
 /// are from 1 to 64, at distances of at least 1.
@@ -73,9 +79,11 @@ pub fn fits(view: &LoopView<'_, '_>, plan: &Given<'_>, events: &[(usize, u128)])
     requires { events.now ≡ named (given plan.now).body }
     ensures { result ≡ spec.fits (seen view.now) (given plan.now) }
 {
-    is_step(view.step())
-        && !has_read(view)
-        && hides_inner(view, plan.privates)
-        && are_assigned(view.assigned(), plan.privates)
-        && are_proper(events)
+    is_fit(
+        is_step(view.step()),
+        has_read(view),
+        hides_inner(view, plan.privates),
+        are_assigned(view.assigned(), plan.privates),
+        are_proper(events),
+    )
 }

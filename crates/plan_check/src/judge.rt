@@ -1,13 +1,13 @@
 //! What is wrong with pairs of references.
 
-ghost use Rattle.std.specs.Prelude.{◌≡◌, ◌&&◌, ◌||◌, map};
+ghost use Rattle.std.specs.Prelude.{◌≡◌, ◌&&◌, ◌||◌, map, slice_get};
 ghost use Rattle.ast.specs.View.{letters};
 ghost use Rattle.loop_tree.specs.TreeView.{seen};
 ghost use Rattle.loop_tree.specs.View.{occurrence as occurrence_of};
 ghost use Rattle.plan_check.specs.Checking.{distance_of as distance_in};
 ghost use Rattle.plan_check.specs.ClaimsView.{claim_in};
 ghost use Rattle.plan_check.specs.EntryView.{entry as entry_of, verdict as verdict_of};
-ghost use Rattle.plan_check.specs.Grouping.{with_groups, with_places, with_row};
+ghost use Rattle.plan_check.specs.Grouping.{with_groups, with_optional, with_places, with_row};
 ghost use Rattle.plan_check.specs.GroupsView.{groups as groups_of};
 ghost use Rattle.plan_check.specs.Judging as spec;
 
@@ -125,6 +125,23 @@ fn judge_pair(
     }
 }
 
+/// Judges a reference with the one at a place.
+fn judge_at(
+    verdict: &mut Verdict,
+    view: &LoopView<'_, '_>,
+    events: &[usize],
+    claims: &Claims,
+    first: &Entry<'_, '_>,
+    entries: &[Entry<'_, '_>],
+    place: usize,
+)
+    ensures { verdict_of verdict.new ≡ with_optional (seen view.now) events.now (claim_in claims.now) (entry_of first.now) (slice_get (map entry_of entries.now) place) (verdict_of verdict.old) }
+{
+    if place < entries.len() {
+        judge_pair(verdict, view, events, claims, first, &entries[place]);
+    }
+}
+
 /// Judges a reference with those at places.
 fn judge_partners(
     verdict: &mut Verdict,
@@ -138,9 +155,7 @@ fn judge_partners(
     ensures { verdict_of verdict.new ≡ with_places (seen view.now) events.now (claim_in claims.now) (entry_of first.now) (map entry_of entries.now) places.now (verdict_of verdict.old) }
 {
     for place in places {
-        if *place < entries.len() {
-            judge_pair(verdict, view, events, claims, first, &entries[*place]);
-        }
+        judge_at(verdict, view, events, claims, first, entries, *place);
     }
 }
 

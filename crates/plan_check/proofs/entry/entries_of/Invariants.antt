@@ -1,4 +1,4 @@
-use Rattle.std.proofs.Common.{◌≡◌, ◌-◌, drop, length, map}
+use Rattle.std.proofs.Common.{◌≡◌, drop, map}
 use Rattle.std.specs.Prelude.{◌++◌}
 use Rattle.loop_tree.specs.TreeView.{seen}
 use Rattle.loop_tree.specs.View.{occurrence}
@@ -11,6 +11,3 @@ abbrev pub invariant-loop-place : goal.invariant-loop-place
 invariant-loop-place l =
     map entry l.entries.items ++ entries_by (seen l.view) (map occurrence (drop l.place l.references)) (map note (drop l.place l.notes))
     ≡ entries_by (seen l.view) (map occurrence l.references) (map note l.notes)
-
-abbrev pub decreases-loop-place : goal.decreases-loop-place
-decreases-loop-place l = length l.references - l.place
