@@ -11,13 +11,13 @@ use Rattle.loop_tree.specs.Occurrences.{Occurrence}
 use Rattle.loop_tree.specs.Paths.{Token}
 use Rattle.loop_tree.specs.Told.{are_told, is_told, known}
 use Rattle.plan_check.specs.Checking as checking
-use Rattle.plan_check.specs.Checking.{all_ahead, all_held, all_true, cells_of, claimed, entries_of, fits, has_named, in_order, is_in_order, is_proper, is_step, tokens_of}
+use Rattle.plan_check.specs.Checking.{cells_of, claimed, entries_of, fits, has_named, in_order, is_in_order, is_proper, is_step, tokens_of}
 use Rattle.plan_check.specs.Entries.{entries_by, joined_entry}
 use Rattle.plan_check.specs.Flow.{Known, Point, flag_at, outside}
 use Rattle.plan_check.specs.GoodPlan.{named, token_of}
 use Rattle.plan_check.specs.Grouping.{at_cell, chosen, row_at, with_groups}
 use Rattle.plan_check.specs.Judging.{Entry, Verdict, best, with_all}
-use Rattle.plan_check.specs.Walked.{IsWalked, points_of}
+use Rattle.plan_check.specs.Walked.{IsJudged, IsWalked, points_of}
 use Rattle.plan_check.specs.Walking.{Note, Seen, token_noted}
 use Rattle.plan_check.proofs.Grouped.{by_groups, entries_told}
 use Rattle.plan_check.proofs.Verdicts.{ahead_all, held_all, true_all}
@@ -58,11 +58,6 @@ fit_by l p ns a b h s q r e is ea eb eh es eq =
     ∙ ap (λ x. is_step l.step && (not (block_reads l.body) && (x && (s && q)))) eh
     ∙ ap (λ x. is_step l.step && (not (block_reads l.body) && (hides p.privates l && (x && q)))) es
     ∙ ap (λ x. is_step l.step && (not (block_reads l.body) && (hides p.privates l && (named_all && x)))) (eq ∙ ap (λ ms. list_all (λ (n : ℕ × ℕ). is_proper n) ms) e)
-
-pub record IsJudged (l : Loop) (p : PlanTree) (v : Verdict) : Type 0 where
-  pub ahead : v.ahead ≡ all_ahead (cells_of l) l p
-  pub held : v.held ≡ all_held (cells_of l) l p
-  pub claims : v.claims ≡ all_true (cells_of l) l p
 
 pub judged : (l : Loop) (p : PlanTree) (k : Known) (s : Seen) → IsWalked l p k s → are_told (known l) ≡ true
     → (events : List ℕ) (ns : List (ℕ × ℕ)) → ((test : ℕ → Bool) → list_any test events ≡ list_any (λ (n : ℕ × ℕ). test n.0) ns) → ns ≡ named p.body

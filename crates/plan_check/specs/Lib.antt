@@ -10,6 +10,7 @@ pub mod Grouping
 pub mod GroupsView
 pub mod Judging
 pub mod KnownView
+pub mod Listing
 pub mod Mistakes
 pub mod SeenView
 pub mod Stripping

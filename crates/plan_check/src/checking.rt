@@ -4,14 +4,15 @@ ghost use Rattle.std.specs.Prelude.{◌≡◌, ◌&&◌, IfErr, IfOk, Some, not,
 ghost use Rattle.std.specs.Bool.{Decides};
 ghost use Rattle.dependence.specs.PlanView.{plan_of};
 ghost use Rattle.loop_tree.specs.TreeView.{seen};
-ghost use Rattle.plan_check.specs.Checking.{IsChecked, all_ahead, all_held, all_true, cells_of, fits as is_fit, in_order, reference_tokens, tokens_of};
+ghost use Rattle.plan_check.specs.Checking.{IsChecked, cells_of, fits as is_fit, in_order, reference_tokens, tokens_of};
 ghost use Rattle.plan_check.specs.Checks.{Accepted, HasBody, IsGood};
+ghost use Rattle.plan_check.specs.EntryView.{verdict as verdict_of};
 ghost use Rattle.plan_check.specs.GivenView.{given};
-ghost use Rattle.plan_check.specs.GoodPlan.{SameBody, named};
+ghost use Rattle.plan_check.specs.GoodPlan.{GoodPlan, SameBody, named};
 ghost use Rattle.plan_check.specs.KnownView.{known as known_of};
 ghost use Rattle.plan_check.specs.Mistakes.{Refuses};
 ghost use Rattle.plan_check.specs.SeenView.{seen as seen_of};
-ghost use Rattle.plan_check.specs.Walked.{IsOrderly, IsWalked, points_of};
+ghost use Rattle.plan_check.specs.Walked.{IsJudged, IsOrderly, IsWalked, points_of};
 
 use crate::advances::{all_advanced, outside};
 use crate::bodies::{is_bare, is_same_range};
@@ -89,9 +90,7 @@ fn judge_all(
 ) -> Result<Verdict, AllocError>
     requires named { events.now ≡ named (given plan.now).body }
     requires walked { IsWalked (seen view.now) (given plan.now) (known_of walked.now.known) (seen_of walked.now.seen) }
-    ensures ahead { IfOk result (λ verdict. verdict.ahead ≡ all_ahead (cells_of (seen view.now)) (seen view.now) (given plan.now)) }
-    ensures held { IfOk result (λ verdict. verdict.held ≡ all_held (cells_of (seen view.now)) (seen view.now) (given plan.now)) }
-    ensures claims { IfOk result (λ verdict. verdict.claims ≡ all_true (cells_of (seen view.now)) (seen view.now) (given plan.now)) }
+    ensures { IfOk result (λ verdict. IsJudged (seen view.now) (given plan.now) (verdict_of verdict)) }
 {
     let named = distinct(alloc, events)?;
     let claims = claims_of(alloc, plan.relations)?;
@@ -186,6 +185,7 @@ fn check_body(
 #[tactic(auto, using(crate::proofs::Ranks::unfit))]
 fn check_given(alloc: Global, view: &LoopView<'_, '_>, plan: &Given<'_>) -> Result<(), PlanFault>
     ensures accepted { IfOk result (λ _. IsChecked (seen view.now) (given plan.now)) }
+    ensures good { IfOk result (λ _. GoodPlan (seen view.now) (given plan.now)) }
     ensures refused { IfErr result (Refuses (seen view.now) (Some (given plan.now))) }
 {
     let events = events_of(alloc, plan.body)?;

@@ -26,8 +26,8 @@ pub fn claims_of(
     let mut left = relations.len();
     while left > 0 {
         left -= 1;
-        let (first, second, relation) = relations[left];
-        table.insert((first.0, second.0), relation)?;
+        let claim = &relations[left];
+        table.insert((claim.0.0, claim.1.0), claim.2)?;
     }
     Ok(Claims { table })
 }

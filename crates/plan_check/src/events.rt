@@ -1,16 +1,17 @@
 //! The events that a plan names.
 
-ghost use Rattle.std.specs.Prelude.{◌≡◌, ◌++◌, IfOk, OnOk, map};
-ghost use Rattle.dependence.specs.Plan.{PlanArms, PlanBlock, then_node};
+ghost use Rattle.std.specs.Prelude.{◌≡◌, IfOk, OnOk, map};
+ghost use Rattle.dependence.specs.Plan.{PlanArms};
 ghost use Rattle.dependence.specs.PlanView.{arm_view, arms as arms_of, plan_block, plan_node};
-ghost use Rattle.plan_check.specs.GoodPlan.{named, named_arms};
+ghost use Rattle.plan_check.specs.GoodPlan.{named};
+ghost use Rattle.plan_check.specs.Listing.{with_arms, with_block, with_node};
 
 use dependence::{PlanArm, PlanStmt};
 use std::alloc::{AllocError, Global};
 
 #[cycle(events)]
 fn add_arms(list: &mut Vec<(usize, u128)>, arms: &[PlanArm]) -> Result<(), AllocError>
-    ensures { OnOk result ((last : PlanArms) → list.old.items ++ named_arms (arms_of (map arm_view arms.now) last) ≡ list.new.items ++ named_arms last) }
+    ensures { OnOk result ((last : PlanArms) → with_arms (arms_of (map arm_view arms.now) last) list.old.items ≡ with_arms last list.new.items) }
 {
     for arm in arms {
         add_block(list, &arm.body)?;
@@ -18,10 +19,9 @@ fn add_arms(list: &mut Vec<(usize, u128)>, arms: &[PlanArm]) -> Result<(), Alloc
     Ok(())
 }
 
-#[tactic(auto, using(crate::proofs::Appending::one_behind, crate::proofs::Appending::two_behind, crate::proofs::Appending::none_behind))]
 #[cycle(events)]
 fn add_node(list: &mut Vec<(usize, u128)>, node: &PlanStmt) -> Result<(), AllocError>
-    ensures { OnOk result ((b : PlanBlock) → list.old.items ++ named (then_node (plan_node node.now) b) ≡ list.new.items ++ named b) }
+    ensures { OnOk result (list.new.items ≡ with_node (plan_node node.now) list.old.items) }
 {
     match node {
         PlanStmt::Await(event, distance) => {
@@ -46,7 +46,7 @@ fn add_node(list: &mut Vec<(usize, u128)>, node: &PlanStmt) -> Result<(), AllocE
 
 #[cycle(events)]
 fn add_block(list: &mut Vec<(usize, u128)>, nodes: &[PlanStmt]) -> Result<(), AllocError>
-    ensures { OnOk result (list.new.items ≡ list.old.items ++ named (plan_block nodes.now)) }
+    ensures { OnOk result (list.new.items ≡ with_block (plan_block nodes.now) list.old.items) }
 {
     for node in nodes {
         add_node(list, node)?;
@@ -55,6 +55,7 @@ fn add_block(list: &mut Vec<(usize, u128)>, nodes: &[PlanStmt]) -> Result<(), Al
 }
 
 /// The events that are awaited, each with its distance, or advanced, as at distance 1.
+#[tactic(auto, using(crate::proofs::Appending::listed))]
 pub fn events_of(alloc: Global, nodes: &[PlanStmt]) -> Result<Vec<(usize, u128)>, AllocError>
     ensures { IfOk result (λ list. list.items ≡ named (plan_block nodes.now)) }
 {

@@ -1,4 +1,4 @@
-use Rattle.std.proofs.Common.{◌≡◌, ◌∙◌, ap, arith, rules, map, suc, drop, length, Some, ◌<◌, ◌≤◌}
+use Rattle.std.proofs.Common.{◌≡◌, ◌∙◌, ap, arith, map, suc, drop, length, Some, ◌<◌}
 use Rattle.std.specs.Prelude.{◌-◌, cond}
 use Rattle.std.specs.Ordering.{is_eq, nat_cmp, ordering_then}
 use Rattle.plan_check.specs.Checking.{claimed}
@@ -9,7 +9,12 @@ pub loop-left-preserved : goal.loop-left-preserved
 loop-left-preserved c =
     let some = c.loop-left-test.true in
     let most = c.loop-left.invariant.within in
+    let next : c.loop-left.left ≡ suc (c.loop-left.left - 1) = omega (arith, some) in
+    let x = c.index-relations-left.result in
     record {
       within = omega (arith, some, most);
-      has = λ a b. ?;
+      has = λ a b.
+          c.in_ok-insert.ensures.updates.0 (a, b)
+          ∙ ap (λ o. cond (is_eq (ordering_then (nat_cmp x.0.0 a) (nat_cmp x.1.0 b))) (Some x.2) o) (c.loop-left.invariant.has a b ∙ ap (λ n. claimed (map (λ p. (p.0.0, p.1.0, p.2)) (drop n c.args.relations.now)) a b) next)
+          ∙ claim_more (λ p. (p.0.0, p.1.0, p.2)) c.args.relations.now (c.loop-left.left - 1) x (omega (arith, some, most)) c.index-relations-left.is a b;
     }
