@@ -1,8 +1,8 @@
 //! What a plan claims of pairs of references.
 
-ghost use Rattle.std.specs.Prelude.{◌≡◌, IfOk, map, ℕ};
+ghost use Rattle.std.specs.Prelude.{◌≡◌, IfOk, OnOk, map, ℕ};
 ghost use Rattle.plan_check.specs.Checking.{claimed};
-ghost use Rattle.plan_check.specs.ClaimsView.{claim_in};
+ghost use Rattle.plan_check.specs.ClaimsView.{claim_in, with_claim};
 
 use ast::RefId;
 use dependence::Relation;
@@ -15,6 +15,14 @@ pub struct Claims {
     table: BTreeMap<(usize, usize), Relation>,
 }
 
+/// Adds a claim in front of others.
+fn add(claims: &mut Claims, claim: &(RefId, RefId, Relation)) -> Result<(), AllocError>
+    ensures { OnOk result ((a b : ℕ) → claim_in claims.new a b ≡ with_claim (claim.now.0.0, claim.now.1.0, claim.now.2) (claim_in claims.old a b) a b) }
+{
+    claims.table.insert((claim.0.0, claim.1.0), claim.2)?;
+    Ok(())
+}
+
 /// The claims of a plan: of a pair the first that is given.
 pub fn claims_of(
     alloc: Global,
@@ -22,14 +30,15 @@ pub fn claims_of(
 ) -> Result<Claims, AllocError>
     ensures { IfOk result (λ claims. (a b : ℕ) → claim_in claims a b ≡ claimed (map (λ p. (p.0.0, p.1.0, p.2)) relations.now) a b) }
 {
-    let mut table = BTreeMap::new(alloc);
+    let mut claims = Claims {
+        table: BTreeMap::new(alloc),
+    };
     let mut left = relations.len();
     while left > 0 {
         left -= 1;
-        let claim = &relations[left];
-        table.insert((claim.0.0, claim.1.0), claim.2)?;
+        add(&mut claims, &relations[left])?;
     }
-    Ok(Claims { table })
+    Ok(claims)
 }
 
 impl Claims {

@@ -1,7 +1,7 @@
-use Rattle.std.proofs.Common.{◌≡◌, ◌∙◌, ap, arith, map, suc, drop, length, Some, ◌<◌}
-use Rattle.std.specs.Prelude.{◌-◌, cond}
-use Rattle.std.specs.Ordering.{is_eq, nat_cmp, ordering_then}
+use Rattle.std.proofs.Common.{◌≡◌, ◌∙◌, ap, arith, map, suc, drop}
+use Rattle.std.specs.Prelude.{◌-◌}
 use Rattle.plan_check.specs.Checking.{claimed}
+use Rattle.plan_check.specs.ClaimsView.{with_claim}
 use Rattle.plan_check.proofs.Claimed.{claim_more}
 use Rattle.plan_check.proofs.claims.claims_of.Goals as goal
 
@@ -14,7 +14,7 @@ loop-left-preserved c =
     record {
       within = omega (arith, some, most);
       has = λ a b.
-          c.in_ok-insert.ensures.updates.0 (a, b)
-          ∙ ap (λ o. cond (is_eq (ordering_then (nat_cmp x.0.0 a) (nat_cmp x.1.0 b))) (Some x.2) o) (c.loop-left.invariant.has a b ∙ ap (λ n. claimed (map (λ p. (p.0.0, p.1.0, p.2)) (drop n c.args.relations.now)) a b) next)
+          c.in_ok-add.ensures a b
+          ∙ ap (λ o. with_claim (x.0.0, x.1.0, x.2) o a b) (c.loop-left.invariant.has a b ∙ ap (λ n. claimed (map (λ p. (p.0.0, p.1.0, p.2)) (drop n c.args.relations.now)) a b) next)
           ∙ claim_more (λ p. (p.0.0, p.1.0, p.2)) c.args.relations.now (c.loop-left.left - 1) x (omega (arith, some, most)) c.index-relations-left.is a b;
     }
