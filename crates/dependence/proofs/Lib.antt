@@ -3,6 +3,7 @@ pub mod Alike
 pub mod Distances
 pub mod Divides
 pub mod Divisors
+pub mod Fitted
 pub mod Meeting
 pub mod Promise
 pub mod Reformed

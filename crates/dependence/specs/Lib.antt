@@ -1,4 +1,6 @@
+pub mod Fitting
 pub mod Formed
+pub mod Hiding
 pub mod Kept
 pub mod Meets
 pub mod Plan

@@ -108,7 +108,8 @@ fn is_distant(
     }
 }
 
-fn is_given(
+/// Whether the test that a relation names gives it, on forms.
+pub fn is_given(
     view: &LoopView<'_, '_>,
     first: &[Affine],
     second: &[Affine],

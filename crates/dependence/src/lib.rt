@@ -3,13 +3,15 @@
 
 mod compare;
 mod divisor;
+mod fitting;
 mod formed;
 mod plan;
 mod relating;
 mod relation;
 mod verifying;
 
-pub use formed::{forms, relate_forms, verify_forms};
+pub use fitting::{has_name, has_read, hides_inner};
+pub use formed::{forms, is_given, relate_forms, verify_forms};
 pub use plan::{LoopPlan, PlanArm, PlanStmt};
 pub use relating::relate;
 pub use relation::{Reason, Relation};

@@ -75,7 +75,7 @@ module _ (privates : List (List ℕ)) where
   items_seen (text_item t ∷ more) k s = items_seen more k s
 
   -- of a range there is no READ
-  abbrev NoRead : Kind → Type 0
+  abbrev pub NoRead : Kind → Type 0
   NoRead (read xs) = ⊥
   NoRead _ = Unit {0}
 

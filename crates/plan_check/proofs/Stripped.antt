@@ -8,10 +8,9 @@ use Rattle.ast.specs.declared.tree.Arm.{Arm}
 use Rattle.ast.specs.declared.tree.Node.{Node}
 use Rattle.dependence.specs.Plan.{PlanNode}
 use Rattle.std.specs.Bool.{Decides}
-use Rattle.dependence.specs.PlanView.{arms, last_arm, plan_block}
+use Rattle.dependence.specs.PlanView.{arm_view, arms, last_arm, plan_block}
 use Rattle.dependence.specs.declared.plan.PlanArm.{PlanArm}
 use Rattle.dependence.specs.declared.plan.PlanStmt.{PlanStmt}
-use Rattle.plan_check.specs.ArmView.{arm_view}
 use Rattle.plan_check.specs.GoodPlan.{stripped, stripped_arms}
 use Rattle.plan_check.specs.Stripping.{stripped_arm}
 

@@ -8,6 +8,7 @@ use Rattle.ast.specs.Tree.{Ref}
 use Rattle.loop_tree.specs.Loops.{Loop}
 use Rattle.loop_tree.specs.Occurrences.{Occurrence}
 use Rattle.loop_tree.specs.Paths.{Token, uses, defines, await, advance}
+pub use Rattle.dependence.specs.Hiding.{has_name}
 use Rattle.dependence.specs.Kept.{block_reads, block_variables, most_events}
 use Rattle.dependence.specs.Plan.{PlanTree}
 use Rattle.dependence.specs.Tests.{is_verified}
@@ -15,9 +16,6 @@ use Rattle.dependence.specs.declared.relation.Relation.{Relation}
 use Rattle.dependence.specs.declared.relation.Relation.TheVariants.{Apart, Distance, Any}
 use Rattle.plan_check.specs.Flow.{Known, Point, after_block, beginning, block_points, has_advanced, has_awaited, is_defined, is_free, outside}
 use Rattle.plan_check.specs.GoodPlan.{SameBody, named, token_of}
-
-abbrev pub has_name : List (List ℕ) → List ℕ → Bool
-has_name names name = list_any (λ (n : List ℕ). same_name n name) names
 
 -- ---- what the loop and the plan are by themselves
 

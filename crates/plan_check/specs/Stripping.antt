@@ -3,7 +3,7 @@ use Rattle.std.specs.Prelude.{◌≡◌}
 use Rattle.ast.specs.Tree as tree
 use Rattle.dependence.specs.Plan.{PlanNode, no_nodes, then_node}
 use Rattle.dependence.specs.declared.plan.PlanArm.{PlanArm}
-use Rattle.plan_check.specs.ArmView.{arm_view}
+use Rattle.dependence.specs.PlanView.{arm_view}
 use Rattle.plan_check.specs.GoodPlan.{stripped}
 
 -- a node of the plan that is neither an await nor an advance, and is this one of the range

@@ -1,7 +1,7 @@
 -- An account of the code: one walk over a plan's body, and what it notes.
-use Rattle.std.specs.Prelude.{ℕ, Bool, true, false, not, ◌&&◌, ◌||◌, List, [], ◌∷◌, ◌++◌, Option, Some, None}
+use Rattle.std.specs.Prelude.{if◌then◌else◌, ℕ, Bool, true, false, not, ◌&&◌, ◌||◌, List, [], ◌∷◌, ◌++◌, Option, Some, None}
 use Rattle.ast.specs.Tree.{Ref, Term, Terms, element, call, parentheses, unary, binary, no_terms, then_term, Access, PrintItem, value_item, text_item, DoHead, Kind, assign, print, stop}
-use Rattle.loop_tree.specs.Paths.{await, advance}
+use Rattle.loop_tree.specs.Paths.{Token, uses, defines, await, advance}
 use Rattle.dependence.specs.Plan.{PlanNode, awaits, advances, plain, loop, choose, PlanBlock, no_nodes, then_node, PlanArms, no_arms, made_else, then_arm}
 use Rattle.plan_check.specs.Checking.{has_name}
 use Rattle.plan_check.specs.Flow.{Known, Near, defined_too, has_awaited, is_defined, is_free, joined, nowhere, step}
@@ -17,6 +17,13 @@ pub record Seen : Type 0 where
   pub early : Bool
   pub disorder : Bool
   pub notes : List Note
+
+-- what a path has where the reference stands
+abbrev pub token_noted : Note → Token
+token_noted n = if n.defines then defines n.ref else uses n.ref
+
+abbrev pub nothing_seen : Seen
+nothing_seen = record { early = false; disorder = false; notes = [] }
 
 abbrev pub noted : Ref → Bool → Known → Seen → Seen
 noted r d k s = record s { notes = s.notes ++ record { ref = r; defines = d; near = k.near; free = k.free } ∷ [] }

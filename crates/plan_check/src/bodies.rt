@@ -5,8 +5,7 @@ ghost use Rattle.std.specs.Bool.{Decides};
 ghost use Rattle.ast.specs.View.{arm as arm_of, block_view, node as node_of};
 ghost use Rattle.ast.specs.Tree as tree;
 ghost use Rattle.dependence.specs.Plan.{PlanArms, PlanNode, no_nodes, then_node};
-ghost use Rattle.dependence.specs.PlanView.{arms as arms_of, last_arm, plan_block, plan_node};
-ghost use Rattle.plan_check.specs.ArmView.{arm_view};
+ghost use Rattle.dependence.specs.PlanView.{arm_view, arms as arms_of, last_arm, plan_block, plan_node};
 ghost use Rattle.plan_check.specs.GoodPlan.{made_bare, made_bare_arms, only_events as holds_events, stripped, stripped_arms};
 ghost use Rattle.plan_check.specs.Stripping.{IsNode, stripped_arm};
 

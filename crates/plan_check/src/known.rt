@@ -21,6 +21,18 @@ impl Known {
     ghost use Rattle.plan_check.specs.Flow as spec;
     ghost use Rattle.plan_check.specs.KnownView.{known};
 
+    /// What is known at the beginning, of so many cells and events.
+    pub fn beginning(alloc: Global, cells: usize, events: usize) -> Result<Known, AllocError>
+        ensures { IfOk result (λ made. known made ≡ spec.beginning cells events) }
+    {
+        Ok(Known {
+            defined: vec![in alloc; false; cells]?,
+            near: vec![in alloc; None; events]?,
+            free: vec![in alloc; true; events]?,
+            advanced: vec![in alloc; false; events]?,
+        })
+    }
+
     pub fn try_copy(&self, alloc: Global) -> Result<Known, AllocError>
         ensures { IfOk result (λ copy. known copy ≡ known self.now) }
     {

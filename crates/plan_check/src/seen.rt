@@ -4,12 +4,12 @@ ghost use Rattle.std.specs.Prelude.{◌≡◌, OnOk, map};
 ghost use Rattle.ast.specs.View.{letters, ref};
 ghost use Rattle.plan_check.specs.KnownView.{known as known_of};
 ghost use Rattle.plan_check.specs.SeenView.{note, seen as seen_of};
-ghost use Rattle.plan_check.specs.Checking.{has_name as is_among};
 ghost use Rattle.plan_check.specs.Walking as spec;
 
 use crate::known::Known;
 use crate::lists::{flag_at, has_awaited};
 use ast::{Name, Reference};
+use dependence::has_name;
 use std::alloc::{AllocError, Global};
 
 /// A reference, and what is known of the events before it.
@@ -28,15 +28,21 @@ pub struct Seen {
     pub notes: Vec<Note>,
 }
 
-fn has_name(names: &[Name], name: Name) -> bool
-    ensures { result ≡ is_among (map letters names.now) name.letters }
-{
-    for other in names {
-        if *other == name {
-            return true;
+impl Seen {
+    ghost use Rattle.std.specs.Prelude.{◌≡◌};
+    ghost use Rattle.plan_check.specs.SeenView.{seen};
+    ghost use Rattle.plan_check.specs.Walking.{nothing_seen};
+
+    /// Nothing yet.
+    pub fn new(alloc: Global) -> Seen
+        ensures { seen result ≡ nothing_seen }
+    {
+        Seen {
+            early: false,
+            disorder: false,
+            notes: Vec::new(alloc),
         }
     }
-    false
 }
 
 fn push_note(

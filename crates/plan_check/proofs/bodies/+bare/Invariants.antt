@@ -1,7 +1,6 @@
 use Rattle.std.proofs.Common.{◌≡◌, map, drop}
 use Rattle.dependence.specs.Plan.{PlanArms}
-use Rattle.dependence.specs.PlanView.{arms, plan_block}
-use Rattle.plan_check.specs.ArmView.{arm_view}
+use Rattle.dependence.specs.PlanView.{arm_view, arms, plan_block}
 use Rattle.plan_check.specs.GoodPlan.{made_bare, made_bare_arms}
 use Rattle.plan_check.proofs.bodies.+bare.Given as goal
 

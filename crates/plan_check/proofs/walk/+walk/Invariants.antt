@@ -1,8 +1,7 @@
 use Rattle.std.proofs.Common.{◌≡◌, map, drop}
 use Rattle.ast.specs.View.{letters}
 use Rattle.dependence.specs.Plan.{PlanArms}
-use Rattle.dependence.specs.PlanView.{arms, plan_block}
-use Rattle.plan_check.specs.ArmView.{arm_view}
+use Rattle.dependence.specs.PlanView.{arm_view, arms, plan_block}
 use Rattle.plan_check.specs.KnownView.{known as known_of}
 use Rattle.plan_check.specs.SeenView.{seen as seen_of}
 use Rattle.plan_check.specs.Walking as spec

@@ -1,0 +1,34 @@
+-- Lists of events.
+use Rattle.std.proofs.Common.{◌≡◌, ◌∙◌, ◌||◌, ℕ, Bool, true, false, List, [], ◌∷◌, ◌++◌, ap, refl, sym, ◌==◌}
+use Rattle.std.specs.List.{list_any}
+use Rattle.std.proofs.lemmas.Bool.{eqb-true}
+use Rattle.plan_check.specs.Judging.{has_event}
+
+or_false : (a : Bool) → (a || false) ≡ a
+or_false true = refl
+or_false false = refl
+
+or_assoc : (a b c : Bool) → (a || (b || c)) ≡ ((a || b) || c)
+or_assoc true b c = refl
+or_assoc false b c = refl
+
+pub any_more : (test : ℕ → Bool) (es : List ℕ) (e : ℕ) → list_any test (es ++ e ∷ []) ≡ (list_any test es || test e)
+any_more test [] e = or_false (test e)
+any_more test (x ∷ es) e = ap (λ b. test x || b) (any_more test es e) ∙ or_assoc (test x) (list_any test es) (test e)
+
+absorbed : (a b : Bool) → a ≡ true → (a || b) ≡ a
+absorbed true b h = refl
+absorbed false b h = cc
+
+pub any_same : (test : ℕ → Bool) (es : List ℕ) (e : ℕ) → has_event es e ≡ true → list_any test es ≡ (list_any test es || test e)
+any_same test [] e h = cc
+any_same test (x ∷ es) e h = by (x == e) refl (λ k. any_same test es e k)
+  where
+    swap : (a b c : Bool) → a ≡ c → (a || b) ≡ ((a || b) || c)
+    swap true b c h = refl
+    swap false b true h = cc
+    swap false true false h = refl
+    swap false false false h = refl
+    by : (q : Bool) → (x == e) ≡ q → (has_event es e ≡ true → list_any test es ≡ (list_any test es || test e)) → list_any test (x ∷ es) ≡ (list_any test (x ∷ es) || test e)
+    by true k rest = swap (test x) (list_any test es) (test e) (ap test (eqb-true x e k))
+    by false k rest = ap (λ b. test x || b) (rest (sym (ap (λ q. q || has_event es e) k) ∙ h)) ∙ or_assoc (test x) (list_any test es) (test e)

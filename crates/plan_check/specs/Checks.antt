@@ -1,0 +1,18 @@
+-- What the answer of the check says of a plan; of one without a body nothing.
+use Rattle.std.specs.Prelude.{Option, Some, None, ⊤}
+use Rattle.dependence.specs.Plan.{PlanTree}
+use Rattle.loop_tree.specs.Loops.{Loop}
+use Rattle.plan_check.specs.Checking.{IsChecked}
+use Rattle.plan_check.specs.GoodPlan.{GoodPlan, SameBody}
+
+abbrev pub Accepted : Loop → Option PlanTree → Type 0
+Accepted l None = ⊤
+Accepted l (Some p) = IsChecked l p
+
+abbrev pub IsGood : Loop → Option PlanTree → Type 0
+IsGood l None = ⊤
+IsGood l (Some p) = GoodPlan l p
+
+abbrev pub HasBody : Loop → Option PlanTree → Type 0
+HasBody l None = ⊤
+HasBody l (Some p) = SameBody l p

@@ -1,0 +1,216 @@
+//! What is wrong with pairs of references.
+
+ghost use Rattle.std.specs.Prelude.{◌≡◌, ◌&&◌, ◌||◌, map, slice_get};
+ghost use Rattle.ast.specs.View.{letters};
+ghost use Rattle.loop_tree.specs.TreeView.{seen};
+ghost use Rattle.loop_tree.specs.View.{occurrence as occurrence_of};
+ghost use Rattle.plan_check.specs.Checking.{distance_of as distance_in};
+ghost use Rattle.plan_check.specs.ClaimsView.{claim_in};
+ghost use Rattle.plan_check.specs.EntryView.{entry as entry_of, verdict as verdict_of};
+ghost use Rattle.plan_check.specs.Grouping.{with_groups, with_optional, with_places, with_row};
+ghost use Rattle.plan_check.specs.GroupsView.{groups as groups_of};
+ghost use Rattle.plan_check.specs.Judging as spec;
+
+use crate::claims::Claims;
+use crate::entry::Entry;
+use crate::groups::Groups;
+use crate::lists::{flag_at, has_awaited};
+use ast::Name;
+use dependence::{Relation, has_name, is_given};
+use loop_tree::{LoopView, Occurrence};
+
+/// Whether all pairs so far are ahead of an advance, held by an await, and claimed truly.
+#[derive(Clone, Copy)]
+pub struct Verdict {
+    pub ahead: bool,
+    pub held: bool,
+    pub claims: bool,
+}
+
+/// Whether an event is left that isn't advanced.
+fn is_ahead(events: &[usize], free: &[bool]) -> bool
+    ensures { result ≡ spec.is_ahead events.now free.now }
+{
+    for event in events {
+        if flag_at(free, *event) {
+            return true;
+        }
+    }
+    false
+}
+
+/// Whether such an event is awaited so near.
+fn is_held(events: &[usize], free: &[bool], near: &[Option<u128>], distance: u128) -> bool
+    ensures { result ≡ spec.is_held events.now free.now near.now distance }
+{
+    for event in events {
+        if flag_at(free, *event) && has_awaited(near, *event, distance) {
+            return true;
+        }
+    }
+    false
+}
+
+/// At which distance a pair is to be kept, if it is.
+fn distance_of(claim: Option<Relation>) -> Option<u128>
+    ensures { result ≡ distance_in claim }
+{
+    match claim {
+        None => None,
+        Some(Relation::Apart(_, _)) => None,
+        Some(Relation::Distance(_, distance)) => Some(distance),
+        Some(Relation::Any) => Some(1),
+    }
+}
+
+fn is_true(
+    view: &LoopView<'_, '_>,
+    first: &Entry<'_, '_>,
+    second: &Entry<'_, '_>,
+    claim: Option<Relation>,
+) -> bool
+    ensures { result ≡ spec.is_given (seen view.now) (entry_of first.now) (entry_of second.now) claim }
+{
+    match claim {
+        None => false,
+        Some(relation) => is_given(view, &first.forms, &second.forms, relation),
+    }
+}
+
+/// Judges a pair by what is claimed of it.
+fn judge_claim(
+    verdict: &mut Verdict,
+    view: &LoopView<'_, '_>,
+    events: &[usize],
+    first: &Entry<'_, '_>,
+    second: &Entry<'_, '_>,
+    claim: Option<Relation>,
+)
+    ensures { verdict_of verdict.new ≡ spec.by_claim (seen view.now) events.now (λ _ _. claim) (entry_of first.now) (entry_of second.now) claim (verdict_of verdict.old) }
+{
+    match distance_of(claim) {
+        None => {}
+        Some(distance) => {
+            verdict.ahead = verdict.ahead && is_ahead(events, &first.note.free);
+            verdict.held =
+                verdict.held && is_held(events, &first.note.free, &second.note.near, distance);
+        }
+    }
+    verdict.claims = verdict.claims && is_true(view, first, second, claim);
+}
+
+/// Whether two references are to one variable, and one of them gives it a value.
+fn is_pair(first: &Occurrence<'_>, second: &Occurrence<'_>) -> bool
+    ensures { result ≡ spec.is_pair (occurrence_of first.now) (occurrence_of second.now) }
+{
+    first.reference.name == second.reference.name && (first.defines || second.defines)
+}
+
+fn judge_pair(
+    verdict: &mut Verdict,
+    view: &LoopView<'_, '_>,
+    events: &[usize],
+    claims: &Claims,
+    first: &Entry<'_, '_>,
+    second: &Entry<'_, '_>,
+)
+    ensures { verdict_of verdict.new ≡ spec.with_pair (seen view.now) events.now (claim_in claims.now) (entry_of first.now) (entry_of second.now) (verdict_of verdict.old) }
+{
+    if is_pair(first.occurrence, second.occurrence) {
+        let claim = claims.find(
+            first.occurrence.reference.id,
+            second.occurrence.reference.id,
+        );
+        judge_claim(verdict, view, events, first, second, claim);
+    }
+}
+
+/// Judges a reference with the one at a place.
+fn judge_at(
+    verdict: &mut Verdict,
+    view: &LoopView<'_, '_>,
+    events: &[usize],
+    claims: &Claims,
+    first: &Entry<'_, '_>,
+    entries: &[Entry<'_, '_>],
+    place: usize,
+)
+    ensures { verdict_of verdict.new ≡ with_optional (seen view.now) events.now (claim_in claims.now) (entry_of first.now) (slice_get (map entry_of entries.now) place) (verdict_of verdict.old) }
+{
+    if place < entries.len() {
+        judge_pair(verdict, view, events, claims, first, &entries[place]);
+    }
+}
+
+/// Judges a reference with those at places.
+fn judge_partners(
+    verdict: &mut Verdict,
+    view: &LoopView<'_, '_>,
+    events: &[usize],
+    claims: &Claims,
+    first: &Entry<'_, '_>,
+    entries: &[Entry<'_, '_>],
+    places: &[usize],
+)
+    ensures { verdict_of verdict.new ≡ with_places (seen view.now) events.now (claim_in claims.now) (entry_of first.now) (map entry_of entries.now) places.now (verdict_of verdict.old) }
+{
+    for place in places {
+        judge_at(verdict, view, events, claims, first, entries, *place);
+    }
+}
+
+/// Whether a variable is the loop's, or each iteration has one of its own.
+fn is_own(view: &LoopView<'_, '_>, privates: &[Name], occurrence: &Occurrence<'_>) -> bool
+    ensures { result ≡ spec.is_own (seen view.now) (map letters privates.now) (occurrence_of occurrence.now) }
+{
+    occurrence.reference.name == view.head().variable.name
+        || has_name(privates, occurrence.reference.name)
+}
+
+fn judge_entry(
+    verdict: &mut Verdict,
+    view: &LoopView<'_, '_>,
+    events: &[usize],
+    claims: &Claims,
+    privates: &[Name],
+    first: &Entry<'_, '_>,
+    entries: &[Entry<'_, '_>],
+    places: &[usize],
+)
+    ensures { verdict_of verdict.new ≡ with_row (seen view.now) events.now (claim_in claims.now) (map letters privates.now) (entry_of first.now) (map entry_of entries.now) places.now (verdict_of verdict.old) }
+{
+    if !is_own(view, privates, first.occurrence) {
+        judge_partners(verdict, view, events, claims, first, entries, places);
+    }
+}
+
+/// Judges each reference with those of its variable.
+pub fn judge(
+    view: &LoopView<'_, '_>,
+    events: &[usize],
+    claims: &Claims,
+    privates: &[Name],
+    entries: &[Entry<'_, '_>],
+    groups: &Groups,
+) -> Verdict
+    ensures { verdict_of result ≡ with_groups (seen view.now) events.now (claim_in claims.now) (map letters privates.now) (groups_of groups.now) (map entry_of entries.now) (map entry_of entries.now) spec.best }
+{
+    let mut verdict = Verdict {
+        ahead: true,
+        held: true,
+        claims: true,
+    };
+    for first in entries {
+        judge_entry(
+            &mut verdict,
+            view,
+            events,
+            claims,
+            privates,
+            first,
+            entries,
+            groups.row(first.occurrence.reference.cell),
+        );
+    }
+    verdict
+}
