@@ -9,8 +9,8 @@ use Rattle.loop_tree.specs.Loops.{IsWhole, Loop}
 use Rattle.loop_tree.specs.Private.{Private}
 use Rattle.loop_tree.specs.Told.{are_told, known}
 use Rattle.placement.specs.Analysed.{AreAnalysed, HasManySources}
-use Rattle.placement.specs.Fitting.{has_name}
-use Rattle.placement.specs.Judged.{IsHindered, IsJudged, IsPlain, IsSuiting, hides, suits_by}
+use Rattle.dependence.specs.Hiding.{has_name, hides}
+use Rattle.placement.specs.Judged.{IsHindered, IsJudged, IsPlain, IsSuiting, suits_by}
 use Rattle.placement.specs.Placement.{AreSources, IsLowest, Reason, SomeEligible}
 use Rattle.placement.specs.declared.analysis.Analysis.{Analysis}
 use Rattle.placement.specs.declared.planning.Judged.{Judged}

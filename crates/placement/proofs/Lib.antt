@@ -8,7 +8,6 @@ pub mod Early
 pub mod Eligible
 pub mod Entries
 pub mod Few
-pub mod Fitted
 pub mod Going
 pub mod Grouping
 pub mod Holding

@@ -1,6 +1,7 @@
 -- What is placed is what placement promises.
 use Rattle.std.proofs.Common.{◌≡◌, ◌∙◌, ◌+◌, inl, inr, ap, ℕ, Bool, true, false, List, map}
 use Rattle.ast.specs.Tree.{Block}
+use Rattle.dependence.specs.Hiding.{hides}
 use Rattle.dependence.specs.Kept.{Suits}
 use Rattle.dependence.specs.Plan.{PlanTree}
 use Rattle.dependence.specs.PlanView.{plan_of}
@@ -8,7 +9,7 @@ use Rattle.dependence.specs.declared.plan.LoopPlan.TheVariants.{Serial}
 use Rattle.loop_tree.specs.Loops.{IsWhole, Loop}
 use Rattle.loop_tree.specs.Told.{are_told, known}
 use Rattle.placement.specs.Analysed.{AreAnalysed, AreTriples, triple}
-use Rattle.placement.specs.Judged.{IsHindered, IsOpened, IsPlaced, IsPlain, hides}
+use Rattle.placement.specs.Judged.{IsHindered, IsOpened, IsPlaced, IsPlain}
 use Rattle.placement.specs.Listed.{awaited}
 use Rattle.placement.specs.Placement.{AreAwaits, AreSources, IsPlacedBody}
 use Rattle.placement.specs.Placing.{placed_block}

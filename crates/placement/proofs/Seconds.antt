@@ -12,7 +12,7 @@ use Rattle.loop_tree.specs.Loops.{Loop}
 use Rattle.loop_tree.specs.Occurrences.{Occurrence}
 use Rattle.loop_tree.specs.Told.{are_told, iff, is_told, known, references}
 use Rattle.placement.specs.Analysed.{Triple}
-use Rattle.placement.specs.Fitting.{has_name}
+use Rattle.dependence.specs.Hiding.{has_name}
 use Rattle.placement.specs.Looked.{ArePairs, Found, after_all, after_first, after_pair, after_places, after_some, all_at, all_found, defining_at, is_definition_of, is_of, is_own, kept_by, kept_distance, none_found, partners_of, places, relation_by, shared_in, shared_of, triple_of, with_new_source, with_source}
 use Rattle.placement.specs.Placement.{is_ascending, is_looked_at, relations_of, relations_with}
 use Rattle.placement.specs.declared.pairs.Pairs.{Pairs}

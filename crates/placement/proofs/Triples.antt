@@ -10,7 +10,7 @@ use Rattle.dependence.specs.declared.relation.Relation.TheVariants.{Apart, Dista
 use Rattle.loop_tree.specs.Loops.{Loop}
 use Rattle.loop_tree.specs.Occurrences.{Occurrence}
 use Rattle.placement.specs.Analysed.{Triple}
-use Rattle.placement.specs.Fitting.{has_name}
+use Rattle.dependence.specs.Hiding.{has_name}
 use Rattle.placement.specs.Looked.{kept_by, kept_distance, triple_of}
 use Rattle.placement.specs.Placement.{AreSources, is_looked_at}
 use Rattle.placement.proofs.Privates.{name_of, scalar_of}

@@ -1,25 +1,19 @@
 -- What a loop is by itself, and what placement gives for it.
 use Rattle.std.specs.Prelude.{◌≡◌, ◌⊎◌, ℕ, Bool, true, false, List, [], map, Some}
-use Rattle.std.specs.List.{list_all}
-use Rattle.ast.specs.Tree.{Ref}
 use Rattle.ast.specs.View.{letters}
-use Rattle.dependence.specs.Kept.{IsNonzero, Suits, block_reads, block_variables}
+use Rattle.dependence.specs.Hiding.{hides}
+use Rattle.dependence.specs.Kept.{IsNonzero, Suits, block_reads}
 use Rattle.dependence.specs.Plan.{PlanTree}
 use Rattle.dependence.specs.PlanView.{plan_of}
 use Rattle.dependence.specs.declared.plan.LoopPlan.TheVariants.{Serial}
 use Rattle.loop_tree.specs.Loops.{Loop}
 use Rattle.placement.specs.Analysed.{AreAnalysed, AreTriples, HasManySources, triple}
-use Rattle.placement.specs.Fitting.{has_name}
 use Rattle.placement.specs.Opening.{NoneSuits}
 use Rattle.placement.specs.Placement.{AreSources, IsLowest, IsPlacedBody, SomeEligible}
 use Rattle.placement.specs.declared.planning.Judged.{Judged}
 use Rattle.placement.specs.declared.planning.Judged.TheVariants as judged
 use Rattle.placement.specs.declared.planning.Placed.{Placed}
 use Rattle.privatise.specs.Privates.{ArePrivate}
-
--- the variables of all loops inside are among names
-abbrev pub hides : List (List ℕ) → Loop → Bool
-hides names l = list_all (λ (r : Ref). has_name names r.name) (block_variables l.body)
 
 -- the step is a constant other than 0, there is no READ, and these are all private names
 pub record IsPlain (l : Loop) (names : List (List ℕ)) : Type 0 where

@@ -1,7 +1,6 @@
 pub mod Acceptance
 pub mod Analysed
 pub mod Awaiting
-pub mod Fitting
 pub mod Judged
 pub mod Listed
 pub mod Looked

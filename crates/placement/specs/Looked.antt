@@ -13,7 +13,7 @@ use Rattle.loop_tree.specs.Occurrences.{Occurrence}
 use Rattle.loop_tree.specs.Told.{are_told, known}
 use Rattle.loop_tree.specs.View.{occurrence}
 use Rattle.placement.specs.Analysed.{Triple, triple}
-use Rattle.placement.specs.Fitting.{has_name}
+use Rattle.dependence.specs.Hiding.{has_name}
 use Rattle.placement.specs.Listed.{list_at}
 use Rattle.placement.specs.declared.analysis.Analysis.{Analysis}
 use Rattle.placement.specs.declared.pairs.Pairs.{Pairs}

@@ -3,7 +3,6 @@
 
 mod analysis;
 mod counting;
-mod fitting;
 mod laws;
 mod nested;
 mod pairs;

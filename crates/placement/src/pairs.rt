@@ -7,10 +7,10 @@ ghost use Rattle.loop_tree.specs.View.{occurrence as occurrence_of};
 ghost use Rattle.placement.specs.Listed.{list_at};
 ghost use Rattle.placement.specs.Looked as spec;
 
-use crate::fitting::has_name;
+
 use crate::nested::{at, push_at};
 use ast::{Name, Reference};
-use dependence::forms;
+use dependence::{forms, has_name};
 use loop_tree::{LoopView, Occurrence};
 use std::alloc::{AllocError, Global};
 use subscripts::Affine;

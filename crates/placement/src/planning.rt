@@ -1,22 +1,19 @@
 //! Plans of loops.
 
-ghost use Rattle.std.specs.Prelude.{◌≡◌, IfOk, false, map, true};
-ghost use Rattle.ast.specs.View.{letters};
-ghost use Rattle.dependence.specs.Kept.{IsNonzero, block_reads};
+ghost use Rattle.std.specs.Prelude.{◌≡◌, IfOk, false, true};
+ghost use Rattle.dependence.specs.Kept.{IsNonzero};
 ghost use Rattle.dependence.specs.declared.plan.LoopPlan.TheVariants.{Serial};
 ghost use Rattle.loop_tree.specs.Loops.{AreWhole, IsWhole};
 ghost use Rattle.loop_tree.specs.TreeView.{all_seen, seen};
-ghost use Rattle.placement.specs.Judged.{IsInside, IsJudged, IsOpened, IsPlaced, IsSuiting, hides};
+ghost use Rattle.placement.specs.Judged.{IsInside, IsJudged, IsOpened, IsPlaced, IsSuiting};
 ghost use Rattle.placement.specs.Placement.{IsPlacement, around_in};
 ghost use Rattle.placement.specs.declared.planning.Judged.TheVariants as judged;
 
 use crate::analysis::{Analysis, Kept, analyse};
 use crate::counting::add;
-use crate::fitting::{hide_inner, reads};
 use crate::placing::placed_range;
 use crate::spots::spots_of;
-use ast::Name;
-use dependence::LoopPlan;
+use dependence::{LoopPlan, has_read, hides_inner};
 use loop_tree::{LoopView, ScalarSet};
 use privatise::private_scalars;
 use std::alloc::{AllocError, Global};
@@ -70,22 +67,6 @@ fn is_nonzero(step: Option<i64>) -> bool
         Some(step) => step != 0,
         None => false,
     }
-}
-
-/// Whether there is a READ in a loop.
-#[tactic(auto, using(crate::proofs::Fitted::has_read))]
-fn has_read(view: &LoopView<'_, '_>) -> bool
-    ensures { result ≡ block_reads (seen view.now).body }
-{
-    reads(view.body())
-}
-
-/// Whether the variables of all loops inside are among names.
-#[tactic(auto, using(crate::proofs::Fitted::hides_inner))]
-fn hides_inner(view: &LoopView<'_, '_>, names: &[Name]) -> bool
-    ensures { result ≡ hides (map letters names.now) (seen view.now) }
-{
-    hide_inner(view.body(), names)
 }
 
 fn judge(alloc: Global, view: &LoopView<'_, '_>) -> Result<Judged, AllocError>
