@@ -2,7 +2,7 @@
 use Rattle.std.proofs.Common.{◌≡◌, ◌∙◌, ◌+◌, ◌<◌, ◌≤◌, ℕ, suc, Bool, true, false, List, [], ◌∷◌, drop, drop-cons, get_or, length, map, refl, ap, sym, subst, Option, Some, None, arith, if◌then◌else◌}
 use Rattle.std.specs.Prelude.{◌↔◌, nat_lt, slice_get}
 use Rattle.std.specs.List.{Contains}
-use Rattle.dependence.specs.Kept.{Kept, most_events}
+use Rattle.dependence.specs.Kept.{most_events}
 use Rattle.loop_tree.specs.Loops.{Loop}
 use Rattle.placement.specs.Analysed.{AreAnalysed, HasManySources, Triple, are_sorted, triple}
 use Rattle.loop_tree.specs.Occurrences.{Occurrence}
@@ -37,8 +37,9 @@ module _ (l : Loop) (ps : List (List ℕ)) (p : Pairs) (are : ArePairs l ps p) w
         triples = record {
           sorted = sorted;
           each = λ s t d. (
-          (λ i. kept_sound l ps privates (t, s, d) (among (t, s, d) all (subst (λ (ks : List Triple). Contains ks (t, s, d)) kept ((same (t, s, d)).0 i)))),
-          (λ k. (same (t, s, d)).1 (subst (λ (ks : List Triple). Contains ks (t, s, d)) (sym kept) (contained (t, s, d) all (kept_whole l ps privates s t d k)))));
+            (λ i. kept_sound l ps privates (t, s, d) (among (t, s, d) all (subst (λ (ks : List Triple). Contains ks (t, s, d)) kept ((same (t, s, d)).0 i)))),
+            (λ k. (same (t, s, d)).1 (subst (λ (ks : List Triple). Contains ks (t, s, d)) (sym kept) (contained (t, s, d) all (kept_whole l ps privates s t d k)))),
+          );
         };
         relations = ap (λ v. map (λ q. (q.0.0, q.1.0, q.2)) v.items) same_relations ∙ ap (λ (f : Found). f.relations) found.0 ∙ found_relations l ps are.told p are;
       }
@@ -70,7 +71,7 @@ pub many : (l : Loop) (p : Pairs) (n : ℕ) (firsts rest : List Occurrence) (a :
     → n < length (all_found l p).sources
 many l p n firsts rest a f g cut whole is less =
     let all : after_all l p rest g ≡ all_found l p =
-        ap (λ (h : Found). after_all l p rest h) is ∙ sym (ap (λ (os : List Occurrence). after_all l p os f) cut) ∙ whole in
+    ap (λ (h : Found). after_all l p rest h) is ∙ sym (ap (λ (os : List Occurrence). after_all l p os f) cut) ∙ whole in
     let e = ap (λ (h : Found). length h.sources) all in
     let m = all_more l p rest g in
     omega (arith, e, m, less)

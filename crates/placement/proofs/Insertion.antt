@@ -1,5 +1,5 @@
 -- Sources in order, with one more.
-use Rattle.std.proofs.Common.{◌≡◌, ◌∙◌, ◌+◌, ◌<◌, ◌≤◌, ◌⊎◌, inl, inr, ℕ, zero, suc, Bool, true, false, ◌&&◌, List, [], ◌∷◌, length, get_or, refl, ap, sym, subst, ⊎_elim, arith, if◌then◌else◌}
+use Rattle.std.proofs.Common.{◌≡◌, ◌+◌, ◌<◌, ◌≤◌, ◌⊎◌, inl, inr, ℕ, zero, suc, Bool, true, false, List, [], ◌∷◌, length, get_or, refl, ap, sym, subst, ⊎_elim, arith, if◌then◌else◌}
 use Rattle.std.specs.Prelude.{◌==◌, nat_lt, Ok, Err}
 use Rattle.std.specs.List.{insert}
 use Rattle.std.specs.List.Sorted.{IsBinarySearchResult}

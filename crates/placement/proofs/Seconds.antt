@@ -1,5 +1,5 @@
 -- The references that one is looked at with: by their places among those that iterations share.
-use Rattle.std.proofs.Common.{◌≡◌, ◌∙◌, ◌+◌, ◌<◌, inl, inr, ℕ, Bool, true, false, not, ◌&&◌, ◌||◌, List, [], ◌∷◌, ◌++◌, length, map, refl, ap, sym, subst, ⊎_elim, Option, Some, None, arith, append_assoc, append-nil, length-append, if◌then◌else◌}
+use Rattle.std.proofs.Common.{◌≡◌, ◌∙◌, ◌+◌, inl, inr, ℕ, Bool, true, false, not, ◌&&◌, ◌||◌, List, [], ◌∷◌, ◌++◌, length, map, refl, ap, sym, subst, ⊎_elim, Option, Some, None, arith, append_assoc, append-nil, length-append, if◌then◌else◌}
 use Rattle.std.specs.Prelude.{◌==◌, nat_lt, slice_get}
 use Rattle.std.specs.List.{list_all}
 use Rattle.std.proofs.lemmas.Bool.{and_parts, le-ltb, lt-ltb, true≢false}
@@ -113,9 +113,9 @@ module _ (l : Loop) (ps : List (List ℕ)) where
       let joined : (front ++ b ∷ []) ++ os ≡ whole = append_assoc front (b ∷ []) os in
       let size : length (front ++ b ∷ []) ≡ length front + 1 = length-append front (b ∷ []) in
       let next : (g : Found) → after_places l whole a (places test (length front + 1) os) g ≡ after_each a (seconds a os) g = λ g.
-          sym (ap (λ (xs : List Occurrence). after_places l xs a (places test (length front + 1) os) g) joined)
-          ∙ sym (ap (λ (n : ℕ). after_places l (front ++ b ∷ [] ++ os) a (places test n os) g) size)
-          ∙ through a (front ++ b ∷ []) os g in
+      sym (ap (λ (xs : List Occurrence). after_places l xs a (places test (length front + 1) os) g) joined)
+      ∙ sym (ap (λ (n : ℕ). after_places l (front ++ b ∷ [] ++ os) a (places test n os) g) size)
+      ∙ through a (front ++ b ∷ []) os g in
       by whole (length front) (places test (length front + 1) os) (at_seam front b os) next (test b)
     where
       by : (whole : List Occurrence) (n : ℕ) (rest : List ℕ) → slice_get whole n ≡ Some b → ((g : Found) → after_places l whole a rest g ≡ after_each a (seconds a os) g) → (c : Bool)
@@ -319,9 +319,9 @@ module _ (l : Loop) (ps : List (List ℕ)) where
           let kept = each_kept a (seconds a l.references) f in
           let whole = first_found a f i in
           let right : Sourced (with_new_source a.statement f g).sources (f.kept ++ qs) =
-              subst (λ (ss : List ℕ). Sourced (if nat_lt (length f.kept) (length g.kept) then with_source a.statement ss else ss) (f.kept ++ qs)) (sym (each_sources a (seconds a l.references) f))
-              (subst (λ (ks : List Triple). Sourced (if nat_lt (length f.kept) (length ks) then with_source a.statement f.sources else f.sources) (f.kept ++ qs)) (sym kept)
-              (more_sourced a.statement f.sources f.kept qs (λ k j. kept_source a (seconds a l.references) k j) h)) in
+          subst (λ (ss : List ℕ). Sourced (if nat_lt (length f.kept) (length g.kept) then with_source a.statement ss else ss) (f.kept ++ qs)) (sym (each_sources a (seconds a l.references) f))
+          (subst (λ (ks : List Triple). Sourced (if nat_lt (length f.kept) (length ks) then with_source a.statement f.sources else f.sources) (f.kept ++ qs)) (sym kept)
+          (more_sourced a.statement f.sources f.kept qs (λ k j. kept_source a (seconds a l.references) k j) h)) in
           subst (λ (r : Found). Sourced r.sources r.kept) (sym whole) (subst (λ (ks : List Triple). Sourced (with_new_source a.statement f g).sources ks) (sym kept) right)
 
       all_sourced : (firsts : List Occurrence) (f : Found) → ((a : Occurrence) → In a firsts → In a sh) → Sourced f.sources f.kept → Sourced (after_all l p firsts f).sources (after_all l p firsts f).kept

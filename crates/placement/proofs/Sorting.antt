@@ -118,5 +118,6 @@ module _ (E : Kept → Kept → Bool) (ties : (x y : Kept) → E x y ≡ eq_by_c
 
   pub same_triples : (xs ys zs : List Kept) → IsPermutation xs ys → zs ≡ dedup E ys → (k : Triple) → Contains (map triple zs) k ↔ Contains (map triple xs) k
   same_triples xs ys zs p is k = (
-      (λ c. moved zs xs (λ x d. Contains-permutation ys xs x (IsPermutation-sym xs ys p) (Contains-from_dedup E ys x (subst (λ (ws : List Kept). Contains ws x) is d))) k c),
-      (λ c. moved xs zs (λ x d. subst (λ (ws : List Kept). Contains ws x) (sym is) (kept_in ys x (Contains-permutation xs ys x p d))) k c))
+    (λ c. moved zs xs (λ x d. Contains-permutation ys xs x (IsPermutation-sym xs ys p) (Contains-from_dedup E ys x (subst (λ (ws : List Kept). Contains ws x) is d))) k c),
+    (λ c. moved xs zs (λ x d. subst (λ (ws : List Kept). Contains ws x) (sym is) (kept_in ys x (Contains-permutation xs ys x p d))) k c),
+  )

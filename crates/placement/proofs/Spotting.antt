@@ -1,7 +1,6 @@
 -- What statements await, by what is kept.
 use Rattle.std.proofs.Common.{◌≡◌, ◌∙◌, ◌+◌, ◌<◌, ◌≤◌, ◌⊎◌, inl, inr, ℕ, Bool, true, false, ◌&&◌, ◌||◌, List, [], ◌∷◌, ◌++◌, refl, ap, sym, subst, ⊎_elim, arith, if◌then◌else◌}
 use Rattle.std.specs.Prelude.{◌==◌, nat_lt}
-use Rattle.std.specs.List.{Contains}
 use Rattle.std.proofs.lemmas.Bool.{and_from, and_parts, eq-eqb, eqb-true, le-ltb, lt-ltb, ltb-true}
 use Rattle.dependence.specs.Kept.{Kept}
 use Rattle.loop_tree.specs.Loops.{Loop}
@@ -9,7 +8,7 @@ use Rattle.placement.specs.Analysed.{AreTriples, Triple, are_sorted, precedes}
 use Rattle.placement.specs.Placement.{AreAwaits, AreSources, IsEvent, are_in_order, comes_first, is_ascending}
 use Rattle.placement.specs.Spotted.{awaits_of, event_of}
 use Rattle.placement.proofs.Few.{above, tail_ascending}
-use Rattle.plan_check.proofs.Members.{In, among, contained, in_left, in_right, in_which}
+use Rattle.plan_check.proofs.Members.{In, among, contained, in_left, in_right}
 
 -- ---- events
 
@@ -177,10 +176,11 @@ are_awaits l ss ks t sources triples =
           let w = awaited_in ss t ks (e, d) (among (e, d) (awaits_of ss t ks) c) in
           let k = w.triple in
           let event : e ≡ event_of 1 ss k.1 = ap (λ (a : ℕ × ℕ). a.0) w.at in
-          let distance : d ≡ k.2 = ap (λ (a : ℕ × ℕ). a.1) w.at in
-          (k.1,
-          subst (λ (n : ℕ). IsEvent 1 ss n k.1) (sym event) (is_event 1 ss k.1 sources.ascending (source k w.kept)),
-          subst (λ (n : ℕ). Kept l k.1 t n) (sym distance) (subst (λ (n : ℕ). Kept l k.1 n k.2) w.sink (from k w.kept)));
+          let distance : d ≡ k.2 = ap (λ (a : ℕ × ℕ). a.1) w.at in (
+            k.1,
+            subst (λ (n : ℕ). IsEvent 1 ss n k.1) (sym event) (is_event 1 ss k.1 sources.ascending (source k w.kept)),
+            subst (λ (n : ℕ). Kept l k.1 t n) (sym distance) (subst (λ (n : ℕ). Kept l k.1 n k.2) w.sink (from k w.kept)),
+          );
       all = λ s d k.
           let i = among (t, s, d) ks ((triples.each s t d).1 k) in
           (event_of 1 ss s, is_event 1 ss s sources.ascending (source (t, s, d) i), contained (event_of 1 ss s, d) (awaits_of ss t ks) (in_awaited ss t ks s d i));

@@ -1,6 +1,5 @@
 -- What is kept of a loop's dependences, among the pairs that are looked at.
-use Rattle.std.proofs.Common.{◌≡◌, ◌∙◌, ◌<◌, inl, inr, ℕ, Bool, true, false, not, ◌&&◌, ◌||◌, List, [], ◌∷◌, ◌++◌, length, refl, ap, sym, subst, ⊎_elim, Option, Some, None, if◌then◌else◌}
-use Rattle.std.specs.List.{Contains, list_any}
+use Rattle.std.proofs.Common.{◌≡◌, ◌∙◌, inl, inr, ℕ, Bool, true, false, not, ◌||◌, List, [], ◌∷◌, refl, ap, sym, subst, ⊎_elim, Option, Some, None, if◌then◌else◌}
 use Rattle.std.proofs.lemmas.Bool.{and_from, and_parts, not-true, not_from_false, true≢false}
 use Rattle.ast.specs.Store.{same_name}
 use Rattle.dependence.specs.Kept.{Kept, KeptAt, PrivateName}
@@ -139,9 +138,9 @@ module _ (l : Loop) (ps : List (List ℕ)) where
     pub kept_whole : (s t d : ℕ) → Kept l s t d → In (t, s, d) (kept_of l ps l.references l.references)
     kept_whole s t d k =
         let look : is_looked_at l ps k.a k.b ≡ true =
-            and_from (same_name k.a.ref.name k.b.ref.name) _ k.looked_at.name
-            (and_from (not (same_name k.a.ref.name l.head.variable.name)) _ (not_from_false (same_name k.a.ref.name l.head.variable.name) k.looked_at.other)
-            (and_from (not (has_name ps k.a.ref.name)) (k.a.defines || k.b.defines) (not_from_false (has_name ps k.a.ref.name) (no_name k.a.ref.name k.shared)) k.looked_at.defining)) in
+        and_from (same_name k.a.ref.name k.b.ref.name) _ k.looked_at.name
+        (and_from (not (same_name k.a.ref.name l.head.variable.name)) _ (not_from_false (same_name k.a.ref.name l.head.variable.name) k.looked_at.other)
+        (and_from (not (has_name ps k.a.ref.name)) (k.a.defines || k.b.defines) (not_from_false (has_name ps k.a.ref.name) (no_name k.a.ref.name k.shared)) k.looked_at.defining)) in
         let i = of_pair k.a k.b d l.references l.references (among k.a l.references k.looked_at.a_in) (among k.b l.references k.looked_at.b_in) look (at_distance (relation l k.a k.b) d k.at) in
         subst (λ (x : ℕ). In (t, x, d) (kept_of l ps l.references l.references)) k.source
         (subst (λ (x : ℕ). In (x, k.a.statement, d) (kept_of l ps l.references l.references)) k.sink i)

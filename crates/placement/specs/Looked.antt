@@ -1,5 +1,5 @@
 -- An account of the code: what is found by looking at a reference with its partners, in order.
-use Rattle.std.specs.Prelude.{◌≡◌, ◌<◌, ◌≤◌, ◌==◌, ◌+◌, nat_lt, ℕ, Bool, true, false, ◌&&◌, ◌||◌, List, [], ◌∷◌, ◌++◌, length, map, Option, Some, None, if◌then◌else◌, slice_get}
+use Rattle.std.specs.Prelude.{◌≡◌, ◌<◌, ◌≤◌, ◌==◌, ◌+◌, nat_lt, ℕ, Bool, true, ◌&&◌, ◌||◌, List, [], ◌∷◌, ◌++◌, length, map, Option, Some, None, if◌then◌else◌, slice_get}
 use Rattle.std.specs.List.{All}
 use Rattle.ast.specs.Store.{same_name}
 use Rattle.ast.specs.Tree.{Ref}

@@ -1,13 +1,13 @@
 //! What is kept of a loop's dependences.
 
 ghost use Rattle.std.specs.List.{All, Contains};
-ghost use Rattle.std.specs.Prelude.{◌≡◌, ◌↔◌, ◌<◌, ◌≤◌, ◌⊎◌, IfOk, OnOk, length, map, slice_get, true};
+ghost use Rattle.std.specs.Prelude.{◌≡◌, ◌↔◌, IfOk, OnOk, map, slice_get, true};
 ghost use Rattle.ast.specs.View.{letters};
 ghost use Rattle.dependence.specs.Tests.{relation as relation_of};
 ghost use Rattle.loop_tree.specs.TreeView.{seen};
 ghost use Rattle.placement.specs.Analysed.{IsFound, Triple, are_sorted, triple};
 ghost use Rattle.placement.specs.Looked as spec;
-ghost use Rattle.placement.specs.Looked.{HasForms, found_in, occurrence_in, shared_in};
+ghost use Rattle.placement.specs.Looked.{HasForms, found_in, occurrence_in};
 ghost use Rattle.placement.specs.Placement.{is_ascending};
 ghost use Rattle.privatise.specs.Privates.{ArePrivate};
 

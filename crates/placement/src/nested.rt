@@ -1,6 +1,6 @@
 //! Lists of lists, by number.
 
-ghost use Rattle.std.specs.Prelude.{◌≡◌, ◌<◌, ◌++◌, ◌==◌, [], ◌∷◌, OnOk, ℕ, if◌then◌else◌, length, slice_get};
+ghost use Rattle.std.specs.Prelude.{◌≡◌, ◌<◌, ◌++◌, ◌==◌, [], ◌∷◌, OnOk, ℕ, if◌then◌else◌, length};
 ghost use Rattle.placement.specs.Listed.{list_at};
 
 use std::alloc::{AllocError, Global};

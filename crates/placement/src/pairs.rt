@@ -1,6 +1,6 @@
 //! The references of a loop that its iterations share.
 
-ghost use Rattle.std.specs.Prelude.{◌≡◌, ◌++◌, ◌==◌, [], ◌∷◌, IfOk, OnOk, ℕ, if◌then◌else◌, map, slice_get};
+ghost use Rattle.std.specs.Prelude.{◌≡◌, ◌++◌, [], ◌∷◌, IfOk, OnOk, ℕ, if◌then◌else◌, map};
 ghost use Rattle.ast.specs.View.{letters, ref};
 ghost use Rattle.loop_tree.specs.TreeView.{seen};
 ghost use Rattle.loop_tree.specs.View.{occurrence as occurrence_of};
@@ -55,11 +55,7 @@ fn add_defining(
 }
 
 /// Adds a shared reference.
-fn add<'p>(
-    alloc: Global,
-    pairs: &mut Pairs<'p>,
-    shared: Shared<'p>,
-) -> Result<(), AllocError>
+fn add<'p>(alloc: Global, pairs: &mut Pairs<'p>, shared: Shared<'p>) -> Result<(), AllocError>
     requires { spec.AreGrouped pairs.old }
     ensures shared { OnOk result (pairs.new.shared.items ≡ pairs.old.shared.items ++ shared.entry ∷ []) }
     ensures grouped { OnOk result (spec.AreGrouped pairs.new) }

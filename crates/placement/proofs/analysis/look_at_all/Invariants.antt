@@ -7,6 +7,6 @@ abbrev pub invariant-loop-place : goal.invariant-loop-place
 invariant-loop-place l = record {
   sources : l.analysis.sources ≡ l.fn.analysis.sources;
   found :
-    after_places (seen l.view) (map occurrence_in l.shared) (occurrence_in l.first) (drop l.place-index l.places) (found_in l.analysis)
-    ≡ after_places (seen l.view) (map occurrence_in l.shared) (occurrence_in l.first) l.places (found_in l.fn.analysis);
+      after_places (seen l.view) (map occurrence_in l.shared) (occurrence_in l.first) (drop l.place-index l.places) (found_in l.analysis)
+      ≡ after_places (seen l.view) (map occurrence_in l.shared) (occurrence_in l.first) l.places (found_in l.fn.analysis);
 }

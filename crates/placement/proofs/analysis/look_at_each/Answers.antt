@@ -1,4 +1,4 @@
-use Rattle.std.proofs.Common.{◌≡◌, ◌∙◌, ◌+◌, ◌<◌, ap, drop, get_or, length, map, sym, subst, arith}
+use Rattle.std.proofs.Common.{◌≡◌, ◌+◌, ◌<◌, drop, get_or, length, map, subst, arith}
 use Rattle.std.specs.Prelude.{List}
 use Rattle.loop_tree.specs.TreeView.{seen}
 use Rattle.placement.specs.Looked.{found_in, occurrence_in}
