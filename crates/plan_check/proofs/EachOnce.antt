@@ -29,6 +29,7 @@ any_same test (x ∷ es) e h = by (x == e) refl (λ k. any_same test es e k)
     swap false b true h = cc
     swap false true false h = refl
     swap false false false h = refl
+
     by : (q : Bool) → (x == e) ≡ q → (has_event es e ≡ true → list_any test es ≡ (list_any test es || test e)) → list_any test (x ∷ es) ≡ (list_any test (x ∷ es) || test e)
     by true k rest = swap (test x) (list_any test es) (test e) (ap test (eqb-true x e k))
     by false k rest = ap (λ b. test x || b) (rest (sym (ap (λ q. q || has_event es e) k) ∙ h)) ∙ or_assoc (test x) (list_any test es) (test e)

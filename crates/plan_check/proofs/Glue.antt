@@ -6,9 +6,8 @@ use Rattle.dependence.specs.Plan.{PlanTree}
 use Rattle.loop_tree.specs.Loops.{Loop}
 use Rattle.loop_tree.specs.Occurrences.{Occurrence}
 use Rattle.loop_tree.specs.Paths.{Token, uses, defines, await, advance}
-use Rattle.plan_check.specs.Checking as checking
 use Rattle.plan_check.specs.Checking.{at_references, entries, has_name, is_in_order, is_late, reference_tokens}
-use Rattle.plan_check.specs.Entries.{entries_by, entry_by, joined_entry}
+use Rattle.plan_check.specs.Entries.{entries_by, joined_entry}
 use Rattle.plan_check.specs.Flow.{Point, has_awaited, is_defined, is_free}
 use Rattle.plan_check.specs.Judging as judging
 use Rattle.plan_check.specs.Walking as walking

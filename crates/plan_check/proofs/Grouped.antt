@@ -9,9 +9,9 @@ use Rattle.dependence.specs.declared.relation.Relation.{Relation}
 use Rattle.loop_tree.specs.Loops.{Loop}
 use Rattle.loop_tree.specs.Occurrences.{Occurrence}
 use Rattle.loop_tree.specs.Told.{are_told, iff, is_told, known, references}
-use Rattle.plan_check.specs.Entries.{entries_by, entry_by}
-use Rattle.plan_check.specs.Grouping.{at_cell, cell_of, chosen, row_at, with_chosen, with_groups, with_optional, with_places, with_row}
-use Rattle.plan_check.specs.Judging.{Entry, Verdict, by_claim, is_own, is_pair, with_all, with_entry, with_pair, with_partners}
+use Rattle.plan_check.specs.Entries.{entries_by}
+use Rattle.plan_check.specs.Grouping.{at_cell, cell_of, chosen, row_at, with_chosen, with_groups, with_optional, with_places}
+use Rattle.plan_check.specs.Judging.{Entry, Verdict, by_claim, is_own, with_all, with_entry, with_pair, with_partners}
 use Rattle.plan_check.specs.Walking.{Note}
 
 behind : {X : Type 0} (f : X → Bool) (xs ys : List X) → list_all f (xs ++ ys) ≡ true → list_all f ys ≡ true
@@ -58,6 +58,7 @@ module _ (l : Loop) (events : List ℕ) (claim : ℕ → ℕ → Option Relation
     where
       told : (is_told x.occurrence.ref y.occurrence.ref ≡ true) × (list_all (λ (y : Entry). is_told x.occurrence.ref y.occurrence.ref) ys ≡ true)
       told = and_parts (is_told x.occurrence.ref y.occurrence.ref) (list_all (λ (y : Entry). is_told x.occurrence.ref y.occurrence.ref) ys) h
+
       by : (b : Bool) → (cell_of x == cell_of y) ≡ b
           → ((w : Verdict) → list_all (λ (y : Entry). is_told x.occurrence.ref y.occurrence.ref) ys ≡ true → with_partners l events claim x (at_cell (cell_of x) ys) w ≡ with_partners l events claim x ys w)
           → with_partners l events claim x (if b then y ∷ at_cell (cell_of x) ys else at_cell (cell_of x) ys) v ≡ with_partners l events claim x ys (with_pair l events claim x y v)

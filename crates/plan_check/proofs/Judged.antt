@@ -71,7 +71,7 @@ judged l p k s w told events ns named_by e claim claims es is rows grouped v h =
     let by_events : (test : ℕ → Bool) → list_any test events ≡ list_any (λ (n : ℕ × ℕ). test n.0) (named p.body) = λ test. named_by test ∙ ap (λ ms. list_any (λ (n : ℕ × ℕ). test n.0) ms) e in
     let cells_tell = subst (λ (xs : List Entry). list_all (λ (x : Entry). list_all (λ (y : Entry). is_told x.occurrence.ref y.occurrence.ref) xs) xs ≡ true) (sym is) (entries_told l s.notes told) in
     let whole : v ≡ with_all l events claim p.privates (map (joined_entry l) all) (map (joined_entry l) all) best =
-        h ∙ by_groups l events claim p.privates rows es es best cells_tell grouped ∙ ap (λ (xs : List Entry). with_all l events claim p.privates xs xs best) same in
+    h ∙ by_groups l events claim p.privates rows es es best cells_tell grouped ∙ ap (λ (xs : List Entry). with_all l events claim p.privates xs xs best) same in
     record {
       ahead = ap (λ (z : Verdict). z.ahead) whole ∙ ahead_all l p events claim by_events claims all;
       held = ap (λ (z : Verdict). z.held) whole ∙ held_all l p events claim by_events claims all;

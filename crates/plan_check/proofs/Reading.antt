@@ -1,8 +1,8 @@
 -- A plan whose body is a range without READ has none.
-use Rattle.std.proofs.Common.{◌≡◌, ◌∙◌, Bool, true, false, ◌||◌, List, ℕ, ap, refl, sym}
+use Rattle.std.proofs.Common.{◌≡◌, ◌∙◌, true, false, List, ℕ, ap}
 use Rattle.std.proofs.lemmas.Bool.{and_parts, or_parts}
 use Rattle.ast.specs.Tree.{Kind, program, integer, dimension, parameters, assign, do_loop, go_on, block_if, else_if, else_arm, end_if, logical_if, print, read, stop, end, Block}
-use Rattle.dependence.specs.Fitting.{arms_read, node_reads, reads}
+use Rattle.dependence.specs.Fitting.{arms_read, reads}
 use Rattle.dependence.specs.Kept.{block_reads, is_read}
 use Rattle.dependence.specs.Plan.{awaits, advances, plain, loop, choose, PlanBlock, no_nodes, then_node, PlanArms, no_arms, made_else, then_arm, PlanTree}
 use Rattle.dependence.proofs.Fitted.{has_read}

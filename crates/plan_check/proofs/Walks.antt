@@ -1,17 +1,13 @@
 -- What a walk answers.
-use Rattle.std.proofs.Common.{◌≡◌, ◌∙◌, Bool, true, false, not, ◌&&◌, Result, Ok, Err, IfOk, List, map, ap, refl, sym}
-use Rattle.std.specs.List.{list_all}
+use Rattle.std.proofs.Common.{◌≡◌, ◌∙◌, Bool, true, false, not, Result, Ok, Err, IfOk, List, map, ap, refl}
 use Rattle.std.proofs.lemmas.Bool.{and_parts}
 use Rattle.dependence.specs.Kept.{block_reads}
 use Rattle.dependence.specs.Plan.{PlanTree}
 use Rattle.loop_tree.specs.Loops.{Loop}
-use Rattle.loop_tree.specs.Occurrences.{Occurrence}
-use Rattle.loop_tree.specs.Paths.{Token}
 use Rattle.plan_check.specs.Checking.{cells_of, first, fits, is_step}
 use Rattle.plan_check.specs.Entries.{entries_by}
 use Rattle.plan_check.specs.Flow.{Known}
 use Rattle.plan_check.specs.GoodPlan.{SameBody}
-use Rattle.plan_check.specs.Judging as judging
 use Rattle.plan_check.specs.KnownView.{known as known_of}
 use Rattle.plan_check.specs.SeenView.{seen as seen_of}
 use Rattle.plan_check.specs.declared.start.Walked.{Walked}

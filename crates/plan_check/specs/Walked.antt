@@ -1,5 +1,5 @@
 -- An account of the code: what a walk over a plan's body and a pass over pairs answer.
-use Rattle.std.specs.Prelude.{◌≡◌, Bool, true, not, List, map}
+use Rattle.std.specs.Prelude.{◌≡◌, true, not, List, map}
 use Rattle.std.specs.List.{list_all}
 use Rattle.dependence.specs.Plan.{PlanTree}
 use Rattle.loop_tree.specs.Loops.{Loop}

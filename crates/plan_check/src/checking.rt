@@ -96,14 +96,7 @@ fn judge_all(
     let claims = claims_of(alloc, plan.relations)?;
     let entries = entries_of(alloc, view, view.references(), &walked.seen.notes)?;
     let groups = groups_of(alloc, &entries)?;
-    Ok(judge(
-        view,
-        &named,
-        &claims,
-        plan.privates,
-        &entries,
-        &groups,
-    ))
+    Ok(judge(view, &named, &claims, plan.privates, &entries, &groups))
 }
 
 /// The fault of pairs, if there is one.

@@ -92,8 +92,8 @@ fn judge_claim(
         None => {}
         Some(distance) => {
             verdict.ahead = verdict.ahead && is_ahead(events, &first.note.free);
-            verdict.held =
-                verdict.held && is_held(events, &first.note.free, &second.note.near, distance);
+            verdict.held = verdict.held
+                && is_held(events, &first.note.free, &second.note.near, distance);
         }
     }
     verdict.claims = verdict.claims && is_true(view, first, second, claim);

@@ -1,4 +1,4 @@
-use Rattle.std.proofs.Common.{◌≡◌, ◌∙◌, ap, map, sym}
+use Rattle.std.proofs.Common.{◌∙◌, ap, map, sym}
 use Rattle.std.specs.List.{list_any}
 use Rattle.loop_tree.specs.TreeView.{seen}
 use Rattle.plan_check.specs.ClaimsView.{claim_in}

@@ -1,4 +1,4 @@
-use Rattle.std.proofs.Common.{◌≡◌, ◌≤◌, ◌∙◌, ◌++◌, ap, sym, map, length, min, rules}
+use Rattle.std.proofs.Common.{◌≤◌, ◌∙◌, ◌++◌, ap, sym, map, length, min, rules}
 use Rattle.std.proofs.lemmas.List.{append-nil}
 use Rattle.loop_tree.specs.TreeView.{seen}
 use Rattle.loop_tree.specs.View.{occurrence}
