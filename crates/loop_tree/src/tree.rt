@@ -35,7 +35,7 @@ pub struct LoopView<'t, 'p> {
 }
 
 impl<'p> LoopTree<'p> {
-    ghost use Rattle.std.specs.Prelude.{◌≡◌, ◌≤◌, Some, length, map, option_map, true};
+    ghost use Rattle.std.specs.Prelude.{◌≡◌, ◌≤◌, IfSome, Some, length, map, option_map, true};
     ghost use Rattle.std.specs.List.{list_all};
     ghost use Rattle.ast.specs.References.{are_numbered};
     ghost use Rattle.loop_tree.specs.Collecting.{loop_by, loops_in};
@@ -102,7 +102,8 @@ impl<'p> LoopTree<'p> {
 
     /// The loop of a number, if there is one.
     fn find<'t>(&'t self, number: usize) -> Option<LoopView<'t, 'p>>
-        ensures { option_map seen result ≡ loop_numbered (loops_seen self.now) number }
+        ensures found { option_map seen result ≡ loop_numbered (loops_seen self.now) number }
+        ensures tree { IfSome result (λ view. all_seen view ≡ loops_seen self.now) }
     {
         if number == 0 || number > self.count() {
             None
@@ -121,9 +122,17 @@ impl<'t, 'p> LoopView<'t, 'p> {
     ghost use Rattle.loop_tree.specs.TreeView.{all_seen, seen};
     ghost use Rattle.loop_tree.specs.View.{occurrence};
 
+    /// The number of the loop around this one, if it is in one.
+    pub fn outer(&self) -> Option<usize>
+        ensures { result ≡ (seen self.now).around }
+    {
+        self.info.around
+    }
+
     /// The loop around this one, if it is in one.
     pub fn around(&self) -> Option<LoopView<'t, 'p>>
-        ensures { option_map seen result ≡ loop_around (all_seen self.now) (seen self.now) }
+        ensures found { option_map seen result ≡ loop_around (all_seen self.now) (seen self.now) }
+        ensures tree { IfSome result (λ outer. all_seen outer ≡ all_seen self.now) }
     {
         match self.info.around {
             Some(number) => self.tree.find(number),
