@@ -1,5 +1,5 @@
 -- What is reported of a program's loops.
-use Rattle.std.specs.Prelude.{◌≡◌, ◌==◌, ◌+◌, ⊤, ⊥, ℕ, Bool, true, false, if◌then◌else◌, List, [], ◌∷◌, map, Option, Some, None, slice_get}
+use Rattle.std.specs.Prelude.{◌≡◌, ◌==◌, ◌+◌, ⊤, ℕ, Bool, true, false, if◌then◌else◌, List, [], ◌∷◌, map, Option, Some, None, slice_get}
 use Rattle.ast.specs.Program.{ProgramTree}
 use Rattle.loop_tree.specs.Loops.{Loop, loops_of}
 use Rattle.loop_tree.specs.Occurrences.{block_lines}

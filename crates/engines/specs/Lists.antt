@@ -1,5 +1,5 @@
 -- What `list` may write of a source text.
-use Rattle.std.specs.Prelude.{◌≡◌, ◌⊎◌, ⊥, ℕ, List}
+use Rattle.std.specs.Prelude.{◌≡◌, ◌⊎◌, ℕ, List}
 use Rattle.ast.specs.Program.{ProgramTree}
 use Rattle.ast.specs.ProgramView.{program as program_of}
 use Rattle.codegen.specs.Program.{IsCodeOf, IsTooLong}

@@ -1,6 +1,6 @@
 //! The lines of a listing of loops.
 
-ghost use Rattle.std.specs.Prelude.{◌≡◌, ◌++◌, IfOk, OnOk, length, map};
+ghost use Rattle.std.specs.Prelude.{◌≡◌, ◌∷◌, ◌++◌, [], IfOk, OnOk, false, length, map, true};
 ghost use Rattle.ast.specs.View.{letters};
 ghost use Rattle.dependence.specs.PlanView.{plan_block};
 ghost use Rattle.engines.specs.Advanced.{spots as spots_in};
@@ -232,17 +232,20 @@ fn advances_in(
 fn append_body(
     out: &mut Vec<u8>,
     number: usize,
-    report: &LoopReport,
+    line: Line,
     names: &[Name],
+    sources: &[Line],
+    kept: &[(usize, u128, Line)],
     advanced: &[(usize, Spot)],
 ) -> Result<(), AllocError>
-    ensures { OnOk result (out.new.items ≡ out.old.items ++ spec.open_lines number report.now.line (map letters names.now) report.now.sources.items report.now.kept.items advanced.now) }
+    ensures { OnOk result (out.new.items ≡ out.old.items ++ spec.open_lines number line (map letters names.now) sources.now kept.now advanced.now) }
 {
-    append_open(out, number, report.line, report.sources.len())?;
+    append_open(out, number, line, sources.len())?;
     append_private(out, names)?;
-    append_events(out, &report.sources)?;
-    append_awaits(out, &report.kept)?;
-    append_all_advances(out, &report.sources, advanced)
+    append_events(out, sources)?;
+    append_awaits(out, kept)?;
+    append_all_advances(out, sources, advanced)?;
+    Ok(())
 }
 
 /// Appends the lines of a loop.
@@ -259,7 +262,15 @@ fn append_report(
         LoopPlan::Body { body, privates, .. } => {
             let names = in_order(alloc, &privates.names)?;
             let advanced = advances_in(alloc, report.line, body)?;
-            append_body(out, number, report, &names, &advanced)
+            append_body(
+                out,
+                number,
+                report.line,
+                &names,
+                &report.sources,
+                &report.kept,
+                &advanced,
+            )
         }
     }
 }
