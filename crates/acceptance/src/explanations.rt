@@ -1,7 +1,10 @@
 //! Examples and cures of the pages that explain a number.
 
-use engines::explain::{Explanation, Origin, fault, is_explained, refusal};
-use engines::{Outcome, check_text, replay_texts, seq_texts};
+use dependence::LoopPlan;
+use engines::explain::{
+    Explanation, Origin, fault, is_explained, is_reason, refusal, serial_reason,
+};
+use engines::{Outcome, Survey, check_text, replay_texts, seq_texts, surveyed};
 use std::process::Abort;
 use std::test::Fail;
 
@@ -80,6 +83,42 @@ fn examples_of_faults(rt: HostRuntime) -> Result<(), Fail> {
     for number in 0..=u8::MAX {
         if let Some(entry) = &fault(number) {
             explained(&rt, entry)?;
+        }
+    }
+    Ok(())
+}
+
+/// Whether a source has a loop that stays serial for a reason.
+fn has_serial(
+    rt: &(impl Abort + AllocGlobal),
+    source: &str,
+    wanted: u8,
+) -> Result<bool, Fail> {
+    let survey = surveyed(rt.alloc(), source.as_bytes())?;
+    let Survey::Loops { reports, .. } = &survey else {
+        panic!(rt; "a source of reason {wanted} is refused");
+    };
+    for report in reports {
+        if let LoopPlan::Serial(reason) = report.plan {
+            if reason == wanted {
+                return Ok(true);
+            }
+        }
+    }
+    Ok(false)
+}
+
+#[test]
+fn examples_of_serial_loops(rt: HostRuntime) -> Result<(), Fail> {
+    for number in 0..=u8::MAX {
+        assert_eq!(rt; is_reason(number), serial_reason(number).is_some());
+        if let Some(entry) = &serial_reason(number) {
+            if !entry.example.is_empty() {
+                assert!(rt; has_serial(&rt, entry.example, number)?);
+            }
+            if !entry.cure.is_empty() {
+                assert!(rt; !has_serial(&rt, entry.cure, number)?);
+            }
         }
     }
     Ok(())

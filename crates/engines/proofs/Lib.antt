@@ -4,4 +4,5 @@ pub mod Pages
 pub mod Replayed
 pub mod StoreRows
 pub mod Subscripts
+pub mod Surveys
 pub mod Upgrading
