@@ -1,5 +1,6 @@
 //! Examples and cures of the pages that explain a number.
 
+use codegen::LoopReport;
 use dependence::LoopPlan;
 use engines::explain::{
     Explanation, Origin, fault, is_explained, is_reason, refusal, serial_reason,
@@ -88,24 +89,22 @@ fn examples_of_faults(rt: HostRuntime) -> Result<(), Fail> {
     Ok(())
 }
 
-/// Whether a source has a loop that stays serial for a reason.
-fn has_serial(
-    rt: &(impl Abort + AllocGlobal),
-    source: &str,
-    wanted: u8,
-) -> Result<bool, Fail> {
-    let survey = surveyed(rt.alloc(), source.as_bytes())?;
-    let Survey::Loops { reports, .. } = &survey else {
-        panic!(rt; "a source of reason {wanted} is refused");
-    };
-    for report in reports {
-        if let LoopPlan::Serial(reason) = report.plan {
-            if reason == wanted {
-                return Ok(true);
-            }
-        }
+/// Whether a loop stays serial for a reason.
+fn is_serial(report: &LoopReport, wanted: u8) -> bool {
+    match report.plan {
+        LoopPlan::Serial(reason) => reason == wanted,
+        LoopPlan::Body { .. } => false,
     }
-    Ok(false)
+}
+
+/// Whether a source has a loop that stays serial for a reason.
+fn has_serial(rt: &(impl Abort + AllocGlobal), source: &str, wanted: u8) -> Result<bool, Fail> {
+    match &surveyed(rt.alloc(), source.as_bytes())? {
+        Survey::Loops { reports, .. } => {
+            Ok(reports.iter().any(|report| is_serial(report, wanted)))
+        }
+        Survey::Refused { .. } => panic!(rt; "a source of reason {wanted} is refused"),
+    }
 }
 
 #[test]
