@@ -19,6 +19,7 @@ use Rattle.loop_tree.specs.Told.{are_in_turn, are_told, iff, is_told, known, ref
 use Rattle.placement.specs.Acceptance.{IsAccepted}
 use Rattle.placement.specs.Placement.{IsEvent, IsPlacedBody}
 use Rattle.placement.specs.Placing.{block_size}
+use Rattle.placement.proofs.Cells.{has_private, known_reference, known_variable, private_cell, private_name}
 use Rattle.placement.proofs.Claims.{are_claimed}
 use Rattle.placement.proofs.Early.{never_early_of}
 use Rattle.placement.proofs.Eligible.{suits}
@@ -30,7 +31,6 @@ use Rattle.placement.proofs.Ordering.{event, has_below, ordered, proper, room, s
 use Rattle.placement.proofs.Positive.{kept_positive}
 use Rattle.placement.proofs.Privates.{name_of, scalar_of}
 use Rattle.placement.proofs.Ranges.{block_within}
-use Rattle.placement.proofs.Variables.{block_shows}
 use Rattle.plan_check.proofs.Members.{In, among, contained, in_left, in_right}
 use Rattle.plan_check.proofs.Parallel.{block_are}
 use Rattle.plan_check.proofs.Sound.{all_in, any_in, at_point, in_any, in_entries, in_map, is_same, not_false, ref_of, same_is, told_same}
@@ -53,17 +53,6 @@ at_distance : (r : Relation) (d : ℕ) → distance_of (Some r) ≡ Some d → K
 at_distance (Apart n reason) d h = cc
 at_distance (Distance n e) d h = cc
 at_distance Any d h = cc
-
-one_cell : (rs : List Ref) (q r : Ref) → are_told rs ≡ true → In q rs → In r rs → q.name ≡ r.name → q.cell ≡ r.cell
-one_cell rs q r h i j e =
-    let row = all_in (λ (x : Ref). list_all (λ (s : Ref). is_told x s) rs) rs q h i in
-    let one = all_in (λ (s : Ref). is_told q s) rs r row j in
-    eqb-true q.cell r.cell (by (q.cell == r.cell) (same_name q.name r.name) one (is_same q.name r.name e))
-  where
-    by : (a b : Bool) → iff a b ≡ true → b ≡ true → a ≡ true
-    by true b h e = refl
-    by false true h e = cc
-    by false false h e = cc
 
 module _ (cells : ℕ) (l : Loop) (p : PlanTree) (around : List Loop) (whole : IsWhole l) (turn : are_in_turn (references l.references) ≡ true) (told : are_told (known l) ≡ true)
     (enough : (c : ℕ) → has_cell c l.assigned ≡ true → c < cells) (eligible : EligibleIn l around) (placed : IsPlacedBody l p) where
@@ -98,33 +87,6 @@ module _ (cells : ℕ) (l : Loop) (p : PlanTree) (around : List Loop) (whole : I
   has_source : (x : ℕ) (m : ℕ × ℕ) → In m (placed.before x) → (s : ℕ) × IsEvent 1 placed.sources m.0 s
   has_source x m i = let k = (placed.awaits x).kept m.0 m.1 (contained m (placed.before x) i) in (k.0, k.1)
 
-  -- ---- names and cells
-
-  known_reference : (o : Occurrence) → In o l.references → In o.ref (known l)
-  known_reference o i = inr (in_right o.ref l.assigned (references l.references) (in_map (λ (x : Occurrence). x.ref) o l.references i))
-
-  known_scalar : (r : Ref) → In r l.assigned → In r (known l)
-  known_scalar r i = inr (in_left r l.assigned (references l.references) i)
-
-  has_private : (name : List ℕ) → In name p.privates → has_name p.privates name ≡ true
-  has_private name i = in_any (λ (x : List ℕ). same_name x name) p.privates name i (is_same name name refl)
-
-  -- a reference whose cell is private has a private name
-  private_cell : (r : Ref) → In r (known l) → Private l r.cell → has_name p.privates r.name ≡ true
-  private_cell r i v =
-      let q = any_in (λ (x : Ref). x.cell == r.cell) l.assigned v.assigned in
-      let c = eqb-true q.0.cell r.cell q.2 in
-      let name = told_same (known l) q.0 r told (known_scalar q.0 q.1) i c in
-      has_private r.name (subst (λ (x : List ℕ). In x p.privates) name (name_of l p.privates placed.privates q.0 q.1 (subst (λ (x : ℕ). Private l x) (sym c) v)))
-
-  -- and one with a private name has a private cell
-  private_name : (r : Ref) → In r (known l) → has_name p.privates r.name ≡ true → Private l r.cell
-  private_name r i h =
-      let x = any_in (λ (y : List ℕ). same_name y r.name) p.privates h in
-      let q = scalar_of l p.privates placed.privates x.0 x.1 in
-      let c = one_cell (known l) q.0 r told (known_scalar q.0 q.1) i (q.2 ∙ same_is x.0 r.name x.2) in
-      subst (λ (y : ℕ). Private l y) c q.3
-
   -- ---- the plan's body
 
   same_body : SameBody l p
@@ -139,17 +101,15 @@ module _ (cells : ℕ) (l : Loop) (p : PlanTree) (around : List Loop) (whole : I
   reference_at r y i =
       let f = at_point l.references (block_points p.body (first cells)) (uses r) y shown tt i in
       let o = in_entries l.references (at_references (block_points p.body (first cells))) f.0 y f.1 in
-      subst (λ (q : Ref). In q (known l)) (ref_of f.0 r (inl f.2)) (known_reference f.0 o)
+      subst (λ (q : Ref). In q (known l)) (ref_of f.0 r (inl f.2)) (known_reference l f.0 o)
 
   early : never_early cells p ≡ true
   early = never_early_of cells p same_body.bare (λ r y i h.
-      let v = private_name r (reference_at r y i) h in
+      let v = private_name l p.privates told placed.privates r (reference_at r y i) h in
       ((λ e. isnt_private l r.cell (ap (λ w. is_never_early w) (ap (λ (b : Block). block_walk r.cell b) (sym same_body.same) ∙ e)) v), enough r.cell v.assigned))
 
   variable : (r : Ref) → In r (block_variables l.body) → has_name p.privates r.name ≡ true
-  variable r i =
-      let s = block_shows None 0 0 n l.body r i in
-      private_cell r (subst (λ (q : Ref). In q (known l)) s.2 (known_reference s.0 (subst (λ (os : List Occurrence). In s.0 os) (sym refs) s.1))) (suit.inner r (contained r (block_variables l.body) i))
+  variable r i = private_cell l p.privates told placed.privates r (known_variable l whole r i) (suit.inner r (contained r (block_variables l.body) i))
 
   scalar : (name : List ℕ) → In name p.privates → has_named l.assigned name ≡ true
   scalar name i = let q = scalar_of l p.privates placed.privates name i in in_any (λ (r : Ref). same_name r.name name) l.assigned q.0 q.1 (is_same q.0.name name q.2)
@@ -175,7 +135,7 @@ module _ (cells : ℕ) (l : Loop) (p : PlanTree) (around : List Loop) (whole : I
         a = a;
         b = b;
         looked_at = record { a_in = contained a l.references i; b_in = contained b l.references j; name = x.0; other = not_false (same_name a.ref.name l.head.variable.name) y.0; defining = z.1 };
-        shared = λ v. true≢false (sym (has_private a.ref.name (subst (λ (m : List ℕ). In m p.privates) v.is (name_of l p.privates placed.privates v.ref (among v.ref l.assigned v.among) v.private))) ∙ not_false (has_name p.privates a.ref.name) z.0);
+        shared = λ v. true≢false (sym (has_private l p.privates told placed.privates a.ref.name (subst (λ (m : List ℕ). In m p.privates) v.is (name_of l p.privates placed.privates v.ref (among v.ref l.assigned v.among) v.private))) ∙ not_false (has_name p.privates a.ref.name) z.0);
         source = refl;
         sink = refl;
         at = at_distance (relation l a b) d e;

@@ -1,6 +1,8 @@
 pub mod Acceptance
+pub mod Analysing
 pub mod Around
 pub mod Awaiting
+pub mod Cells
 pub mod Claims
 pub mod Early
 pub mod Eligible
@@ -8,8 +10,11 @@ pub mod Entries
 pub mod Few
 pub mod Fitted
 pub mod Going
+pub mod Grouping
 pub mod Holding
 pub mod Inner
+pub mod Insertion
+pub mod Judging
 pub mod Keeping
 pub mod Listings
 pub mod Lists
@@ -19,7 +24,12 @@ pub mod Ordering
 pub mod Outside
 pub mod Positive
 pub mod Privates
+pub mod Pushing
 pub mod Ranges
+pub mod Seconds
+pub mod Sorting
 pub mod Sources
+pub mod Spotting
 pub mod Stripping
+pub mod Triples
 pub mod Variables

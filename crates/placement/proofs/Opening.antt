@@ -1,18 +1,48 @@
--- What is known of the plan that opens a loop.
-use Rattle.std.proofs.Common.{◌≡◌, ◌∙◌, ap, ℕ, List}
-use Rattle.std.specs.Prelude.{◌+◌, ◌≤◌, length}
-use Rattle.dependence.specs.Kept.{most_events}
+-- What is placed is what placement promises.
+use Rattle.std.proofs.Common.{◌≡◌, ◌∙◌, ◌+◌, inl, inr, ap, ℕ, Bool, true, false, List, map}
 use Rattle.ast.specs.Tree.{Block}
+use Rattle.dependence.specs.Kept.{Suits}
 use Rattle.dependence.specs.Plan.{PlanTree}
-use Rattle.loop_tree.specs.Loops.{Loop}
-use Rattle.placement.specs.Judged.{MayOpen, IsOpened}
+use Rattle.dependence.specs.PlanView.{plan_of}
+use Rattle.dependence.specs.declared.plan.LoopPlan.TheVariants.{Serial}
+use Rattle.loop_tree.specs.Loops.{IsWhole, Loop}
+use Rattle.loop_tree.specs.Told.{are_told, known}
+use Rattle.placement.specs.Analysed.{AreAnalysed, AreTriples, triple}
+use Rattle.placement.specs.Judged.{IsHindered, IsOpened, IsPlaced, IsPlain, hides}
+use Rattle.placement.specs.Listed.{awaited}
+use Rattle.placement.specs.Placement.{AreAwaits, AreSources, IsPlacedBody}
 use Rattle.placement.specs.Placing.{placed_block}
+use Rattle.placement.specs.declared.analysis.Analysis.{Analysis}
+use Rattle.placement.specs.declared.analysis.Kept.{Kept}
+use Rattle.placement.specs.declared.placing.Spots.{Spots}
+use Rattle.placement.specs.declared.planning.Placed.{Placed}
+use Rattle.placement.proofs.Judging.{hindered, suiting}
 
-pub opened : (l : Loop) (p : PlanTree) (sources : List ℕ) (before : ℕ → List (ℕ × ℕ)) (o : ℕ) (b : Block) → MayOpen l p.privates → length sources ≤ most_events → o ≡ l.statement + 1 → b ≡ l.body → p.body ≡ placed_block sources before o b → IsOpened l p
-opened l p sources before o b m few e f h = record {
-  may_open = m;
-  sources = sources;
-  few = few;
-  before = before;
-  body = h ∙ ap (λ n. placed_block sources before n b) e ∙ ap (λ c. placed_block sources before (l.statement + 1) c) f;
+-- what is awaited at the spots of sources is what is kept
+abbrev pub AreSpots : List ℕ → List Kept → Spots → Type 0
+AreSpots sources kept s = (l : Loop) → AreSources l sources → AreTriples l (map triple kept) → (t : ℕ) → AreAwaits l sources t (awaited s t)
+
+pub placed_body : (l : Loop) (p : PlanTree) (a : Analysis) (s : Spots) (o : ℕ) (b : Block) → IsPlain l p.privates → AreAnalysed l p.privates a → s.sources.items ≡ a.sources.items → AreSpots a.sources.items a.kept.items s
+    → o ≡ l.statement + 1 → b ≡ l.body → p.body ≡ placed_block s.sources.items (awaited s) o b → p.relations ≡ map (λ q. (q.0.0, q.1.0, q.2)) a.relations.items → IsPlacedBody l p
+placed_body l p a s o b plain found same spots e f h r = record {
+  privates = plain.privates;
+  sources = a.sources.items;
+  are_sources = found.sources;
+  before = awaited s;
+  awaits = λ t. spots l found.sources found.triples t;
+  body = h ∙ ap (λ ss. placed_block ss (awaited s) o b) same ∙ ap (λ n. placed_block a.sources.items (awaited s) n b) e ∙ ap (λ c. placed_block a.sources.items (awaited s) (l.statement + 1) c) f;
+  relations = r ∙ found.relations;
 }
+
+module _ (l : Loop) (whole : IsWhole l) (told : are_told (known l) ≡ true) (placed : Placed) where
+  pub stays_serial : (inside : Bool) (n : ℕ) → IsHindered l n → placed.plan ≡ Serial n → placed.suits ≡ false → IsPlaced l inside placed
+  stays_serial inside n h p s = let g = hindered l whole told n h in inr (s, g.0, (n, p, g.1))
+
+  suits : (names : List (List ℕ)) (a : Analysis) → IsPlain l names → hides names l ≡ true → AreAnalysed l names a → Suits l
+  suits names a plain h found = suiting l whole told names a plain h found
+
+  pub stays_inside : (names : List (List ℕ)) (a : Analysis) → IsPlain l names → hides names l ≡ true → AreAnalysed l names a → placed.plan ≡ Serial 5 → placed.suits ≡ true → IsPlaced l true placed
+  stays_inside names a plain h found p s = inl (s, suits names a plain h found, p)
+
+  pub is_open : (names : List (List ℕ)) (a : Analysis) → IsPlain l names → hides names l ≡ true → AreAnalysed l names a → IsOpened l placed → placed.suits ≡ true → IsPlaced l false placed
+  is_open names a plain h found p s = inl (s, suits names a plain h found, p)

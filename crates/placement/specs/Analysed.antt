@@ -17,7 +17,7 @@ triple k = (k.sink, k.source, k.distance)
 
 -- by the sink, then by the source and the distance
 abbrev pub precedes : Triple → Triple → Bool
-precedes a b = nat_lt a.0 b.0 || ((a.0 == b.0) && comes_first a.1 b.1)
+precedes a b = nat_lt a.0 b.0 || ((a.0 == b.0) && comes_first (a.1, a.2) (b.1, b.2))
 
 abbrev pub are_sorted : List Triple → Bool
 are_sorted [] = true

@@ -4,6 +4,8 @@ pub mod Awaiting
 pub mod Fitting
 pub mod Judged
 pub mod Listed
+pub mod Looked
 pub mod Opening
 pub mod Placement
 pub mod Placing
+pub mod Spotted

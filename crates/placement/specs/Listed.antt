@@ -1,5 +1,6 @@
 -- An account of the code: what is placed, in lists.
-use Rattle.std.specs.Prelude.{◌+◌, nat_le, nat_lt, ℕ, Bool, true, false, not, ◌&&◌, ◌||◌, List, [], ◌∷◌, ◌++◌, Option, Some, None, if◌then◌else◌, slice_get}
+use Rattle.std.specs.Prelude.{◌+◌, nat_le, nat_lt, ℕ, Bool, true, false, not, ◌&&◌, ◌||◌, List, [], ◌∷◌, ◌++◌, Option, Some, None, Vec, if◌then◌else◌, slice_get}
+use Rattle.std.specs.Global.{Global}
 use Rattle.ast.specs.Tree as tree
 use Rattle.ast.specs.Tree.{Node, Block, Arms, Term}
 use Rattle.dependence.specs.Plan.{PlanNode, awaits, advances}
@@ -12,13 +13,17 @@ abbrev pub await_nodes : List (ℕ × ℕ) → List PlanNode
 await_nodes [] = []
 await_nodes (a ∷ more) = awaits a.0 a.1 ∷ await_nodes more
 
-abbrev pub items_if : {X : Type 0} → (X → List (ℕ × ℕ)) → Option X → List (ℕ × ℕ)
+abbrev pub items_if : {X Y : Type 0} → (X → List Y) → Option X → List Y
 items_if items None = []
 items_if items (Some v) = items v
 
+-- the list of a number, empty beyond the end
+abbrev pub list_at : {X : Type 0} → List (Vec X Global) → ℕ → List X
+list_at lists n = items_if (λ v. v.items) (slice_get lists n)
+
 -- what is awaited before a statement
 abbrev pub awaited : Spots → ℕ → List (ℕ × ℕ)
-awaited s t = items_if (λ v. v.items) (slice_get s.awaits.items t)
+awaited s t = list_at s.awaits.items t
 
 abbrev pub advance_nodes_of : ℕ → List PlanNode
 advance_nodes_of e = awaits e 1 ∷ advances e ∷ []

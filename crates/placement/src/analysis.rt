@@ -1,9 +1,14 @@
 //! What is kept of a loop's dependences.
 
-ghost use Rattle.std.specs.Prelude.{IfOk, map};
+ghost use Rattle.std.specs.List.{All, Contains};
+ghost use Rattle.std.specs.Prelude.{◌≡◌, ◌↔◌, ◌<◌, ◌≤◌, ◌⊎◌, IfOk, OnOk, length, map, slice_get, true};
 ghost use Rattle.ast.specs.View.{letters};
+ghost use Rattle.dependence.specs.Tests.{relation as relation_of};
 ghost use Rattle.loop_tree.specs.TreeView.{seen};
-ghost use Rattle.placement.specs.Analysed.{IsFound};
+ghost use Rattle.placement.specs.Analysed.{IsFound, Triple, are_sorted, triple};
+ghost use Rattle.placement.specs.Looked as spec;
+ghost use Rattle.placement.specs.Looked.{HasForms, found_in, occurrence_in, shared_in};
+ghost use Rattle.placement.specs.Placement.{is_ascending};
 ghost use Rattle.privatise.specs.Privates.{ArePrivate};
 
 use crate::pairs::{Pairs, Shared};
@@ -36,7 +41,9 @@ pub struct Analysis {
 }
 
 /// At which distance a relation is kept, if it is.
-fn distance(relation: Relation) -> Option<u128> {
+fn distance(relation: Relation) -> Option<u128>
+    ensures { result ≡ spec.kept_distance relation }
+{
     match relation {
         Relation::Apart(_, _) => None,
         Relation::Distance(_, distance) => Some(distance),
@@ -45,11 +52,88 @@ fn distance(relation: Relation) -> Option<u128> {
 }
 
 /// Adds a statement to others in order, if it isn't among them.
-fn add_source(sources: &mut Vec<usize>, statement: usize) -> Result<(), AllocError> {
+fn add_source(sources: &mut Vec<usize>, statement: usize) -> Result<(), AllocError>
+    requires { is_ascending sources.old.items ≡ true }
+    ensures added { OnOk result (sources.new.items ≡ spec.with_source statement sources.old.items) }
+    ensures ascending { OnOk result (is_ascending sources.new.items ≡ true) }
+{
     match sources.binary_search(&statement) {
         Ok(_) => Ok(()),
         Err(place) => Ok(sources.insert(place, statement)?),
     }
+}
+
+/// The relation of a reference in one iteration to another in a later one.
+fn related(view: &LoopView<'_, '_>, first: &Shared<'_>, second: &Shared<'_>) -> Relation
+    requires first { HasForms (seen view.now) first.now }
+    requires second { HasForms (seen view.now) second.now }
+    ensures { result ≡ relation_of (seen view.now) (occurrence_in first.now) (occurrence_in second.now) }
+{
+    relate_forms(view, &first.forms, &second.forms)
+}
+
+/// Looks at a reference in one iteration and another in a later one.
+fn look_at(
+    view: &LoopView<'_, '_>,
+    first: &Shared<'_>,
+    second: &Shared<'_>,
+    analysis: &mut Analysis,
+) -> Result<(), AllocError>
+    requires first { HasForms (seen view.now) first.now }
+    requires second { HasForms (seen view.now) second.now }
+    ensures sources { analysis.new.sources ≡ analysis.old.sources }
+    ensures found { OnOk result (found_in analysis.new ≡ spec.after_pair (seen view.now) (occurrence_in first.now) (occurrence_in second.now) (found_in analysis.old)) }
+{
+    let relation = related(view, first, second);
+    let id = first.occurrence.reference.id;
+    let other = second.occurrence.reference.id;
+    analysis.relations.push((id, other, relation))?;
+    if let Some(distance) = distance(relation) {
+        analysis.kept.push(Kept {
+            sink: second.occurrence.statement,
+            source: first.occurrence.statement,
+            distance,
+        })?;
+    }
+    Ok(())
+}
+
+/// Looks at a reference in one iteration with the one at a place, if there is one, in a later one.
+fn look_at_place(
+    view: &LoopView<'_, '_>,
+    shared: &[Shared<'_>],
+    first: &Shared<'_>,
+    place: usize,
+    analysis: &mut Analysis,
+) -> Result<(), AllocError>
+    requires first { HasForms (seen view.now) first.now }
+    requires all { All (HasForms (seen view.now)) shared.now }
+    ensures sources { analysis.new.sources ≡ analysis.old.sources }
+    ensures found { OnOk result (found_in analysis.new ≡ spec.after_some (seen view.now) (occurrence_in first.now) (slice_get (map occurrence_in shared.now) place) (found_in analysis.old)) }
+{
+    match shared.get(place) {
+        Some(second) => look_at(view, first, second, analysis),
+        None => Ok(()),
+    }
+}
+
+/// Looks at a reference in one iteration with those at places in a later one.
+fn look_at_all(
+    view: &LoopView<'_, '_>,
+    shared: &[Shared<'_>],
+    first: &Shared<'_>,
+    places: &[usize],
+    analysis: &mut Analysis,
+) -> Result<(), AllocError>
+    requires first { HasForms (seen view.now) first.now }
+    requires all { All (HasForms (seen view.now)) shared.now }
+    ensures sources { OnOk result (analysis.new.sources ≡ analysis.old.sources) }
+    ensures found { OnOk result (found_in analysis.new ≡ spec.after_places (seen view.now) (map occurrence_in shared.now) (occurrence_in first.now) places.now (found_in analysis.old)) }
+{
+    for place in places {
+        look_at_place(view, shared, first, *place, analysis)?;
+    }
+    Ok(())
 }
 
 /// Looks at a reference in one iteration with each of its partners in a later one.
@@ -58,31 +142,52 @@ fn look(
     pairs: &Pairs<'_>,
     first: &Shared<'_>,
     analysis: &mut Analysis,
-) -> Result<(), AllocError> {
-    let source = first.occurrence.statement;
+) -> Result<(), AllocError>
+    requires first { HasForms (seen view.now) first.now }
+    requires all { All (HasForms (seen view.now)) pairs.now.shared.items }
+    requires ascending { is_ascending analysis.old.sources.items ≡ true }
+    ensures found { OnOk result (found_in analysis.new ≡ spec.after_first (seen view.now) pairs.now (occurrence_in first.now) (found_in analysis.old)) }
+    ensures ascending { OnOk result (is_ascending analysis.new.sources.items ≡ true) }
+{
     let before = analysis.kept.len();
-    for place in pairs.partners(&first.occurrence) {
-        if let Some(second) = pairs.shared.get(*place) {
-            let relation = relate_forms(view, &first.forms, &second.forms);
-            let ids = (
-                first.occurrence.reference.id,
-                second.occurrence.reference.id,
-            );
-            analysis.relations.push((ids.0, ids.1, relation))?;
-            if let Some(distance) = distance(relation) {
-                let sink = second.occurrence.statement;
-                analysis.kept.push(Kept {
-                    sink,
-                    source,
-                    distance,
-                })?;
-            }
-        }
-    }
-    if analysis.kept.len() > before {
-        add_source(&mut analysis.sources, source)?;
+    let places = pairs.partners(&first.occurrence);
+    look_at_all(view, &pairs.shared, first, places, analysis)?;
+    if before < analysis.kept.len() {
+        add_source(&mut analysis.sources, first.occurrence.statement)?;
     }
     Ok(())
+}
+
+/// Looks at each reference with its partners; `None` as soon as more than 64 statements are sources.
+fn look_at_each(
+    alloc: Global,
+    view: &LoopView<'_, '_>,
+    pairs: &Pairs<'_>,
+) -> Result<Option<Analysis>, AllocError>
+    requires { All (HasForms (seen view.now)) pairs.now.shared.items }
+    ensures { IfOk result (λ found. spec.IsAllFound (spec.all_found (seen view.now) pairs.now) found) }
+{
+    let mut analysis = Analysis {
+        sources: Vec::new(alloc),
+        kept: Vec::new(alloc),
+        relations: Vec::new(alloc),
+    };
+    for first in &pairs.shared {
+        look(view, pairs, first, &mut analysis)?;
+        if analysis.sources.len() > MOST_EVENTS {
+            return Ok(None);
+        }
+    }
+    Ok(Some(analysis))
+}
+
+/// Puts what is kept in order, each once.
+fn put_in_order(kept: &mut Vec<Kept>)
+    ensures sorted { are_sorted (map triple kept.new.items) ≡ true }
+    ensures same { (k : Triple) → Contains (map triple kept.new.items) k ↔ Contains (map triple kept.old.items) k }
+{
+    kept.sort_unstable();
+    kept.dedup();
 }
 
 /// What is kept of the dependences of a loop of which each iteration has private scalars of its own;
@@ -95,18 +200,11 @@ pub fn analyse(
     ensures { IfOk result (λ found. ArePrivate (seen view.now) (map letters privates.now) → IsFound (seen view.now) (map letters privates.now) found) }
 {
     let pairs = Pairs::new(alloc, view, privates)?;
-    let mut analysis = Analysis {
-        sources: Vec::new(alloc),
-        kept: Vec::new(alloc),
-        relations: Vec::new(alloc),
-    };
-    for first in &pairs.shared {
-        look(view, &pairs, first, &mut analysis)?;
-        if analysis.sources.len() > MOST_EVENTS {
-            return Ok(None);
+    match look_at_each(alloc, view, &pairs)? {
+        None => Ok(None),
+        Some(mut analysis) => {
+            put_in_order(&mut analysis.kept);
+            Ok(Some(analysis))
         }
     }
-    analysis.kept.sort_unstable();
-    analysis.kept.dedup();
-    Ok(Some(analysis))
 }

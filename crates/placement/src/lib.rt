@@ -5,6 +5,7 @@ mod analysis;
 mod counting;
 mod fitting;
 mod laws;
+mod nested;
 mod pairs;
 mod placing;
 mod planning;

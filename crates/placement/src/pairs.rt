@@ -1,8 +1,14 @@
 //! The references of a loop that its iterations share.
 
-ghost use Rattle.std.specs.Prelude.{◌<◌, OnOk, length};
+ghost use Rattle.std.specs.Prelude.{◌≡◌, ◌++◌, ◌==◌, [], ◌∷◌, IfOk, OnOk, ℕ, if◌then◌else◌, map, slice_get};
+ghost use Rattle.ast.specs.View.{letters, ref};
+ghost use Rattle.loop_tree.specs.TreeView.{seen};
+ghost use Rattle.loop_tree.specs.View.{occurrence as occurrence_of};
+ghost use Rattle.placement.specs.Listed.{list_at};
+ghost use Rattle.placement.specs.Looked as spec;
 
 use crate::fitting::has_name;
+use crate::nested::{at, push_at};
 use ast::{Name, Reference};
 use dependence::forms;
 use loop_tree::{LoopView, Occurrence};
@@ -16,53 +22,53 @@ pub struct Shared<'p> {
     pub forms: Vec<Affine>,
 }
 
-/// The shared references of a variable, by their places among all of them.
-#[derive(Drop)]
-pub struct Group {
-    pub all: Vec<usize>,
-    /// Those that give it a value.
-    pub defining: Vec<usize>,
-}
-
-/// The references that iterations share, in order, and their groups, by the cells of the variables.
+/// The references that iterations share, in order, and their places among these.
 #[derive(Drop)]
 pub struct Pairs<'p> {
     pub shared: Vec<Shared<'p>>,
-    groups: Vec<Group>,
+    /// The places of those of a variable, by its cell.
+    all: Vec<Vec<usize>>,
+    /// The places of those that give it a value.
+    defining: Vec<Vec<usize>>,
 }
 
 /// Whether a variable is the loop's, or each iteration has one of its own.
-fn is_own(view: &LoopView<'_, '_>, privates: &[Name], reference: &Reference) -> bool {
+fn is_own(view: &LoopView<'_, '_>, privates: &[Name], reference: &Reference) -> bool
+    ensures { result ≡ spec.is_own (seen view.now) (map letters privates.now) (ref reference.now) }
+{
     reference.name == view.head().variable.name || has_name(privates, reference.name)
 }
 
-/// Makes a group for each cell up to one.
-fn lengthen(alloc: Global, groups: &mut Vec<Group>, cell: usize) -> Result<(), AllocError>
-    ensures { OnOk result (cell < length groups.new.items) }
+/// Adds the place of a reference to those of its variable, if it gives that a value.
+fn add_defining(
+    alloc: Global,
+    defining: &mut Vec<Vec<usize>>,
+    occurrence: &Occurrence<'_>,
+    place: usize,
+) -> Result<(), AllocError>
+    ensures { OnOk result ((n : ℕ) → list_at defining.new.items n ≡ list_at defining.old.items n ++ (if spec.is_definition_of n (occurrence_of occurrence.now) then place ∷ [] else [])) }
 {
-    while groups.len() <= cell {
-        groups.push(Group {
-            all: Vec::new(alloc),
-            defining: Vec::new(alloc),
-        })?;
+    if occurrence.defines {
+        push_at(alloc, defining, occurrence.reference.cell, place)?;
     }
     Ok(())
 }
 
-/// Adds a reference's place to its group.
-fn join(
+/// Adds a shared reference.
+fn add<'p>(
     alloc: Global,
-    groups: &mut Vec<Group>,
-    occurrence: &Occurrence<'_>,
-    place: usize,
-) -> Result<(), AllocError> {
-    let cell = occurrence.reference.cell;
-    lengthen(alloc, groups, cell)?;
-    let group = &mut groups[cell];
-    group.all.push(place)?;
-    if occurrence.defines {
-        group.defining.push(place)?;
-    }
+    pairs: &mut Pairs<'p>,
+    shared: Shared<'p>,
+) -> Result<(), AllocError>
+    requires { spec.AreGrouped pairs.old }
+    ensures shared { OnOk result (pairs.new.shared.items ≡ pairs.old.shared.items ++ shared.entry ∷ []) }
+    ensures grouped { OnOk result (spec.AreGrouped pairs.new) }
+{
+    let place = pairs.shared.len();
+    let cell = shared.occurrence.reference.cell;
+    push_at(alloc, &mut pairs.all, cell, place)?;
+    add_defining(alloc, &mut pairs.defining, &shared.occurrence, place)?;
+    pairs.shared.push(shared)?;
     Ok(())
 }
 
@@ -72,32 +78,34 @@ impl<'p> Pairs<'p> {
         alloc: Global,
         view: &LoopView<'_, 'p>,
         privates: &[Name],
-    ) -> Result<Pairs<'p>, AllocError> {
-        let mut shared = Vec::new(alloc);
-        let mut groups = Vec::new(alloc);
+    ) -> Result<Pairs<'p>, AllocError>
+        ensures { IfOk result (λ pairs. spec.ArePairs (seen view.now) (map letters privates.now) pairs) }
+    {
+        let mut pairs = Pairs {
+            shared: Vec::new(alloc),
+            all: Vec::new(alloc),
+            defining: Vec::new(alloc),
+        };
         for occurrence in view.references() {
             if !is_own(view, privates, &occurrence.reference) {
-                join(alloc, &mut groups, occurrence, shared.len())?;
-                shared.push(Shared {
-                    occurrence: *occurrence,
-                    forms: forms(alloc, view, occurrence)?,
-                })?;
+                let forms = forms(alloc, view, occurrence)?;
+                let occurrence = *occurrence;
+                add(alloc, &mut pairs, Shared { occurrence, forms })?;
             }
         }
-        Ok(Pairs { shared, groups })
+        Ok(pairs)
     }
 
     /// The places of those that a reference is looked at with: of its variable, and one of the two
     /// gives it a value.
-    pub fn partners(&self, occurrence: &Occurrence<'_>) -> &[usize] {
+    pub fn partners(&self, occurrence: &Occurrence<'_>) -> &[usize]
+        ensures { result.now ≡ spec.partners_of self.now (occurrence_of occurrence.now) }
+    {
         let cell = occurrence.reference.cell;
-        if cell >= self.groups.len() {
-            return &[];
-        }
         if occurrence.defines {
-            &self.groups[cell].all
+            at(&self.all, cell)
         } else {
-            &self.groups[cell].defining
+            at(&self.defining, cell)
         }
     }
 }

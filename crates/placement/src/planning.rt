@@ -1,10 +1,14 @@
 //! Plans of loops.
 
-ghost use Rattle.std.specs.Prelude.{◌≡◌, ◌≤◌, IfOk, length, false, map, true};
+ghost use Rattle.std.specs.Prelude.{◌≡◌, IfOk, false, map, true};
 ghost use Rattle.ast.specs.View.{letters};
-ghost use Rattle.dependence.specs.Kept.{IsNonzero, block_reads, most_events};
-ghost use Rattle.loop_tree.specs.TreeView.{seen};
-ghost use Rattle.placement.specs.Judged.{IsJudged, IsPlanned, IsSerial, MayOpen, hides};
+ghost use Rattle.dependence.specs.Kept.{IsNonzero, block_reads};
+ghost use Rattle.dependence.specs.declared.plan.LoopPlan.TheVariants.{Serial};
+ghost use Rattle.loop_tree.specs.Loops.{AreWhole, IsWhole};
+ghost use Rattle.loop_tree.specs.TreeView.{all_seen, seen};
+ghost use Rattle.placement.specs.Judged.{IsInside, IsJudged, IsOpened, IsPlaced, IsSuiting, hides};
+ghost use Rattle.placement.specs.Placement.{IsPlacement, around_in};
+ghost use Rattle.placement.specs.declared.planning.Judged.TheVariants as judged;
 
 use crate::analysis::{Analysis, Kept, analyse};
 use crate::counting::add;
@@ -27,6 +31,21 @@ enum Judged {
         privates: ScalarSet,
         analysis: Analysis,
     },
+}
+
+impl Judged {
+    ghost use Rattle.std.specs.Prelude.{◌≡◌};
+    ghost use Rattle.placement.specs.Judged.{suits_by};
+
+    /// Whether its iterations may overlap.
+    fn suits(&self) -> bool
+        ensures { result ≡ suits_by self.now }
+    {
+        match self {
+            Judged::Serial(_) => false,
+            Judged::Suits { .. } => true,
+        }
+    }
 }
 
 /// A loop's plan, and what it is made of.
@@ -95,7 +114,7 @@ fn opened(
     privates: ScalarSet,
     analysis: Analysis,
 ) -> Result<Placed, AllocError>
-    ensures { IfOk result (λ placed. IsJudged (seen view.now) (judged.Suits privates analysis) → IsOpened (seen view.now) placed) }
+    ensures { IfOk result (λ placed. (placed.suits ≡ true) × (IsJudged (seen view.now) (judged.Suits privates analysis) → IsOpened (seen view.now) placed)) }
 {
     let spots = spots_of(alloc, analysis.sources, &analysis.kept)?;
     let first = add(view.statement(), 1)?;
@@ -124,9 +143,10 @@ fn serial(alloc: Global, reason: u8, suits: bool) -> Placed
     }
 }
 
-/// The plan of a loop of which the caller knows whether it stands in one that is open, as
-/// [`plan`] gives it.
+/// The plan of a loop of which the caller knows whether it stands in one that is open, as [`plan`]
+/// gives it.
 pub fn place(alloc: Global, view: &LoopView<'_, '_>, inside: bool) -> Result<Placed, AllocError>
+    ensures { IfOk result (λ placed. IsWhole (seen view.now) → IsPlaced (seen view.now) inside placed) }
 {
     match judge(alloc, view)? {
         Judged::Serial(reason) => Ok(serial(alloc, reason, false)),
@@ -135,30 +155,34 @@ pub fn place(alloc: Global, view: &LoopView<'_, '_>, inside: bool) -> Result<Pla
     }
 }
 
-/// Whether a loop around this one might be open: then one is.
-fn is_inside(alloc: Global, view: &LoopView<'_, '_>) -> Result<bool, AllocError> {
-    let mut outer = view.around();
-    for _ in 0..view.count() {
-        match outer {
-            None => return Ok(false),
-            Some(around) => {
-                if place(alloc, &around, true)?.suits {
-                    return Ok(true);
-                }
-                outer = around.around();
-            }
-        }
+/// Whether the iterations of a loop might overlap if no loop around it were open.
+fn suits(alloc: Global, view: &LoopView<'_, '_>) -> Result<bool, AllocError>
+    ensures { IfOk result (λ yes. IsWhole (seen view.now) → IsSuiting (seen view.now) yes) }
+{
+    let judged = judge(alloc, view)?;
+    Ok(judged.suits())
+}
+
+/// Whether one of the loops around this one may be open; `most` of them are looked at.
+fn is_inside(alloc: Global, view: &LoopView<'_, '_>, most: usize) -> Result<bool, AllocError>
+    ensures { IfOk result (λ inside. AreWhole (all_seen view.now) → IsInside (around_in most (all_seen view.now) (seen view.now)) inside) }
+{
+    if most == 0 {
+        return Ok(false);
     }
-    Ok(false)
+    match view.around() {
+        None => Ok(false),
+        Some(outer) => Ok(is_inside(alloc, &outer, most - 1)? || suits(alloc, &outer)?),
+    }
 }
 
 /// The plan of a loop: where its iterations wait and tell, or for which reason, from 1 to 5, it stays
 /// serial. The lowest that holds is given: its step is no constant other than 0; it has a READ; the
-/// variable of a loop inside isn't private; more than 64 statements are sources; a loop around it is
-/// open.
+/// variable of a loop inside isn't private; more than 64 statements are sources; a loop around it may
+/// be open.
 pub fn plan(alloc: Global, view: &LoopView<'_, '_>) -> Result<LoopPlan, AllocError>
-    ensures { IfOk result (λ plan. IsPlanned (seen view.now) plan) }
+    ensures { IfOk result (λ plan. AreWhole (all_seen view.now) → IsWhole (seen view.now) → IsPlacement (all_seen view.now) (seen view.now) plan) }
 {
-    let inside = is_inside(alloc, view)?;
+    let inside = is_inside(alloc, view, view.count())?;
     Ok(place(alloc, view, inside)?.plan)
 }

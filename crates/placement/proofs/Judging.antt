@@ -1,0 +1,100 @@
+-- What the code finds of a loop tells whether it suits, and the lowest reason why it doesn't.
+use Rattle.std.proofs.Common.{◌≡◌, ◌∙◌, ◌<◌, ◌≤◌, ◌⊎◌, inl, inr, ℕ, Bool, true, false, List, [], ◌∷◌, length, map, refl, ap, sym, subst, true≢false, ⊎_elim, arith}
+use Rattle.std.specs.Prelude.{◌&&◌}
+use Rattle.std.specs.List.{Contains, list_all}
+use Rattle.ast.specs.Tree.{Ref}
+use Rattle.ast.specs.View.{letters}
+use Rattle.dependence.specs.Kept.{IsNonzero, Kept, Suits, block_reads, block_variables, most_events}
+use Rattle.loop_tree.specs.Loops.{IsWhole, Loop}
+use Rattle.loop_tree.specs.Private.{Private}
+use Rattle.loop_tree.specs.Told.{are_told, known}
+use Rattle.placement.specs.Analysed.{AreAnalysed, HasManySources}
+use Rattle.placement.specs.Fitting.{has_name}
+use Rattle.placement.specs.Judged.{IsHindered, IsJudged, IsPlain, IsSuiting, hides, suits_by}
+use Rattle.placement.specs.Placement.{AreSources, IsLowest, Reason, SomeEligible}
+use Rattle.placement.specs.declared.analysis.Analysis.{Analysis}
+use Rattle.placement.specs.declared.planning.Judged.{Judged}
+use Rattle.placement.specs.declared.planning.Judged.TheVariants as judged
+use Rattle.placement.proofs.Cells.{known_variable, private_cell, private_name}
+use Rattle.placement.proofs.Few.{few}
+use Rattle.plan_check.proofs.Members.{In, among, contained}
+use Rattle.plan_check.proofs.Sound.{all_in}
+
+-- an element of which a test doesn't hold
+one_not : (f : Ref → Bool) (rs : List Ref) → list_all f rs ≡ false → (r : Ref) × In r rs × (f r ≡ false)
+one_not f [] h = cc
+one_not f (x ∷ rs) h = by (f x) refl h (λ g. one_not f rs g)
+  where
+    by : (b : Bool) → f x ≡ b → (b && list_all f rs) ≡ false → (list_all f rs ≡ false → (r : Ref) × In r rs × (f r ≡ false)) → (r : Ref) × In r (x ∷ rs) × (f r ≡ false)
+    by true e g more = let m = more g in (m.0, inr m.1, m.2)
+    by false e g more = (x, inl refl, e)
+
+-- sources in order are no more than any sources
+no_more : (l : Loop) (ss xs : List ℕ) → AreSources l ss → ((s t d : ℕ) → Kept l s t d → Contains xs s) → length ss ≤ length xs
+no_more l ss xs are all = few ss xs are.ascending (λ s i. let k = are.kept s (contained s ss i) in among s xs (all s k.0 k.1 k.2))
+
+module _ (l : Loop) (whole : IsWhole l) (told : are_told (known l) ≡ true) where
+  -- of the variables of the loops inside
+  all_private : (names : List (List ℕ)) → IsPlain l names → hides names l ≡ true → (r : Ref) → In r (block_variables l.body) → Private l r.cell
+  all_private names plain h r i = private_name l names told plain.privates r (known_variable l whole r i) (all_in (λ (q : Ref). has_name names q.name) (block_variables l.body) r h i)
+
+  one_shared : (names : List (List ℕ)) → IsPlain l names → hides names l ≡ false → (r : Ref) × In r (block_variables l.body) × (Private l r.cell → ⊥)
+  one_shared names plain h =
+      let g = one_not (λ (q : Ref). has_name names q.name) (block_variables l.body) h in
+      (g.0, g.1, λ v. true≢false (sym (private_cell l names told plain.privates g.0 (known_variable l whole g.0 g.1) v) ∙ g.2))
+
+  pub suiting : (names : List (List ℕ)) (a : Analysis) → IsPlain l names → hides names l ≡ true → AreAnalysed l names a → Suits l
+  suiting names a plain h analysed = record {
+    step = plain.step;
+    no_read = plain.no_read;
+    inner = λ r c. all_private names plain h r (among r (block_variables l.body) c);
+    sources = a.sources.items;
+    few = analysed.few;
+    all = analysed.sources.all;
+  }
+
+  -- no reason below n holds
+  refuted : (around : List Loop) (n m : ℕ) → n ≤ 5 → (1 < n → IsNonzero l.step) → (2 < n → block_reads l.body ≡ false) → (3 < n → (r : Ref) → In r (block_variables l.body) → Private l r.cell)
+      → (4 < n → HasManySources l → ⊥) → m < n → Reason l around m → ⊥
+  refuted around n m top a b c d less (inl (e, refutes)) = refutes (a (omega (arith, less, e)))
+  refuted around n m top a b c d less (inr (inl (e, reads))) = true≢false (sym reads ∙ b (omega (arith, less, e)))
+  refuted around n m top a b c d less (inr (inr (inl (e, (r, i, shared))))) = shared (c (omega (arith, less, e)) r (among r (block_variables l.body) i))
+  refuted around n m top a b c d less (inr (inr (inr (inl (e, many))))) = d (omega (arith, less, e)) many
+  refuted around n m top a b c d less (inr (inr (inr (inr (e, some))))) = absurd (omega (arith, less, e, top))
+
+  few_and_many : Suits l → HasManySources l → ⊥
+  few_and_many s many =
+      let g = no_more l many.0 s.sources many.1 s.all in
+      let most = s.few in
+      let more = many.2 in
+      absurd (omega (arith, g, most, more))
+
+  pub hindered : (n : ℕ) → IsHindered l n → (Suits l → ⊥) × IsLowest l [] n
+  hindered n (inl (e, refutes)) = (
+    λ s. refutes s.step,
+    (inl (e, refutes), λ m less r. refuted [] n m (omega (arith, e)) (λ k. absurd (omega (arith, k, e))) (λ k. absurd (omega (arith, k, e))) (λ k. absurd (omega (arith, k, e))) (λ k. absurd (omega (arith, k, e))) less r)
+  )
+  hindered n (inr (inl (e, step, reads))) = (
+    λ s. true≢false (sym reads ∙ s.no_read),
+    (inr (inl (e, reads)), λ m less r. refuted [] n m (omega (arith, e)) (λ k. step) (λ k. absurd (omega (arith, k, e))) (λ k. absurd (omega (arith, k, e))) (λ k. absurd (omega (arith, k, e))) less r)
+  )
+  hindered n (inr (inr (inl (e, (names, plain, h))))) =
+      let one = one_shared names plain h in (
+        λ s. one.2 (s.inner one.0 (contained one.0 (block_variables l.body) one.1)),
+        (inr (inr (inl (e, (one.0, contained one.0 (block_variables l.body) one.1, one.2)))), λ m less r. refuted [] n m (omega (arith, e)) (λ k. plain.step) (λ k. plain.no_read) (λ k. absurd (omega (arith, k, e))) (λ k. absurd (omega (arith, k, e))) less r)
+      )
+  hindered n (inr (inr (inr (e, (names, plain, h, many))))) = (
+    λ s. few_and_many s many,
+    (inr (inr (inr (inl (e, many)))), λ m less r. refuted [] n m (omega (arith, e)) (λ k. plain.step) (λ k. plain.no_read) (λ k. all_private names plain h) (λ k. absurd (omega (arith, k, e))) less r)
+  )
+
+  -- a loop that suits has none of the reasons but that of a loop around it
+  pub lowest_fifth : (around : List Loop) → Suits l → SomeEligible around → IsLowest l around 5
+  lowest_fifth around s some = (
+    inr (inr (inr (inr (refl, some)))),
+    λ m less r. refuted around 5 m (omega arith) (λ k. s.step) (λ k. s.no_read) (λ k q i. s.inner q (contained q (block_variables l.body) i)) (λ k many. few_and_many s many) less r
+  )
+
+  pub suiting_by : (j : Judged) → IsJudged l j → IsSuiting l (suits_by j)
+  suiting_by (judged.Serial n) h = (hindered n h).0
+  suiting_by (judged.Suits privates a) h = suiting (map letters privates.names.items) a h.0 h.1 h.2

@@ -1,0 +1,139 @@
+-- An account of the code: what is found by looking at a reference with its partners, in order.
+use Rattle.std.specs.Prelude.{◌≡◌, ◌<◌, ◌≤◌, ◌==◌, ◌+◌, nat_lt, ℕ, Bool, true, false, ◌&&◌, ◌||◌, List, [], ◌∷◌, ◌++◌, length, map, Option, Some, None, if◌then◌else◌, slice_get}
+use Rattle.std.specs.List.{All}
+use Rattle.ast.specs.Store.{same_name}
+use Rattle.ast.specs.Tree.{Ref}
+use Rattle.dependence.specs.Formed.{forms_of}
+use Rattle.dependence.specs.Kept.{most_events}
+use Rattle.dependence.specs.Tests.{relation}
+use Rattle.dependence.specs.declared.relation.Relation.{Relation}
+use Rattle.dependence.specs.declared.relation.Relation.TheVariants.{Apart, Distance, Any}
+use Rattle.loop_tree.specs.Loops.{Loop}
+use Rattle.loop_tree.specs.Occurrences.{Occurrence}
+use Rattle.loop_tree.specs.Told.{are_told, known}
+use Rattle.loop_tree.specs.View.{occurrence}
+use Rattle.placement.specs.Analysed.{Triple, triple}
+use Rattle.placement.specs.Fitting.{has_name}
+use Rattle.placement.specs.Listed.{list_at}
+use Rattle.placement.specs.declared.analysis.Analysis.{Analysis}
+use Rattle.placement.specs.declared.pairs.Pairs.{Pairs}
+use Rattle.placement.specs.declared.pairs.Shared.{Shared}
+use Rattle.subscripts.specs.View.{form_in}
+
+-- ---- the references that iterations share
+
+-- the loop's variable, or a private one
+abbrev pub is_own : Loop → List (List ℕ) → Ref → Bool
+is_own l privates r = same_name r.name l.head.variable.name || has_name privates r.name
+
+abbrev pub shared_of : Loop → List (List ℕ) → List Occurrence → List Occurrence
+shared_of l privates [] = []
+shared_of l privates (o ∷ os) = if is_own l privates o.ref then shared_of l privates os else o ∷ shared_of l privates os
+
+abbrev pub occurrence_in : Shared → Occurrence
+occurrence_in s = occurrence s.occurrence
+
+abbrev pub HasForms : Loop → Shared → Type 0
+HasForms l s = map form_in s.forms.items ≡ forms_of l (occurrence_in s).subscripts
+
+-- the places of those that meet a test, from place n on
+abbrev pub places : (Occurrence → Bool) → ℕ → List Occurrence → List ℕ
+places test n [] = []
+places test n (o ∷ os) = if test o then n ∷ places test (n + 1) os else places test (n + 1) os
+
+abbrev pub is_of : ℕ → Occurrence → Bool
+is_of cell o = o.ref.cell == cell
+
+abbrev pub is_definition_of : ℕ → Occurrence → Bool
+is_definition_of cell o = (o.ref.cell == cell) && o.defines
+
+abbrev pub shared_in : Pairs → List Occurrence
+shared_in p = map occurrence_in p.shared.items
+
+abbrev pub all_at : Pairs → ℕ → List ℕ
+all_at p cell = list_at p.all.items cell
+
+abbrev pub defining_at : Pairs → ℕ → List ℕ
+defining_at p cell = list_at p.defining.items cell
+
+pub record AreGrouped (p : Pairs) : Type 0 where
+  pub all : (cell : ℕ) → all_at p cell ≡ places (is_of cell) 0 (shared_in p)
+  pub defining : (cell : ℕ) → defining_at p cell ≡ places (is_definition_of cell) 0 (shared_in p)
+
+pub record ArePairs (l : Loop) (privates : List (List ℕ)) (p : Pairs) : Type 0 where
+  pub told : are_told (known l) ≡ true
+  pub shared : shared_in p ≡ shared_of l privates l.references
+  pub forms : All (HasForms l) p.shared.items
+  pub grouped : AreGrouped p
+
+abbrev pub partners_of : Pairs → Occurrence → List ℕ
+partners_of p o = if o.defines then all_at p o.ref.cell else defining_at p o.ref.cell
+
+-- ---- what is found
+
+pub record Found : Type 0 where
+  pub sources : List ℕ
+  pub kept : List Triple
+  pub relations : List (ℕ × ℕ × Relation)
+
+abbrev pub found_in : Analysis → Found
+found_in a = record {
+  sources = a.sources.items;
+  kept = map triple a.kept.items;
+  relations = map (λ p. (p.0.0, p.1.0, p.2)) a.relations.items;
+}
+
+abbrev pub none_found : Found
+none_found = record { sources = []; kept = []; relations = [] }
+
+abbrev pub kept_distance : Relation → Option ℕ
+kept_distance (Apart n reason) = None
+kept_distance (Distance n d) = Some d
+kept_distance Any = Some 1
+
+abbrev pub triple_of : Occurrence → Occurrence → Option ℕ → List Triple
+triple_of a b None = []
+triple_of a b (Some d) = (b.statement, a.statement, d) ∷ []
+
+abbrev pub kept_by : Loop → Occurrence → Occurrence → List Triple
+kept_by l a b = triple_of a b (kept_distance (relation l a b))
+
+abbrev pub relation_by : Loop → Occurrence → Occurrence → ℕ × ℕ × Relation
+relation_by l a b = (a.ref.id, b.ref.id, relation l a b)
+
+abbrev pub after_pair : Loop → Occurrence → Occurrence → Found → Found
+after_pair l a b f = record { sources = f.sources; kept = f.kept ++ kept_by l a b; relations = f.relations ++ relation_by l a b ∷ [] }
+
+abbrev pub after_some : Loop → Occurrence → Option Occurrence → Found → Found
+after_some l a None f = f
+after_some l a (Some b) f = after_pair l a b f
+
+-- with those at places
+abbrev pub after_places : Loop → List Occurrence → Occurrence → List ℕ → Found → Found
+after_places l os a [] f = f
+after_places l os a (n ∷ ns) f = after_places l os a ns (after_some l a (slice_get os n) f)
+
+-- sources with one more, each once, in order
+abbrev pub with_source : ℕ → List ℕ → List ℕ
+with_source s [] = s ∷ []
+with_source s (x ∷ xs) = if nat_lt s x then s ∷ x ∷ xs else if s == x then x ∷ xs else x ∷ with_source s xs
+
+-- where more is kept than before, the statement is a source
+abbrev pub with_new_source : ℕ → Found → Found → Found
+with_new_source s old new =
+    record { sources = if nat_lt (length old.kept) (length new.kept) then with_source s new.sources else new.sources; kept = new.kept; relations = new.relations }
+
+abbrev pub after_first : Loop → Pairs → Occurrence → Found → Found
+after_first l p a f = with_new_source a.statement f (after_places l (shared_in p) a (partners_of p a) f)
+
+abbrev pub after_all : Loop → Pairs → List Occurrence → Found → Found
+after_all l p [] f = f
+after_all l p (a ∷ more) f = after_all l p more (after_first l p a f)
+
+abbrev pub all_found : Loop → Pairs → Found
+all_found l p = after_all l p (shared_in p) none_found
+
+-- none only where there are too many sources
+abbrev pub IsAllFound : Found → Option Analysis → Type 0
+IsAllFound f None = most_events < length f.sources
+IsAllFound f (Some a) = (found_in a ≡ f) × (length f.sources ≤ most_events)
