@@ -3,7 +3,7 @@ use Rattle.std.specs.Prelude.{◌≡◌, ◌==◌, ◌+◌, ⊤, ℕ, Bool, true
 use Rattle.ast.specs.Program.{ProgramTree}
 use Rattle.loop_tree.specs.Loops.{Loop, loops_of}
 use Rattle.loop_tree.specs.Occurrences.{block_lines}
-use Rattle.placement.specs.Judged.{IsPlanned, IsSerial}
+use Rattle.placement.specs.Judged.{IsPlaced}
 use Rattle.placement.specs.declared.analysis.Kept.{Kept}
 use Rattle.placement.specs.declared.planning.Placed.{Placed}
 use Rattle.codegen.specs.declared.reports.LoopReport.{LoopReport}
@@ -41,24 +41,19 @@ abbrev pub is_noted : List Bool → Option ℕ → Bool
 is_noted noted None = false
 is_noted noted (Some n) = is_true_or_none (slice_get noted n)
 
--- what placement gives for a loop, by whether a loop around it suits
-pub record IsPlaced (all : List Loop) (l : Loop) (inside : Bool) (placed : Placed) : Type 0 where
-  pub planned : IsPlanned l placed.plan
-  pub serial : inside ≡ true → IsSerial placed.plan
-
--- a report of what placement gives for a loop of a program with these loops
-pub record IsPlacedReport (lines : List ℕ) (all : List Loop) (l : Loop) (report : LoopReport) : Type 0 where
+-- a report of what placement gives for a loop, in an open one or not
+pub record IsPlacedReport (lines : List ℕ) (l : Loop) (report : LoopReport) : Type 0 where
   pub inside : Bool
   pub placed : Placed
-  pub is_placed : IsPlaced all l inside placed
+  pub is_placed : IsPlaced l inside placed
   pub reported : IsReport lines l.line placed report
 
 -- each of these loops has its report, in order
-abbrev pub AreReports : List ℕ → List Loop → List Loop → List LoopReport → Type 0
-AreReports lines all [] [] = ⊤
-AreReports lines all (l ∷ ls) (r ∷ rs) = IsPlacedReport lines all l r × AreReports lines all ls rs
-AreReports lines all ls rs = ⊥
+abbrev pub AreReports : List ℕ → List Loop → List LoopReport → Type 0
+AreReports lines [] [] = ⊤
+AreReports lines (l ∷ ls) (r ∷ rs) = IsPlacedReport lines l r × AreReports lines ls rs
+AreReports lines ls rs = ⊥
 
 -- the reports of a program's loops
 abbrev pub Reports : ProgramTree → List LoopReport → Type 0
-Reports t reports = AreReports (block_lines t.block) (loops_of t.block) (loops_of t.block) reports
+Reports t reports = AreReports (block_lines t.block) (loops_of t.block) reports

@@ -2,7 +2,8 @@
 
 ghost use Rattle.std.specs.Prelude.{◌≡◌, IfOk, map};
 ghost use Rattle.ast.specs.ProgramView.{program as program_of};
-ghost use Rattle.loop_tree.specs.TreeView.{all_seen, lines_seen, loops_seen, seen};
+ghost use Rattle.loop_tree.specs.Loops.{AreWhole, IsWhole};
+ghost use Rattle.loop_tree.specs.TreeView.{lines_seen, loops_seen, seen};
 ghost use Rattle.codegen.specs.Reports as spec;
 ghost use Rattle.codegen.specs.Reports.{AreReports, IsPlacedReport, IsReport};
 
@@ -120,7 +121,8 @@ fn next_report(
     view: &LoopView<'_, '_>,
     noted: &mut Vec<bool>,
 ) -> Result<LoopReport, AllocError>
-    ensures { IfOk result (IsPlacedReport lines.now (all_seen view.now) (seen view.now)) }
+    requires { IsWhole (seen view.now) }
+    ensures { IfOk result (IsPlacedReport lines.now (seen view.now)) }
 {
     let inside = is_inside(view, noted);
     let placed = place(alloc, view, inside)?;
@@ -130,7 +132,8 @@ fn next_report(
 
 /// The reports of a tree's loops.
 fn reports_of(alloc: Global, tree: &LoopTree<'_>) -> Result<Vec<LoopReport>, AllocError>
-    ensures { IfOk result (λ reports. AreReports (lines_seen tree.now) (loops_seen tree.now) (loops_seen tree.now) reports.items) }
+    requires { AreWhole (loops_seen tree.now) }
+    ensures { IfOk result (λ reports. AreReports (lines_seen tree.now) (loops_seen tree.now) reports.items) }
 {
     let mut noted = vec![in alloc; false]?;
     let mut reports = Vec::with_capacity(alloc, tree.count())?;

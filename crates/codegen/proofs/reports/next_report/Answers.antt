@@ -9,7 +9,7 @@ returns c =
     (λ r reported. record {
       inside = c.is_inside-inside.result;
       placed = c.in_ok-placed.placed;
-      is_placed = record { planned = c.in_ok-placed.ensures.planned; serial = c.in_ok-placed.ensures.inside };
+      is_placed = c.in_ok-placed.ensures c.requires;
       reported = subst (λ n. IsReport c.args.lines.now n c.in_ok-placed.placed r) c.line.ensures reported;
     })
     c.report.ensures

@@ -4,4 +4,4 @@ use Rattle.codegen.specs.Reports.{AreReports}
 use Rattle.codegen.proofs.reports.reports_of.Given as goal
 
 abbrev pub invariant-loop-place : goal.invariant-loop-place
-invariant-loop-place l = AreReports (lines_seen l.tree) (loops_seen l.tree) (take l.place (loops_seen l.tree)) l.reports.items
+invariant-loop-place l = AreReports (lines_seen l.tree) (take l.place (loops_seen l.tree)) l.reports.items
