@@ -13,7 +13,8 @@ use crate::command_line::command;
 use crate::files::{FileFault, Names, Unread, read_file, read_texts};
 use engines::{
     EngineFault, Message, Outcome, Place, Survey, Texts, Upgraded, Verdict, explain, judged,
-    replay_texts, say_why_serial, seq_texts, surveyed, tell_survey, tell_verdict, upgrade_texts, warn,
+    replay_texts, say_why_serial, seq_texts, surveyed, tell_survey, tell_verdict, upgrade_texts,
+    warn,
 };
 use std::convert::AsStr;
 use std::rt::{Env, Files};
@@ -75,7 +76,9 @@ fn refuse_line<R: Print + Eprint>(rt: &R, fault: &LineFault) -> u8
         }
         _ => {
             let _ = rt.eprint(fault);
-            let _ = eprintln!(rt; "The commands are check, list, seq, replay, upgrade and explain.");
+            let _ = eprintln!(rt;
+                "The commands are check, list, seq, replay, upgrade and explain."
+            );
             fault.status()
         }
     }

@@ -30,8 +30,7 @@ listing_more : (n : ℕ) (rs : List LoopReport) (r : LoopReport) (text last : Li
 listing_more n [] r text last listed lines =
     (last, [], subst (λ k. Lines k r last) (omega arith) lines, refl, ap (λ (xs : List ℕ). xs ++ last) listed ∙ sym (append-nil last))
 listing_more n (q ∷ rs) r text last listed lines =
-    let next : n + length (q ∷ rs) ≡ (n + 1) + length rs = omega arith in
-    (
+    let next : n + length (q ∷ rs) ≡ (n + 1) + length rs = omega arith in (
       listed.0,
       listed.1 ++ last,
       listed.2,

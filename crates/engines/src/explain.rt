@@ -10,11 +10,10 @@ mod reasons;
 mod schedules;
 mod statements;
 
-pub use reasons::{Reason, is_reason, serial_reason};
-
 use crate::shown::fault_name;
 use crate::visible::Visible;
 use ast::Fault;
+pub use reasons::{Reason, is_reason, serial_reason};
 use std::fmt::{Display, Formatter, Result as FmtResult, Write};
 use std::io;
 

@@ -27,12 +27,7 @@ fn append_loop(out: &mut Vec<u8>, number: usize, line: Line) -> Result<(), Alloc
 }
 
 /// Appends the line of a loop that stays serial.
-fn append_serial(
-    out: &mut Vec<u8>,
-    number: usize,
-    line: Line,
-    reason: u8,
-) -> Result<(), AllocError>
+fn append_serial(out: &mut Vec<u8>, number: usize, line: Line, reason: u8) -> Result<(), AllocError>
     ensures { OnOk result (out.new.items ≡ out.old.items ++ spec.serial_line number line reason) }
 {
     append_loop(out, number, line)?;

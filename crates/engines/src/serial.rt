@@ -46,7 +46,10 @@ impl Display for Hindrance {
                 f.write_str("later iterations wait for more than 64 of its statements")
             }
             Hindrance::Outer(line) => {
-                write!(f, "iterations of the loop in line {line} around it may overlap")
+                write!(
+                    f,
+                    "iterations of the loop in line {line} around it may overlap"
+                )
             }
             Hindrance::Refused => f.write_str("the check refused its plan"),
         }

@@ -23,7 +23,10 @@ pub enum Survey {
         reports: Vec<LoopReport>,
     },
     /// The source is refused, by its text or for its code.
-    Refused { number: u8, line: Line },
+    Refused {
+        number: u8,
+        line: Line,
+    },
 }
 
 /// The reports of a program's loops.

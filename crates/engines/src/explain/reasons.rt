@@ -20,7 +20,9 @@ pub struct Reason {
 impl Display for Reason {
     fn fmt<W: Write>(&self, f: &mut Formatter<W>) -> FmtResult {
         let Reason {
-            number, sentence, ..
+            number,
+            sentence,
+            ..
         } = self;
         write!(f, "SERIAL {number}: {sentence}.\n\n{}", self.meaning)?;
         if !self.example.is_empty() {
