@@ -1,7 +1,11 @@
 //! Examples and cures of the pages that explain a number.
 
-use engines::explain::{Explanation, Origin, fault, is_explained, refusal};
-use engines::{Outcome, check_text, replay_texts, seq_texts};
+use codegen::LoopReport;
+use dependence::LoopPlan;
+use engines::explain::{
+    Explanation, Origin, fault, is_explained, is_reason, refusal, serial_reason,
+};
+use engines::{Outcome, Survey, check_text, replay_texts, seq_texts, surveyed};
 use std::process::Abort;
 use std::test::Fail;
 
@@ -80,6 +84,40 @@ fn examples_of_faults(rt: HostRuntime) -> Result<(), Fail> {
     for number in 0..=u8::MAX {
         if let Some(entry) = &fault(number) {
             explained(&rt, entry)?;
+        }
+    }
+    Ok(())
+}
+
+/// Whether a loop stays serial for a reason.
+fn is_serial(report: &LoopReport, wanted: u8) -> bool {
+    match report.plan {
+        LoopPlan::Serial(reason) => reason == wanted,
+        LoopPlan::Body { .. } => false,
+    }
+}
+
+/// Whether a source has a loop that stays serial for a reason.
+fn has_serial(rt: &(impl Abort + AllocGlobal), source: &str, wanted: u8) -> Result<bool, Fail> {
+    match &surveyed(rt.alloc(), source.as_bytes())? {
+        Survey::Loops { reports, .. } => {
+            Ok(reports.iter().any(|report| is_serial(report, wanted)))
+        }
+        Survey::Refused { .. } => panic!(rt; "a source of reason {wanted} is refused"),
+    }
+}
+
+#[test]
+fn examples_of_serial_loops(rt: HostRuntime) -> Result<(), Fail> {
+    for number in 0..=u8::MAX {
+        assert_eq!(rt; is_reason(number), serial_reason(number).is_some());
+        if let Some(entry) = &serial_reason(number) {
+            if !entry.example.is_empty() {
+                assert!(rt; has_serial(&rt, entry.example, number)?);
+            }
+            if !entry.cure.is_empty() {
+                assert!(rt; !has_serial(&rt, entry.cure, number)?);
+            }
         }
     }
     Ok(())

@@ -32,6 +32,7 @@ pub mod ProgramMoves
 pub mod ProgramPlaces
 pub mod ProgramStanding
 pub mod ProgramSteps
+pub mod Reported
 pub mod Running
 pub mod Standing
 pub mod Stops

@@ -4,5 +4,6 @@ pub mod Plain
 pub mod Process
 pub mod Program
 pub mod Records
+pub mod Reports
 pub mod Room
 pub mod Serial

@@ -8,11 +8,13 @@ ghost use Rattle.ast.specs.View.{symbol};
 ghost use Rattle.codegen.specs.Headline.{Bounded, Carried, Ends, Headline};
 ghost use Rattle.codegen.specs.Program.{IsCodeOf, Refuses, main_code, main_records, most_symbols};
 ghost use Rattle.codegen.specs.Records.{records_of};
+ghost use Rattle.codegen.specs.Reports.{Reports};
 ghost use Rattle.expr_code.specs.Computes.{variables_for, variables_in};
 ghost use Rattle.machine.specs.CodeView.{code_of};
 ghost use Rattle.machine.specs.Laid.{are_laid};
 
 use crate::nodes::emit_block;
+use crate::reports::{LoopReport, reports};
 use crate::rooms::{loops_of_block, of_block};
 use crate::statements::put;
 use ast::{Program, Refusal, Symbol};
@@ -105,20 +107,30 @@ fn whole(alloc: Global, program: &Program) -> Result<Code, Refusal>
     }
 }
 
-/// The code of a program. Its loops are run by main alone, one trip after another.
+/// A program's code, and what is reported of its loops, in order.
+#[derive(Drop)]
+pub struct Compiled {
+    pub code: Code,
+    pub reports: Vec<LoopReport>,
+}
+
+/// The code of a program, with a report of each of its loops. Its loops are run by main alone, one trip
+/// after another.
 ///
 /// # Errors
 ///
 /// 61 at line 0 where the code would have more than 1,048,576 instructions, or the program has more
 /// than 4,294,967,296 symbols; and want of memory.
-pub fn compile(alloc: Global, program: &Program) -> Result<Code, Refusal>
-    ensures code { IfOk result (λ code. IsCodeOf (program_of program.now) (code_of code)) }
-    ensures headline { IfOk result (λ code. Headline (code_of code) (program_of program.now)) }
-    ensures ends { IfOk result (λ code. (input : List ℕ) → Ends (code_of code) input) }
-    ensures bounded { IfOk result (λ code. (input : List ℕ) → Bounded (code_of code) input) }
-    ensures carried { IfOk result (λ code. (input : List ℕ) → Carried (code_of code) input) }
+pub fn compile(alloc: Global, program: &Program) -> Result<Compiled, Refusal>
+    ensures code { IfOk result (λ compiled. IsCodeOf (program_of program.now) (code_of compiled.code)) }
+    ensures headline { IfOk result (λ compiled. Headline (code_of compiled.code) (program_of program.now)) }
+    ensures ends { IfOk result (λ compiled. (input : List ℕ) → Ends (code_of compiled.code) input) }
+    ensures bounded { IfOk result (λ compiled. (input : List ℕ) → Bounded (code_of compiled.code) input) }
+    ensures carried { IfOk result (λ compiled. (input : List ℕ) → Carried (code_of compiled.code) input) }
+    ensures reports { IfOk result (λ compiled. Reports (program_of program.now) compiled.reports.items) }
     ensures refused { IfErr result (Refuses (program_of program.now)) }
 {
     let code = whole(alloc, program)?;
-    Ok(code)
+    let reports = reports(alloc, program)?;
+    Ok(Compiled { code, reports })
 }

@@ -5,9 +5,9 @@ use Rattle.clap.specs.Words.{App, IsAmong, Row, Rule, Text, fault_of, first_of, 
 use Rattle.clap.specs.declared.error.Error.{Error}
 use Rattle.clap.specs.declared.error.kind.ErrorKind.TheVariants.{DisplayHelp, DisplayVersion, OutOfMemory}
 use Rattle.clap.specs.declared.builder.action.ArgAction.TheVariants.{Set, SetTrue}
-use Rattle.engines.specs.Explained.{is_explained}
+use Rattle.engines.specs.Explained.{is_explained, is_within}
 use Rattle.doac.specs.declared.command.Command.{Command}
-use Rattle.doac.specs.declared.command.Command.TheVariants.{Check, Seq, Replay, Upgrade, Explain}
+use Rattle.doac.specs.declared.command.Command.TheVariants.{Check, ListLoops, Seq, Replay, Upgrade, Explain, ExplainSerial}
 use Rattle.doac.specs.declared.command.LineFault.{LineFault}
 use Rattle.doac.specs.declared.command.LineFault.TheVariants.{Help, Mistake, NoCommand, NoSuchNumber, Memory}
 
@@ -39,8 +39,15 @@ store = record (new_rule (codes "store")) { long = Some (codes "store"); action 
 abbrev pub number : Rule
 number = record (new_rule (codes "N")) { action = Some Set }
 
+-- REASON, behind the word serial
+abbrev pub reason : Rule
+reason = record (new_rule (codes "REASON")) { action = Some Set }
+
 abbrev pub check : App
 check = with_rule (new_app (codes "check")) source
+
+abbrev pub list : App
+list = with_rule (new_app (codes "list")) source
 
 abbrev pub seq : App
 seq = with_rule (with_rule (with_rule (new_app (codes "seq")) source) input) store
@@ -52,7 +59,7 @@ abbrev pub upgrade : App
 upgrade = with_rule (with_rule (with_rule (with_rule (new_app (codes "upgrade")) source) whole_input) schedule) out
 
 abbrev pub explain : App
-explain = with_rule (new_app (codes "explain")) number
+explain = with_rule (with_rule (new_app (codes "explain")) number) reason
 
 -- a command that wants one of its subcommands, and has a version
 abbrev pub wants_subcommand : App → App
@@ -60,7 +67,7 @@ wants_subcommand a = record a { top = record a.top { subcommand_required = true;
 
 abbrev pub doac : App
 doac =
-    with_subcommand (with_subcommand (with_subcommand (with_subcommand (with_subcommand (wants_subcommand (new_app (codes "doac"))) check.top) seq.top) replay.top) upgrade.top) explain.top
+    with_subcommand (with_subcommand (with_subcommand (with_subcommand (with_subcommand (with_subcommand (wants_subcommand (new_app (codes "doac"))) check.top) list.top) seq.top) replay.top) upgrade.top) explain.top
 
 -- what clap makes of a flag
 abbrev pub IsFlag : Bool → Option Text → Type 0
@@ -71,9 +78,15 @@ abbrev pub IsNumber : ℕ → Text → Type 0
 IsNumber n text =
     IsNumeral 10 (without_leading_plus text) × (digits_value 10 (without_leading_plus text) ≡ n) × (is_explained n ≡ true)
 
+-- a text writes the number of a reason, where a plus sign may stand first
+abbrev pub IsReason : ℕ → Text → Type 0
+IsReason n text =
+    IsNumeral 10 (without_leading_plus text) × (digits_value 10 (without_leading_plus text) ≡ n) × (is_within 1 6 n ≡ true)
+
 -- the subcommand's name and the values of its arguments are a command's
 abbrev pub Holds : Text → List Row → Command → Type 0
 Holds name values (Check source) = (name ≡ codes "check") × (first_of (codes "F") values ≡ Some source.now)
+Holds name values (ListLoops source) = (name ≡ codes "list") × (first_of (codes "F") values ≡ Some source.now)
 Holds name values (Seq source input store) =
     (name ≡ codes "seq") × (first_of (codes "F") values ≡ Some source.now)
     × (first_of (codes "INPUT") values ≡ option_map (λ i. i.now) input) × IsFlag store (one_of (codes "store") values)
@@ -86,7 +99,10 @@ Holds name values (Upgrade source input schedule out) =
     × (first_of (codes "OUT") values ≡ Some out.now)
 Holds name values (Explain None) = (name ≡ codes "explain") × (first_of (codes "N") values ≡ None)
 Holds name values (Explain (Some number)) =
-    (name ≡ codes "explain") × (text : Text) × (first_of (codes "N") values ≡ Some text) × IsNumber number text
+    (name ≡ codes "explain") × (text : Text) × (first_of (codes "N") values ≡ Some text) × IsNumber number text × (first_of (codes "REASON") values ≡ None)
+Holds name values (ExplainSerial reason) =
+    (name ≡ codes "explain") × (first_of (codes "N") values ≡ Some (codes "serial"))
+    × ((text : Text) × (first_of (codes "REASON") values ≡ Some text) × IsReason reason text)
 
 -- what clap found, a subcommand's name and the values of its arguments, is a command
 abbrev pub HeldIn : Option (Text × List Row) → Command → Type 0
@@ -105,16 +121,21 @@ LacksOne (x ∷ xs) values = (first_of x values ≡ None) ⊎ LacksOne xs values
 -- the subcommand is none of the program's, or lacks a file that it can't do without
 abbrev pub Lacks : Text → List Row → Type 0
 Lacks name values =
-    (((name ≡ codes "check") ⊎ (name ≡ codes "seq")) → first_of (codes "F") values ≡ None)
+    (((name ≡ codes "check") ⊎ ((name ≡ codes "list") ⊎ (name ≡ codes "seq"))) → first_of (codes "F") values ≡ None)
     × (name ≡ codes "replay" → LacksOne (codes "F" ∷ codes "INPUT" ∷ codes "SCHEDULE" ∷ []) values)
     × (name ≡ codes "upgrade" → LacksOne (codes "F" ∷ codes "INPUT" ∷ codes "SCHEDULE" ∷ codes "OUT" ∷ []) values)
     × (name ≡ codes "explain" → ⊥)
 
--- the subcommand asks to explain what is no explained number
+-- the words behind `explain` name nothing that is explained: one alone no explained number, two no reason
+abbrev pub NamesNothing : Text → Option Text → Type 0
+NamesNothing word None = (n : ℕ) → IsNumber n word → ⊥
+NamesNothing word (Some text) = word ≡ codes "serial" → (n : ℕ) → IsReason n text → ⊥
+
+-- the subcommand asks to explain what isn't explained
 abbrev pub AsksInVain : Text → List Row → Type 0
 AsksInVain name values =
     (name ≡ codes "explain")
-    × ((text : Text) × (first_of (codes "N") values ≡ Some text) × ((n : ℕ) → IsNumber n text → ⊥))
+    × ((word : Text) × (first_of (codes "N") values ≡ Some word) × NamesNothing word (first_of (codes "REASON") values))
 
 -- why what clap found is no command
 abbrev pub HoldsNone : Text → List Row → LineFault → Type 0

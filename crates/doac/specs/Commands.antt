@@ -2,19 +2,22 @@
 use Rattle.std.specs.Prelude.{◌⊎◌, ℕ, List, option_map}
 use Rattle.clap.specs.Words.{Text}
 use Rattle.engines.specs.Engines.{Checks, Runs}
+use Rattle.engines.specs.Lists.{Lists}
 use Rattle.doac.specs.CommandLine.{Names, NamesNone}
 use Rattle.doac.specs.Statuses.{EndsAs, EndsLine, EndsReplay, EndsUpgrade, HasStatus, OfGiven, OfPrint}
 use Rattle.doac.specs.declared.command.Command.{Command}
-use Rattle.doac.specs.declared.command.Command.TheVariants.{Check, Seq, Replay, Upgrade, Explain}
+use Rattle.doac.specs.declared.command.Command.TheVariants.{Check, ListLoops, Seq, Replay, Upgrade, Explain, ExplainSerial}
 use Rattle.doac.specs.declared.command.LineFault.{LineFault}
 
 abbrev pub Obeys : Command → ℕ → Type 0
 Obeys (Check file) status = EndsAs status ((text : List ℕ) × HasStatus (Checks text) status)
+Obeys (ListLoops file) status = EndsAs status ((text : List ℕ) × HasStatus (Lists text) status)
 Obeys (Seq file input store) status =
     EndsAs status ((text : List ℕ) × OfGiven (option_map (λ i. i.now) input) (λ given. HasStatus (Runs store text given) status))
 Obeys (Replay source input schedule) status = EndsReplay status
 Obeys (Upgrade source input schedule out) status = EndsUpgrade status
 Obeys (Explain number) status = OfPrint status
+Obeys (ExplainSerial reason) status = OfPrint status
 
 -- the exit status of the command that clap finds in the words, or of a fault that is true of them
 abbrev pub Follows : List Text → ℕ → Type 0

@@ -2,12 +2,12 @@
 
 ghost use Rattle.std.specs.Prelude.{◌≡◌, IfErr, IfOk, codes, option_map, ℕ};
 ghost use Rattle.clap.specs.Words.{first_of, found_of, one_of, rows_of, subcommand_rows_of};
-ghost use Rattle.doac.specs.CommandLine.{HeldIn, HeldInNone, HoldsNone, Holds, IsFlag, IsNumber, MadeOf};
+ghost use Rattle.doac.specs.CommandLine.{HeldIn, HeldInNone, HoldsNone, Holds, IsFlag, IsNumber, IsReason, MadeOf};
 ghost use Rattle.doac.specs.declared.command.LineFault.TheVariants.{Memory, NoSuchNumber};
 
 use clap::ArgMatches;
 use clap::error::ErrorKind;
-use engines::explain::is_explained;
+use engines::explain::{is_explained, is_reason};
 use std::alloc::AllocError;
 use thiserror::Error;
 
@@ -16,6 +16,8 @@ use thiserror::Error;
 pub enum Command<'a> {
     /// `check F`: whether the source of this file is in the profile.
     Check(&'a str),
+    /// `list F`: the loops of the source of this file, and which of them may be open.
+    ListLoops(&'a str),
     /// `seq F [INPUT] [--store]`: the run of the source of a file, on the input of another one, if
     /// there is one; and whether the store is wanted.
     Seq {
@@ -38,6 +40,8 @@ pub enum Command<'a> {
     },
     /// `explain [N]`: what this refusal or fault means; without a number, which numbers there are.
     Explain(Option<u8>),
+    /// `explain serial N`: for what this reason a loop stays serial.
+    ExplainSerial(u8),
 }
 
 /// Why the words of a command line name no command.
@@ -52,8 +56,8 @@ pub enum LineFault {
     /// They hold no command.
     #[error("error: no command was given\n\nUsage: doac <COMMAND>\n\nFor more information, try '--help'.\n")]
     NoCommand,
-    /// They ask to explain a number that is no refusal's and no fault's.
-    #[error("error: no refusal and no fault has this number\n\nUsage: doac explain [N]\n\nFor more information, try '--help'.\n")]
+    /// They ask to explain a number that is no refusal's and no fault's, or, of a serial loop, no reason's.
+    #[error("error: nothing has this number\n\nUsage: doac explain [N]\n       doac explain serial <REASON>\n\nFor more information, try '--help'.\n")]
     NoSuchNumber,
     /// Memory was refused.
     #[error("out of memory\n")]
@@ -116,6 +120,7 @@ fn named<'a>(name: &str, given: &ArgMatches<'a>) -> Result<Command<'a>, LineFaul
 {
     match name {
         "check" => checking(given),
+        "list" => listing(given),
         "seq" => running(given),
         "replay" => replaying(given),
         "upgrade" => upgrading(given),
@@ -142,6 +147,16 @@ fn checking<'a>(given: &ArgMatches<'a>) -> Result<Command<'a>, LineFault>
 {
     match text(given, "F") {
         Some(source) => Ok(Command::Check(source)),
+        None => Err(LineFault::NoCommand),
+    }
+}
+
+fn listing<'a>(given: &ArgMatches<'a>) -> Result<Command<'a>, LineFault>
+    ensures found { IfOk result (Holds (codes "list") (rows_of (found_of given.now))) }
+    ensures refused { IfErr result (HoldsNone (codes "list") (rows_of (found_of given.now))) }
+{
+    match text(given, "F") {
+        Some(source) => Ok(Command::ListLoops(source)),
         None => Err(LineFault::NoCommand),
     }
 }
@@ -202,9 +217,32 @@ fn explaining<'a>(given: &ArgMatches<'a>) -> Result<Command<'a>, LineFault>
     ensures found { IfOk result (Holds (codes "explain") (rows_of (found_of given.now))) }
     ensures refused { IfErr result (HoldsNone (codes "explain") (rows_of (found_of given.now))) }
 {
-    match text(given, "N") {
-        Some(number) => Ok(Command::Explain(Some(explained(number)?))),
-        None => Ok(Command::Explain(None)),
+    match (text(given, "N"), text(given, "REASON")) {
+        (Some(word), Some(reason)) => Ok(Command::ExplainSerial(serial(word, reason)?)),
+        (Some(number), None) => Ok(Command::Explain(Some(explained(number)?))),
+        (None, _) => Ok(Command::Explain(None)),
+    }
+}
+
+/// The number of a text behind the word `serial`, if it is that of a reason.
+fn serial(word: &str, text: &str) -> Result<u8, LineFault>
+    ensures found { IfOk result (λ reason. (word.now ≡ codes "serial") × IsReason reason text.now) }
+    ensures refused { IfErr result (λ fault. (fault ≡ NoSuchNumber) × (word.now ≡ codes "serial" → (n : ℕ) → IsReason n text.now → ⊥)) }
+{
+    match word {
+        "serial" => reason(text),
+        _ => Err(LineFault::NoSuchNumber),
+    }
+}
+
+/// The number of a text, if it is that of a reason.
+fn reason(text: &str) -> Result<u8, LineFault>
+    ensures found { IfOk result (λ reason. IsReason reason text.now) }
+    ensures refused { IfErr result (λ fault. (fault ≡ NoSuchNumber) × ((n : ℕ) → IsReason n text.now → ⊥)) }
+{
+    match text.parse::<u8>() {
+        Ok(number) if is_reason(number) => Ok(number),
+        _ => Err(LineFault::NoSuchNumber),
     }
 }
 

@@ -2,7 +2,7 @@
 
 ghost use Rattle.std.specs.Prelude.{◌≡◌, IfErr, IfOk, false, map};
 ghost use Rattle.clap.specs.Words.{app_of, rule_of};
-ghost use Rattle.doac.specs.CommandLine.{Names, NamesNone, doac, input, number, out, schedule, source, store, whole_input};
+ghost use Rattle.doac.specs.CommandLine.{Names, NamesNone, doac, input, number, out, reason, schedule, source, store, whole_input};
 
 use crate::command::{LineFault, held};
 use clap::{Arg, ArgAction};
@@ -73,8 +73,17 @@ fn number<'a>(alloc: Global) -> Arg<'a>
     ensures local { result.global ≡ false }
 {
     Arg::new(alloc, "N").action(ArgAction::Set).help(
-        "The number behind REFUSED, SCHEDULE or FAULT; without it all are listed",
+        "The number behind REFUSED, SCHEDULE or FAULT, or the word serial; without it all are listed",
     )
+}
+
+fn reason<'a>(alloc: Global) -> Arg<'a>
+    ensures rule { rule_of result ≡ reason }
+    ensures local { result.global ≡ false }
+{
+    Arg::new(alloc, "REASON")
+        .action(ArgAction::Set)
+        .help("Behind the word serial, the number behind SERIAL")
 }
 
 /// The program's command lines.
@@ -83,6 +92,9 @@ fn parser<'a>(alloc: Global) -> Result<clap::Command<'a>, AllocError>
 {
     let check = clap::Command::new(alloc, "check")
         .about("Checks a source and writes ACCEPTED or REFUSED")
+        .arg(source(alloc))?;
+    let list = clap::Command::new(alloc, "list")
+        .about("Lists the loops of a source, and where iterations that overlap wait")
         .arg(source(alloc))?;
     let seq = clap::Command::new(alloc, "seq")
         .about("Runs a source, one statement after another, and writes what it prints")
@@ -101,13 +113,15 @@ fn parser<'a>(alloc: Global) -> Result<clap::Command<'a>, AllocError>
         .arg(schedule(alloc))?
         .arg(out(alloc))?;
     let explain = clap::Command::new(alloc, "explain")
-        .about("Explains a refusal or a fault by its number")
-        .arg(number(alloc))?;
+        .about("Explains a refusal, a fault or a serial loop by its number")
+        .arg(number(alloc))?
+        .arg(reason(alloc))?;
     clap::Command::new(alloc, "doac")
         .about("Checks and runs FORTRAN 77 programs")
         .subcommand_required(true)
         .version("0.1.0")
         .subcommand(check)?
+        .subcommand(list)?
         .subcommand(seq)?
         .subcommand(replay)?
         .subcommand(upgrade)?

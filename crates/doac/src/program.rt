@@ -2,6 +2,7 @@
 
 ghost use Rattle.std.specs.Prelude.{◌≡◌, ◌⊎◌, ℕ, List, map, option_map};
 ghost use Rattle.engines.specs.Engines.{Checks, Runs};
+ghost use Rattle.engines.specs.Lists.{Lists};
 ghost use Rattle.engines.specs.Schedules.{Replaying};
 ghost use Rattle.engines.specs.declared.texts.Texts.{Texts};
 ghost use Rattle.doac.specs.Commands.{Follows, Obeys};
@@ -11,8 +12,9 @@ use crate::command::{Command, LineFault};
 use crate::command_line::command;
 use crate::files::{FileFault, Names, Unread, read_file, read_texts};
 use engines::{
-    EngineFault, Message, Outcome, Place, Texts, Upgraded, Verdict, explain, judged, replay_texts,
-    seq_texts, tell_verdict, upgrade_texts, warn,
+    EngineFault, Message, Outcome, Place, Survey, Texts, Upgraded, Verdict, explain, judged,
+    replay_texts, say_why_serial, seq_texts, surveyed, tell_survey, tell_verdict, upgrade_texts,
+    warn,
 };
 use std::convert::AsStr;
 use std::rt::{Env, Files};
@@ -74,7 +76,9 @@ fn refuse_line<R: Print + Eprint>(rt: &R, fault: &LineFault) -> u8
         }
         _ => {
             let _ = rt.eprint(fault);
-            let _ = eprintln!(rt; "The commands are check, seq, replay, upgrade and explain.");
+            let _ = eprintln!(rt;
+                "The commands are check, list, seq, replay, upgrade and explain."
+            );
             fault.status()
         }
     }
@@ -97,6 +101,7 @@ fn obey<R: Files + Print + Eprint + AllocGlobal>(rt: &R, command: Command<'_>) -
 {
     match command {
         Command::Check(source) => check_file(rt, source),
+        Command::ListLoops(file) => list_file(rt, file),
         Command::Seq {
             source,
             input,
@@ -130,6 +135,7 @@ fn obey<R: Files + Print + Eprint + AllocGlobal>(rt: &R, command: Command<'_>) -
         ),
         Command::Explain(Some(number)) => status_of_print(rt, explain::explain(rt, number)),
         Command::Explain(None) => status_of_print(rt, explain::list(rt)),
+        Command::ExplainSerial(reason) => status_of_print(rt, explain::explain_serial(rt, reason)),
     }
 }
 
@@ -163,6 +169,43 @@ fn check_source<R: Print + Eprint + AllocGlobal>(rt: &R, name: &str, text: &[u8]
             let outcome = tell_verdict(rt.alloc(), &verdict, &mut io::writer(rt));
             if let Verdict::Accepted(program) = &verdict {
                 warn(rt, name, text, program);
+            }
+            tell(rt, name, text, outcome)
+        }
+        Err(_) => tell(rt, name, text, Err(EngineFault::Memory)),
+    }
+}
+
+fn list_file<R: Files + Print + Eprint + AllocGlobal>(rt: &R, name: &str) -> u8
+    ensures { EndsAs result ((text : List ℕ) × HasStatus (Lists text) result) }
+{
+    let text = read_file(rt, name);
+    list_given(rt, name, text)
+}
+
+/// What `list` makes of the bytes of its file.
+fn list_given<R: Print + Eprint + AllocGlobal>(
+    rt: &R,
+    name: &str,
+    text: Result<Vec<u8>, FileFault>,
+) -> u8
+    ensures { AfterFile text result (λ text. EndsAs result (HasStatus (Lists text) result)) }
+{
+    match text {
+        Ok(text) => list_source(rt, name, &text),
+        Err(fault) => refuse_file(rt, name, &fault),
+    }
+}
+
+/// Lists the loops of the text of a file; standard error says what keeps them serial, or has its message.
+fn list_source<R: Print + Eprint + AllocGlobal>(rt: &R, name: &str, text: &[u8]) -> u8
+    ensures { EndsAs result (HasStatus (Lists text.now) result) }
+{
+    match surveyed(rt.alloc(), text) {
+        Ok(survey) => {
+            let outcome = tell_survey(rt.alloc(), &survey, &mut io::writer(rt));
+            if let Survey::Loops { program, reports } = &survey {
+                say_why_serial(rt, name, program, reports);
             }
             tell(rt, name, text, outcome)
         }

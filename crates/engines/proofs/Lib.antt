@@ -1,6 +1,8 @@
 pub mod Counts
+pub mod Listings
 pub mod Pages
 pub mod Replayed
 pub mod StoreRows
 pub mod Subscripts
+pub mod Surveys
 pub mod Upgrading

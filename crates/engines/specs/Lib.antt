@@ -1,5 +1,8 @@
+pub mod Advanced
 pub mod Engines
 pub mod Explained
+pub mod Listing
+pub mod Lists
 pub mod Reading
 pub mod Schedules
 pub mod Shown

@@ -3,6 +3,7 @@
 
 ghost use Rattle.std.specs.Prelude.{◌≡◌, IfOk, IfErr};
 ghost use Rattle.engines.specs.Engines.{AfterRead, Checks, IsJudged, Leaves, LeavesOfSource, LeavesReader, LeavesReaders, OfText, Runs, Tells, Works, WorksWith, WroteAs, WrotePart, of_input, of_source};
+ghost use Rattle.engines.specs.Lists.{Lists, TellsLoops};
 ghost use Rattle.engines.specs.Reading.{LeavesThree, OfTexts};
 ghost use Rattle.engines.specs.Schedules.{LeavesBoth, Replaying, UpgradeWorks, Upgrading, WroteUpgraded, WroteUpgradedPart};
 
@@ -11,6 +12,7 @@ use crate::outcome::Outcome;
 use crate::page::{run, told};
 use crate::replays::{replayed, upgrade_texts};
 use crate::streams::read_all;
+use crate::survey::{Survey, shown_loops, surveyed};
 use crate::texts::read_three;
 use crate::verdict::{Verdict, judged};
 use std::alloc::Global;
@@ -43,6 +45,34 @@ pub fn check_text<W: Write>(
 {
     let verdict = judged(alloc, source)?;
     tell_verdict(alloc, &verdict, out)
+}
+
+/// Writes the lines of a survey: those of each loop, or that of a refusal.
+///
+/// # Errors
+///
+/// A fault of the writer, with a beginning of the lines written; or of memory, with nothing written.
+pub fn tell_survey<W: Write>(
+    alloc: Global,
+    survey: &Survey,
+    out: &mut W,
+) -> Result<Outcome, EngineFault>
+    ensures { Works (TellsLoops survey.now) (W.contents out.old) (W.contents out.new) result }
+{
+    let page = shown_loops(alloc, survey)?;
+    page.write(out)
+}
+
+/// Writes the lines of a text's loops. The errors are those of [`tell_survey`].
+pub fn list_text<W: Write>(
+    alloc: Global,
+    source: &[u8],
+    out: &mut W,
+) -> Result<Outcome, EngineFault>
+    ensures { Works (Lists source.now) (W.contents out.old) (W.contents out.new) result }
+{
+    let survey = surveyed(alloc, source)?;
+    tell_survey(alloc, &survey, out)
 }
 
 /// Runs a text on an input, and writes its records and what follows them: at a fault or a STOP its
@@ -112,6 +142,19 @@ fn check_read<W: Write>(
     check_text(alloc, &source, out)
 }
 
+/// What `list` makes of its read.
+fn list_read<W: Write>(
+    alloc: Global,
+    source: Result<Vec<u8>, ReadFault>,
+    out: &mut W,
+) -> Result<Outcome, EngineFault>
+    ensures { AfterRead source of_source (W.contents out.old) (W.contents out.new) result
+        (λ text. Works (Lists text) (W.contents out.old) (W.contents out.new) result) }
+{
+    let source = source.map_err(EngineFault::of_source)?;
+    list_text(alloc, &source, out)
+}
+
 /// What `seq` makes of the read of its input, the source's having succeeded.
 fn seq_given<W: Write>(
     alloc: Global,
@@ -164,6 +207,29 @@ pub fn check<R: Read, W: Write>(
 {
     let read = read_all(alloc, source);
     let outcome = check_read(alloc, read, out)?;
+    Ok(outcome.status())
+}
+
+/// Writes the lines of a source's loops and gives the exit status: 0, or 1 for a source that is refused,
+/// by its text or for its code.
+///
+/// # Errors
+///
+/// A fault of the source's reader, with nothing written; of the writer, with a beginning of the lines
+/// written; or of memory, with nothing written.
+pub fn list<R: Read, W: Write>(
+    alloc: Global,
+    source: &mut R,
+    out: &mut W,
+) -> Result<u8, EngineFault>
+    ensures ok { IfOk result (λ status. OfText (R.remaining source.old) (λ text.
+        WroteAs (Lists text) (W.contents out.old) (W.contents out.new) status)) }
+    ensures err { IfErr result (λ fault. LeavesOfSource fault (W.contents out.old) (W.contents out.new)
+        (OfText (R.remaining source.old) (λ text. WrotePart (Lists text) (W.contents out.old) (W.contents out.new)))) }
+    ensures readers { IfErr result (λ fault. LeavesReader fault (R.remaining source.new)) }
+{
+    let read = read_all(alloc, source);
+    let outcome = list_read(alloc, read, out)?;
     Ok(outcome.status())
 }
 

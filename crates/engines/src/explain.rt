@@ -6,12 +6,14 @@ ghost use Rattle.engines.specs.Explained as numbers;
 mod faults;
 mod lines;
 mod profile;
+mod reasons;
 mod schedules;
 mod statements;
 
 use crate::shown::fault_name;
 use crate::visible::Visible;
 use ast::Fault;
+pub use reasons::{Reason, is_reason, serial_reason};
 use std::fmt::{Display, Formatter, Result as FmtResult, Write};
 use std::io;
 
@@ -139,6 +141,14 @@ pub fn explain<P: Print>(rt: &P, number: u8) -> io::Result<()> {
     }
     if let Some(explanation) = fault(number) {
         print!(rt; "\n{explanation}")?;
+    }
+    Ok(())
+}
+
+/// Prints what the number of a reason means for which a loop stays serial.
+pub fn explain_serial<P: Print>(rt: &P, number: u8) -> io::Result<()> {
+    if let Some(reason) = serial_reason(number) {
+        print!(rt; "{reason}")?;
     }
     Ok(())
 }

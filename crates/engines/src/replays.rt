@@ -135,7 +135,7 @@ fn replayed_program(
     ensures { IfOk result (λ page. (source : List ℕ) → Reads source (program_of program.now) → Replaying source input.now schedule.now page.outcome page.text.items) }
 {
     match compile(alloc, program) {
-        Ok(code) => replayed_code(alloc, program, &code, input, schedule),
+        Ok(compiled) => replayed_code(alloc, program, &compiled.code, input, schedule),
         Err(CompileRefusal::Refused { number, line }) => refused(alloc, number, line),
         Err(CompileRefusal::Memory) => Err(AllocError),
     }
@@ -204,7 +204,7 @@ fn upgraded_program(
     ensures { IfOk result (λ upgraded. (source : List ℕ) → Reads source (program_of program.now) → Upgrading source input.now schedule.now upgraded) }
 {
     match compile(alloc, program) {
-        Ok(code) => upgraded_code(alloc, &code, input, schedule),
+        Ok(compiled) => upgraded_code(alloc, &compiled.code, input, schedule),
         Err(CompileRefusal::Refused { number, line }) => {
             Ok(Upgraded::Shown(refused(alloc, number, line)?))
         }

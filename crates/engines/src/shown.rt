@@ -16,7 +16,7 @@ pub fn append_number<I: Integer>(out: &mut Vec<u8>, number: I) -> Result<(), All
 }
 
 /// Appends the number of a source line, and ends the line of output.
-fn append_line(out: &mut Vec<u8>, line: Line) -> Result<(), AllocError>
+pub fn append_line(out: &mut Vec<u8>, line: Line) -> Result<(), AllocError>
     ensures { OnOk result (out.new.items ≡ out.old.items ++ at_line line) }
 {
     out.extend_from_slice(b" LINE ")?;

@@ -1,0 +1,7 @@
+use Rattle.std.proofs.Common.{take}
+use Rattle.loop_tree.specs.TreeView.{lines_seen, loops_seen}
+use Rattle.codegen.specs.Reports.{AreReports}
+use Rattle.codegen.proofs.reports.reports_of.Given as goal
+
+abbrev pub invariant-loop-place : goal.invariant-loop-place
+invariant-loop-place l = AreReports (lines_seen l.tree) (take l.place (loops_seen l.tree)) l.reports.items

@@ -1,0 +1,59 @@
+-- What is reported of a program's loops.
+use Rattle.std.specs.Prelude.{◌≡◌, ◌==◌, ◌+◌, ⊤, ℕ, Bool, true, false, if◌then◌else◌, List, [], ◌∷◌, map, Option, Some, None, slice_get}
+use Rattle.ast.specs.Program.{ProgramTree}
+use Rattle.loop_tree.specs.Loops.{Loop, loops_of}
+use Rattle.loop_tree.specs.Occurrences.{block_lines}
+use Rattle.placement.specs.Judged.{IsPlaced}
+use Rattle.placement.specs.declared.analysis.Kept.{Kept}
+use Rattle.placement.specs.declared.planning.Placed.{Placed}
+use Rattle.codegen.specs.declared.reports.LoopReport.{LoopReport}
+
+abbrev pub line_or_none : Option ℕ → ℕ
+line_or_none None = 0
+line_or_none (Some line) = line
+
+abbrev pub is_true_or_none : Option Bool → Bool
+is_true_or_none None = false
+is_true_or_none (Some b) = b
+
+-- the line of a statement, by the lines of all; 0 where there is no such statement
+abbrev pub line_at : List ℕ → ℕ → ℕ
+line_at lines statement = line_or_none (slice_get lines statement)
+
+-- the number of a source's event, where that of the first source is k
+abbrev pub event_of : ℕ → List ℕ → ℕ → ℕ
+event_of k [] source = k
+event_of k (s ∷ ss) source = if s == source then k else event_of (k + 1) ss source
+
+-- an event, the distance at which it is awaited, and the sink's line
+abbrev pub kept_line : List ℕ → List ℕ → Kept → ℕ × ℕ × ℕ
+kept_line lines sources k = (event_of 1 sources k.source, k.distance, line_at lines k.sink)
+
+-- the report of a loop with this line, by what placement gives for it
+pub record IsReport (lines : List ℕ) (line : ℕ) (placed : Placed) (report : LoopReport) : Type 0 where
+  pub line_is : report.line ≡ line
+  pub plan_is : report.plan ≡ placed.plan
+  pub sources_are : report.sources.items ≡ map (line_at lines) placed.sources.items
+  pub kept_are : report.kept.items ≡ map (kept_line lines placed.sources.items) placed.kept.items
+
+-- what is noted of the loop of a number; nothing of none
+abbrev pub is_noted : List Bool → Option ℕ → Bool
+is_noted noted None = false
+is_noted noted (Some n) = is_true_or_none (slice_get noted n)
+
+-- a report of what placement gives for a loop, in an open one or not
+pub record IsPlacedReport (lines : List ℕ) (l : Loop) (report : LoopReport) : Type 0 where
+  pub inside : Bool
+  pub placed : Placed
+  pub is_placed : IsPlaced l inside placed
+  pub reported : IsReport lines l.line placed report
+
+-- each of these loops has its report, in order
+abbrev pub AreReports : List ℕ → List Loop → List LoopReport → Type 0
+AreReports lines [] [] = ⊤
+AreReports lines (l ∷ ls) (r ∷ rs) = IsPlacedReport lines l r × AreReports lines ls rs
+AreReports lines ls rs = ⊥
+
+-- the reports of a program's loops
+abbrev pub Reports : ProgramTree → List LoopReport → Type 0
+Reports t reports = AreReports (block_lines t.block) (loops_of t.block) reports

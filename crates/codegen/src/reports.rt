@@ -1,0 +1,153 @@
+//! What is reported of loops.
+
+ghost use Rattle.std.specs.Prelude.{◌≡◌, IfOk, map};
+ghost use Rattle.ast.specs.ProgramView.{program as program_of};
+ghost use Rattle.loop_tree.specs.Loops.{AreWhole, IsWhole};
+ghost use Rattle.loop_tree.specs.TreeView.{lines_seen, loops_seen, seen};
+ghost use Rattle.codegen.specs.Reports as spec;
+ghost use Rattle.codegen.specs.Reports.{AreReports, IsPlacedReport, IsReport};
+
+use ast::{Line, Program};
+use dependence::LoopPlan;
+use loop_tree::{LoopTree, LoopView, loops};
+use placement::{Kept, Placed, place};
+use std::alloc::{AllocError, Global};
+
+/// What is reported of a loop.
+#[derive(Drop)]
+pub struct LoopReport {
+    /// The line of its DO.
+    pub line: Line,
+    pub plan: LoopPlan,
+    /// Of a plan with a body, the line of each event's source; the first event has the number 1.
+    pub sources: Vec<Line>,
+    /// Of a plan with a body, what is awaited, by the sink's place in the text, the event and the
+    /// distance: an event, over how many iterations, and the sink's line.
+    pub kept: Vec<(usize, u128, Line)>,
+}
+
+/// The line of a statement; 0 where there is no such statement.
+fn line_at(lines: &[Line], statement: usize) -> Line
+    ensures { result ≡ spec.line_at lines.now statement }
+{
+    if statement < lines.len() {
+        lines[statement]
+    } else {
+        0
+    }
+}
+
+/// The number of a source's event: one more than how many sources stand before it.
+fn event_of(sources: &[usize], source: usize) -> usize
+    ensures { result ≡ spec.event_of 1 sources.now source }
+{
+    let mut event = 1;
+    for other in sources {
+        if *other == source {
+            return event;
+        }
+        event += 1;
+    }
+    event
+}
+
+fn source_lines(
+    alloc: Global,
+    lines: &[Line],
+    sources: &[usize],
+) -> Result<Vec<Line>, AllocError>
+    ensures { IfOk result (λ found. found.items ≡ map (spec.line_at lines.now) sources.now) }
+{
+    let mut found = Vec::with_capacity(alloc, sources.len())?;
+    for source in sources {
+        found.push(line_at(lines, *source))?;
+    }
+    Ok(found)
+}
+
+fn kept_lines(
+    alloc: Global,
+    lines: &[Line],
+    sources: &[usize],
+    kept: &[Kept],
+) -> Result<Vec<(usize, u128, Line)>, AllocError>
+    ensures { IfOk result (λ found. found.items ≡ map (spec.kept_line lines.now sources.now) kept.now) }
+{
+    let mut found = Vec::with_capacity(alloc, kept.len())?;
+    for one in kept {
+        found.push((
+            event_of(sources, one.source),
+            one.distance,
+            line_at(lines, one.sink),
+        ))?;
+    }
+    Ok(found)
+}
+
+/// The report of a loop of this line, by what placement gives for it.
+fn report(
+    alloc: Global,
+    lines: &[Line],
+    line: Line,
+    placed: Placed,
+) -> Result<LoopReport, AllocError>
+    ensures { IfOk result (IsReport lines.now line placed) }
+{
+    let sources = source_lines(alloc, lines, &placed.sources)?;
+    let kept = kept_lines(alloc, lines, &placed.sources, &placed.kept)?;
+    Ok(LoopReport {
+        line,
+        plan: placed.plan,
+        sources,
+        kept,
+    })
+}
+
+/// Whether a loop stands in one that suits, by what was noted of the loops before it: by number, and
+/// nothing of 0.
+fn is_inside(view: &LoopView<'_, '_>, noted: &[bool]) -> bool
+    ensures { result ≡ spec.is_noted noted.now (seen view.now).around }
+{
+    match view.outer() {
+        Some(number) if number < noted.len() => noted[number],
+        _ => false,
+    }
+}
+
+/// The report of the loop that a view shows. It is noted whether this loop or one around it suits.
+fn next_report(
+    alloc: Global,
+    lines: &[Line],
+    view: &LoopView<'_, '_>,
+    noted: &mut Vec<bool>,
+) -> Result<LoopReport, AllocError>
+    requires { IsWhole (seen view.now) }
+    ensures { IfOk result (IsPlacedReport lines.now (seen view.now)) }
+{
+    let inside = is_inside(view, noted);
+    let placed = place(alloc, view, inside)?;
+    noted.push(inside || placed.suits)?;
+    report(alloc, lines, view.line(), placed)
+}
+
+/// The reports of a tree's loops.
+fn reports_of(alloc: Global, tree: &LoopTree<'_>) -> Result<Vec<LoopReport>, AllocError>
+    requires { AreWhole (loops_seen tree.now) }
+    ensures { IfOk result (λ reports. AreReports (lines_seen tree.now) (loops_seen tree.now) reports.items) }
+{
+    let mut noted = vec![in alloc; false]?;
+    let mut reports = Vec::with_capacity(alloc, tree.count())?;
+    for place in 0..tree.count() {
+        let view = tree.view(place + 1);
+        reports.push(next_report(alloc, tree.lines(), &view, &mut noted)?)?;
+    }
+    Ok(reports)
+}
+
+/// The reports of a program's loops, in order.
+pub fn reports(alloc: Global, program: &Program) -> Result<Vec<LoopReport>, AllocError>
+    ensures { IfOk result (λ reports. spec.Reports (program_of program.now) reports.items) }
+{
+    let tree = loops(alloc, program)?;
+    reports_of(alloc, &tree)
+}

@@ -1,0 +1,57 @@
+-- What `list` may write of a source text.
+use Rattle.std.specs.Prelude.{◌≡◌, ◌⊎◌, ℕ, List}
+use Rattle.ast.specs.Program.{ProgramTree}
+use Rattle.ast.specs.ProgramView.{program as program_of}
+use Rattle.codegen.specs.Program.{IsCodeOf, IsTooLong}
+use Rattle.codegen.specs.Reports.{Reports}
+use Rattle.codegen.specs.declared.reports.LoopReport.{LoopReport}
+use Rattle.machine.specs.Code.{Code}
+use Rattle.profile_check.specs.Reads.{Reads}
+use Rattle.engines.specs.Engines.{IsRefusal}
+use Rattle.engines.specs.Listing.{Listing}
+use Rattle.engines.specs.Schedules.{IsNoCode}
+use Rattle.engines.specs.Shown.{refused}
+use Rattle.engines.specs.declared.outcome.Outcome.{Outcome}
+use Rattle.engines.specs.declared.outcome.Outcome.TheVariants.{Completed, Refused, Faulted, NoSchedule}
+use Rattle.engines.specs.declared.survey.Survey.{Survey}
+use Rattle.engines.specs.declared.survey.Survey.TheVariants as survey
+
+-- the source reads as a program that has code, and these are the reports of its loops
+pub record IsReported (source : List ℕ) (tree : ProgramTree) (reports : List LoopReport) : Type 0 where
+  pub reads : Reads source tree
+  pub code : Code
+  pub compiled : IsCodeOf tree code
+  pub are : Reports tree reports
+
+-- the source reads as a program whose code would be too long
+pub record HasLongCode (source : List ℕ) (number line : ℕ) : Type 0 where
+  pub tree : ProgramTree
+  pub reads : Reads source tree
+  pub long : IsTooLong tree
+  pub number_is : number ≡ 61
+  pub line_is : line ≡ 0
+
+-- a source is what a survey of its loops says
+abbrev pub IsSurvey : List ℕ → Survey → Type 0
+IsSurvey source (survey.Loops program reports) = IsReported source (program_of program) reports.items
+IsSurvey source (survey.Refused number line) = IsRefusal source number line ⊎ HasLongCode source number line
+
+-- what `list` may write of a survey
+abbrev pub TellsLoops : Survey → Outcome → List ℕ → Type 0
+TellsLoops (survey.Loops program reports) Completed text = Listing 1 reports.items text
+TellsLoops (survey.Refused number line) (Refused n l) text = (n ≡ number) × (l ≡ line) × (text ≡ refused number line)
+TellsLoops _ _ text = ⊥
+
+-- the source reads as a program that has code, and this lists its loops
+pub record IsListed (source text : List ℕ) : Type 0 where
+  pub tree : ProgramTree
+  pub reports : List LoopReport
+  pub reported : IsReported source tree reports
+  pub listing : Listing 1 reports text
+
+-- what `list` may write of a source text
+abbrev pub Lists : List ℕ → Outcome → List ℕ → Type 0
+Lists source Completed text = IsListed source text
+Lists source (Refused number line) text = IsNoCode source number line text
+Lists source (Faulted fault line) text = ⊥
+Lists source (NoSchedule number line) text = ⊥

@@ -1,0 +1,172 @@
+//! Reasons for which a loop stays serial.
+
+ghost use Rattle.std.specs.Prelude.{◌≡◌, IfSome, is_some};
+ghost use Rattle.engines.specs.Explained.{is_within};
+
+use std::fmt::{Display, Formatter, Result as FmtResult, Write};
+
+/// What the number behind SERIAL means: in a sentence, and at length; with a source that has such a loop,
+/// and one whose loops are open. Either is empty where there is no short one.
+#[derive(Clone, Copy)]
+pub struct Reason {
+    pub number: u8,
+    pub sentence: &'static str,
+    pub meaning: &'static str,
+    pub example: &'static str,
+    pub advice: &'static str,
+    pub cure: &'static str,
+}
+
+impl Display for Reason {
+    fn fmt<W: Write>(&self, f: &mut Formatter<W>) -> FmtResult {
+        let Reason {
+            number,
+            sentence,
+            ..
+        } = self;
+        write!(f, "SERIAL {number}: {sentence}.\n\n{}", self.meaning)?;
+        if !self.example.is_empty() {
+            write!(f, "\n{}", self.example)?;
+        }
+        write!(f, "\nWhat to do: {}", self.advice)?;
+        if !self.cure.is_empty() {
+            write!(f, "\n{}", self.cure)?;
+        }
+        Ok(())
+    }
+}
+
+/// Whether a number is that of a reason.
+pub fn is_reason(number: u8) -> bool
+    ensures { result ≡ is_within 1 6 number }
+{
+    1 <= number && number <= 6
+}
+
+/// What a reason's number means.
+pub fn serial_reason(number: u8) -> Option<Reason>
+    ensures number { IfSome result (λ reason. reason.number ≡ number) }
+    ensures whether { is_some result ≡ is_within 1 6 number }
+{
+    match number {
+        1 => Some(NO_STEP),
+        2 => Some(HAS_READ),
+        3 => Some(SHARED_VARIABLE),
+        4 => Some(MANY_SOURCES),
+        5 => Some(INSIDE),
+        6 => Some(REFUSED),
+        _ => None,
+    }
+}
+
+const NO_STEP: Reason = Reason {
+    number: 1,
+    sentence: "the step is no constant other than 0",
+    meaning: "Iterations run at once only where it is known which value of the variable each one has.
+The third parameter of the DO must be a constant, and not 0; without one the step is 1:
+",
+    example: "      INTEGER A(20)
+      N=2
+      DO 10 I=1,20,N
+   10 A(I)=I
+      END
+",
+    advice: "write the step as a number, or name it in a PARAMETER statement:
+",
+    cure: "      INTEGER A(20)
+      PARAMETER (N=2)
+      DO 10 I=1,20,N
+   10 A(I)=I
+      END
+",
+};
+
+const HAS_READ: Reason = Reason {
+    number: 2,
+    sentence: "there is a READ in the loop",
+    meaning: "Records are read in the order of the iterations, and a loop with a READ, also in a loop
+inside, runs one iteration after another:
+",
+    example: "      INTEGER A(10)
+      DO 10 I=1,10
+      READ *,A(I)
+   10 A(I)=A(I)*A(I)
+      END
+",
+    advice: "read in a loop of its own, and work in another one:
+",
+    cure: "      INTEGER A(10)
+      DO 10 I=1,10
+   10 A(I)=I
+      END
+",
+};
+
+const SHARED_VARIABLE: Reason = Reason {
+    number: 3,
+    sentence: "the variable of a loop inside is used before it gets a value there",
+    meaning: "Each iteration has variables of its own for the loops inside. That can't be where an
+iteration may use such a variable before a statement of the same iteration gives it a value,
+since the value is then one from before:
+",
+    example: "      INTEGER A(10)
+      DO 20 I=1,10
+      A(I)=J
+      DO 10 J=1,3
+   10 A(I)=A(I)+J
+   20 CONTINUE
+      END
+",
+    advice: "use another variable there, or give it a value first:
+",
+    cure: "      INTEGER A(10)
+      DO 20 I=1,10
+      A(I)=4
+      DO 10 J=1,3
+   10 A(I)=A(I)+J
+   20 CONTINUE
+      END
+",
+};
+
+const MANY_SOURCES: Reason = Reason {
+    number: 4,
+    sentence: "later iterations wait for more than 64 statements",
+    meaning: "A statement whose value or place a later iteration uses is a source, and each source has an
+event of its own. A loop has 64 events at most.
+",
+    example: "",
+    advice: "divide the loop in two, or put values of several statements together in one.
+",
+    cure: "",
+};
+
+const INSIDE: Reason = Reason {
+    number: 5,
+    sentence: "a loop around it is open",
+    meaning: "Iterations of one loop of a nest run at once, and it is the outermost that may. The loops
+inside run one iteration after another, in each of its iterations:
+",
+    example: "      INTEGER B(3,3)
+      DO 10 I=1,3
+      DO 10 J=1,3
+   10 B(I,J)=I*J
+      END
+",
+    advice: "nothing, where iterations of the outer loop seldom wait. Where they do so much, exchange the
+loops.
+",
+    cure: "",
+};
+
+const REFUSED: Reason = Reason {
+    number: 6,
+    sentence: "the check refused the plan",
+    meaning: "Each plan is checked by itself before it is used, and one that the check refused isn't used.
+It accepts each plan that doac makes, so this number isn't met.
+",
+    example: "",
+    advice: "keep the program, which shows a mistake in doac.
+",
+    cure: "",
+};
