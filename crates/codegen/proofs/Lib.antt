@@ -22,6 +22,7 @@ pub mod MainReaching
 pub mod MainStanding
 pub mod MainSteps
 pub mod Meaning
+pub mod Nested
 pub mod Nesting
 pub mod Outcomes
 pub mod PlanPaths

@@ -1,5 +1,6 @@
 pub mod Emitted
 pub mod Headline
+pub mod Noted
 pub mod Plain
 pub mod Process
 pub mod Program

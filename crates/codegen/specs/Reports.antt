@@ -3,7 +3,8 @@ use Rattle.std.specs.Prelude.{◌≡◌, ◌==◌, ◌+◌, ⊤, ℕ, Bool, true
 use Rattle.ast.specs.Program.{ProgramTree}
 use Rattle.loop_tree.specs.Loops.{Loop, loops_of}
 use Rattle.loop_tree.specs.Occurrences.{block_lines}
-use Rattle.placement.specs.Judged.{IsPlaced}
+use Rattle.placement.specs.Judged.{IsInside, IsPlaced}
+use Rattle.placement.specs.Placement.{IsPlacement, loops_around}
 use Rattle.placement.specs.declared.analysis.Kept.{Kept}
 use Rattle.placement.specs.declared.planning.Placed.{Placed}
 use Rattle.codegen.specs.declared.reports.LoopReport.{LoopReport}
@@ -11,10 +12,6 @@ use Rattle.codegen.specs.declared.reports.LoopReport.{LoopReport}
 abbrev pub line_or_none : Option ℕ → ℕ
 line_or_none None = 0
 line_or_none (Some line) = line
-
-abbrev pub is_true_or_none : Option Bool → Bool
-is_true_or_none None = false
-is_true_or_none (Some b) = b
 
 -- the line of a statement, by the lines of all; 0 where there is no such statement
 abbrev pub line_at : List ℕ → ℕ → ℕ
@@ -36,24 +33,21 @@ pub record IsReport (lines : List ℕ) (line : ℕ) (placed : Placed) (report : 
   pub sources_are : report.sources.items ≡ map (line_at lines) placed.sources.items
   pub kept_are : report.kept.items ≡ map (kept_line lines placed.sources.items) placed.kept.items
 
--- what is noted of the loop of a number; nothing of none
-abbrev pub is_noted : List Bool → Option ℕ → Bool
-is_noted noted None = false
-is_noted noted (Some n) = is_true_or_none (slice_get noted n)
-
--- a report of what placement gives for a loop, in an open one or not
-pub record IsPlacedReport (lines : List ℕ) (l : Loop) (report : LoopReport) : Type 0 where
+-- A report of what placement gives for a loop of a program with these loops.
+pub record IsPlacedReport (all : List Loop) (lines : List ℕ) (l : Loop) (report : LoopReport) : Type 0 where
   pub inside : Bool
+  pub is_inside : IsInside (loops_around all l) inside
   pub placed : Placed
   pub is_placed : IsPlaced l inside placed
+  pub plan : IsPlacement all l report.plan
   pub reported : IsReport lines l.line placed report
 
 -- each of these loops has its report, in order
-abbrev pub AreReports : List ℕ → List Loop → List LoopReport → Type 0
-AreReports lines [] [] = ⊤
-AreReports lines (l ∷ ls) (r ∷ rs) = IsPlacedReport lines l r × AreReports lines ls rs
-AreReports lines ls rs = ⊥
+abbrev pub AreReports : List Loop → List ℕ → List Loop → List LoopReport → Type 0
+AreReports all lines [] [] = ⊤
+AreReports all lines (l ∷ ls) (r ∷ rs) = IsPlacedReport all lines l r × AreReports all lines ls rs
+AreReports all lines ls rs = ⊥
 
 -- the reports of a program's loops
 abbrev pub Reports : ProgramTree → List LoopReport → Type 0
-Reports t reports = AreReports (block_lines t.block) (loops_of t.block) reports
+Reports t reports = AreReports (loops_of t.block) (block_lines t.block) (loops_of t.block) reports

@@ -1,9 +1,10 @@
 //! What is reported of loops.
 
-ghost use Rattle.std.specs.Prelude.{◌≡◌, IfOk, map};
+ghost use Rattle.std.specs.Prelude.{◌≡◌, ◌+◌, ◌++◌, ◌||◌, [], ◌∷◌, IfOk, OnOk, Some, length, map};
 ghost use Rattle.ast.specs.ProgramView.{program as program_of};
-ghost use Rattle.loop_tree.specs.Loops.{AreWhole, IsWhole};
-ghost use Rattle.loop_tree.specs.TreeView.{lines_seen, loops_seen, seen};
+ghost use Rattle.loop_tree.specs.Loops.{AreWhole, IsWhole, loop_numbered};
+ghost use Rattle.loop_tree.specs.TreeView.{all_seen, lines_seen, loops_seen, seen};
+ghost use Rattle.codegen.specs.Noted.{AreNested, AreNoted, is_noted};
 ghost use Rattle.codegen.specs.Reports as spec;
 ghost use Rattle.codegen.specs.Reports.{AreReports, IsPlacedReport, IsReport};
 
@@ -103,10 +104,10 @@ fn report(
     })
 }
 
-/// Whether a loop stands in one that suits, by what was noted of the loops before it: by number, and
-/// nothing of 0.
+/// Whether a loop stands in one that may be open, by what was noted of the loops before it: by
+/// number, and nothing of 0.
 fn is_inside(view: &LoopView<'_, '_>, noted: &[bool]) -> bool
-    ensures { result ≡ spec.is_noted noted.now (seen view.now).around }
+    ensures { result ≡ is_noted noted.now (seen view.now).around }
 {
     match view.outer() {
         Some(number) if number < noted.len() => noted[number],
@@ -114,26 +115,41 @@ fn is_inside(view: &LoopView<'_, '_>, noted: &[bool]) -> bool
     }
 }
 
-/// The report of the loop that a view shows. It is noted whether this loop or one around it suits.
+/// Notes whether the next loop or one around it may be open.
+fn note(noted: &mut Vec<bool>, inside: bool, suits: bool) -> Result<(), AllocError>
+    ensures { OnOk result (noted.new.items ≡ noted.old.items ++ (inside || suits) ∷ []) }
+{
+    noted.push(inside || suits)?;
+    Ok(())
+}
+
+/// The report of the next loop, which a view shows. It is noted whether this loop or one around it may
+/// be open.
 fn next_report(
     alloc: Global,
     lines: &[Line],
     view: &LoopView<'_, '_>,
     noted: &mut Vec<bool>,
 ) -> Result<LoopReport, AllocError>
-    requires { IsWhole (seen view.now) }
-    ensures { IfOk result (IsPlacedReport lines.now (seen view.now)) }
+    requires whole { IsWhole (seen view.now) }
+    requires nested { AreNested (all_seen view.now) }
+    requires next { loop_numbered (all_seen view.now) (length noted.old.items) ≡ Some (seen view.now) }
+    requires noted { AreNoted (all_seen view.now) noted.old.items }
+    ensures report { IfOk result (IsPlacedReport (all_seen view.now) lines.now (seen view.now)) }
+    ensures noted { OnOk result (AreNoted (all_seen view.now) noted.new.items) }
+    ensures count { OnOk result (length noted.new.items ≡ length noted.old.items + 1) }
 {
     let inside = is_inside(view, noted);
     let placed = place(alloc, view, inside)?;
-    noted.push(inside || placed.suits)?;
+    note(noted, inside, placed.suits)?;
     report(alloc, lines, view.line(), placed)
 }
 
 /// The reports of a tree's loops.
 fn reports_of(alloc: Global, tree: &LoopTree<'_>) -> Result<Vec<LoopReport>, AllocError>
-    requires { AreWhole (loops_seen tree.now) }
-    ensures { IfOk result (λ reports. AreReports (lines_seen tree.now) (loops_seen tree.now) reports.items) }
+    requires whole { AreWhole (loops_seen tree.now) }
+    requires nested { AreNested (loops_seen tree.now) }
+    ensures { IfOk result (λ reports. AreReports (loops_seen tree.now) (lines_seen tree.now) (loops_seen tree.now) reports.items) }
 {
     let mut noted = vec![in alloc; false]?;
     let mut reports = Vec::with_capacity(alloc, tree.count())?;
