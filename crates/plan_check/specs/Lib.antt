@@ -15,4 +15,5 @@ pub mod Mistakes
 pub mod SeenView
 pub mod Stripping
 pub mod Walked
+pub mod WalkedView
 pub mod Walking

@@ -8,11 +8,18 @@ use Rattle.plan_check.specs.Checking.{IsBody, all_ahead, all_held, all_true, at_
 use Rattle.plan_check.specs.Entries.{entries_by, joined_entry}
 use Rattle.plan_check.specs.Flow.{Known, Point, after_block, block_points}
 use Rattle.plan_check.specs.Judging.{Verdict}
-use Rattle.plan_check.specs.Walking.{Seen, token_noted}
+use Rattle.plan_check.specs.Walking.{Seen, known_block, nothing_seen, seen_block, token_noted}
 
 -- the places of a plan's body, each with what is known there
 abbrev pub points_of : Loop → PlanTree → List Point
 points_of l p = block_points p.body (first (cells_of l))
+
+-- what the account of the code says of a walk over it
+abbrev pub known_over : Loop → PlanTree → Known
+known_over l p = known_block p.privates p.body (first (cells_of l))
+
+abbrev pub seen_over : Loop → PlanTree → Seen
+seen_over l p = seen_block p.privates p.body (first (cells_of l)) nothing_seen
 
 pub record IsWalked (l : Loop) (p : PlanTree) (k : Known) (s : Seen) : Type 0 where
   pub known : k ≡ after_block p.body (first (cells_of l))

@@ -9,10 +9,9 @@ ghost use Rattle.plan_check.specs.Checks.{Accepted, HasBody, IsGood};
 ghost use Rattle.plan_check.specs.EntryView.{verdict as verdict_of};
 ghost use Rattle.plan_check.specs.GivenView.{given};
 ghost use Rattle.plan_check.specs.GoodPlan.{GoodPlan, SameBody, named};
-ghost use Rattle.plan_check.specs.KnownView.{known as known_of};
 ghost use Rattle.plan_check.specs.Mistakes.{Refuses};
-ghost use Rattle.plan_check.specs.SeenView.{seen as seen_of};
-ghost use Rattle.plan_check.specs.Walked.{IsJudged, IsOrderly, IsWalked, points_of};
+ghost use Rattle.plan_check.specs.Walked.{IsJudged, IsOrderly, points_of};
+ghost use Rattle.plan_check.specs.WalkedView.{Answers};
 
 use crate::advances::{all_advanced, outside};
 use crate::bodies::{is_bare, is_same_range};
@@ -42,14 +41,14 @@ fn is_same_body(view: &LoopView<'_, '_>, plan: &Given<'_>) -> bool
 fn walk(alloc: Global, view: &LoopView<'_, '_>, plan: &Given<'_>) -> Result<Walked, AllocError>
     requires fits { is_fit (seen view.now) (given plan.now) ≡ true }
     requires same { SameBody (seen view.now) (given plan.now) }
-    ensures { IfOk result (λ walked. IsWalked (seen view.now) (given plan.now) (known_of walked.known) (seen_of walked.seen)) }
+    ensures { IfOk result (λ walked. Answers view.now plan.now walked) }
 {
     walk_over(alloc, view, plan)
 }
 
 /// Whether the references that the walk has noted are those that the loop shows.
 fn shows(view: &LoopView<'_, '_>, plan: &Given<'_>, walked: &Walked) -> bool
-    requires { IsWalked (seen view.now) (given plan.now) (known_of walked.now.known) (seen_of walked.now.seen) }
+    requires { Answers view.now plan.now walked.now }
     ensures { Decides result (tokens_of (seen view.now).references ≡ reference_tokens (points_of (seen view.now) (given plan.now))) }
 {
     are_shown(view.references(), &walked.seen.notes)
@@ -70,7 +69,7 @@ fn is_in_order(
     walked: &Walked,
 ) -> bool
     requires named { events.now ≡ named (given plan.now).body }
-    requires walked { IsWalked (seen view.now) (given plan.now) (known_of walked.now.known) (seen_of walked.now.seen) }
+    requires walked { Answers view.now plan.now walked.now }
     ensures { result ≡ in_order (cells_of (seen view.now)) (given plan.now) }
 {
     are_ordered(
@@ -89,7 +88,7 @@ fn judge_all(
     walked: &Walked,
 ) -> Result<Verdict, AllocError>
     requires named { events.now ≡ named (given plan.now).body }
-    requires walked { IsWalked (seen view.now) (given plan.now) (known_of walked.now.known) (seen_of walked.now.seen) }
+    requires walked { Answers view.now plan.now walked.now }
     ensures { IfOk result (λ verdict. IsJudged (seen view.now) (given plan.now) (verdict_of verdict)) }
 {
     let named = distinct(alloc, events)?;
@@ -109,7 +108,7 @@ fn check_pairs(
     walked: &Walked,
 ) -> Result<(), PlanFault>
     requires named { events.now ≡ named (given plan.now).body }
-    requires walked { IsWalked (seen view.now) (given plan.now) (known_of walked.now.known) (seen_of walked.now.seen) }
+    requires walked { Answers view.now plan.now walked.now }
     requires orderly { IsOrderly (seen view.now) (given plan.now) }
     ensures accepted { IfOk result (λ _. IsChecked (seen view.now) (given plan.now)) }
     ensures refused { IfErr result (Refuses (seen view.now) (Some (given plan.now))) }
@@ -139,7 +138,7 @@ fn check_walked(
     requires fits { is_fit (seen view.now) (given plan.now) ≡ true }
     requires same { SameBody (seen view.now) (given plan.now) }
     requires named { events.now ≡ named (given plan.now).body }
-    requires walked { IsWalked (seen view.now) (given plan.now) (known_of walked.now.known) (seen_of walked.now.seen) }
+    requires walked { Answers view.now plan.now walked.now }
     ensures accepted { IfOk result (λ _. IsChecked (seen view.now) (given plan.now)) }
     ensures refused { IfErr result (Refuses (seen view.now) (Some (given plan.now))) }
 {

@@ -7,7 +7,7 @@ ghost use Rattle.plan_check.specs.Checking.{cells_from, cells_of, first};
 ghost use Rattle.plan_check.specs.GivenView.{given};
 ghost use Rattle.plan_check.specs.KnownView.{known as known_of};
 ghost use Rattle.plan_check.specs.SeenView.{seen as seen_of};
-ghost use Rattle.plan_check.specs.Walking.{known_block, nothing_seen, seen_block};
+ghost use Rattle.plan_check.specs.Walked.{known_over, seen_over};
 
 use crate::given::Given;
 use crate::known::Known;
@@ -60,8 +60,8 @@ pub fn walk_over(
     view: &LoopView<'_, '_>,
     plan: &Given<'_>,
 ) -> Result<Walked, AllocError>
-    ensures known { IfOk result (λ w. known_of w.known ≡ known_block (given plan.now).privates (given plan.now).body (first (cells_of (shown view.now)))) }
-    ensures seen { IfOk result (λ w. seen_of w.seen ≡ seen_block (given plan.now).privates (given plan.now).body (first (cells_of (shown view.now))) nothing_seen) }
+    ensures known { IfOk result (λ w. known_of w.known ≡ known_over (shown view.now) (given plan.now)) }
+    ensures seen { IfOk result (λ w. seen_of w.seen ≡ seen_over (shown view.now) (given plan.now)) }
 {
     let mut known = begin(alloc, view)?;
     let mut seen = Seen::new(alloc);
