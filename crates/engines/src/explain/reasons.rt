@@ -6,7 +6,7 @@ ghost use Rattle.engines.specs.Explained.{is_within};
 use std::fmt::{Display, Formatter, Result as FmtResult, Write};
 
 /// What the number behind SERIAL means: in a sentence, and at length; with a source that has such a loop,
-/// and one whose loops are open. Either is empty where there is no short one.
+/// and one with a loop that may be open in its place. Either is empty where there is no short one.
 #[derive(Clone, Copy)]
 pub struct Reason {
     pub number: u8,
@@ -97,7 +97,9 @@ inside, runs one iteration after another:
 ",
     cure: "      INTEGER A(10)
       DO 10 I=1,10
-   10 A(I)=I
+   10 READ *,A(I)
+      DO 20 I=1,10
+   20 A(I)=A(I)*A(I)
       END
 ",
 };
