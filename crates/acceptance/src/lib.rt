@@ -17,6 +17,8 @@ mod lines;
 #[cfg(test)]
 mod links;
 #[cfg(test)]
+mod listings;
+#[cfg(test)]
 mod meeting;
 #[cfg(test)]
 mod mistakes;

@@ -4,7 +4,6 @@ use Rattle.std.specs.List.Sorted.{IsPermutation, IsSorted}
 use Rattle.ast.specs.Name.{trimmed}
 use Rattle.ast.specs.View.{letters}
 use Rattle.codegen.specs.declared.reports.LoopReport.{LoopReport}
-use Rattle.dependence.specs.Plan.{PlanBlock}
 use Rattle.dependence.specs.PlanView.{plan_block}
 use Rattle.dependence.specs.declared.plan.LoopPlan.{LoopPlan}
 use Rattle.dependence.specs.declared.plan.LoopPlan.TheVariants.{Serial, Body}

@@ -1,4 +1,4 @@
-use Rattle.std.proofs.Common.{◌≡◌, map, refl, subst}
+use Rattle.std.proofs.Common.{map, refl, subst}
 use Rattle.std.proofs.lemmas.List.Sorted.{IsPermutation-map}
 use Rattle.ast.specs.View.{letters}
 use Rattle.engines.specs.Listing.{InByteOrder}

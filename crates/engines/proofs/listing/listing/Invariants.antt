@@ -1,5 +1,4 @@
-use Rattle.std.proofs.Common.{◌≡◌, ◌+◌, drop, take, map}
-use Rattle.std.specs.Prelude.{◌++◌}
+use Rattle.std.proofs.Common.{take}
 use Rattle.engines.specs.Listing.{Listing}
 use Rattle.engines.proofs.listing.listing.Given as goal
 
