@@ -60,6 +60,10 @@ pub record AreGrouped (p : Pairs) : Type 0 where
   pub all : (cell : ℕ) → all_at p cell ≡ places (is_of cell) 0 (shared_in p)
   pub defining : (cell : ℕ) → defining_at p cell ≡ places (is_definition_of cell) 0 (shared_in p)
 
+-- a reference is considered before others
+abbrev pub HasOneMore : Loop → List (List ℕ) → Occurrence → Pairs → Pairs → Type 0
+HasOneMore l privates o old new = (more : List Occurrence) → shared_in new ++ shared_of l privates more ≡ shared_in old ++ shared_of l privates (o ∷ more)
+
 pub record ArePairs (l : Loop) (privates : List (List ℕ)) (p : Pairs) : Type 0 where
   pub told : are_told (known l) ≡ true
   pub shared : shared_in p ≡ shared_of l privates l.references

@@ -1,5 +1,6 @@
 //! The references of a loop that its iterations share.
 
+ghost use Rattle.std.specs.List.{All};
 ghost use Rattle.std.specs.Prelude.{◌≡◌, ◌++◌, [], ◌∷◌, IfOk, OnOk, ℕ, if◌then◌else◌, map};
 ghost use Rattle.ast.specs.View.{letters, ref};
 ghost use Rattle.loop_tree.specs.TreeView.{seen};
@@ -68,6 +69,28 @@ fn add<'p>(alloc: Global, pairs: &mut Pairs<'p>, shared: Shared<'p>) -> Result<(
     Ok(())
 }
 
+/// Adds a reference if iterations share it.
+fn add_if_shared<'p>(
+    alloc: Global,
+    view: &LoopView<'_, 'p>,
+    privates: &[Name],
+    occurrence: &Occurrence<'p>,
+    pairs: &mut Pairs<'p>,
+) -> Result<(), AllocError>
+    requires forms { All (spec.HasForms (seen view.now)) pairs.old.shared.items }
+    requires grouped { spec.AreGrouped pairs.old }
+    ensures shared { OnOk result (spec.HasOneMore (seen view.now) (map letters privates.now) (occurrence_of occurrence.now) pairs.old pairs.new) }
+    ensures forms { OnOk result (All (spec.HasForms (seen view.now)) pairs.new.shared.items) }
+    ensures grouped { OnOk result (spec.AreGrouped pairs.new) }
+{
+    if is_own(view, privates, &occurrence.reference) {
+        return Ok(());
+    }
+    let forms = forms(alloc, view, occurrence)?;
+    let occurrence = *occurrence;
+    add(alloc, pairs, Shared { occurrence, forms })
+}
+
 impl<'p> Pairs<'p> {
     /// Those of a loop of which each iteration has private scalars of its own.
     pub fn new(
@@ -83,11 +106,7 @@ impl<'p> Pairs<'p> {
             defining: Vec::new(alloc),
         };
         for occurrence in view.references() {
-            if !is_own(view, privates, &occurrence.reference) {
-                let forms = forms(alloc, view, occurrence)?;
-                let occurrence = *occurrence;
-                add(alloc, &mut pairs, Shared { occurrence, forms })?;
-            }
+            add_if_shared(alloc, view, privates, occurrence, &mut pairs)?;
         }
         Ok(pairs)
     }
