@@ -545,11 +545,7 @@ fn more_than_events(alloc: Global) -> Result<Vec<PlanStmt>, AllocError> {
 }
 
 /// The first element of an array in a loop's range that is assigned, or that is read.
-fn element(
-    rt: &impl Abort,
-    view: &LoopView<'_, '_>,
-    is_assigned: bool,
-) -> Result<RefId, Fail> {
+fn element(rt: &impl Abort, view: &LoopView<'_, '_>, is_assigned: bool) -> Result<RefId, Fail> {
     for occurrence in view.references() {
         if !occurrence.subscripts.is_empty() && occurrence.defines == is_assigned {
             return Ok(occurrence.reference.id);
@@ -681,19 +677,29 @@ fn are_answered(rt: &(impl Abort + AllocGlobal), rows: &[Changed<'_>]) -> Result
 // The refusals by their numbers.
 
 const ACCEPTED: Option<u8> = None;
+
 const EARLY: Option<u8> = Some(70);
+
 const DISORDER: Option<u8> = Some(71);
+
 const BEHIND: Option<u8> = Some(72);
+
 const UNAWAITED: Option<u8> = Some(73);
+
 const UNTRUE: Option<u8> = Some(74);
+
 const OTHER_BODY: Option<u8> = Some(75);
+
 const UNFIT: Option<u8> = Some(76);
 
 // The places of a body whose one statement waits for itself.
 
 const SINK_AWAIT: usize = 0;
+
 const STATEMENT: usize = 1;
+
 const ORDER_AWAIT: usize = 2;
+
 const ADVANCE: usize = 3;
 
 /// The place of the IF in the body of the loop whose source stands in one branch.
@@ -711,7 +717,12 @@ fn plans_with_an_await_changed(rt: HostRuntime) -> Result<(), Fail> {
         &rt,
         &[
             // The sink's await is taken out, the order await is kept.
-            (READ_BEFORE_WRITE, 2, &[Change::TakenOut(SINK_AWAIT)], UNAWAITED),
+            (
+                READ_BEFORE_WRITE,
+                2,
+                &[Change::TakenOut(SINK_AWAIT)],
+                UNAWAITED,
+            ),
             // The order await is taken out.
             (DISTANCE_TWO, 1, &[Change::TakenOut(ORDER_AWAIT)], DISORDER),
             (DISTANCE_TWO, 1, &[Change::Await(ORDER_AWAIT, 1, 0)], UNFIT),
@@ -762,7 +773,12 @@ fn plans_with_numbers_at_their_bounds(rt: HostRuntime) -> Result<(), Fail> {
                 &[Change::Await(SINK_AWAIT, usize::MAX, u128::MAX)],
                 UNFIT,
             ),
-            (DISTANCE_TWO, 1, &[Change::Advance(ADVANCE, usize::MAX)], UNFIT),
+            (
+                DISTANCE_TWO,
+                1,
+                &[Change::Advance(ADVANCE, usize::MAX)],
+                UNFIT,
+            ),
             // The greatest number is a distance.
             (
                 DISTANCE_TWO,
@@ -774,8 +790,18 @@ fn plans_with_numbers_at_their_bounds(rt: HostRuntime) -> Result<(), Fail> {
                 ],
                 ACCEPTED,
             ),
-            (DISTANCE_TWO, 1, &[Change::Await(SINK_AWAIT, 1, u128::MAX)], UNAWAITED),
-            (DISTANCE_TWO, 1, &[Change::Await(ORDER_AWAIT, 1, u128::MAX)], DISORDER),
+            (
+                DISTANCE_TWO,
+                1,
+                &[Change::Await(SINK_AWAIT, 1, u128::MAX)],
+                UNAWAITED,
+            ),
+            (
+                DISTANCE_TWO,
+                1,
+                &[Change::Await(ORDER_AWAIT, 1, u128::MAX)],
+                DISORDER,
+            ),
         ],
     )
 }
