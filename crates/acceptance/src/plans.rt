@@ -120,6 +120,7 @@ enum Mark {
     EndIf,
 }
 
+/// Appends the arms of an IF.
 #[cycle(marking)]
 fn mark_arms(arms: &[PlanArm], marks: &mut Vec<Mark>) -> Result<(), AllocError> {
     for arm in arms {
@@ -129,6 +130,7 @@ fn mark_arms(arms: &[PlanArm], marks: &mut Vec<Mark>) -> Result<(), AllocError> 
     Ok(())
 }
 
+/// Appends a node, with all that stands in it.
 #[cycle(marking)]
 fn mark_node(node: &PlanStmt, marks: &mut Vec<Mark>) -> Result<(), AllocError> {
     match node {
@@ -162,6 +164,7 @@ fn mark_body(body: &[PlanStmt], marks: &mut Vec<Mark>) -> Result<(), AllocError>
     Ok(())
 }
 
+/// What stands in a body.
 fn marks_of(alloc: Global, body: &[PlanStmt]) -> Result<Vec<Mark>, AllocError> {
     let mut marks = Vec::new(alloc);
     mark_body(body, &mut marks)?;
@@ -177,6 +180,7 @@ enum Wanted<'a> {
     Body(&'a [&'a [u8]], &'a [Mark]),
 }
 
+/// Names are these, in this order.
 fn are_named(rt: &impl Abort, names: &[Name], wanted: &[&[u8]]) -> Result<(), Fail> {
     assert_eq!(rt; names.len(), wanted.len());
     for (name, wanted) in names.iter().zip(wanted) {
@@ -185,6 +189,7 @@ fn are_named(rt: &impl Abort, names: &[Name], wanted: &[&[u8]]) -> Result<(), Fa
     Ok(())
 }
 
+/// A plan is the wanted one.
 fn looks_as(
     rt: &(impl Abort + AllocGlobal),
     found: &LoopPlan,
@@ -239,6 +244,7 @@ fn is_planned(
 /// A source, a loop's number, and what is wanted of its plan.
 type Planned<'a> = (&'a [u8], usize, Wanted<'a>);
 
+/// Each loop has its plan, and the plan is accepted.
 fn are_planned(rt: &(impl Abort + AllocGlobal), rows: &[Planned<'_>]) -> Result<(), Fail> {
     for (source, number, wanted) in rows {
         is_planned(rt, source, *number, *wanted)?;
@@ -411,6 +417,7 @@ struct Parts {
     relations: Vec<(RefId, RefId, Relation)>,
 }
 
+/// The parts of a plan, which has a body.
 fn parts_of(rt: &impl Abort, given: LoopPlan) -> Result<Parts, Fail> {
     match given {
         LoopPlan::Body {
@@ -426,6 +433,7 @@ fn parts_of(rt: &impl Abort, given: LoopPlan) -> Result<Parts, Fail> {
     }
 }
 
+/// The plan of these parts.
 fn made_of(parts: Parts) -> LoopPlan {
     LoopPlan::Body {
         body: parts.body,
@@ -443,6 +451,7 @@ enum Order {
     ReadThenWrite,
 }
 
+/// The scalar K.
 const K: Name = Name {
     letters: [b'K', b' ', b' ', b' ', b' ', b' '],
 };
@@ -452,7 +461,7 @@ const K: Name = Name {
 enum Change {
     /// What stands at this place is taken out.
     TakenOut(usize),
-    /// What stands at the first place is taken out, and put in at the second.
+    /// What stands at the first place is taken out, and put in at the second of what is left.
     Moved(usize, usize),
     /// At this place there is an await of this event, so many iterations back.
     Await(usize, usize, u128),
@@ -476,12 +485,14 @@ enum Change {
     ClaimBehind(Order, Relation),
 }
 
+/// Takes out what stands at a place.
 fn take_out(rt: &impl Abort, body: &mut Vec<PlanStmt>, place: usize) -> Result<(), Fail> {
     assert!(rt; place < body.len());
     body.remove(place);
     Ok(())
 }
 
+/// Takes out what stands at a place, and puts it in at another of what is left.
 fn move_node(
     rt: &impl Abort,
     body: &mut Vec<PlanStmt>,
@@ -495,6 +506,7 @@ fn move_node(
     Ok(())
 }
 
+/// Puts a node in place of another.
 fn put(rt: &impl Abort, body: &mut [PlanStmt], place: usize, node: PlanStmt) -> Result<(), Fail> {
     assert!(rt; place < body.len());
     body[place] = node;
@@ -518,7 +530,7 @@ fn put_made_else(
     }
 }
 
-/// K=1, on a line of its own. No reference of a program has this number.
+/// K=1, as if it stood where the END IF stands. No reference of a program has this number.
 fn assignment(alloc: Global) -> Stmt {
     let target = Access {
         reference: Reference {
@@ -630,6 +642,7 @@ fn change_privates(privates: &mut Vec<Name>, change: Change) -> Result<(), Alloc
     Ok(())
 }
 
+/// Changes a plan, one change after another.
 fn change_all(
     rt: &(impl Abort + AllocGlobal),
     view: &LoopView<'_, '_>,
@@ -664,6 +677,7 @@ fn refusal_of_changed(
 /// A source, a loop's number, changes of its plan, and the number of the refusal, if there is one.
 type Changed<'a> = (&'a [u8], usize, &'a [Change], Option<u8>);
 
+/// Each changed plan is answered as wanted.
 fn are_answered(rt: &(impl Abort + AllocGlobal), rows: &[Changed<'_>]) -> Result<(), Fail> {
     let mut row: usize = 0;
     for (source, number, changes, wanted) in rows {
