@@ -252,24 +252,44 @@ fn are_planned(rt: &(impl Abort + AllocGlobal), rows: &[Planned<'_>]) -> Result<
     Ok(())
 }
 
-/// What stands in the body of a loop whose one statement waits, at this distance, for itself.
-fn waiting(line: Line, distance: u128) -> [Mark; 4] {
-    [
-        Mark::Await(1, distance),
-        Mark::Plain(line),
-        Mark::Await(1, 1),
-        Mark::Advance(1),
-    ]
-}
+// What stands in the bodies of loops whose one statement waits for itself.
+
+const TWO_BACK: [Mark; 4] = [
+    Mark::Await(1, 2),
+    Mark::Plain(3),
+    Mark::Await(1, 1),
+    Mark::Advance(1),
+];
+
+const ONE_BACK_ON_LINE_5: [Mark; 4] = [
+    Mark::Await(1, 1),
+    Mark::Plain(5),
+    Mark::Await(1, 1),
+    Mark::Advance(1),
+];
+
+const ONE_BACK_ON_LINE_3: [Mark; 4] = [
+    Mark::Await(1, 1),
+    Mark::Plain(3),
+    Mark::Await(1, 1),
+    Mark::Advance(1),
+];
+
+const ONE_BACK_ON_LINE_9: [Mark; 4] = [
+    Mark::Await(1, 1),
+    Mark::Plain(9),
+    Mark::Await(1, 1),
+    Mark::Advance(1),
+];
 
 #[test]
 fn plans_of_one_statement(rt: HostRuntime) -> Result<(), Fail> {
     are_planned(
         &rt,
         &[
-            (DISTANCE_TWO, 1, Wanted::Body(&[], &waiting(3, 2))),
+            (DISTANCE_TWO, 1, Wanted::Body(&[], &TWO_BACK)),
             (READ_BEFORE_WRITE, 1, Wanted::Body(&[], &[Mark::Plain(3)])),
-            (READ_BEFORE_WRITE, 2, Wanted::Body(&[], &waiting(5, 1))),
+            (READ_BEFORE_WRITE, 2, Wanted::Body(&[], &ONE_BACK_ON_LINE_5)),
         ],
     )
 }
@@ -282,7 +302,7 @@ fn plans_of_loops_with_steps(rt: HostRuntime) -> Result<(), Fail> {
             (
                 EMPTY_AND_NEGATIVE_STEPS,
                 1,
-                Wanted::Body(&[], &waiting(3, 1)),
+                Wanted::Body(&[], &ONE_BACK_ON_LINE_3),
             ),
             (
                 EMPTY_AND_NEGATIVE_STEPS,
@@ -292,7 +312,7 @@ fn plans_of_loops_with_steps(rt: HostRuntime) -> Result<(), Fail> {
             (
                 EMPTY_AND_NEGATIVE_STEPS,
                 3,
-                Wanted::Body(&[], &waiting(9, 1)),
+                Wanted::Body(&[], &ONE_BACK_ON_LINE_9),
             ),
         ],
     )
