@@ -282,13 +282,21 @@ const ONE_BACK_ON_LINE_9: [Mark; 4] = [
     Mark::Advance(1),
 ];
 
+// What stands in the bodies of loops whose one statement waits for nothing.
+
+const NO_EVENT_ON_LINE_3: [Mark; 1] = [Mark::Plain(3)];
+
+const NO_EVENT_ON_LINE_4: [Mark; 1] = [Mark::Plain(4)];
+
+const NO_EVENT_ON_LINE_6: [Mark; 1] = [Mark::Plain(6)];
+
 #[test]
 fn plans_of_one_statement(rt: HostRuntime) -> Result<(), Fail> {
     are_planned(
         &rt,
         &[
             (DISTANCE_TWO, 1, Wanted::Body(&[], &TWO_BACK)),
-            (READ_BEFORE_WRITE, 1, Wanted::Body(&[], &[Mark::Plain(3)])),
+            (READ_BEFORE_WRITE, 1, Wanted::Body(&[], &NO_EVENT_ON_LINE_3)),
             (READ_BEFORE_WRITE, 2, Wanted::Body(&[], &ONE_BACK_ON_LINE_5)),
         ],
     )
@@ -307,7 +315,7 @@ fn plans_of_loops_with_steps(rt: HostRuntime) -> Result<(), Fail> {
             (
                 EMPTY_AND_NEGATIVE_STEPS,
                 2,
-                Wanted::Body(&[], &[Mark::Plain(6)]),
+                Wanted::Body(&[], &NO_EVENT_ON_LINE_6),
             ),
             (
                 EMPTY_AND_NEGATIVE_STEPS,
@@ -386,7 +394,7 @@ fn plans_of_nested_loops(rt: HostRuntime) -> Result<(), Fail> {
             (
                 INNER_VARIABLE_NOT_PRIVATE,
                 2,
-                Wanted::Body(&[], &[Mark::Plain(4)]),
+                Wanted::Body(&[], &NO_EVENT_ON_LINE_4),
             ),
             (INNER_LOOP, 1, Wanted::Body(&[b"J"], &BEHIND_INNER_LOOP)),
             (INNER_LOOP, 2, Wanted::Serial(5)),
