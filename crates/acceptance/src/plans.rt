@@ -296,12 +296,27 @@ fn plans_of_one_statement(rt: HostRuntime) -> Result<(), Fail> {
         &rt,
         &[
             (DISTANCE_TWO, 1, Wanted::Body(&[], &TWO_BACK)),
-            (READ_BEFORE_WRITE, 1, Wanted::Body(&[], &NO_EVENT_ON_LINE_3)),
             (READ_BEFORE_WRITE, 2, Wanted::Body(&[], &ONE_BACK_ON_LINE_5)),
         ],
     )
 }
 
+#[test]
+fn plans_without_events(rt: HostRuntime) -> Result<(), Fail> {
+    are_planned(
+        &rt,
+        &[
+            (READ_BEFORE_WRITE, 1, Wanted::Body(&[], &NO_EVENT_ON_LINE_3)),
+            (
+                EMPTY_AND_NEGATIVE_STEPS,
+                2,
+                Wanted::Body(&[], &NO_EVENT_ON_LINE_6),
+            ),
+        ],
+    )
+}
+
+/// The first loop is never entered, the step of the other one is below 0.
 #[test]
 fn plans_of_loops_with_steps(rt: HostRuntime) -> Result<(), Fail> {
     are_planned(
@@ -311,11 +326,6 @@ fn plans_of_loops_with_steps(rt: HostRuntime) -> Result<(), Fail> {
                 EMPTY_AND_NEGATIVE_STEPS,
                 1,
                 Wanted::Body(&[], &ONE_BACK_ON_LINE_3),
-            ),
-            (
-                EMPTY_AND_NEGATIVE_STEPS,
-                2,
-                Wanted::Body(&[], &NO_EVENT_ON_LINE_6),
             ),
             (
                 EMPTY_AND_NEGATIVE_STEPS,
