@@ -27,6 +27,8 @@ mod nests;
 #[cfg(test)]
 mod overlap;
 #[cfg(test)]
+mod plans;
+#[cfg(test)]
 mod replaying;
 #[cfg(test)]
 mod runs;
