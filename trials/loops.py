@@ -19,12 +19,17 @@ class LoopMaker:
         self.lines = []
         self.depth = 0
         self.size = 0
+        self.active = []
 
     def chance(self, share):
         return self.random.random() < share
 
     def put(self, text, label=None):
         self.lines.append(f"{label or '':>5} {text}")
+
+    def scalar(self, names):
+        """One of these that is no variable of a DO around."""
+        return self.random.choice([name for name in names if name not in self.active])
 
     def element(self):
         name = self.random.choice(("A", "A", "A", "B", "C", "C", "IX"))
@@ -52,7 +57,7 @@ class LoopMaker:
         if choice < 0.6:
             return f"{self.element()}={self.value()}"
         if choice < 0.85:
-            return f"{self.random.choice('KKL')}={self.value()}"
+            return f"{self.scalar('KKL')}={self.value()}"
         return f"PRINT *,{self.operand()}"
 
     def block(self, most):
@@ -78,8 +83,11 @@ class LoopMaker:
         self.label += 10
         label = self.label
         limits = self.random.choice(("1,4", "1,N", "2,M", "I,N"))
-        self.put(f"DO {label} {self.random.choice('JJJL')}={limits}")
+        variable = self.scalar("JJJL")
+        self.put(f"DO {label} {variable}={limits}")
+        self.active.append(variable)
         self.block(2)
+        self.active.pop()
         self.put("CONTINUE", label)
 
     def statement(self):
