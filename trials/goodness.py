@@ -218,7 +218,8 @@ class LoopOf:
             return None
         names = sorted(self.steady(a.subscripts) | self.steady(b.subscripts))
         steps = [self.step] if self.step else list(SMALL)
-        moments = sorted({(first + k * step, step) for first in SMALL for step in steps for k in range(last - distance + 1)})
+        moments = sorted({(first + k * step, step)
+                          for first in SMALL for step in steps for k in range(last - distance + 1)})
         for (i, step), values in itertools.product(moments, itertools.product(SMALL, repeat=len(names))):
             held = dict(zip(names, values))
             if self.agree(a, b, i, i + distance * step, held):
@@ -309,7 +310,7 @@ class Facts:
                 if token[0] == "defines":
                     defined.add(token[2])
                 elif token[2] in privates and token[2] not in defined:
-                    self.mistakes.append(f"private {token[2]} is used (reference {token[1]}) where a path hasn't defined it")
+                    self.mistakes.append(f"private {token[2]} is used at reference {token[1]} before it is defined")
         return advanced
 
     def keeps(self, a, b, distance, event):
@@ -349,7 +350,8 @@ def unkept(loop, facts, body, privates):
             continue
         for distance, how in loop.meetings(a, b):
             if not any(facts.keeps(a, b, distance, event) for event in events):
-                yield f"{a.name}: references {a.number} and {b.number} meet {distance} apart ({how}), and nothing keeps them in order"
+                yield (f"{a.name}: references {a.number} and {b.number} meet {distance} apart ({how}), "
+                       f"and nothing keeps them in order")
                 break
 
 

@@ -143,8 +143,9 @@ class Changer:
         return step(NO_PRIVATE, self.one(range(len(self.privates))))
 
     def private_more(self):
-        return step(PRIVATE, self.one(place.number for place in self.loop.places if place.name not in self.privates
-                                      and (not place.subscripts or self.chance(0.1))))
+        shared = [place for place in self.loop.places if place.name not in self.privates]
+        mostly = [place for place in shared if place.name in self.loop.assigned]
+        return step(PRIVATE, self.one(mostly if mostly and self.chance(0.7) else shared).number)
 
     def claim_dropped(self):
         return step(NO_CLAIM, self.one(range(len(self.relations))))
@@ -161,9 +162,9 @@ class Changer:
 
 KINDS = ("await_dropped", "await_moved_forward", "await_moved_back", "await_moved_anywhere", "await_of_another_event",
          "await_at_another_distance", "await_more", "advance_dropped", "advance_dropped_with_await", "advance_doubled",
-         "advance_moved_forward", "advance_moved_back", "advance_moved_anywhere", "made_else_dropped", "made_else_emptied",
-         "made_else_of_another_event", "private_dropped", "private_more", "claim_dropped", "another_claim",
-         "statement_dropped")
+         "advance_moved_forward", "advance_moved_back", "advance_moved_anywhere", "made_else_dropped",
+         "made_else_emptied", "made_else_of_another_event", "private_dropped", "private_more", "claim_dropped",
+         "another_claim", "statement_dropped")
 
 
 def change(loop, seed, things):
