@@ -52,11 +52,7 @@ fn event_of(sources: &[usize], source: usize) -> usize
     event
 }
 
-fn source_lines(
-    alloc: Global,
-    lines: &[Line],
-    sources: &[usize],
-) -> Result<Vec<Line>, AllocError>
+fn source_lines(alloc: Global, lines: &[Line], sources: &[usize]) -> Result<Vec<Line>, AllocError>
     ensures { IfOk result (λ found. found.items ≡ map (spec.line_at lines.now) sources.now) }
 {
     let mut found = Vec::with_capacity(alloc, sources.len())?;

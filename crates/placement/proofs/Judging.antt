@@ -72,27 +72,27 @@ module _ (l : Loop) (whole : IsWhole l) (told : are_told (known l) ≡ true) whe
   pub hindered : (n : ℕ) → IsHindered l n → (Suits l → ⊥) × IsLowest l [] n
   hindered n (inl (e, refutes)) = (
     λ s. refutes s.step,
-    (inl (e, refutes), λ m less r. refuted [] n m (omega (arith, e)) (λ k. absurd (omega (arith, k, e))) (λ k. absurd (omega (arith, k, e))) (λ k. absurd (omega (arith, k, e))) (λ k. absurd (omega (arith, k, e))) less r)
+    (inl (e, refutes), λ m less r. refuted [] n m (omega (arith, e)) (λ k. absurd (omega (arith, k, e))) (λ k. absurd (omega (arith, k, e))) (λ k. absurd (omega (arith, k, e))) (λ k. absurd (omega (arith, k, e))) less r),
   )
   hindered n (inr (inl (e, step, reads))) = (
     λ s. true≢false (sym reads ∙ s.no_read),
-    (inr (inl (e, reads)), λ m less r. refuted [] n m (omega (arith, e)) (λ k. step) (λ k. absurd (omega (arith, k, e))) (λ k. absurd (omega (arith, k, e))) (λ k. absurd (omega (arith, k, e))) less r)
+    (inr (inl (e, reads)), λ m less r. refuted [] n m (omega (arith, e)) (λ k. step) (λ k. absurd (omega (arith, k, e))) (λ k. absurd (omega (arith, k, e))) (λ k. absurd (omega (arith, k, e))) less r),
   )
   hindered n (inr (inr (inl (e, (names, plain, h))))) =
       let one = one_shared names plain h in (
         λ s. one.2 (s.inner one.0 (contained one.0 (block_variables l.body) one.1)),
-        (inr (inr (inl (e, (one.0, contained one.0 (block_variables l.body) one.1, one.2)))), λ m less r. refuted [] n m (omega (arith, e)) (λ k. plain.step) (λ k. plain.no_read) (λ k. absurd (omega (arith, k, e))) (λ k. absurd (omega (arith, k, e))) less r)
+        (inr (inr (inl (e, (one.0, contained one.0 (block_variables l.body) one.1, one.2)))), λ m less r. refuted [] n m (omega (arith, e)) (λ k. plain.step) (λ k. plain.no_read) (λ k. absurd (omega (arith, k, e))) (λ k. absurd (omega (arith, k, e))) less r),
       )
   hindered n (inr (inr (inr (e, (names, plain, h, many))))) = (
     λ s. few_and_many s many,
-    (inr (inr (inr (inl (e, many)))), λ m less r. refuted [] n m (omega (arith, e)) (λ k. plain.step) (λ k. plain.no_read) (λ k. all_private names plain h) (λ k. absurd (omega (arith, k, e))) less r)
+    (inr (inr (inr (inl (e, many)))), λ m less r. refuted [] n m (omega (arith, e)) (λ k. plain.step) (λ k. plain.no_read) (λ k. all_private names plain h) (λ k. absurd (omega (arith, k, e))) less r),
   )
 
   -- a loop that suits has none of the reasons but that of a loop around it
   pub lowest_fifth : (around : List Loop) → Suits l → SomeEligible around → IsLowest l around 5
   lowest_fifth around s some = (
     inr (inr (inr (inr (refl, some)))),
-    λ m less r. refuted around 5 m (omega arith) (λ k. s.step) (λ k. s.no_read) (λ k q i. s.inner q (contained q (block_variables l.body) i)) (λ k many. few_and_many s many) less r
+    λ m less r. refuted around 5 m (omega arith) (λ k. s.step) (λ k. s.no_read) (λ k q i. s.inner q (contained q (block_variables l.body) i)) (λ k many. few_and_many s many) less r,
   )
 
   pub suiting_by : (j : Judged) → IsJudged l j → IsSuiting l (suits_by j)

@@ -8,7 +8,6 @@ ghost use Rattle.loop_tree.specs.View.{occurrence as occurrence_of};
 ghost use Rattle.placement.specs.Listed.{list_at};
 ghost use Rattle.placement.specs.Looked as spec;
 
-
 use crate::nested::{at, push_at};
 use ast::{Name, Reference};
 use dependence::{forms, has_name};

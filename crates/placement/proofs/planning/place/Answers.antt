@@ -27,6 +27,6 @@ returns-in-Suits-2 c =
     let found = subst (λ j. IsJudged l j) c.in-Suits.is c.in_ok-reason.ensures in
     IfOk-weaker c.opened.result _ _
     (λ placed h whole.
-        subst (λ b. IsPlaced l b placed) (sym c.if-inside.false)
-        (is_open l whole c.args.view.now.told placed (map letters c.in-Suits.privates.names.items) c.in-Suits.analysis found.0 found.1 found.2 (h.1 found) h.0))
+    subst (λ b. IsPlaced l b placed) (sym c.if-inside.false)
+    (is_open l whole c.args.view.now.told placed (map letters c.in-Suits.privates.names.items) c.in-Suits.analysis found.0 found.1 found.2 (h.1 found) h.0))
     c.opened.ensures
