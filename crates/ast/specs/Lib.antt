@@ -7,6 +7,7 @@ pub mod Program
 pub mod ProgramView
 pub mod Record
 pub mod References
+pub mod Regular
 pub mod Results
 pub mod Stops
 pub mod Store

@@ -29,6 +29,11 @@ mutual
     no_terms : Terms
     then_term : Term → Terms → Terms
 
+-- how many they are
+abbrev pub count_of : Terms → ℕ
+count_of no_terms = 0
+count_of (then_term e es) = count_of es + 1
+
 abbrev pub terms : List Term → Terms
 terms [] = no_terms
 terms (e ∷ es) = then_term e (terms es)

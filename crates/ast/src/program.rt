@@ -3,6 +3,7 @@
 ghost use Rattle.std.specs.Prelude.{◌≡◌, ◌≤◌, IfOk, int_lt, map, not, true};
 ghost use Rattle.ast.specs.Program.{are_placed, are_shallow};
 ghost use Rattle.ast.specs.References.{are_numbered, block_references};
+ghost use Rattle.ast.specs.Regular.{are_fitting, is_regular};
 ghost use Rattle.ast.specs.Store.{same_name};
 ghost use Rattle.ast.specs.Symbols.{elements, is_sized, most_elements, names_of};
 ghost use Rattle.ast.specs.View.{block_view, extent, symbol};
@@ -51,6 +52,8 @@ pub struct Program {
     ghost placed: { are_placed (map symbol symbols.items) (block_view body.items) ≡ true } by { Prim.hlevel props },
     ghost numbered: { are_numbered 0 (block_references (block_view body.items)) ≡ true } by { Prim.hlevel props },
     ghost shallow: { are_shallow (block_view body.items) ≡ true } by { Prim.hlevel props },
+    ghost regular: { is_regular (map symbol symbols.items) (block_view body.items) ≡ true } by { Prim.hlevel props },
+    ghost fitting: { are_fitting (block_view body.items) ≡ true } by { Prim.hlevel props },
 }
 
 impl Symbol {

@@ -2,9 +2,11 @@ pub mod ConstantValues
 pub mod Ends
 pub mod Gathered
 pub mod Known
+pub mod KnownTrips
 pub mod Marked
 pub mod Numbers
 pub mod Placed
 pub mod Program
 pub mod Ranges
 pub mod References
+pub mod RegularLoops

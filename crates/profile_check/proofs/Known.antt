@@ -11,7 +11,7 @@ use Rattle.std.proofs.lemmas.Option.{slice_get_within, slice_get-map, get_or_fro
 use Rattle.indexmap.specs.IndexSet.{insert_key, insert_all}
 use Rattle.ast.specs.Program.{is_variable, is_variable_named, is_placed}
 use Rattle.ast.specs.Store.{same_name}
-use Rattle.ast.specs.Symbols.{Extent, variable, Symbol, names_of}
+use Rattle.ast.specs.Symbols.{Extent, variable, Symbol, names_of, dimensions_of, dimensions_in}
 use Rattle.ast.specs.Tree.{Ref, Kind, Statement}
 use Rattle.ast.specs.declared.expression.Intrinsic.{Intrinsic}
 use Rattle.ast.specs.declared.expression.Intrinsic.TheVariants.{Abs, Iabs, Max, Max0, Min, Min0, Mod}
@@ -22,6 +22,7 @@ use Rattle.profile_check.specs.Reads.{is_fixed, is_constant}
 use Rattle.profile_check.specs.Resolving.{place_of, intrinsic_named}
 use Rattle.profile_check.specs.Rules.{is_some_and, is_other, context_after, typed_in_whole, InProfile}
 use Rattle.profile_check.specs.Uses.{is_among, is_intrinsic, typed_by, dimensioned_by, defined_by, declarator_names, definition_names, names_used, names_declared, names_mentioned}
+use Rattle.profile_check.proofs.CountedTerms.{Ranked}
 use Rattle.profile_check.proofs.Entries.{same-names, turn}
 use Rattle.profile_check.proofs.Erased.{Known}
 use Rattle.profile_check.proofs.Fresh.{had-all}
@@ -267,3 +268,33 @@ known ss h =
     not-named f i e =
         let some = any_passes_from_place is_intrinsic (declared_in ss).names i (intrinsic_name f) e (intrinsic f) in
         let q : true ≡ false = sym some ∙ no-intrinsic ss h in absurd cc
+
+-- ---- the dimensions of a name
+
+dimensions-found : (d : Declared) (names : List (List ℕ)) (x : List ℕ) → constant_named d.constants x ≡ None → is_among names x ≡ true → dimensions_in (symbols_at d names) x ≡ dimensions_named d.arrays x
+dimensions-found d [] x f m = absurd cc
+dimensions-found d (y ∷ names) x f m = by (dimensions-found d names x f) (same_name x y) refl m
+  where
+    by : (is_among names x ≡ true → dimensions_in (symbols_at d names) x ≡ dimensions_named d.arrays x) → (b : Bool) → same_name x y ≡ b → (b || is_among names x) ≡ true
+        → (if same_name y x then dimensions_of (sort_of d y) else dimensions_in (symbols_at d names) x) ≡ dimensions_named d.arrays x
+    by rest true e k =
+        ap (λ (b : Bool). if b then dimensions_of (sort_of d y) else dimensions_in (symbols_at d names) x) (turn y x ∙ e)
+        ∙ ap (λ (z : List ℕ). dimensions_of (sort_of d z)) (sym (same-names x y e))
+        ∙ ap (λ (v : Option ℤ). dimensions_of (constant_or (variable (dimensions_named d.arrays x)) v)) f
+    by rest false e k = ap (λ (b : Bool). if b then dimensions_of (sort_of d y) else dimensions_in (symbols_at d names) x) (turn y x ∙ e) ∙ rest k
+
+no-function : (ss : List Statement) → InProfile ss → (i : ℕ) (x : List ℕ) → slice_get (declared_in ss).names i ≡ Some x → (b : Bool) → is_intrinsic x ≡ b → b ≡ false
+no-function ss h i x e false k = refl
+no-function ss h i x e true k =
+    let some = any_passes_from_place is_intrinsic (declared_in ss).names i x e k in
+    let q : true ≡ false = sym some ∙ no-intrinsic ss h in absurd cc
+
+pub ranked : (ss : List Statement) → InProfile ss → Ranked (symbols_of (declared_in ss)) (declared_in ss).arrays
+ranked ss h =
+    let d = declared_in ss in
+    record {
+      other = λ r p. no-function ss h r.cell r.name (held d d.names r p).name (is_intrinsic r.name) refl;
+      dimensions = λ r p.
+          let a = held d d.names r p in
+          dimensions-found d d.names r.name a.free (any_passes_from_place (same_name r.name) d.names r.cell r.name a.name (nat_list_eq_equiv.refl r.name));
+    }

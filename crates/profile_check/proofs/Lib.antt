@@ -1,9 +1,11 @@
 pub mod Chosen
 pub mod ConstantValues
+pub mod CountedTerms
 pub mod Counts
 pub mod Ending
 pub mod Entries
 pub mod Erased
+pub mod FittingTerms
 pub mod Frames
 pub mod Fresh
 pub mod Known
@@ -13,6 +15,7 @@ pub mod Laws
 pub mod OneCause
 pub mod OneMore
 pub mod OneProgram
+pub mod Orderly
 pub mod Parsing
 pub mod Parts
 pub mod Positions

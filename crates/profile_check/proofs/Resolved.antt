@@ -125,7 +125,7 @@ AllFit t [] = ⊤
 AllFit t (s ∷ ss) = Fits t s × AllFit t ss
 
 -- where there are no expressions none come
-none-resolved : (t : Table) (n : ℕ) (k : Kind) → own_expressions k ≡ [] → own_expressions (kind_resolved t n k) ≡ []
+pub none-resolved : (t : Table) (n : ℕ) (k : Kind) → own_expressions k ≡ [] → own_expressions (kind_resolved t n k) ≡ []
 none-resolved t n k e = below-nothing (own_expressions (kind_resolved t n k)) (rw e at (kind-below t n k))
 
 statement-settled : (symbols : List Symbol) (t : Table) → Serves symbols t → (n : ℕ) (s : Statement) → Fits t s → ListSettled symbols n (own_expressions (kind_resolved t n s.kind))

@@ -41,7 +41,7 @@ may-stand-alike t n (read elements) = refl
 may-stand-alike t n stop = refl
 may-stand-alike t n end = refl
 
-alike : (t : Table) (n : ℕ) (k : Kind) → IsAlike (kind_resolved t n k) k
+pub alike : (t : Table) (n : ℕ) (k : Kind) → IsAlike (kind_resolved t n k) k
 alike t n (assign a e) = record { ends = refl; terminal = refl; arm = λ o. refl; inner = refl; opens = λ o. refl }
 alike t n (do_loop h) = record { ends = refl; terminal = refl; arm = λ o. refl; inner = refl; opens = λ o. refl }
 alike t n (block_if e) = record { ends = refl; terminal = refl; arm = λ o. refl; inner = refl; opens = λ o. refl }
@@ -60,7 +60,7 @@ alike t n stop = itself stop
 alike t n end = itself end
 
 -- a resolved statement keeps the rules that the statement keeps
-kept-alike : (opened : List Open) (s : Statement) (j : Kind) → IsAlike j s.kind → Kept opened s → Kept opened (record { line = s.line; label = s.label; kind = j })
+pub kept-alike : (opened : List Open) (s : Statement) (j : Kind) → IsAlike j s.kind → Kept opened s → Kept opened (record { line = s.line; label = s.label; kind = j })
 kept-alike opened s j a h = record {
   crosses = ap (λ (b : Bool). (not b && is_some_and (λ l. is_around (is_other_range l) l opened) s.label) || (b && begins_with is_any_range opened)) a.ends ∙ h.crosses;
   ends = (λ i. a.terminal i && (not (a.ends i) && is_some_and (λ l. list_any (is_range_of l) opened) s.label)) ∙ h.ends;
@@ -68,11 +68,11 @@ kept-alike opened s j a h = record {
 }
 
 -- statements nested, resolved, beside what those of the text leave open
-record Nested (n : Nest) (ss resolved : List Statement) : Type 0 where
+pub record Nested (n : Nest) (ss resolved : List Statement) : Type 0 where
   pub laid : LaysNest n.frames n.nodes resolved
   pub shaped : shapes n.frames ≡ open_after ss
 
-nested-one : (t : Table) (m : ℕ) (n : Nest) (ss resolved : List Statement) (s : Statement) → Nested n ss resolved → lowest_broken rules ss s ≡ None
+pub nested-one : (t : Table) (m : ℕ) (n : Nest) (ss resolved : List Statement) (s : Statement) → Nested n ss resolved → lowest_broken rules ss s ≡ None
     → Nested (with_statement n (statement_resolved t m s)) (ss ++ s ∷ []) (resolved ++ statement_resolved t m s ∷ [])
 nested-one t m n ss resolved s h k =
     let r = statement_resolved t m s in

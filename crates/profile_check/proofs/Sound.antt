@@ -413,6 +413,12 @@ no-expressions (read elements) h = absurd cc
 no-expressions stop h = absurd cc
 no-expressions end h = absurd cc
 
+-- by the arrays of the whole program
+executable-counts : (ss front : List Statement) (s : Statement) (back : List Statement) → InProfile ss → ss ≡ front ++ s ∷ back → is_executable s.kind ≡ true
+    → list_any (is_miscounted (declared_in ss).arrays) (uses s.kind) ≡ false
+executable-counts ss front s back h e x =
+    ap (λ (arrays : Arrays). list_any (is_miscounted arrays) (uses s.kind)) (closed ss h front s back e x).arrays ∙ (kept ss h front s back e).counts
+
 executable-sound : (ss front : List Statement) (s : Statement) (back : List Statement) → InProfile ss → ss ≡ front ++ s ∷ back → is_executable s.kind ≡ true
     → list_all (λ u. is_sound (table_in (declared_in ss)) u) (uses s.kind) ≡ true
 executable-sound ss front s back h e x =
@@ -420,7 +426,7 @@ executable-sound ss front s back h e x =
     let k = kept ss h front s back e in
     sound-uses (table_in (declared_in ss)) (declared_in ss).arrays (apart ss h).apart (uses s.kind)
     (λ x m. named ss front s back x e (among x m))
-    (ap (λ (arrays : Arrays). list_any (is_miscounted arrays) (uses s.kind)) c.arrays ∙ k.counts)
+    (executable-counts ss front s back h e x)
     (ap (λ (constants : Constants). list_any (λ (u : Use). u.is_given && is_constant constants u.name) (uses s.kind)) c.constants ∙ k.constants)
   where
     among : (x : List ℕ) → is_among (names_in (uses s.kind)) x ≡ true → is_among (names_mentioned s.kind) x ≡ true
@@ -433,4 +439,13 @@ sound ss front s back h e = by (is_executable s.kind) refl
   where
     by : (b : Bool) → is_executable s.kind ≡ b → (own_expressions s.kind ≡ []) ⊎ (list_all (λ u. is_sound (table_in (declared_in ss)) u) (uses s.kind) ≡ true)
     by true x = inr (executable-sound ss front s back h e x)
+    by false x = inl (no-expressions s.kind x)
+
+-- each name in an expression of a statement has as many subscripts or arguments as it should
+pub counts : (ss front : List Statement) (s : Statement) (back : List Statement) → InProfile ss → ss ≡ front ++ s ∷ back
+    → (own_expressions s.kind ≡ []) ⊎ (list_any (is_miscounted (declared_in ss).arrays) (uses s.kind) ≡ false)
+counts ss front s back h e = by (is_executable s.kind) refl
+  where
+    by : (b : Bool) → is_executable s.kind ≡ b → (own_expressions s.kind ≡ []) ⊎ (list_any (is_miscounted (declared_in ss).arrays) (uses s.kind) ≡ false)
+    by true x = inr (executable-counts ss front s back h e x)
     by false x = inl (no-expressions s.kind x)

@@ -372,7 +372,7 @@ all-few (e ∷ es) [] h short = absurd h
 all-few (e ∷ es) (s ∷ ss) h short = omega (arith, few-references e.line e.label e.text s h.0, all-few es ss h.1 short.1)
 
 -- a statement in its place is spelled by an entry
-abbrev IsSpelled : Statement → Type 0
+abbrev pub IsSpelled : Statement → Type 0
 IsSpelled s = (e : Entry) × IsStatement e.line e.label e.text s
 
 spelled-at : (es : List Entry) (front : List Statement) (s : Statement) (back : List Statement) → Spelled es (front ++ s ∷ back) → IsSpelled s
@@ -381,7 +381,7 @@ spelled-at [] (f ∷ front) s back h = absurd h
 spelled-at (e ∷ es) [] s back h = (e, h.0)
 spelled-at (e ∷ es) (f ∷ front) s back h = spelled-at es front s back h.1
 
-spelled-in : (es : List Entry) (ss front : List Statement) (s : Statement) (back : List Statement) → ss ≡ front ++ s ∷ back → Spelled es ss → IsSpelled s
+pub spelled-in : (es : List Entry) (ss front : List Statement) (s : Statement) (back : List Statement) → ss ≡ front ++ s ∷ back → Spelled es ss → IsSpelled s
 spelled-in es ss front s back e h = spelled-at es front s back (subst (λ (xs : List Statement). Spelled es xs) e h)
 
 pub all-bare : (es : List Entry) (ss front : List Statement) (s : Statement) (back : List Statement) → ss ≡ front ++ s ∷ back → Spelled es ss → own_text s.kind ≡ s.kind

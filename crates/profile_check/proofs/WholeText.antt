@@ -1,15 +1,15 @@
 -- A whole text: its lines, their statements, the rules of the profile and the tree.
 use Rattle.std.proofs.Common.{◌≡◌, ◌∙◌, ℕ, ◌+◌, ◌*◌, ◌<◌, ◌≤◌, ◌^◌, true, false, List, [], ◌∷◌, ◌++◌, refl, ap, sym, subst, map, length, append_assoc, arith, inl, inr, Result, Ok, Err, IfErr}
-use Rattle.std.specs.List.{list_all, IsDistinct}
+use Rattle.std.specs.List.{list_all, IsDistinct, list_any}
 use Rattle.std.specs.Result.{IsErrAnd}
-use Rattle.std.proofs.lemmas.Bool.{or_parts}
+use Rattle.std.proofs.lemmas.Bool.{or_parts, and_from}
 use Rattle.ast.specs.Answers.{Break, Gives, Fails, Says}
-use Rattle.ast.specs.Program.{ProgramTree, are_placed, are_shallow}
+use Rattle.ast.specs.Program.{ProgramTree, are_placed, are_shallow, is_placed}
 use Rattle.ast.specs.ProgramView.{program as program_of}
-use Rattle.ast.specs.References.{are_numbered, block_expressions, block_references}
+use Rattle.ast.specs.References.{are_numbered, block_expressions, block_references, expressions_references}
 use Rattle.ast.specs.Store.{same_name}
 use Rattle.ast.specs.Symbols.{Symbol, names_of, is_sized}
-use Rattle.ast.specs.Tree.{Term, Statement, Block, block}
+use Rattle.ast.specs.Tree.{Term, Statement, Block, block, Ref, Kind}
 use Rattle.ast.specs.declared.program.Program.{Program}
 use Rattle.ast.specs.declared.refusal.Refusal.{Refusal}
 use Rattle.ast.specs.declared.refusal.Refusal.TheVariants.{Memory, Refused}
@@ -21,25 +21,33 @@ use Rattle.structure.specs.Rules.{holds_wrong_statement, is_misplaced_arm, by_la
 use Rattle.syntax.proofs.Public.{text_again}
 use Rattle.syntax.specs.Statements.{IsStatement}
 use Rattle.profile_check.proofs.Ending.{ends-in-end}
-use Rattle.profile_check.proofs.Erased.{ListSettled}
-use Rattle.profile_check.proofs.Known.{distinct, known, serves}
+use Rattle.profile_check.proofs.Erased.{ListSettled, references-append}
+use Rattle.profile_check.proofs.Known.{distinct, known, serves, ranked}
 use Rattle.profile_check.proofs.LaidText.{block-text, block-expressions}
 use Rattle.profile_check.proofs.OneProgram.{one-program}
-use Rattle.profile_check.proofs.Parts.{table_in, text_of, own_text, expressions_in, are_shallow_in}
-use Rattle.profile_check.proofs.Resolved.{Fits, AllFit, list-settled, list-shallow}
+use Rattle.profile_check.proofs.Parts.{table_in, text_of, own_text, expressions_in, are_shallow_in, own_expressions}
+use Rattle.profile_check.proofs.Resolved.{Fits, AllFit, list-settled, list-shallow, none-resolved}
 use Rattle.profile_check.proofs.ResolvedKinds.{kind-text}
 use Rattle.profile_check.proofs.SameShape.{nested-lays}
 use Rattle.profile_check.proofs.Sized.{few_statements, sized}
-use Rattle.profile_check.proofs.Sound.{keeps-structure, in-order, sound}
-use Rattle.profile_check.proofs.Texts.{AreShort, all-few, all-bare, all-shallow}
+use Rattle.profile_check.proofs.Sound.{keeps-structure, in-order, sound, kept, counts}
+use Rattle.profile_check.proofs.Texts.{AreShort, all-few, all-bare, all-shallow, spelled-in}
 use Rattle.profile_check.specs.Causes.{UnspelledAt, Refuses}
-use Rattle.profile_check.specs.Declarations.{declared_in, symbols_of}
+use Rattle.profile_check.specs.Declarations.{declared_in, symbols_of, Arrays}
 use Rattle.profile_check.specs.Erasure.{block_erased}
 use Rattle.profile_check.specs.Layout.{Lays}
 use Rattle.profile_check.specs.Nesting.{nested}
 use Rattle.profile_check.specs.Reads.{AreProgram, Reads, Spelled, is_meant}
 use Rattle.profile_check.specs.Resolving.{Table, kind_count, kind_resolved, statements_resolved, references_in}
-use Rattle.profile_check.specs.Rules.{InProfile, BreaksFirst, most_statements}
+use Rattle.profile_check.specs.Rules.{InProfile, BreaksFirst, most_statements, is_miscounted}
+use Rattle.std.specs.Prelude.{◌⊎◌, ⊤}
+use Rattle.ast.specs.Regular.{is_counted, is_fitting, block_keeps, ends_outside, is_regular, are_fitting}
+use Rattle.profile_check.proofs.CountedTerms.{Ranked, kind-counted}
+use Rattle.profile_check.proofs.FittingTerms.{Fit, statement-spelled, kind-fitting}
+use Rattle.profile_check.proofs.Orderly.{Rightly, nested-orderly}
+use Rattle.profile_check.proofs.Settling.{all-parts, all-joined}
+use Rattle.profile_check.specs.Fitting.{symbol_fits}
+use Rattle.profile_check.specs.Uses.{uses}
 
 -- ---- the statements of a text in the profile
 
@@ -121,6 +129,81 @@ pub are-shallow : (es : List Entry) (ss : List Statement) → IsRead es ss → (
 are-shallow es ss h b f =
     ap (λ (x : Block). are_shallow x) f ∙ ap (λ (xs : List Term). are_shallow_in xs) (expressions es ss h)
     ∙ list-shallow (table_in (declared_in ss)) 0 ss (all-fit es ss h)
+
+-- ---- subscripts, DO variables and END
+
+abbrev AllCount : Arrays → List Statement → Type 0
+AllCount arrays [] = ⊤
+AllCount arrays (s ∷ ss) = ((own_expressions s.kind ≡ []) ⊎ (list_any (is_miscounted arrays) (uses s.kind) ≡ false)) × AllCount arrays ss
+
+count-from : (ss : List Statement) → InProfile ss → (front rest : List Statement) → ss ≡ front ++ rest → AllCount (declared_in ss).arrays rest
+count-from ss h front [] e = tt
+count-from ss h front (s ∷ rest) e = (counts ss front s rest h e, count-from ss h (front ++ s ∷ []) rest (e ∙ sym (append_assoc front (s ∷ []) rest)))
+
+list-counted : (symbols : List Symbol) (arrays : Arrays) → Ranked symbols arrays → (t : Table) (n : ℕ) (ss : List Statement) → AllFit t ss → AllCount arrays ss
+    → list_all (λ r. is_placed symbols r) (expressions_references (expressions_in (statements_resolved t n ss))) ≡ true
+    → list_all (λ e. is_counted symbols e) (expressions_in (statements_resolved t n ss)) ≡ true
+list-counted symbols arrays ranked t n [] h c p = refl
+list-counted symbols arrays ranked t n (s ∷ ss) h c p =
+    let k : Kind = kind_resolved t n s.kind in
+    let more : List Term = expressions_in (statements_resolved t (n + kind_count k) ss) in
+    let q = all-parts (λ r. is_placed symbols r) (expressions_references (own_expressions k)) (expressions_references more)
+    (ap (λ (rs : List Ref). list_all (λ r. is_placed symbols r) rs) (sym (references-append (own_expressions k) more)) ∙ p) in
+    all-joined (λ e. is_counted symbols e) (own_expressions k) more
+    (by k (none-resolved t n s.kind) (kind-text t n s.kind h.0.alone ∙ h.0.bare) q.0 c.0)
+    (list-counted symbols arrays ranked t (n + kind_count k) ss h.1 c.1 q.1)
+  where
+    by : (k : Kind) → (own_expressions s.kind ≡ [] → own_expressions k ≡ []) → own_text k ≡ s.kind → list_all (λ r. is_placed symbols r) (expressions_references (own_expressions k)) ≡ true
+        → (own_expressions s.kind ≡ []) ⊎ (list_any (is_miscounted arrays) (uses s.kind) ≡ false) → list_all (λ e. is_counted symbols e) (own_expressions k) ≡ true
+    by k none same p (inl e) = ap (λ (es : List Term). list_all (λ f. is_counted symbols f) es) (none e)
+    by k none same p (inr e) = kind-counted symbols arrays ranked k p (ap (λ (j : Kind). list_any (is_miscounted arrays) (uses j)) same ∙ e)
+
+rightly : (ss : List Statement) → InProfile ss → (front : List Statement) (s : Statement) (back : List Statement) → ss ≡ front ++ s ∷ back → Rightly (open_after front) s
+rightly ss h front s back e = record { active = (kept ss h front s back e).active; alone = holds-right ss h front s back e }
+
+pub are-regular : (es : List Entry) (ss : List Statement) → IsRead es ss → (symbols : List Symbol) (b : Block) → symbols ≡ symbols_of (declared_in ss) → b ≡ body_in ss → is_regular symbols b ≡ true
+are-regular es ss h symbols b e f =
+    let t = table_in (declared_in ss) in
+    let all = list-settled (symbols_of (declared_in ss)) t (serves ss h.profile) 0 ss (all-fit es ss h) in
+    let counted = list-counted (symbols_of (declared_in ss)) (declared_in ss).arrays (ranked ss h.profile) t 0 ss (all-fit es ss h) (count-from ss h.profile [] ss refl) all.placed in
+    let orderly = nested-orderly t ss (keeps-structure ss h.profile) (rightly ss h.profile) (ends-in-end es ss h.shaped.ended h.spelled) in
+    (λ i. is_regular (e i) (f i))
+    ∙ and_from (list_all (λ x. is_counted (symbols_of (declared_in ss)) x) (block_expressions (body_in ss))) _
+    (ap (λ (xs : List Term). list_all (λ x. is_counted (symbols_of (declared_in ss)) x) xs) (expressions es ss h) ∙ counted)
+    (and_from (block_keeps [] (body_in ss)) (ends_outside (body_in ss)) orderly.0 orderly.1)
+
+-- ---- constants
+
+abbrev AllSpelt : List Statement → Type 0
+AllSpelt [] = ⊤
+AllSpelt (s ∷ ss) = Fit (own_expressions s.kind) × AllSpelt ss
+
+spelt-from : (es : List Entry) (ss : List Statement) → Spelled es ss → (front rest : List Statement) → ss ≡ front ++ rest → AllSpelt rest
+spelt-from es ss h front [] e = tt
+spelt-from es ss h front (s ∷ rest) e =
+    let x = spelled-in es ss front s rest e h in
+    (statement-spelled _ _ _ s x.1, spelt-from es ss h (front ++ s ∷ []) rest (e ∙ sym (append_assoc front (s ∷ []) rest)))
+
+list-fitting : (symbols : List Symbol) → list_all symbol_fits symbols ≡ true → (t : Table) (n : ℕ) (ss : List Statement) → AllFit t ss → AllSpelt ss
+    → list_all (λ e. is_meant symbols e) (expressions_in (statements_resolved t n ss)) ≡ true
+    → Fit (expressions_in (statements_resolved t n ss))
+list-fitting symbols fit t n [] h c m = refl
+list-fitting symbols fit t n (s ∷ ss) h c m =
+    let k : Kind = kind_resolved t n s.kind in
+    let more : List Term = expressions_in (statements_resolved t (n + kind_count k) ss) in
+    let q = all-parts (λ e. is_meant symbols e) (own_expressions k) more m in
+    let same : own_text k ≡ s.kind = kind-text t n s.kind h.0.alone ∙ h.0.bare in
+    all-joined (λ e. is_fitting e) (own_expressions k) more
+    (kind-fitting symbols fit k q.0 (subst (λ (j : Kind). Fit (own_expressions j)) (sym same) c.0))
+    (list-fitting symbols fit t (n + kind_count k) ss h.1 c.1 q.1)
+
+pub all-fitting : (es : List Entry) (ss : List Statement) → IsRead es ss → (symbols : List Symbol) (b : Block) → symbols ≡ symbols_of (declared_in ss) → list_all symbol_fits symbols ≡ true → b ≡ body_in ss → are_fitting b ≡ true
+all-fitting es ss h symbols b e fit f =
+    let t = table_in (declared_in ss) in
+    let all = list-settled (symbols_of (declared_in ss)) t (serves ss h.profile) 0 ss (all-fit es ss h) in
+    let fine : list_all symbol_fits (symbols_of (declared_in ss)) ≡ true = ap (λ (xs : List Symbol). list_all symbol_fits xs) (sym e) ∙ fit in
+    ap are_fitting f ∙ ap (λ (xs : List Term). list_all (λ x. is_fitting x) xs) (expressions es ss h)
+    ∙ list-fitting (symbols_of (declared_in ss)) fine t 0 ss (all-fit es ss h) (spelt-from es ss h.spelled [] ss refl) all.meant
 
 pub few-references : (es : List Entry) (ss : List Statement) → AreShort es → Spelled es ss → InProfile ss → references_in ss < 2 ^ 64
 few-references es ss short spelled profile =

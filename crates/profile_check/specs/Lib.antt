@@ -6,6 +6,7 @@ pub mod Declarations
 pub mod DeclarationsView
 pub mod DeclaredView
 pub mod Erasure
+pub mod Fitting
 pub mod Kinds
 pub mod KindsView
 pub mod Layout

@@ -1,7 +1,8 @@
 -- The names in the statements of a text, with what follows them in parentheses.
-use Rattle.std.specs.Prelude.{ℕ, ◌+◌, Bool, true, false, not, ◌&&◌, nat_lt, nat_le, ◌==◌, if◌then◌else◌, List, [], ◌∷◌, ◌++◌, length, map, codes, Option, Some, None}
+use Rattle.std.specs.Prelude.{ℕ, Bool, true, false, not, ◌&&◌, nat_lt, nat_le, ◌==◌, if◌then◌else◌, List, [], ◌∷◌, ◌++◌, length, map, codes, Option, Some, None}
 use Rattle.std.specs.List.{list_any, filter}
 use Rattle.ast.specs.Store.{same_name}
+pub use Rattle.ast.specs.Tree.{count_of}
 use Rattle.ast.specs.Tree.{Term, Terms, element, call, parentheses, unary, binary, no_terms, then_term, Access, PrintItem, value_item, text_item, Bounds, Declarator, Definition, DoHead, Kind, program, integer, dimension, parameters, assign, do_loop, block_if, else_if, logical_if, print, read}
 
 -- a name that stands in a statement: with how many subscripts or arguments, and whether it is given a
@@ -10,10 +11,6 @@ pub record Use : Type 0 where
   pub name : List ℕ
   pub count : ℕ
   pub is_given : Bool
-
-abbrev pub count_of : Terms → ℕ
-count_of no_terms = 0
-count_of (then_term e es) = count_of es + 1
 
 -- the names of an expression, in order of evaluation
 abbrev mutual

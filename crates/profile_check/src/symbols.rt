@@ -1,10 +1,12 @@
 //! The symbols of a program: what each of its names stands for.
 
-ghost use Rattle.std.specs.Prelude.{◌≡◌, IfOk, map};
+ghost use Rattle.std.specs.Prelude.{◌≡◌, IfOk, map, true};
+ghost use Rattle.std.specs.List.{list_all};
 ghost use Rattle.ast.specs.View as view;
 ghost use Rattle.profile_check.specs.Declarations as spec;
 ghost use Rattle.profile_check.specs.DeclarationsView.{declared};
 ghost use Rattle.profile_check.specs.DeclaredView.{arrays_of};
+ghost use Rattle.profile_check.specs.Fitting.{sort_fits, symbol_fits};
 
 use crate::arrays::Arrays;
 use crate::declarations::Declarations;
@@ -29,7 +31,8 @@ fn kind_of(
     declarations: &Declarations,
     name: &Name,
 ) -> Result<SymbolKind, AllocError>
-    ensures { IfOk result (λ kind. view.sort kind ≡ spec.sort_of (declared declarations.now) name.now.letters) }
+    ensures found { IfOk result (λ kind. view.sort kind ≡ spec.sort_of (declared declarations.now) name.now.letters) }
+    ensures fitting { IfOk result (λ kind. sort_fits (view.sort kind) ≡ true) }
 {
     match declarations.constants.get(name) {
         Some(value) => Ok(SymbolKind::Constant(*value)),
@@ -41,7 +44,8 @@ fn kind_of(
 }
 
 fn symbol_of(alloc: Global, declarations: &Declarations, name: Name) -> Result<Symbol, AllocError>
-    ensures { IfOk result (λ s. view.symbol s ≡ spec.symbol_of (declared declarations.now) name.letters) }
+    ensures found { IfOk result (λ s. view.symbol s ≡ spec.symbol_of (declared declarations.now) name.letters) }
+    ensures fitting { IfOk result (λ s. symbol_fits (view.symbol s) ≡ true) }
 {
     let kind = kind_of(alloc, declarations, &name)?;
     Ok(Symbol { name, kind })
@@ -49,7 +53,8 @@ fn symbol_of(alloc: Global, declarations: &Declarations, name: Name) -> Result<S
 
 /// A symbol for each name that is declared, in their order.
 pub fn symbols_of(alloc: Global, declarations: &Declarations) -> Result<Vec<Symbol>, AllocError>
-    ensures { IfOk result (λ symbols. map view.symbol symbols.items ≡ spec.symbols_of (declared declarations.now)) }
+    ensures found { IfOk result (λ symbols. map view.symbol symbols.items ≡ spec.symbols_of (declared declarations.now)) }
+    ensures fitting { IfOk result (λ symbols. list_all symbol_fits (map view.symbol symbols.items) ≡ true) }
 {
     let names = declarations.names.as_slice();
     let mut symbols = Vec::with_capacity(alloc, names.len())?;

@@ -8,7 +8,7 @@ use Rattle.ast.specs.declared.refusal.Refusal.TheVariants.{Memory}
 use Rattle.profile_check.proofs.OneCause.{not-refused, exact-refusal}
 use Rattle.profile_check.proofs.Parts.{table_in}
 use Rattle.profile_check.proofs.Texts.{entries-short}
-use Rattle.profile_check.proofs.WholeText.{IsRead, are-distinct, are-sized, are-placed, are-numbered, are-shallow, few-references, as-read, one-reading, unread, refused-not, handed-cause, in-lines, in-statements, out-of-profile, no-memory, no-cause}
+use Rattle.profile_check.proofs.WholeText.{IsRead, are-distinct, are-sized, are-placed, are-numbered, are-shallow, are-regular, all-fitting, few-references, as-read, one-reading, unread, refused-not, handed-cause, in-lines, in-statements, out-of-profile, no-memory, no-cause}
 use Rattle.profile_check.specs.Declarations.{Declared, symbols_of}
 use Rattle.profile_check.specs.Nesting.{nested}
 use Rattle.profile_check.specs.ReadsView.{statements_of}
@@ -77,7 +77,7 @@ invariant_of-result c =
       profile = rw (c.deref-2.ensures.value) at c.in_ok-declarations.ensures.kept;
     } in
     let declared = rw (c.deref-2.ensures.value) at c.in_ok-declarations.ensures.declared in
-    let symbols = c.in_ok-symbols.ensures ∙ ap symbols_of declared in
+    let symbols = c.in_ok-symbols.ensures.found ∙ ap symbols_of declared in
     let body = ap block (c.in_ok-body.ensures ∙ ap (λ (d : Declared). (nested (statements_resolved (table_in d) 0 ss)).nodes) declared) in
     record {
       distinct = are-distinct ss _ symbols;
@@ -85,6 +85,8 @@ invariant_of-result c =
       placed = are-placed es ss read _ _ symbols body;
       numbered = are-numbered es ss read _ body;
       shallow = are-shallow es ss read _ body;
+      regular = are-regular es ss read _ _ symbols body;
+      fitting = all-fitting es ss read _ _ symbols c.in_ok-symbols.ensures.fitting body;
     }
 
 pub returns-clause-found : goal.returns-clause-found
@@ -98,7 +100,7 @@ returns-clause-found c =
     } in
     let declared = rw (c.deref-2.ensures.value) at c.in_ok-declarations.ensures.declared in
     as-read c.args.text.now es ss c.in_ok-labelled.ensures.found read _
-    (c.in_ok-symbols.ensures ∙ ap symbols_of declared)
+    (c.in_ok-symbols.ensures.found ∙ ap symbols_of declared)
     (ap block (c.in_ok-body.ensures ∙ ap (λ (d : Declared). (nested (statements_resolved (table_in d) 0 ss)).nodes) declared))
     (let n : c.len-statements.result ≡ length c.in_ok-stmts.stmts.items = search rules in n ∙ sym (length-map c.in_ok-stmts.stmts.items statement))
 
