@@ -101,7 +101,7 @@ module _ (p : Places) (opens : ℕ → Option ℕ) where
 
   abbrev mutual
     pub node_awaits : PlanNode → List Await
-    node_awaits (awaits e d) = record { event = e; distance = d } ∷ []
+    node_awaits (awaits e d) = record { event = short e; distance = d } ∷ []
     node_awaits (advances e) = []
     node_awaits (plain s) = []
     node_awaits (loop line h b) = if_serial (opens h.variable.id) (block_awaits b)

@@ -1,10 +1,11 @@
 -- The headline: whatever processors move, a run of a program's code that ends has printed and stored what
 -- the sequential program does, or, where that program faults or stops, has printed its output so far and
 -- reports that fault or stop; and no run that hasn't ended is without a next step.
-use Rattle.std.specs.Prelude.{◌≡◌, ◌<◌, ◌≤◌, ◌+◌, ◌*◌, ℕ, List, ◌++◌, length, Some, None}
+use Rattle.std.specs.Prelude.{◌≡◌, ◌<◌, ◌≤◌, ◌+◌, ◌*◌, ◌⊎◌, ℕ, List, ◌++◌, length, Some, None}
 use Rattle.ast.specs.Meaning.{seq}
 use Rattle.ast.specs.Program.{ProgramTree}
 use Rattle.ast.specs.declared.fault.End.{End}
+use Rattle.ast.specs.declared.fault.End.TheVariants.{Done}
 use Rattle.machine.specs.Code.{Code}
 use Rattle.machine.specs.Solo.{Solo}
 use Rattle.machine.specs.State.{Machine, AreSizes, CodeStep, CodeRun, Init, Ended}
@@ -32,15 +33,20 @@ Headline code program =
 abbrev pub Ends : Code → List ℕ → Type 0
 Ends code input = (w : ℕ) × Solo code input w × ((v : ℕ) → Solo code input v → v ≡ w)
 
+-- the sequential program comes to its end, without a fault or a STOP before it, or one iteration is open at
+-- a time: else iterations behind one that breaks off may go on for as long as they like
+abbrev pub IsWhole : ProgramTree → List ℕ → ℕ → Type 0
+IsWhole program input s = ((seq program input).end ≡ Done) ⊎ (s ≡ 1)
+
 -- No run, ended or not, has more than three times the steps of one alone: an instruction costs at most a
 -- park, a pick and itself.
-abbrev pub Bounded : Code → List ℕ → Type 0
-Bounded code input =
-    (w : ℕ) → Solo code input w → (p s : ℕ) (qs : List ℕ) (m : Machine) → AreSizes p s → CodeRun code s p (Init code input) qs m
+abbrev pub Bounded : Code → ProgramTree → List ℕ → Type 0
+Bounded code program input =
+    (w : ℕ) → Solo code input w → (p s : ℕ) (qs : List ℕ) (m : Machine) → AreSizes p s → IsWhole program input s → CodeRun code s p (Init code input) qs m
     → length qs ≤ 3 * w
 
 -- Any run can be carried to its end within that number.
-abbrev pub Carried : Code → List ℕ → Type 0
-Carried code input =
-    (w : ℕ) → Solo code input w → (p s : ℕ) (qs : List ℕ) (m : Machine) → AreSizes p s → CodeRun code s p (Init code input) qs m
+abbrev pub Carried : Code → ProgramTree → List ℕ → Type 0
+Carried code program input =
+    (w : ℕ) → Solo code input w → (p s : ℕ) (qs : List ℕ) (m : Machine) → AreSizes p s → IsWhole program input s → CodeRun code s p (Init code input) qs m
     → (rs : List ℕ) × (n : Machine) × (e : End) × CodeRun code s p m rs n × (n.ended ≡ Some e) × (length qs + length rs ≤ 3 * w)

@@ -1,10 +1,11 @@
+pub mod Blocks
 pub mod Emitted
 pub mod Headline
 pub mod Noted
+pub mod OpenedView
 pub mod Plain
 pub mod Process
 pub mod Program
 pub mod Records
 pub mod Reports
 pub mod Room
-pub mod Serial

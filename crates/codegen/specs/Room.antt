@@ -1,4 +1,4 @@
--- How much room statements want.
+-- How much room statements want. What stands behind an ELSE counts as well: a loop there may be opened.
 use Rattle.std.specs.Prelude.{ℕ, ◌+◌, max, List, [], ◌∷◌, Option, Some, None}
 use Rattle.ast.specs.Tree.{Term, Access, accessed, PrintItem, value_item, text_item, DoHead, Kind, assign, print, read}
 use Rattle.dependence.specs.Plan.{PlanNode, plain, loop, choose, PlanBlock, no_nodes, then_node, PlanArms, no_arms, made_else, then_arm}
@@ -42,7 +42,7 @@ abbrev mutual
   pub arms_room : PlanArms → ℕ
   arms_room no_arms = 0
   arms_room (made_else b) = block_room b
-  arms_room (then_arm line None b more) = block_room b
+  arms_room (then_arm line None b more) = max (block_room b) (arms_room more)
   arms_room (then_arm line (Some c) b more) = max (operands c) (max (block_room b) (arms_room more))
 
 abbrev mutual
@@ -58,5 +58,5 @@ abbrev mutual
   pub arms_loops : PlanArms → ℕ
   arms_loops no_arms = 0
   arms_loops (made_else b) = block_loops b
-  arms_loops (then_arm line None b more) = block_loops b
+  arms_loops (then_arm line None b more) = max (block_loops b) (arms_loops more)
   arms_loops (then_arm line (Some c) b more) = max (block_loops b) (arms_loops more)

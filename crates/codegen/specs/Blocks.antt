@@ -1,4 +1,4 @@
--- An account of the code: blocks of a program, whose loops are all serial.
+-- An account of the code: blocks of a program as main runs them, some of their loops being opened.
 use Rattle.std.specs.Prelude.{◌≡◌, ℕ, ◌+◌, ◌-◌, max, Option, Some, None, List, [], ◌∷◌, ◌++◌, length, set}
 use Rattle.ast.specs.Tree.{Term, PrintItem, value_item, text_item, Arm, Node, Block, Arms}
 use Rattle.machine.specs.Code.{Part}
@@ -9,27 +9,29 @@ use Rattle.expr_code.specs.Emitted.{instr, short}
 use Rattle.expr_code.specs.Places.{Places}
 use Rattle.codegen.specs.Emitted.{arms_code, arms_records, block_code, block_records, node_code, node_records}
 use Rattle.codegen.specs.Plain.{plain_arms, plain_block, plain_node}
-use Rattle.codegen.specs.Program.{none_open}
 use Rattle.codegen.specs.Room.{block_loops, block_room}
 use Rattle.codegen.specs.declared.nodes.Pending.{Pending}
 
-abbrev pub serial_block : Places → ℕ → Block → List Instr
-serial_block p r b = block_code p none_open r 0 (plain_block b)
+-- opens: the numbers of the loops that are opened, by their DO variables' references
+module _ (opens : ℕ → Option ℕ) (p : Places) where
+  -- r: how many records stand before
+  abbrev pub code_of_block : ℕ → Block → List Instr
+  code_of_block r b = block_code p opens r 0 (plain_block b)
 
-abbrev pub serial_node : Places → ℕ → Node → List Instr
-serial_node p r n = node_code p none_open r 0 (plain_node n)
+  abbrev pub code_of_node : ℕ → Node → List Instr
+  code_of_node r n = node_code p opens r 0 (plain_node n)
 
-abbrev pub serial_arms : Places → ℕ → Arms → List Instr
-serial_arms p r a = arms_code p none_open r 0 (plain_arms a)
+  abbrev pub code_of_arms : ℕ → Arms → List Instr
+  code_of_arms r a = arms_code p opens r 0 (plain_arms a)
 
-abbrev pub records_in_block : Places → Block → List (List Part)
-records_in_block p b = block_records p none_open (plain_block b)
+  abbrev pub records_in_block : Block → List (List Part)
+  records_in_block b = block_records p opens (plain_block b)
 
-abbrev pub records_in_node : Places → Node → List (List Part)
-records_in_node p n = node_records p none_open (plain_node n)
+  abbrev pub records_in_node : Node → List (List Part)
+  records_in_node n = node_records p opens (plain_node n)
 
-abbrev pub records_in_arms : Places → Arms → List (List Part)
-records_in_arms p a = arms_records p none_open (plain_arms a)
+  abbrev pub records_in_arms : Arms → List (List Part)
+  records_in_arms a = arms_records p opens (plain_arms a)
 
 -- the body of an arm behind its condition; how many instructions are to be skipped behind it isn't
 -- known yet
@@ -54,11 +56,11 @@ item_room (text_item t) n = n
 
 -- an arm before others that want so much
 abbrev pub conditional_room : Option Term → ℕ → ℕ → ℕ
-conditional_room None body n = body
+conditional_room None body n = max body n
 conditional_room (Some c) body n = max (operands c) (max body n)
 
 abbrev pub conditional_loops : Option Term → ℕ → ℕ → ℕ
-conditional_loops None body n = body
+conditional_loops None body n = max body n
 conditional_loops (Some c) body n = max body n
 
 abbrev pub arm_loops : Arm → ℕ → ℕ
