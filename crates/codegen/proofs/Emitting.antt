@@ -1,14 +1,10 @@
 -- Code is emitted piece by piece: laws of what was appended, and of what was filled in.
-use Rattle.std.proofs.Common.{◌≡◌, ◌∙◌, ◌+◌, ◌-◌, ◌<◌, ℕ, Bool, true, false, List, [], ◌∷◌, ◌++◌, length, map, drop, take, Option, Some, refl, sym, ap, subst, get_or, arith, rules}
+use Rattle.std.proofs.Common.{◌≡◌, ◌∙◌, ◌+◌, ◌-◌, ◌<◌, ℕ, Bool, true, false, List, [], ◌∷◌, ◌++◌, length, drop, take, Option, Some, refl, sym, ap, subst, get_or, arith}
 use Rattle.std.specs.Prelude.{if◌then◌else◌, set, Vec}
 use Rattle.std.specs.Global.{Global}
 use Rattle.std.proofs.lemmas.List.{append_assoc, length-append, length-map, length-drop, length-set, drop_more, set_at, take_all}
-use Rattle.ast.specs.Meaning.{is_last_stop_of}
-use Rattle.ast.specs.Tree as tree
-use Rattle.ast.specs.Tree.{Term, Node, Block, no_nodes, then_node, Arms, then_arm, Ref, arms as arms_tree}
-use Rattle.ast.specs.View.{arm as arm_of, arm_step, block_view, node_step, optional_term}
-use Rattle.ast.specs.declared.expression.Expr.{Expr}
-use Rattle.ast.specs.declared.tree.Arm.{Arm, fold_out-Arm}
+use Rattle.ast.specs.Tree.{Term, Ref}
+use Rattle.dependence.specs.Plan.{PlanNode, PlanBlock, then_node, PlanArms, then_arm}
 use Rattle.machine.specs.Code.{Part}
 use Rattle.machine.specs.declared.code.Await.{Await}
 use Rattle.machine.specs.declared.code.Piece.{Piece}
@@ -16,45 +12,38 @@ use Rattle.machine.specs.declared.instr.Act.TheVariants as acts
 use Rattle.machine.specs.declared.instr.Instr.{Instr}
 use Rattle.expr_code.specs.Emitted.{instr, short, term_code}
 use Rattle.expr_code.specs.Places.{Places}
-use Rattle.codegen.specs.Emitted.{arms_code, block_code, block_records, chosen_code, grown_code, node_awaits, node_code, node_records, turns_code}
-use Rattle.codegen.specs.Plain.{plain_arms, plain_block, plain_node}
-use Rattle.codegen.specs.Program.{none_open}
+use Rattle.codegen.specs.Blocks.{Ends, body_ended, body_left_open, closed, trip_ended}
+use Rattle.codegen.specs.Emitted.{arms_awaits, arms_code, arms_records, block_awaits, block_code, block_records, chosen_code, grown_code, node_awaits, node_code, node_records, turns_code}
+use Rattle.codegen.specs.Process.{is_last_stop}
 use Rattle.codegen.specs.Records.{pieces_of, records_of}
-use Rattle.codegen.specs.Serial.{Ends, body_left_open, closed, records_in_arms, records_in_block, records_in_node, serial_arms, serial_block, serial_node}
-use Rattle.codegen.specs.declared.nodes.Pending.{Pending}
-use Rattle.codegen.proofs.Stops.{last_told}
-use Rattle.codegen.proofs.Waiting.{block_waits, node_waits}
+use Rattle.codegen.specs.declared.skips.Pending.{Pending}
 
-module _ (p : Places) where
-  -- ---- blocks
+-- ---- lists
 
-  pub block_ends : (r : ℕ) (b : Block) → true ≡ is_last_stop_of b → serial_block p r b ≡ []
-  block_ends r no_nodes h = refl
-  block_ends r (then_node n b) h = ap (λ (x : Bool). if x then [] else node_code p none_open r 0 (plain_node n) ++ block_code p none_open (r + length (node_records p none_open (plain_node n))) (0 + length (node_awaits p none_open (plain_node n))) (plain_block b)) (sym (last_told true n b h))
+-- one more of a list has been appended
+next : {X : Type 0} (old new first rest all target : List X) → all ≡ first ++ rest → new ≡ old ++ first → old ++ all ≡ target → new ++ rest ≡ target
+next old new first rest all target e f w = ap (λ xs. xs ++ rest) f ∙ append_assoc old first rest ∙ ap (λ xs. old ++ xs) (sym e) ∙ w
 
-  pub records_end : (b : Block) → true ≡ is_last_stop_of b → records_in_block p b ≡ []
-  records_end no_nodes h = refl
-  records_end (then_node n b) h = ap (λ (x : Bool). if x then [] else node_records p none_open (plain_node n) ++ block_records p none_open (plain_block b)) (sym (last_told true n b h))
+unless : {X : Type 0} (x : Bool) (xs : List X) → false ≡ x → (if x then [] else xs) ≡ xs
+unless x xs h = ap (λ (y : Bool). if y then [] else xs) (sym h)
 
-  pub block_goes : (r : ℕ) (n : Node) (b : Block) → false ≡ is_last_stop_of (then_node n b) → serial_block p r (then_node n b) ≡ serial_node p r n ++ serial_block p (r + length (records_in_node p n)) b
-  block_goes r n b h =
-      ap (λ (x : Bool). if x then [] else node_code p none_open r 0 (plain_node n) ++ block_code p none_open (r + length (node_records p none_open (plain_node n))) (0 + length (node_awaits p none_open (plain_node n))) (plain_block b)) (sym (last_told false n b h))
-      ∙ ap (λ (ws : List Await). node_code p none_open r 0 (plain_node n) ++ block_code p none_open (r + length (node_records p none_open (plain_node n))) (0 + length ws) (plain_block b)) (node_waits p n)
+pub item_here : {X : Type 0} (xs : List X) (i : ℕ) (x : X) → i < length xs → x ≡ get_or xs i x → drop i xs ≡ x ∷ drop (i + 1) xs
+item_here xs i x l e = drop_more xs i x l ∙ ap (λ y. y ∷ drop (i + 1) xs) (sym e)
 
-  pub records_go : (n : Node) (b : Block) → false ≡ is_last_stop_of (then_node n b) → records_in_block p (then_node n b) ≡ records_in_node p n ++ records_in_block p b
-  records_go n b h = ap (λ (x : Bool). if x then [] else node_records p none_open (plain_node n) ++ block_records p none_open (plain_block b)) (sym (last_told false n b h))
+-- a slice from an index on
+pub rest_of : {X : Type 0} (xs : List X) (i : ℕ) → take (length xs - i) (drop i xs) ≡ drop i xs
+rest_of xs i = take_all (length xs - i) (drop i xs) (let k = length-drop i xs in omega (arith, k))
 
-  pub arms_go : (r line : ℕ) (c : Term) (b : Block) (more : Arms)
-      → serial_arms p r (then_arm line (Some c) b more) ≡ term_code (record p { line = line }) c ++ chosen_code (record p { line = line }) (serial_block p r b) (serial_arms p (r + length (records_in_block p b)) more)
-  arms_go r line c b more = ap (λ (ws : List Await). term_code (record p { line = line }) c ++ chosen_code (record p { line = line }) (serial_block p r b) (arms_code p none_open (r + length (block_records p none_open (plain_block b))) (0 + length ws) (plain_arms more))) (block_waits p b)
-
--- ---- numbers of records
+-- ---- numbers of records and awaits
 
 pub records_count : (rs : Vec (Vec Piece Global) Global) → length (records_of rs) ≡ length rs.items
 records_count rs = length-map rs.items (λ r. pieces_of r)
 
 pub count_on : (rs ss : Vec (Vec Piece Global) Global) (ps : List (List Part)) → records_of ss ≡ records_of rs ++ ps → length ss.items ≡ length rs.items + length ps
 count_on rs ss ps h = sym (records_count ss) ∙ ap length h ∙ length-append (records_of rs) ps ∙ ap (λ (n : ℕ). n + length ps) (records_count rs)
+
+pub awaits_count : (old new ws : List Await) → new ≡ old ++ ws → length new ≡ length old + length ws
+awaits_count old new ws h = ap length h ∙ length-append old ws
 
 -- ---- what was filled in
 
@@ -72,21 +61,23 @@ since old c1 c2 b x n e f g =
     let k2 : length c2 ≡ length c1 + length b = ap length g ∙ length-append c1 b in
     omega (arith, e, k1, k2)
 
-pub body_emitted : (line : ℕ) (old b c1 c2 c3 c4 : List Instr) (n k : ℕ) → n ≡ length old → c1 ≡ old ++ instr line (acts.SkipUnless 0) ∷ [] → c2 ≡ c1 ++ b → k ≡ short (length c2 - n) → c3 ≡ c2 ++ instr line (acts.Skip 0) ∷ [] → c4 ≡ set c3 n (instr line (acts.SkipUnless k)) → c4 ≡ old ++ body_left_open line b
-body_emitted line old b c1 c2 c3 c4 n k e f g h i j =
-    let behind : k ≡ short (length b + 1) = h ∙ ap short (since old c1 c2 b (instr line (acts.SkipUnless 0)) n e f g) in
-    j
-    ∙ filled_in old c1 c2 c3 (instr line (acts.SkipUnless 0)) (instr line (acts.SkipUnless k)) b (instr line (acts.Skip 0) ∷ []) n e f g i
-    ∙ ap (λ (m : ℕ). old ++ (instr line (acts.SkipUnless m) ∷ (b ++ instr line (acts.Skip 0) ∷ []))) behind
+pub body_emitted : (line : ℕ) (old b c1 c2 c3 : List Instr) (n : ℕ) → n ≡ length old → c1 ≡ old ++ instr line (acts.SkipUnless 0) ∷ [] → c2 ≡ c1 ++ b → c3 ≡ body_ended line n c2 → c3 ≡ old ++ body_left_open line b
+body_emitted line old b c1 c2 c3 n e f g h =
+    let skip = instr line (acts.Skip 0) ∷ [] in
+    let behind : short (length c2 - n) ≡ short (length b + 1) = ap short (since old c1 c2 b (instr line (acts.SkipUnless 0)) n e f g) in
+    h
+    ∙ filled_in old c1 c2 (c2 ++ skip) (instr line (acts.SkipUnless 0)) (instr line (acts.SkipUnless (short (length c2 - n)))) b skip n e f g refl
+    ∙ ap (λ (m : ℕ). old ++ (instr line (acts.SkipUnless m) ∷ (b ++ skip))) behind
 
-pub trips_emitted : (q : Places) (r : Ref) (old b c1 c2 c3 c4 c5 : List Instr) (n k : ℕ) → n ≡ length old → c1 ≡ old ++ instr q.line (acts.CountDown 0) ∷ [] → c2 ≡ c1 ++ b → c3 ≡ c2 ++ grown_code q r → k ≡ short (length c3 - n) → c4 ≡ c3 ++ instr q.line (acts.Back k) ∷ []
-    → c5 ≡ set c4 n (instr q.line (acts.CountDown k)) → c5 ≡ old ++ turns_code q r b
-trips_emitted q r old b c1 c2 c3 c4 c5 n k e f g h i j l =
+pub trips_emitted : (q : Places) (r : Ref) (old b c1 c2 c3 : List Instr) (n : ℕ) → n ≡ length old → c1 ≡ old ++ instr q.line (acts.CountDown 0) ∷ [] → c2 ≡ c1 ++ b → c3 ≡ trip_ended q r n c2 → c3 ≡ old ++ turns_code q r b
+trips_emitted q r old b c1 c2 c3 n e f g h =
     let range = b ++ grown_code q r in
-    let both : c3 ≡ c1 ++ range = h ∙ ap (λ (is : List Instr). is ++ grown_code q r) g ∙ append_assoc c1 b (grown_code q r) in
-    let trip : k ≡ short (length range + 1) = i ∙ ap short (since old c1 c3 range (instr q.line (acts.CountDown 0)) n e f both) in
-    l
-    ∙ filled_in old c1 c3 c4 (instr q.line (acts.CountDown 0)) (instr q.line (acts.CountDown k)) range (instr q.line (acts.Back k) ∷ []) n e f both j
+    let grown = c2 ++ grown_code q r in
+    let back = instr q.line (acts.Back (short (length grown - n))) ∷ [] in
+    let both : grown ≡ c1 ++ range = ap (λ (is : List Instr). is ++ grown_code q r) g ∙ append_assoc c1 b (grown_code q r) in
+    let trip : short (length grown - n) ≡ short (length range + 1) = ap short (since old c1 grown range (instr q.line (acts.CountDown 0)) n e f both) in
+    h
+    ∙ filled_in old c1 grown (grown ++ back) (instr q.line (acts.CountDown 0)) (instr q.line (acts.CountDown (short (length grown - n)))) range back n e f both refl
     ∙ ap (λ (m : ℕ). old ++ (instr q.line (acts.CountDown m) ∷ (range ++ instr q.line (acts.Back m) ∷ []))) trip
 
 -- ---- arms
@@ -115,63 +106,52 @@ arm_closed line t b others code e c k f g h =
     ∙ append_assoc code (t ++ (first ∷ b)) (instr line (acts.Skip (short (length others))) ∷ others)
     ∙ ap (λ (is : List Instr). code ++ is) (append_assoc t (first ∷ b) (instr line (acts.Skip (short (length others))) ∷ others))
 
--- an arm with a condition has been emitted
-pub arm_ends : (p : Places) (r line : ℕ) (x : Term) (b : Block) (others : Arms) (ss : List Pending) (code e c target : List Instr) (r2 k : ℕ) → e ≡ code ++ term_code (record p { line = line }) x → c ≡ e ++ body_left_open line (serial_block p r b)
-    → r2 ≡ r + length (records_in_block p b) → k ≡ length c - 1 → Ends ss (code ++ serial_arms p r (then_arm line (Some x) b others)) target → Ends (ss ++ record { place = k; line = line } ∷ []) (c ++ serial_arms p r2 others) target
-arm_ends p r line x b others ss code e c target r2 k f g h i w =
-    let rest = serial_arms p r2 others in
+-- an arm has been emitted, whose skip is left open behind those of the arms before it
+arm_ends : (line : ℕ) (t b others all : List Instr) (ss : List Pending) (code e c target : List Instr) (k : ℕ) → all ≡ t ++ (instr line (acts.SkipUnless (short (length b + 1))) ∷ (b ++ instr line (acts.Skip (short (length others))) ∷ others)) → e ≡ code ++ t → c ≡ e ++ body_left_open line b
+    → k ≡ length c - 1 → Ends ss (code ++ all) target → Ends (ss ++ record { place = k; line = line } ∷ []) (c ++ others) target
+arm_ends line t b others all ss code e c target k a f g h w =
     let s : Pending = record { place = k; line = line } in
-    let all = code ++ serial_arms p r (then_arm line (Some x) b others) in
-    let one : closed (length (c ++ rest)) (s ∷ []) (c ++ rest) ≡ all =
-    arm_closed line (term_code (record p { line = line }) x) (serial_block p r b) rest code e c k f g i
-    ∙ ap (λ (is : List Instr). code ++ is) (ap (λ (n : ℕ). term_code (record p { line = line }) x ++ chosen_code (record p { line = line }) (serial_block p r b) (serial_arms p n others)) h ∙ sym (arms_go p r line x b others)) in
-    let same_length : length (c ++ rest) ≡ length all = sym (length-set (c ++ rest) k (instr line (acts.Skip (short (length (c ++ rest) - k - 1))))) ∙ ap length one in
-    closed_snoc (length (c ++ rest)) ss s (c ++ rest) ∙ ap (λ (is : List Instr). closed (length (c ++ rest)) ss is) one ∙ ap (λ (n : ℕ). closed n ss all) same_length ∙ w
+    let one : closed (length (c ++ others)) (s ∷ []) (c ++ others) ≡ code ++ all = arm_closed line t b others code e c k f g h ∙ ap (λ (is : List Instr). code ++ is) (sym a) in
+    let same_length : length (c ++ others) ≡ length (code ++ all) = sym (length-set (c ++ others) k (instr line (acts.Skip (short (length (c ++ others) - k - 1))))) ∙ ap length one in
+    closed_snoc (length (c ++ others)) ss s (c ++ others) ∙ ap (λ (is : List Instr). closed (length (c ++ others)) ss is) one ∙ ap (λ (n : ℕ). closed n ss (code ++ all)) same_length ∙ w
 
--- ---- one more of a list
+-- ---- statements and arms, one after another
 
-pub block_next : (p : Places) (n : Node) (b all : Block) (r r2 : ℕ) (code code2 target : List Instr) → all ≡ then_node n b → false ≡ is_last_stop_of all → code2 ≡ code ++ serial_node p r n → r2 ≡ r + length (records_in_node p n) → code ++ serial_block p r all ≡ target → code2 ++ serial_block p r2 b ≡ target
-block_next p n b all r r2 code code2 target a f g h w =
-    let goes : serial_block p r all ≡ serial_node p r n ++ serial_block p (r + length (records_in_node p n)) b =
-    ap (serial_block p r) a ∙ block_goes p r n b (f ∙ ap is_last_stop_of a) in
-    ap (λ (is : List Instr). is ++ serial_block p r2 b) g ∙ append_assoc code (serial_node p r n) (serial_block p r2 b)
-    ∙ ap (λ (m : ℕ). code ++ (serial_node p r n ++ serial_block p m b)) h ∙ ap (λ (is : List Instr). code ++ is) (sym goes) ∙ w
+module _ (p : Places) (opens : ℕ → Option ℕ) where
+  pub block_next : (n : PlanNode) (b all : PlanBlock) (r r2 w w2 : ℕ) (code code2 target : List Instr) → all ≡ then_node n b → false ≡ is_last_stop n b → code2 ≡ code ++ node_code p opens r w n → r2 ≡ r + length (node_records p opens n) → w2 ≡ w + length (node_awaits p opens n)
+      → code ++ block_code p opens r w all ≡ target → code2 ++ block_code p opens r2 w2 b ≡ target
+  block_next n b all r r2 w w2 code code2 target a f g h i k =
+      let first = node_code p opens r w n in
+      let w3 = w + length (node_awaits p opens n) in
+      next code code2 first (block_code p opens r2 w2 b) (block_code p opens r w all) target
+      (ap (block_code p opens r w) a ∙ unless (is_last_stop n b) (first ++ block_code p opens (r + length (node_records p opens n)) w3 b) f
+       ∙ ap (λ (m : ℕ). first ++ block_code p opens m w3 b) (sym h) ∙ ap (λ (m : ℕ). first ++ block_code p opens r2 m b) (sym i)) g k
 
-pub records_next : (p : Places) (n : Node) (b all : Block) (old new target : List (List Part)) → all ≡ then_node n b → false ≡ is_last_stop_of all → new ≡ old ++ records_in_node p n → old ++ records_in_block p all ≡ target → new ++ records_in_block p b ≡ target
-records_next p n b all old new target a f g w =
-    let goes : records_in_block p all ≡ records_in_node p n ++ records_in_block p b = ap (records_in_block p) a ∙ records_go p n b (f ∙ ap is_last_stop_of a) in
-    ap (λ (ps : List (List Part)). ps ++ records_in_block p b) g ∙ append_assoc old (records_in_node p n) (records_in_block p b) ∙ ap (λ (ps : List (List Part)). old ++ ps) (sym goes) ∙ w
+  pub records_next : (n : PlanNode) (b all : PlanBlock) (old new target : List (List Part)) → all ≡ then_node n b → false ≡ is_last_stop n b → new ≡ old ++ node_records p opens n → old ++ block_records p opens all ≡ target → new ++ block_records p opens b ≡ target
+  records_next n b all old new target a f g k =
+      let first = node_records p opens n in
+      let rest = block_records p opens b in
+      next old new first rest (block_records p opens all) target (ap (block_records p opens) a ∙ unless (is_last_stop n b) (first ++ rest) f) g k
 
-pub arm_next : (p : Places) (r line : ℕ) (x : Term) (b : Block) (others all : Arms) (ss : List Pending) (code e c target : List Instr) (r2 k : ℕ) → all ≡ then_arm line (Some x) b others → e ≡ code ++ term_code (record p { line = line }) x → c ≡ e ++ body_left_open line (serial_block p r b)
-    → r2 ≡ r + length (records_in_block p b) → k ≡ length c - 1 → Ends ss (code ++ serial_arms p r all) target → Ends (ss ++ record { place = k; line = line } ∷ []) (c ++ serial_arms p r2 others) target
-arm_next p r line x b others all ss code e c target r2 k a f g h i w =
-    arm_ends p r line x b others ss code e c target r2 k f g h i (subst (λ (z : Arms). Ends ss (code ++ serial_arms p r z) target) a w)
+  pub awaits_next : (n : PlanNode) (b all : PlanBlock) (old new target : List Await) → all ≡ then_node n b → false ≡ is_last_stop n b → new ≡ old ++ node_awaits p opens n → old ++ block_awaits p opens all ≡ target → new ++ block_awaits p opens b ≡ target
+  awaits_next n b all old new target a f g k =
+      let first = node_awaits p opens n in
+      let rest = block_awaits p opens b in
+      next old new first rest (block_awaits p opens all) target (ap (block_awaits p opens) a ∙ unless (is_last_stop n b) (first ++ rest) f) g k
 
-pub arm_records_next : (p : Places) (line : ℕ) (x : Term) (b : Block) (others all : Arms) (old new target : List (List Part)) → all ≡ then_arm line (Some x) b others → new ≡ old ++ records_in_block p b → old ++ records_in_arms p all ≡ target → new ++ records_in_arms p others ≡ target
-arm_records_next p line x b others all old new target a g w =
-    ap (λ (ps : List (List Part)). ps ++ records_in_arms p others) g ∙ append_assoc old (records_in_block p b) (records_in_arms p others) ∙ ap (λ (z : Arms). old ++ records_in_arms p z) (sym a) ∙ w
+  pub arm_next : (line : ℕ) (x : Term) (b : PlanBlock) (others all : PlanArms) (r r2 w w2 : ℕ) (ss : List Pending) (code e c target : List Instr) (k : ℕ) → all ≡ then_arm line (Some x) b others → e ≡ code ++ term_code (record p { line = line }) x
+      → c ≡ e ++ body_left_open line (block_code p opens r w b) → r2 ≡ r + length (block_records p opens b) → w2 ≡ w + length (block_awaits p opens b) → k ≡ length c - 1
+      → Ends ss (code ++ arms_code p opens r w all) target → Ends (ss ++ record { place = k; line = line } ∷ []) (c ++ arms_code p opens r2 w2 others) target
+  arm_next line x b others all r r2 w w2 ss code e c target k a f g h i j m =
+      let q = record p { line = line } in
+      let body = block_code p opens r w b in
+      let w3 = w + length (block_awaits p opens b) in
+      arm_ends line (term_code q x) body (arms_code p opens r2 w2 others) (arms_code p opens r w all) ss code e c target k
+      (ap (arms_code p opens r w) a ∙ ap (λ (n : ℕ). term_code q x ++ chosen_code q body (arms_code p opens n w3 others)) (sym h) ∙ ap (λ (n : ℕ). term_code q x ++ chosen_code q body (arms_code p opens r2 n others)) (sym i)) f g j m
 
-pub item_here : {X : Type 0} (xs : List X) (i : ℕ) (x : X) → i < length xs → x ≡ get_or xs i x → drop i xs ≡ x ∷ drop (i + 1) xs
-item_here xs i x l e = drop_more xs i x l ∙ ap (λ y. y ∷ drop (i + 1) xs) (sym e)
+  pub arm_records_next : (line : ℕ) (x : Term) (b : PlanBlock) (others all : PlanArms) (old new target : List (List Part)) → all ≡ then_arm line (Some x) b others → new ≡ old ++ block_records p opens b → old ++ arms_records p opens all ≡ target → new ++ arms_records p opens others ≡ target
+  arm_records_next line x b others all old new target a g k =
+      next old new (block_records p opens b) (arms_records p opens others) (arms_records p opens all) target (ap (arms_records p opens) a) g k
 
--- a slice from an index on
-pub rest_of : {X : Type 0} (xs : List X) (i : ℕ) → take (length xs - i) (drop i xs) ≡ drop i xs
-rest_of xs i = take_all (length xs - i) (drop i xs) (let k = length-drop i xs in omega (arith, k))
-
--- an arm's parts
-pub line_of : (a : Arm) → (arm_of a).line ≡ a.line
-line_of a = ap (λ (b : tree.Arm). b.line) (fold_out-Arm tree.Node tree.Arm node_step arm_step a) ∙ search rules
-
-pub condition_of : (a : Arm) → (arm_of a).condition ≡ optional_term a.condition
-condition_of a = ap (λ (b : tree.Arm). b.condition) (fold_out-Arm tree.Node tree.Arm node_step arm_step a) ∙ search rules
-
-pub body_of : (a : Arm) → (arm_of a).body ≡ block_view a.body.items
-body_of a = ap (λ (b : tree.Arm). b.body) (fold_out-Arm tree.Node tree.Arm node_step arm_step a) ∙ search rules
-
-pub arm_here : (xs : List Arm) (i : ℕ) (a : Arm) (c : Option Expr) → i < length xs → a ≡ get_or xs i a → a.condition ≡ c → arms_tree (map arm_of (drop i xs)) ≡ then_arm a.line (optional_term c) (block_view a.body.items) (arms_tree (map arm_of (drop (i + 1) xs)))
-arm_here xs i a c l e f =
-    let others = arms_tree (map arm_of (drop (i + 1) xs)) in
-    ap (λ (as_list : List Arm). arms_tree (map arm_of as_list)) (item_here xs i a l e)
-    ∙ ap (λ (n : ℕ). then_arm n (arm_of a).condition (arm_of a).body others) (line_of a)
-    ∙ ap (λ (o : Option Term). then_arm a.line o (arm_of a).body others) (condition_of a ∙ ap optional_term f)
-    ∙ ap (λ (b : Block). then_arm a.line (optional_term c) b others) (body_of a)
+  pub arm_awaits_next : (line : ℕ) (x : Term) (b : PlanBlock) (others all : PlanArms) (old new target : List Await) → all ≡ then_arm line (Some x) b others → new ≡ old ++ block_awaits p opens b → old ++ arms_awaits p opens all ≡ target → new ++ arms_awaits p opens others ≡ target
+  arm_awaits_next line x b others all old new target a g k = next old new (block_awaits p opens b) (arms_awaits p opens others) (arms_awaits p opens all) target (ap (arms_awaits p opens) a) g k

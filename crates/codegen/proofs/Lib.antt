@@ -24,6 +24,8 @@ pub mod MainSteps
 pub mod Meaning
 pub mod Nested
 pub mod Nesting
+pub mod NodeParts
+pub mod Numbering
 pub mod Outcomes
 pub mod PlanPaths
 pub mod ProgramBound
