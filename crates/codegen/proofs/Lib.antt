@@ -1,3 +1,5 @@
+pub mod AcceptedLoops
+pub mod AssignedOnce
 pub mod AssignedScalars
 pub mod BlockWalking
 pub mod Blocks

@@ -49,7 +49,7 @@ mutual
       ⊎_elim (λ j. block_shape b around k m l j) (λ j. arms_shape more around (k + length us) (m + length (block_lines b)) l j) (in_which l us (arms_loops around (k + length us) (m + length (block_lines b)) more) i)
 
 -- what holds of all of a list holds of each
-all_at : {X : Type 0} (p : X → Bool) (xs : List X) (y : X) → list_all p xs ≡ true → In y xs → p y ≡ true
+pub all_at : {X : Type 0} (p : X → Bool) (xs : List X) (y : X) → list_all p xs ≡ true → In y xs → p y ≡ true
 all_at p [] y h i = absurd i
 all_at p (x ∷ xs) y h (inl e) = subst (λ z. p z ≡ true) (sym e) (and_parts (p x) (list_all p xs) h).0
 all_at p (x ∷ xs) y h (inr i) = all_at p xs y (and_parts (p x) (list_all p xs) h).1 i
@@ -121,19 +121,23 @@ numbered_range b l i h =
         ((q.0 + size (optional c), j.1), (q.0 + size (optional c ++ block_expressions x), k.1)))
     b None 0 0 l i h
 
+-- what a loop shows of a block whose references are placed is placed
+pub shown_placed : (symbols : List Symbol) (b : Block) (l : Loop) → are_placed symbols b ≡ true → In l (loops_of b) → list_all (λ r. is_placed symbols r) (known l) ≡ true
+shown_placed symbols b l placed i = all_at (λ (m : Loop). list_all (λ r. is_placed symbols r) (known m)) (loops_of b) l (block_shows (λ r. is_placed symbols r) None 0 0 b placed) i
+
 module _ (t : ProgramTree) (distinct : IsDistinct same_name (names_of t.symbols)) (placed : are_placed t.symbols t.block ≡ true) (numbered : are_numbered 0 (block_references t.block) ≡ true) (l : Loop) (among : In l (loops_of t.block)) where
-  shape : Shape l
+  pub shape : Shape l
   shape = block_shape t.block None 0 0 l among
 
   known_placed : list_all (λ r. is_placed t.symbols r) (known l) ≡ true
-  known_placed = all_at (λ (m : Loop). list_all (λ r. is_placed t.symbols r) (known m)) (loops_of t.block) l (block_shows (λ r. is_placed t.symbols r) None 0 0 t.block placed) among
+  known_placed = shown_placed t.symbols t.block l placed among
 
-  parts_placed : (is_placed t.symbols l.head.variable ≡ true) × (list_all (λ r. is_placed t.symbols r) l.assigned ≡ true) × (list_all (λ r. is_placed t.symbols r) (references l.references) ≡ true)
+  pub parts_placed : (is_placed t.symbols l.head.variable ≡ true) × (list_all (λ r. is_placed t.symbols r) l.assigned ≡ true) × (list_all (λ r. is_placed t.symbols r) (references l.references) ≡ true)
   parts_placed =
       let k = and_parts (is_placed t.symbols l.head.variable) (list_all (λ r. is_placed t.symbols r) (l.assigned ++ references l.references)) known_placed in
       (k.0, all_left (λ r. is_placed t.symbols r) l.assigned (references l.references) k.1, all_right (λ r. is_placed t.symbols r) l.assigned (references l.references) k.1)
 
-  reference_placed : (o : Occurrence) → In o l.references → is_placed t.symbols o.ref ≡ true
+  pub reference_placed : (o : Occurrence) → In o l.references → is_placed t.symbols o.ref ≡ true
   reference_placed o i = all_at (λ r. is_placed t.symbols r) (references l.references) o.ref parts_placed.2 (ref_in l.references o i)
 
   -- each reference stands once

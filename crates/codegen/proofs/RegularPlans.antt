@@ -6,6 +6,7 @@ use Rattle.std.specs.Ordering.{int_eq}
 use Rattle.std.proofs.lemmas.Bool.{and_parts, le-leb, lt-ltb}
 use Rattle.ast.specs.Meaning as meaning
 use Rattle.ast.specs.Program.{is_placed}
+use Rattle.ast.specs.Stops.{is_end_kind}
 use Rattle.ast.specs.Store.{same_name}
 use Rattle.ast.specs.Symbols.{Extent, Symbol, dimensions_in, names_of}
 use Rattle.ast.specs.Tree as tree
@@ -46,14 +47,10 @@ pub record Regular (symbols : List Symbol) (l : Loop) : Type 0 where
   pub unassigned : (o : Occurrence) → In o l.references → o.defines ≡ true → o.ref.name ≡ l.head.variable.name → ⊥
 
 -- END stands nowhere in a range
-abbrev pub is_end : Kind → Bool
-is_end end = true
-is_end _ = false
-
 abbrev mutual
   pub NoEnd : PlanBlock → Type 0
   NoEnd no_nodes = Unit {0}
-  NoEnd (then_node (plain s) b) = (is_end s.kind ≡ false) × NoEnd b
+  NoEnd (then_node (plain s) b) = (is_end_kind s.kind ≡ false) × NoEnd b
   NoEnd (then_node (loop l h c) b) = NoEnd c × NoEnd b
   NoEnd (then_node (choose a) b) = ArmsNoEnd a × NoEnd b
   NoEnd (then_node n b) = NoEnd b
@@ -63,7 +60,7 @@ abbrev mutual
   ArmsNoEnd (made_else b) = NoEnd b
   ArmsNoEnd (then_arm l c b more) = NoEnd b × ArmsNoEnd more
 
-not_last_kind : (k m : Kind) → is_end m ≡ false → meaning.are_stop_and_end k m ≡ false
+not_last_kind : (k m : Kind) → is_end_kind m ≡ false → meaning.are_stop_and_end k m ≡ false
 not_last_kind stop end e = cc
 not_last_kind stop (assign x y) e = refl
 not_last_kind stop (print x) e = refl
