@@ -4,6 +4,7 @@ pub mod Headline
 pub mod Noted
 pub mod OpenedView
 pub mod Plain
+pub mod PlanParts
 pub mod Process
 pub mod Program
 pub mod Records

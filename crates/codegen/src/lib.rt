@@ -1,10 +1,14 @@
 //! Code of programs.
 #![tactic(auto)]
 
+mod loops;
 mod nodes;
+mod opened;
+mod plans;
 mod programs;
 mod reports;
 mod rooms;
+mod skips;
 mod statements;
 
 pub use ast::Refusal as CompileRefusal;

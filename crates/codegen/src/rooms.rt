@@ -4,9 +4,9 @@
 ghost use Rattle.std.specs.Prelude.{◌≡◌, map, ℕ};
 ghost use Rattle.ast.specs.Tree.{arms as arms_tree, assign};
 ghost use Rattle.ast.specs.View.{access as access_of, arm as arm_of, block_view, head as head_of, item as item_of, kind as kind_of, node as node_of, optional_term, term};
+ghost use Rattle.codegen.specs.Blocks.{arm_loops, arm_room, item_room};
 ghost use Rattle.codegen.specs.Plain.{plain_arms, plain_block, plain_node};
 ghost use Rattle.codegen.specs.Room.{arms_loops, arms_room, block_loops, block_room, elements_room, head_room, items_room, kind_room, node_loops, node_room, step_room};
-ghost use Rattle.codegen.specs.Serial.{arm_loops, arm_room, item_room};
 ghost use Rattle.expr_code.specs.Emitted.{short};
 
 use ast::{Access, Arm, DoHead, Expr, Item, Kind, Node};
@@ -123,10 +123,10 @@ fn of_node(node: &Node) -> u32
 fn of_arm(arm: &Arm, others: u32) -> u32
     ensures { (n : ℕ) → others ≡ short n → result ≡ short (arm_room (arm_of arm.now) n) }
 {
-    let body = of_block(&arm.body);
+    let bodies = greater(of_block(&arm.body), others);
     match &arm.condition {
-        Some(condition) => greater(operands(condition), greater(body, others)),
-        None => body,
+        Some(condition) => greater(operands(condition), bodies),
+        None => bodies,
     }
 }
 
@@ -176,11 +176,7 @@ fn loops_of_node(node: &Node) -> u32
 fn loops_of_arm(arm: &Arm, others: u32) -> u32
     ensures { (n : ℕ) → others ≡ short n → result ≡ short (arm_loops (arm_of arm.now) n) }
 {
-    let body = loops_of_block(&arm.body);
-    match &arm.condition {
-        Some(_) => greater(body, others),
-        None => body,
-    }
+    greater(loops_of_block(&arm.body), others)
 }
 
 /// How many serial loops are under way in an IF at most.

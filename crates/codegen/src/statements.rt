@@ -22,6 +22,18 @@ pub fn put(code: &mut Vec<Instr>, line: Line, act: Act) -> Result<(), AllocError
     Ok(())
 }
 
+/// The places of a statement of a line.
+pub fn on<'p>(places: &Places<'p>, line: Line) -> Places<'p>
+    ensures { places_of result ≡ record (places_of places.now) { line = line } }
+{
+    Places {
+        program: places.program,
+        privates: places.privates,
+        loop_name: places.loop_name,
+        line,
+    }
+}
+
 /// A variable is given the operand.
 fn store(access: &Access, places: &Places<'_>, code: &mut Vec<Instr>) -> Result<(), AllocError>
     ensures { OnOk result (code.new.items ≡ code.old.items ++ stored_code (places_of places.now) (access_of access.now)) }
