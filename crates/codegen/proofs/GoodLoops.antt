@@ -83,25 +83,30 @@ module _ (symbols : List Symbol) (code : Code) (n : ℕ) (x : Planned) (g : Good
   pl = range_places symbols x
 
   -- the cell of a scalar
+  short_cell : (r : Ref) → is_placed symbols r ≡ true → dimensions_at symbols r.cell ≡ [] → cell_at (slice_get code.variables (short r.cell)) 0 ≡ Some (record { name = r.name; place = 0 })
+  short_cell r p d =
+      let w : Reach code.variables r (dimensions_at symbols r.cell) = reach code.variables symbols r variables sized few_symbols p in
+      let one : 0 < elements (dimensions_at symbols r.cell) = subst (λ (ds : List Extent). 0 < elements ds) (sym d) (omega arith) in
+      cell_law code.variables r (dimensions_at symbols r.cell) 0 w one
+
   scalar_cell : (r : Ref) → is_placed symbols r ≡ true → dimensions_at symbols r.cell ≡ [] → cell_at (slice_get code.variables r.cell) 0 ≡ Some (record { name = r.name; place = 0 })
   scalar_cell r p d =
       let w : Reach code.variables r (dimensions_at symbols r.cell) = reach code.variables symbols r variables sized few_symbols p in
-      let one : 0 < elements (dimensions_at symbols r.cell) = subst (λ (ds : List Extent). 0 < elements ds) (sym d) (omega arith) in
-      ap (λ (c : ℕ). cell_at (slice_get code.variables c) 0) (sym (short_is r.cell w.small)) ∙ cell_law code.variables r (dimensions_at symbols r.cell) 0 w one
+      ap (λ (c : ℕ). cell_at (slice_get code.variables c) 0) (sym (short_is r.cell w.small)) ∙ short_cell r p d
 
-  private_cell : (i : ℕ) → i < length x.plan.privates → cell_at (slice_get code.variables (place_of_name 0 symbols (get_or x.plan.privates i []))) 0 ≡ Some (record { name = get_or x.plan.privates i []; place = 0 })
+  private_cell : (i : ℕ) → i < length x.plan.privates → cell_at (slice_get code.variables (short (place_of_name 0 symbols (get_or x.plan.privates i [])))) 0 ≡ Some (record { name = get_or x.plan.privates i []; place = 0 })
   private_cell i h =
       let s = (g.place).scalars i h in
       let p = (g.place).assigned s.0 s.1 in
       let a = symbol_at symbols s.0 p in
       let is : place_of_name 0 symbols (get_or x.plan.privates i []) ≡ (s.0).cell = place_is symbols 0 (s.0).cell a.0 (get_or x.plan.privates i []) (g.place).distinct a.1 (a.2 ∙ s.2) ∙ omega arith in
-      ap (λ (c : ℕ). cell_at (slice_get code.variables c) 0) is ∙ scalar_cell s.0 p ((g.place).assigned_scalar s.0 s.1) ∙ ap (λ (m : List ℕ). Some (record { name = m; place = 0 })) s.2
+      ap (λ (c : ℕ). cell_at (slice_get code.variables (short c)) 0) is ∙ short_cell s.0 p ((g.place).assigned_scalar s.0 s.1) ∙ ap (λ (m : List ℕ). Some (record { name = m; place = 0 })) s.2
 
-  aligned_from : (names : List (List ℕ)) → ((i : ℕ) → i < length names → cell_at (slice_get code.variables (place_of_name 0 symbols (get_or names i []))) 0 ≡ Some (record { name = get_or names i []; place = 0 })) → Aligned code names (map (λ name. place_of_name 0 symbols name) names)
+  aligned_from : (names : List (List ℕ)) → ((i : ℕ) → i < length names → cell_at (slice_get code.variables (short (place_of_name 0 symbols (get_or names i [])))) 0 ≡ Some (record { name = get_or names i []; place = 0 })) → Aligned code names (map (λ name. short (place_of_name 0 symbols name)) names)
   aligned_from [] h = tt
   aligned_from (m ∷ names) h = (h 0 (omega arith), aligned_from names (λ i k. h (suc i) (omega (arith, k))))
 
-  privates_are : (loop_at code n).privates ≡ map (λ name. place_of_name 0 symbols name) x.plan.privates
+  privates_are : (loop_at code n).privates ≡ map (λ name. short (place_of_name 0 symbols name)) x.plan.privates
   privates_are = ap (λ (y : machine.Loop). y.privates) entry
 
   aligned : Aligned code x.plan.privates (loop_at code n).privates
@@ -137,7 +142,7 @@ module _ (symbols : List Symbol) (code : Code) (n : ℕ) (x : Planned) (g : Good
   pub is_loop : IsLoop code n (range_places symbols x) x.plan.body (fixed_in symbols x.loop) x.loop.head.variable.name
   is_loop = record {
     aligned = aligned;
-    count = ap (λ (ys : List ℕ). length ys) privates_are ∙ mapped (λ name. place_of_name 0 symbols name) x.plan.privates;
+    count = ap (λ (ys : List ℕ). length ys) privates_are ∙ mapped (λ name. short (place_of_name 0 symbols name)) x.plan.privates;
     homes = g.homes;
     own = g.own;
     only = g.only;

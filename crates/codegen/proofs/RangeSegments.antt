@@ -215,7 +215,7 @@ module _ (symbols : List Symbol) (code : Code) (n : ℕ) (x : Planned) (s : Segm
   pub range : IsRange code n (range_places symbols x) x.plan.body
   range = record {
     loop = entry ∙ sym (ap (λ (l : machine.Loop). Some l) loop_is);
-    privates = sym (ap (λ (l : machine.Loop). length l.privates) loop_is ∙ mapped (λ name. place_of_name 0 symbols name) x.plan.privates);
+    privates = sym (ap (λ (l : machine.Loop). length l.privates) loop_is ∙ mapped (λ name. short (place_of_name 0 symbols name)) x.plan.privates);
     few_privates = few_privates;
     reaches = plan_reaches (range_places symbols x) sized code variables few_symbols x.plan.body (length s.rb) (length s.wb) bare placed (let k = fits in omega (arith, k));
     limit = length s.cb + length (block_code (range_places symbols x) none_open (length s.rb) (length s.wb) x.plan.body);
