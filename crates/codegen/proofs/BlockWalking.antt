@@ -127,10 +127,10 @@ module _ (symbols : List Symbol) (homes : Ref → Home) (Stands : Ref → Terms 
     AreBodies (then_arm line None b more) = IsBody b
     AreBodies (then_arm line (Some c) b more) = Known Stands c × IsBody b × AreBodies more
 
-in-left : (x : Token) (xs ys : List Token) → In x xs → In x (xs ++ ys)
-in-left x [] ys h = absurd h
-in-left x (y ∷ xs) ys (inl e) = inl e
-in-left x (y ∷ xs) ys (inr h) = inr (in-left x xs ys h)
+in_left : (x : Token) (xs ys : List Token) → In x xs → In x (xs ++ ys)
+in_left x [] ys h = absurd h
+in_left x (y ∷ xs) ys (inl e) = inl e
+in_left x (y ∷ xs) ys (inr h) = inr (in_left x xs ys h)
 
 in-end : (x : Token) (xs : List Token) → In x (xs ++ x ∷ [])
 in-end x [] = inl refl
@@ -302,7 +302,7 @@ module _ (l : Loop) (held : ℕ → ℤ) (i : ℤ) (Stands : Ref → Terms → T
           (λ b k more e on goes.
           one (grown_into A D p line d.variable m3 b) k on
           (λ t r. W.grows line d.variable (w.1).0 m3 b (k ++ t) (w.1).1 (sym (ap (λ (ds : List Extent). home p ds d.variable.name) w.0) ∙ (w.1).1) (on at_end t r)
-          (in-left (defines d.variable) k t (subst (λ (u : List Token). In (defines d.variable) u) (sym e) (in-left (defines d.variable) (h3 ++ defines d.variable ∷ []) more (in-end (defines d.variable) h3)))) (goes t r)))
+          (in_left (defines d.variable) k t (subst (λ (u : List Token). In (defines d.variable) u) (sym e) (in_left (defines d.variable) (h3 ++ defines d.variable ∷ []) more (in-end (defines d.variable) h3)))) (goes t r)))
           (h3 ++ defines d.variable ∷ []) [] (sym (append-nil (h3 ++ defines d.variable ∷ []))) (times_ahead (trips m1 m2 m3))
           (λ t r. placed a t (next (head_tokens d ++ t) (head_tokens d, t, refl, refl, (trips m1 m2 m3, r))))
 

@@ -204,7 +204,7 @@ module _ (A : Type 0) (D : Doing A) (code : Code) (limit : ℕ) (index : ℤ) (S
     arms_run no_arms r w a f pc st reach records waits fits has room next = nothing a f pc st next
     arms_run (made_else b) r w a f pc st reach records waits fits has room next = block_runs b r w a f pc st reach records waits fits has room next
     arms_run (then_arm line None b more) r w a f pc st reach records waits fits has room next =
-        block_runs b r w a f pc st reach records waits fits has room next
+        block_runs b r w a f pc st reach records waits fits has (roomy_left f st (block_room b) (arms_room more) (block_loops b) (arms_loops more) room) next
     arms_run (then_arm line (Some c) b more) r w a f pc st reach records waits fits has room next =
         let q = on A D p line in
         let cc1 = term_code q c in

@@ -16,15 +16,19 @@ use Rattle.codegen.proofs.PlanPaths.{AllShow, Comes, advances_told, awaits_done,
 -- index: the value of the loop's variable in each iteration; total: its trips; Named: the events that its
 -- range names
 module _ (l : Loop) (held : ℕ → ℤ) (index : ℕ → ℤ) (Stands : Ref → Terms → Type 0) (p : Places) (fixed : Cell → Bool) (opened : StoreOf) (S : PathSet) (total : ℕ) (Named : ℕ → Type 0) where
-  abbrev Begins : List Token → Type 0
+  abbrev pub Begins : List Token → Type 0
   Begins h = Begun l held (index 0) Stands p fixed opened S h
 
-  abbrev AtIn : ℕ → Ref → Cell → Type 0
+  abbrev pub AtIn : ℕ → Ref → Cell → Type 0
   AtIn k r c = At l held (index k) Stands p fixed opened S r c
 
   -- a token that reads, or gives a value to, what may be at this cell in this iteration
   abbrev pub Meets : ℕ → Token → Cell → Type 0
   Meets k a c = (r : Ref) × AtIn k r c × ((a ≡ uses r) ⊎ (a ≡ defines r))
+
+  -- a token stands on some path
+  abbrev pub Occurs : Token → Type 0
+  Occurs a = (u : List Token) × Begins (u ++ a ∷ [])
 
   abbrev pub Defines : Token → Type 0
   Defines a = (r : Ref) × (a ≡ defines r)
@@ -37,7 +41,7 @@ module _ (l : Loop) (held : ℕ → ℤ) (index : ℕ → ℤ) (Stands : Ref →
     pub before : (u : List Token) (e : ℕ) → Begins (u ++ advanced_at e ∷ []) → In (awaited_at e 1) u
     pub each : (t : List Token) (e : ℕ) → Named e → S at_end t → In (advanced_at e) t
     pub far : (u : List Token) (e d : ℕ) → Begins (u ++ awaited_at e d ∷ []) → (1 ≤ d) × Named e
-    pub kept : (k j : ℕ) (a b : Token) (c : Cell) → k < j → j < total → Meets k a c → Meets j b c → Defines a ⊎ Defines b
+    pub kept : (k j : ℕ) (a b : Token) (c : Cell) → k < j → j < total → Meets k a c → Meets j b c → Occurs a → Occurs b → Defines a ⊎ Defines b
         → (e : ℕ) × ((u : List Token) → Begins (u ++ a ∷ []) → In (advanced_at e) u → ⊥) × ((u : List Token) → Begins (u ++ b ∷ []) → (d : ℕ) × (k + d ≤ j) × In (awaited_at e d) u)
     -- cells of private scalars aren't met
     pub apart : (k : ℕ) (r : Ref) (c : Cell) → AtIn k r c → Hidden p.privates (index k) fixed opened c → ⊥
@@ -109,7 +113,7 @@ module _ (l : Loop) (held : ℕ → ℤ) (index : ℕ → ℤ) (Stands : Ref →
 
     ordered : (k j : ℕ) (vs ws : List ℤ) (a b : Token) (c : Cell) → k < j → j < total → Meets k a c → Begins ((came k vs).0 ++ a ∷ []) → Meets j b c → Begins ((came j ws).0 ++ b ∷ []) → Defines a ⊎ Defines b → Ordered start k vs j ws
     ordered k j vs ws a b c lt below ma ba mb bb d =
-        let o = good.kept k j a b c lt below ma mb d in
+        let o = good.kept k j a b c lt below ma mb ((came k vs).0, ba) ((came j ws).0, bb) d in
         let w = o.2 (came j ws).0 bb in (
           o.0,
           w.0,

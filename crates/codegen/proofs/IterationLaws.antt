@@ -6,6 +6,7 @@ use Rattle.ast.specs.Store.{StoreOf, put, same_name}
 use Rattle.machine.specs.Code.{Cell}
 use Rattle.machine.specs.State.{put_at, put_cell, put_cells}
 use Rattle.machine.proofs.Naming.{same, same_itself}
+pub use Rattle.plan_check.proofs.Members.{in_left, in_right, in_which}
 use Rattle.codegen.proofs.IterationSteps.{Process, load, store, print, await, advance, tick, fault, leave, gone, IsKey, In, Ran, act, acts, after, cell_value, first, follow, run}
 
 -- ---- maps
@@ -97,20 +98,6 @@ acts-snoc P (w ∷ vs) v = ap (λ (ds : List _). act P w ∷ ds) (acts-snoc (fol
 pub acts-append : (P : Process) (vs ws : List ℤ) → acts P (vs ++ ws) ≡ acts P vs ++ acts (after P vs) ws
 acts-append P [] ws = refl
 acts-append P (w ∷ vs) ws = ap (λ (ds : List _). act P w ∷ ds) (acts-append (follow P w) vs ws)
-
-pub in-left : {A : Type 0} (a : A) (xs ys : List A) → In a xs → In a (xs ++ ys)
-in-left a [] ys h = absurd h
-in-left a (x ∷ xs) ys (inl e) = inl e
-in-left a (x ∷ xs) ys (inr h) = inr (in-left a xs ys h)
-
-pub in-right : {A : Type 0} (a : A) (xs ys : List A) → In a ys → In a (xs ++ ys)
-in-right a [] ys h = h
-in-right a (x ∷ xs) ys h = inr (in-right a xs ys h)
-
-pub in-cases : {A : Type 0} (a : A) (xs ys : List A) → In a (xs ++ ys) → In a xs ⊎ In a ys
-in-cases a [] ys h = inr h
-in-cases a (x ∷ xs) ys (inl e) = inl (inl e)
-in-cases a (x ∷ xs) ys (inr h) = ⊎_elim (λ l. inl (inr l)) (λ r. inr r) (in-cases a xs ys h)
 
 -- what may be done next at a cell
 abbrev pub Touches : Process → Cell → Type 0

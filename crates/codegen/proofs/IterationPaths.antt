@@ -17,7 +17,7 @@ use Rattle.expr_code.specs.Places.{Places, Home, loop_index, private_scalar, in_
 use Rattle.expr_code.specs.Process.{answered_into, scalar_into}
 use Rattle.codegen.specs.Process.{given_into}
 use Rattle.codegen.proofs.BlockWalking.{Walks}
-use Rattle.codegen.proofs.IterationLaws.{in-cases}
+use Rattle.codegen.proofs.IterationLaws.{in_which}
 use Rattle.codegen.proofs.IterationStanding.{Hidden, Work, iteration_doing, own_value}
 use Rattle.codegen.proofs.IterationSteps.{Process, load, store, print, await, advance, tick, fault, leave, gone, In, IsKey, cell_value}
 use Rattle.codegen.proofs.Walking.{Located, home_at}
@@ -100,21 +100,21 @@ module _ (l : Loop) (held : ℕ → ℤ) (index : ℤ) (Stands : Ref → Terms �
   Goes a h = (ps : List (Option ℤ)) → length ps ≡ length p.privates → Knows ps h → Along (a ps) h
 
   knows_used : (ps : List (Option ℤ)) (h : List Token) (q : Ref) → Knows ps h → Knows ps (h ++ uses q ∷ [])
-  knows_used ps h q k x e r s i = ⊎_elim (λ old. k x e r s old) (λ new. one new) (in-cases (defines r) h (uses q ∷ []) i)
+  knows_used ps h q k x e r s i = ⊎_elim (λ old. k x e r s old) (λ new. one new) (in_which (defines r) h (uses q ∷ []) i)
     where
       one : In (defines r) (uses q ∷ []) → ⊥
       one (inl e) = cc
       one (inr z) = z
 
   knows_kept : (ps : List (Option ℤ)) (h : List Token) (q : Ref) → home_at p q ≡ in_store → Knows ps h → Knows ps (h ++ defines q ∷ [])
-  knows_kept ps h q kept k x e r s i = ⊎_elim (λ old. k x e r s old) (λ new. one new) (in-cases (defines r) h (defines q ∷ []) i)
+  knows_kept ps h q kept k x e r s i = ⊎_elim (λ old. k x e r s old) (λ new. one new) (in_which (defines r) h (defines q ∷ []) i)
     where
       one : In (defines r) (defines q ∷ []) → ⊥
       one (inl d) = let z : r ≡ q = cc in let y : private_scalar x ≡ in_store = sym s ∙ ap (home_at p) z ∙ kept in cc
       one (inr z) = z
 
   knows_event : (ps : List (Option ℤ)) (h : List Token) (t : Token) → ((r : Ref) → defines r ≡ t → ⊥) → Knows ps h → Knows ps (h ++ t ∷ [])
-  knows_event ps h t other k x e r s i = ⊎_elim (λ old. k x e r s old) (λ new. one new) (in-cases (defines r) h (t ∷ []) i)
+  knows_event ps h t other k x e r s i = ⊎_elim (λ old. k x e r s old) (λ new. one new) (in_which (defines r) h (t ∷ []) i)
     where
       one : In (defines r) (t ∷ []) → ⊥
       one (inl d) = other r d
@@ -129,7 +129,7 @@ module _ (l : Loop) (held : ℕ → ℤ) (index : ℤ) (Stands : Ref → Terms �
   knows_set : (ps : List (Option ℤ)) (h : List Token) (x : ℕ) (v : ℤ) (q : Ref) → home_at p q ≡ private_scalar x → Knows ps h → Knows (slice_set ps x (Some v)) (h ++ defines q ∷ [])
   knows_set ps h x v q own k y e r s i = ⊎_elim
       (λ same. set_same ps x v (subst (λ (z : ℕ). slice_get (slice_set ps x (Some v)) z ≡ Some None) same e))
-      (λ ne. ⊎_elim (λ old. k y (sym (set_other ps x y (Some v) ne) ∙ e) r s old) (λ new. one ne new) (in-cases (defines r) h (defines q ∷ []) i))
+      (λ ne. ⊎_elim (λ old. k y (sym (set_other ps x y (Some v) ne) ∙ e) r s old) (λ new. one ne new) (in_which (defines r) h (defines q ∷ []) i))
       (cases_eq y x)
     where
       one : (y ≡ x → ⊥) → In (defines r) (defines q ∷ []) → ⊥
@@ -141,8 +141,8 @@ module _ (l : Loop) (held : ℕ → ℤ) (index : ℤ) (Stands : Ref → Terms �
   pub record Sound : Type 0 where
     pub steady : (r : Ref) (es : Terms) (n : ℕ) → home_at p r ≡ in_store → Located l held index Stands p.symbols r es n → fixed (record { name = r.name; place = n }) ≡ true → MayBe l held index (element r es) (cell_value opened (record { name = r.name; place = n }))
     pub any : (r : Ref) (es : Terms) (n : ℕ) (v : ℤ) → home_at p r ≡ in_store → Located l held index Stands p.symbols r es n → fixed (record { name = r.name; place = n }) ≡ false → MayBe l held index (element r es) v
-    pub any_own : (r : Ref) (x : ℕ) (v : ℤ) → home_at p r ≡ private_scalar x → MayBe l held index (element r no_terms) v
-    pub variable : (r : Ref) → home_at p r ≡ loop_index → MayBe l held index (element r no_terms) index
+    pub any_own : (r : Ref) (es : Terms) (x : ℕ) (v : ℤ) → home_at p r ≡ private_scalar x → Located l held index Stands p.symbols r es 0 → MayBe l held index (element r no_terms) v
+    pub variable : (r : Ref) (es : Terms) → home_at p r ≡ loop_index → Located l held index Stands p.symbols r es 0 → MayBe l held index (element r no_terms) index
     pub below : (r : Ref) (x : ℕ) → home_at p r ≡ private_scalar x → x < length p.privates
     pub defined : (r : Ref) (x : ℕ) (h : List Token) → home_at p r ≡ private_scalar x → Begun (h ++ uses r ∷ []) → (q : Ref) × (home_at p q ≡ private_scalar x) × In (defines q) h
     pub awaits : (e d : ℕ) (h : List Token) → Begun (h ++ awaited_at e d ∷ []) → is_event e ≡ true
@@ -158,14 +158,14 @@ module _ (l : Loop) (held : ℕ → ℤ) (index : ℤ) (Stands : Ref → Terms �
     read r es n κ h kept at next ps len k true f = (uses r ∷ [], tt, next (cell_value opened (record { name = r.name; place = n })) (sound.steady r es n kept at f) ps len (knows_used ps h r k))
     read r es n κ h kept at next ps len k false f = ((kept, es, n, at, refl), λ v. next v (sound.any r es n v kept at f) ps len (knows_used ps h r k))
 
-    own : (r : Ref) (x : ℕ) (κ : ℤ → Work) (h : List Token) → home_at p r ≡ private_scalar x → ((v : ℤ) → MayBe l held index (element r no_terms) v → Goes (κ v) (h ++ uses r ∷ []))
+    own : (r : Ref) (es : Terms) (x : ℕ) (κ : ℤ → Work) (h : List Token) → home_at p r ≡ private_scalar x → Located l held index Stands p.symbols r es 0 → ((v : ℤ) → MayBe l held index (element r no_terms) v → Goes (κ v) (h ++ uses r ∷ []))
         → (ps : List (Option ℤ)) → length ps ≡ length p.privates → Knows ps h → (o : Option (Option ℤ)) → slice_get ps x ≡ o → Along (own_value p.privates index fixed opened r x o (λ v. κ v ps)) h
-    own r x κ h held_so next ps len k (Some (Some v)) e = (uses r ∷ [], tt, next v (sound.any_own r x v held_so) ps len (knows_used ps h r k))
-    own r x κ h held_so next ps len k (Some None) e =
-        let b = begun_of (κ (pos 0)) (h ++ uses r ∷ []) ps len (knows_used ps h r k) (next (pos 0) (sound.any_own r x (pos 0) held_so)) in
+    own r es x κ h held_so at next ps len k (Some (Some v)) e = (uses r ∷ [], tt, next v (sound.any_own r es x v held_so at) ps len (knows_used ps h r k))
+    own r es x κ h held_so at next ps len k (Some None) e =
+        let b = begun_of (κ (pos 0)) (h ++ uses r ∷ []) ps len (knows_used ps h r k) (next (pos 0) (sound.any_own r es x (pos 0) held_so at)) in
         let d = sound.defined r x h held_so b in
         absurd (k x e d.0 d.1 d.2)
-    own r x κ h held_so next ps len k None e = let b = sound.below r x held_so in absurd (past_end ps x e (omega (arith, b, len)))
+    own r es x κ h held_so at next ps len k None e = let b = sound.below r x held_so in absurd (past_end ps x e (omega (arith, b, len)))
 
     -- a private scalar that was given a value is read again, grows, and is given the new value
     again : (line : ℕ) (r : Ref) (x : ℕ) (m3 : ℤ) (a : Work) (h : List Token) → home_at p r ≡ private_scalar x → Begun h → In (defines r) h → Goes a h
@@ -193,8 +193,8 @@ module _ (l : Loop) (held : ℕ → ℤ) (index : ℤ) (Stands : Ref → Terms �
     iteration_walks = record {
       evaluates = λ line. record {
         loads = λ r es n κ h kept at next ps len k. read r es n κ h kept at next ps len k (fixed (record { name = r.name; place = n })) refl;
-        owns = λ r x κ h held_so next ps len k. own r x κ h held_so next ps len k (slice_get ps x) refl;
-        indexes = λ r κ h held_so next ps len k. (uses r ∷ [], tt, next index (sound.variable r held_so) ps len (knows_used ps h r k));
+        owns = λ r es x κ h held_so at next ps len k. own r es x κ h held_so at next ps len k (slice_get ps x) refl;
+        indexes = λ r es κ h held_so at next ps len k. (uses r ∷ [], tt, next index (sound.variable r es held_so at) ps len (knows_used ps h r k));
         goes = λ a h q ps len k. goes_along (a ps) h (q ps len k);
         faults = λ e h b ps len k. goes_along (fault (failure e line)) h b;
       };

@@ -119,12 +119,13 @@ module _ (names : List (List ℕ)) (index : ℤ) (fixed : Cell → Bool) (opened
         own r x κ f pc st (Some v) below e next = inl (at code f (pc + 1) (v ∷ st), e, next v)
         own r x κ f pc st None below e next = λ seen. absurd (seen (x, below, refl))
 
-        waits : (e d w line : ℕ) (a : Work) (f : Frame) (pc : ℕ) (st : List ℤ) → slice_get code.awaits w ≡ Some (record { event = e; distance = d }) → slice_get code.instructions pc ≡ Some (instr line (acts.Await w)) → Stands (a f.privates) (at code f (pc + 1) st)
+        waits : (e d w line : ℕ) (a : Work) (f : Frame) (pc : ℕ) (st : List ℤ) → slice_get code.awaits w ≡ Some (record { event = short e; distance = d }) → slice_get code.instructions pc ≡ Some (instr line (acts.Await w)) → Stands (a f.privates) (at code f (pc + 1) st)
             → (b : Bool) → is_event e ≡ b → Stands (if b then await e d (a f.privates) else gone) (at code f pc st)
         waits e d w line a f pc st slot is next true h = (
           at code f (pc + 1) st,
           seen code f (instr line (acts.Await w)) pc st is
               ∙ ap (λ (o : Option Await). awaiting_if o (at code f pc st)) slot
+              ∙ ap (λ (n : ℕ). if is_event n then awaiting n d (at code f (pc + 1) st) else stuck) (short_is e (few_events e h))
               ∙ ap (λ (b : Bool). if b then awaiting e d (at code f (pc + 1) st) else stuck) h,
           next,
         )

@@ -6,6 +6,7 @@ use Rattle.ast.specs.Tree.{Ref}
 use Rattle.machine.specs.Code.{Cell}
 use Rattle.machine.specs.State.{put_cell, put_cells}
 use Rattle.machine.specs.View.{Cause}
+pub use Rattle.plan_check.proofs.Members.{In}
 
 -- What an iteration may still do: by a reference a cell is read, or given a value; a record is printed; an
 -- event is awaited or advanced; a local instruction; a fault or a STOP; it retires with its private
@@ -70,10 +71,6 @@ acts P (v ∷ vs) = act P v ∷ acts (follow P v) vs
 abbrev pub IsKey : Cell → List (Cell × ℤ) → Type 0
 IsKey c [] = ⊥
 IsKey c (x ∷ xs) = (x.0 ≡ c) ⊎ IsKey c xs
-
-abbrev pub In : {A : Type 0} → A → List A → Type 0
-In a [] = ⊥
-In a (b ∷ bs) = (a ≡ b) ⊎ In a bs
 
 -- the whole run of an iteration alone
 pub record Ran : Type 0 where

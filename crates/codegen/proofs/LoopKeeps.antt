@@ -4,7 +4,7 @@ use Rattle.std.proofs.lemmas.Bool.{cases_eq}
 use Rattle.ast.specs.Store.{StoreOf}
 use Rattle.machine.specs.Code.{Cell}
 use Rattle.machine.specs.State.{put_at, put_cell, put_cells}
-use Rattle.codegen.proofs.IterationLaws.{put_same, put_other, after-snoc, acts-snoc, after-append, acts-append, in-left, in-right, in-cases, Touches, Writes, Untouched, Unwritten, run_put, run_keeps, with_end}
+use Rattle.codegen.proofs.IterationLaws.{put_same, put_other, after-snoc, acts-snoc, after-append, acts-append, in_left, in_right, in_which, Touches, Writes, Untouched, Unwritten, run_put, run_keeps, with_end}
 use Rattle.codegen.proofs.IterationSteps.{Process, load, store, print, await, advance, tick, fault, leave, gone, Act, loaded, stored, printed, awaited, advanced, ticked, left, nothing, follow, act, after, acts, In, cell_value, first, run, finish}
 use Rattle.codegen.proofs.LoopFinish.{finish_step}
 use Rattle.codegen.proofs.LoopMachine.{Inside, Possible, value_of, written, counted, lowered, effect, rest, history, Loads, Stores, HasLeft, Plan, Inv}
@@ -127,14 +127,14 @@ module _ (start : ℕ → Process) (total : ℕ) (Named : ℕ → Type 0) (plan 
       let o = plan.store_last i j (s.past i ++ vs) (s.past j) c lt below (subst (λ p. Touches p c) (sym (after-append (start i) (s.past i) vs)) touch) at in
       let passed = inv.passed j o.0 o.1 o.3 in
       let done = inv.advanced_by i o.0 (omega arith) in
-      o.4 (subst (In (advanced o.0)) (sym (acts-append (start i) (s.past i) vs)) (in-left _ _ _ done))
+      o.4 (subst (In (advanced o.0)) (sym (acts-append (start i) (s.past i) vs)) (in_left _ _ _ done))
 
   pub nobody_writes : (s : Inside) → Inv start total σ s → (i j : ℕ) (c : Cell) → i < j → j < total → Loads (rest start s j) c → Unwritten c (rest start s i)
   nobody_writes s inv i j c lt below at vs touch =
       let o = plan.load_last i j (s.past i ++ vs) (s.past j) c lt below (subst (λ p. Writes p c) (sym (after-append (start i) (s.past i) vs)) touch) at in
       let passed = inv.passed j o.0 o.1 o.3 in
       let done = inv.advanced_by i o.0 (omega arith) in
-      o.4 (subst (In (advanced o.0)) (sym (acts-append (start i) (s.past i) vs)) (in-left _ _ _ done))
+      o.4 (subst (In (advanced o.0)) (sym (acts-append (start i) (s.past i) vs)) (in_left _ _ _ done))
 
   module _ (s : Inside) (inv : Inv start total σ s) (k : ℕ) (below : k < total) where
     -- what the other iterations, and this one, have done after a step
@@ -206,13 +206,13 @@ module _ (start : ℕ → Process) (total : ℕ) (Named : ℕ → Type 0) (plan 
           ⊎_elim
           (λ old. let b = inv.advanced_in k e old in let g = grows P s.counts e in omega arith)
           (λ new. let z = now_advanced P s k v p e (in-one _ _ new ∙ ap (λ x. act x v) eq) in omega arith)
-          (in-cases (advanced e) (history start s k) (act (rest start s k) v ∷ []) h'))
+          (in_which (advanced e) (history start s k) (act (rest start s k) v ∷ []) h'))
           (λ a. let b = inv.advanced_in i e (subst (In (advanced e)) a.1 h) in let g = grows P s.counts e in omega arith)
           (done_now v i);
       advanced_by = λ i e h. ⊎_elim
           (λ a. subst (In (advanced e)) (sym a.1) (⊎_elim
-          (λ old. in-left (advanced e) (history start s k) (act (rest start s k) v ∷ []) (subst (λ x. In (advanced e) (history start s x)) a.0 (inv.advanced_by i e old)))
-          (λ new. in-right (advanced e) (history start s k) (act (rest start s k) v ∷ []) (inl (new.1 ∙ ap (λ x. act x v) (sym eq))))
+          (λ old. in_left (advanced e) (history start s k) (act (rest start s k) v ∷ []) (subst (λ x. In (advanced e) (history start s x)) a.0 (inv.advanced_by i e old)))
+          (λ new. in_right (advanced e) (history start s k) (act (rest start s k) v ∷ []) (inl (new.1 ∙ ap (λ x. act x v) (sym eq))))
           (was_counted P s k v p i e h)))
           (λ a. subst (In (advanced e)) (sym a.1) (⊎_elim
           (λ old. inv.advanced_by i e old)
@@ -225,7 +225,7 @@ module _ (start : ℕ → Process) (total : ℕ) (Named : ℕ → Type 0) (plan 
           ⊎_elim
           (λ old. let b = inv.passed k e d old in omega arith)
           (λ new. let z = now_passed P s k v p e d (in-one _ _ new ∙ ap (λ x. act x v) eq) in omega arith)
-          (in-cases (awaited e d) (history start s k) (act (rest start s k) v ∷ []) h'))
+          (in_which (awaited e d) (history start s k) (act (rest start s k) v ∷ []) h'))
           (λ a. let b = inv.passed i e d (subst (In (awaited e d)) a.1 h) in let g = grows P s.counts e in omega arith)
           (done_now v i);
       retired = λ i h. ⊎_elim

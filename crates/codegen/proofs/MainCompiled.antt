@@ -1,4 +1,4 @@
--- Code in which main's code stands from its beginning, with a halt behind it, is compiled code.
+-- What emitted code cites stands where it looks for it.
 use Rattle.std.proofs.Common.{◌≡◌, ◌∙◌, ◌+◌, ◌≤◌, ◌<◌, ◌^◌, ℕ, Bool, true, false, List, [], ◌∷◌, ◌++◌, Option, Some, None, length, refl, sym, ap, subst, arith, length-append, append_assoc}
 use Rattle.std.specs.Prelude.{map, slice_get, if◌then◌else◌}
 use Rattle.std.specs.List.{IsDistinct, list_all}
@@ -26,10 +26,8 @@ use Rattle.codegen.specs.Program.{main_places, none_open}
 use Rattle.codegen.specs.Room.{block_loops, block_room}
 use Rattle.codegen.proofs.Blocks.{ArmsReach, BlockReaches, HasList, LoopReaches, NodeReaches}
 use Rattle.codegen.proofs.MainReaching.{back_few, front_few, given_reaches, reaches, reference, both}
-use Rattle.codegen.proofs.MainStanding.{Compiled}
 use Rattle.codegen.proofs.Nesting.{StepReaches}
 use Rattle.codegen.proofs.Running.{ElementsReach, ItemsReach, KindReaches}
-use Rattle.codegen.proofs.Waiting.{block_waits}
 use Rattle.std.proofs.lemmas.Bool.{and_parts}
 
 abbrev Short : List Instr → Type 0
@@ -47,10 +45,10 @@ module _ (p : Places) (sized : list_all is_sized p.symbols ≡ true) (code : Cod
   abbrev Every : List Term → Type 0
   Every es = All (expressions_references es)
 
-  one : (e : Term) (es : List Term) → Every (e ∷ es) → All (term_references e) × Every es
+  pub one : (e : Term) (es : List Term) → Every (e ∷ es) → All (term_references e) × Every es
   one e es h = both p sized code variables few (term_references e) (expressions_references es) h
 
-  apart : (es fs : List Term) → Every (es ++ fs) → Every es × Every fs
+  pub apart : (es fs : List Term) → Every (es ++ fs) → Every es × Every fs
   apart [] fs h = (refl, h)
   apart (e ∷ es) fs h =
       let k = one e (es ++ fs) h in
@@ -62,7 +60,7 @@ module _ (p : Places) (sized : list_all is_sized p.symbols ≡ true) (code : Cod
       joined (r ∷ xs) ys a b = let k = and_parts (is_placed p.symbols r) (list_all (λ s. is_placed p.symbols s) xs) a in rw (k.0, joined xs ys k.1 b) refl
 
   module _ (line : ℕ) where
-    term_reaches : (e : Term) → All (term_references e) → Short (term_code (on line) e) → Reaches code p e
+    pub term_reaches : (e : Term) → All (term_references e) → Short (term_code (on line) e) → Reaches code p e
     term_reaches e h s = reaches (on line) sized code variables few e h s
 
     stored_reaches : (a : Access) → All (term_references (accessed a)) → Short (stored_code (on line) a) → Reaches code p (accessed a)
@@ -84,7 +82,7 @@ module _ (p : Places) (sized : list_all is_sized p.symbols ≡ true) (code : Cod
         let t : Short (stored_code (on line) a ++ elements_code (on line) xs) = omega (arith, s) in
         (stored_reaches a k.0 (front_few (stored_code (on line) a) (elements_code (on line) xs) (2 ^ 32) t), elements_reach xs k.1 (back_few (stored_code (on line) a) (elements_code (on line) xs) (2 ^ 32) t))
 
-    kind_reaches : (n : ℕ) (k : Kind) → Every (kind_expressions k) → Short (kind_code (on line) n k) → KindReaches code p k
+    pub kind_reaches : (n : ℕ) (k : Kind) → Every (kind_expressions k) → Short (kind_code (on line) n k) → KindReaches code p k
     kind_reaches n (assign a e) h s =
         let k = one e (accessed a ∷ []) h in
         let l = one (accessed a) [] k.1 in
@@ -112,7 +110,7 @@ module _ (p : Places) (sized : list_all is_sized p.symbols ≡ true) (code : Cod
     step_reaches (Some e) es h s = term_reaches e (one e es h).0 s
 
     -- a DO, by what reaches its range
-    loop_reaches : (o : Option ℕ) (opens : ℕ → Option ℕ) (h : DoHead) (range : List Instr) (B : Type 0) (es : List Term) → Every (head_expressions h ++ es) → Short (loop_code o (on line) h range) → (Short range → B) → LoopReaches code p opens o h B
+    pub loop_reaches : (o : Option ℕ) (opens : ℕ → Option ℕ) (h : DoHead) (range : List Instr) (B : Type 0) (es : List Term) → Every (head_expressions h ++ es) → Short (loop_code o (on line) h range) → (Short range → B) → LoopReaches code p opens o h B
     loop_reaches None opens h range B es w s inner =
         let k = apart (head_expressions h) es w in
         let a = one h.first (h.last ∷ optional h.step ++ element h.variable no_terms ∷ []) k.0 in
@@ -240,7 +238,7 @@ module _ (p : Places) where
   kind_prints n (logical_if e k) = omega arith
   kind_prints n end = omega arith
 
-serial_holds : (p : Places) (h : DoHead) (range : List Instr) → length range ≤ length (serial_code p h range)
+pub serial_holds : (p : Places) (h : DoHead) (range : List Instr) → length range ≤ length (serial_code p h range)
 serial_holds p h range =
     let back = instr p.line (acts.Back (short (length (range ++ grown_code p h.variable) + 1))) ∷ [] in
     let c3 = instr p.line acts.SetUp ∷ (variable_code p h.variable ++ turns_code p h.variable range) in
@@ -273,7 +271,7 @@ module _ (p : Places) (opens : ℕ → Option ℕ) where
     node_prints (loop line h b) r w = loop_prints (opens h.variable.id) line h (block_records p opens b) (block_code p opens r w b) (block_prints b r w)
     node_prints (choose a) r w = arms_print a r w
 
-    block_prints : (b : PlanBlock) (r w : ℕ) → length (block_records p opens b) ≤ length (block_code p opens r w b)
+    pub block_prints : (b : PlanBlock) (r w : ℕ) → length (block_records p opens b) ≤ length (block_code p opens r w b)
     block_prints no_nodes r w = omega arith
     block_prints (then_node n b) r w =
         let r2 = r + length (node_records p opens n) in
@@ -297,36 +295,3 @@ module _ (p : Places) (opens : ℕ → Option ℕ) where
         let k2 = length-append (term_code q c) (chosen_code q body others) in
         let k3 = length-append body (instr line (acts.Skip (short (length others))) ∷ others) in
         omega (arith, h, k, k1, k2, k3)
-
--- ---- main's code, with a halt behind it
-
-module _ (symbols : List Symbol) (body : Block) where
-  abbrev main_code : List Instr
-  main_code = block_code (main_places symbols) none_open 0 0 (plain_block body)
-
-  -- where code is main's code with a halt behind it, and has the program's variables and main's records,
-  -- and no more instructions and variables than 32 bits can number
-  pub compiled : (code : Code) (line : ℕ) → IsDistinct same_name (names_of symbols) → list_all is_sized symbols ≡ true → are_placed symbols body ≡ true → HasVariables code symbols → length symbols ≤ 2 ^ 32
-      → code.instructions ≡ main_code ++ instr line acts.Halt ∷ [] → length code.instructions ≤ 2 ^ 32 → code.records ≡ block_records (main_places symbols) none_open (plain_block body)
-      → block_room (plain_block body) ≤ code.operands → block_loops (plain_block body) ≤ code.counters → Compiled code symbols body
-  compiled code line distinct sized placed variables few_symbols instructions few records operands counters = record {
-    distinct = distinct;
-    placed = placed;
-    reaches = block_reaches (main_places symbols) sized code variables few_symbols none_open body 0 0 placed fits;
-    limit = length main_code;
-    few = fits;
-    stands = subst (λ (is : List Instr). HasAt is (length main_code) 0 main_code) (sym instructions) (has_here [] main_code (instr line acts.Halt ∷ []) (length main_code) (omega arith));
-    records = has_all [] (block_records (main_places symbols) none_open (plain_block body)) code.records records (let k = ap length records in let l = block_prints (main_places symbols) none_open (plain_block body) 0 0 in omega (arith, k, l, fits));
-    awaits = subst (λ (ws : List Await). HasList code.awaits 0 ws) (sym (block_waits (main_places symbols) body)) tt;
-    operands = operands;
-    counters = counters;
-    line = line;
-    halts = ap (λ (is : List Instr). slice_get is (length main_code)) instructions ∙ behind main_code;
-  }
-    where
-      fits : length main_code ≤ 2 ^ 32
-      fits = let k = ap length instructions in let l = length-append main_code (instr line acts.Halt ∷ []) in omega (arith, few, k, l)
-
-      behind : (is : List Instr) → slice_get (is ++ instr line acts.Halt ∷ []) (length is) ≡ Some (instr line acts.Halt)
-      behind [] = refl
-      behind (i ∷ is) = behind is

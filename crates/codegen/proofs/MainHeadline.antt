@@ -1,37 +1,50 @@
--- The headline for code that opens no loop.
-use Rattle.std.proofs.Common.{◌≡◌, ◌∙◌, ◌*◌, ◌≤◌, ◌<◌, ℕ, false, true, List, [], ◌∷◌, ◌++◌, inr, Some, refl, sym, ap, subst, arith, length-append}
-use Rattle.std.specs.Prelude.{length}
+-- The headline, and how long runs are, for code that may open loops.
+use Rattle.std.proofs.Common.{◌≡◌, ◌∙◌, ◌*◌, ◌+◌, ◌≤◌, ◌<◌, ◌^◌, ◌⊎◌, inl, inr, ℕ, ℤ, pos, Bool, true, false, List, [], ◌∷◌, ◌++◌, Option, Some, refl, sym, ap, subst, arith, length-append}
+use Rattle.std.specs.Prelude.{length, slice_get}
+use Rattle.std.specs.List.{IsDistinct}
 use Rattle.ast.specs.Input.{records_of}
 use Rattle.ast.specs.Meaning.{Run, exec_block, seq, start}
-use Rattle.ast.specs.Program.{ProgramTree}
-use Rattle.ast.specs.Store.{StoreOf, zeros}
+use Rattle.ast.specs.Program.{ProgramTree, are_placed}
+use Rattle.ast.specs.Store.{StoreOf, zeros, same_name}
+use Rattle.ast.specs.Symbols.{Symbol, names_of}
+use Rattle.ast.specs.Tree.{Block}
 use Rattle.ast.specs.declared.fault.End.{End}
 use Rattle.ast.specs.declared.fault.End.TheVariants.{Done, Stopped, Fault as Faulted}
 use Rattle.ast.specs.declared.fault.Fault.{Fault}
+use Rattle.dependence.specs.Plan.{PlanBlock}
 use Rattle.machine.specs.Code.{Code, Cell}
 use Rattle.machine.specs.Frame.{Frame}
 use Rattle.machine.specs.Solo.{Solo}
-use Rattle.machine.specs.State.{Machine, CodeRun, Init}
+use Rattle.machine.specs.State.{Machine, AreSizes, CodeRun, Init}
 use Rattle.machine.specs.View.{Input, begin, main_frame, trips_of, view}
 use Rattle.machine.specs.declared.code.Open.{Open as Opened}
-use Rattle.codegen.specs.Headline.{Headline, IsBeginning, Ends, Bounded, Carried}
-use Rattle.codegen.specs.Program.{main_places, none_open}
-use Rattle.codegen.proofs.IterationSteps.{Process, gone}
-use Rattle.codegen.proofs.MainNaming.{block_named}
-use Rattle.codegen.proofs.MainStanding.{Compiled, Goes, main_process, main_stands, never}
+use Rattle.machine.specs.declared.instr.Act.TheVariants as acts
+use Rattle.expr_code.specs.Emitted.{instr}
+use Rattle.expr_code.specs.Places.{Places}
+use Rattle.expr_code.proofs.Standing.{HasAt, at, seen}
+use Rattle.codegen.specs.Emitted.{block_awaits, block_code, block_records}
+use Rattle.codegen.specs.Headline.{Headline, IsBeginning, Ends}
+use Rattle.codegen.specs.Plain.{plain_block}
+use Rattle.codegen.specs.Process.{block_into}
+use Rattle.codegen.specs.Program.{main_places}
+use Rattle.codegen.specs.Room.{block_loops, block_room}
+use Rattle.codegen.proofs.Blocks.{BlockReaches, HasList, block_runs}
+use Rattle.codegen.proofs.MainStanding.{Goes, Opens, main_does}
 use Rattle.codegen.proofs.MainSteps.{Valid, main_acts, main_doing, meant}
-use Rattle.codegen.proofs.Meaning.{block_meant, going_told, then_told}
-use Rattle.codegen.proofs.Outcomes.{Outcome, text_of, told, told_by}
+use Rattle.codegen.proofs.Meaning.{going_told, then_told}
+use Rattle.codegen.proofs.Outcomes.{Outcome, done, failed, text_of, told, told_by}
 use Rattle.codegen.proofs.ProgramBound.{alone_takes, bounded as most_steps, carried as to_end, exactly, weighed}
 use Rattle.codegen.proofs.ProgramClaims.{Claims, claimed}
 use Rattle.codegen.proofs.ProgramStanding.{Final, Loops}
 use Rattle.codegen.proofs.ProgramSteps.{Main, halt, whole}
+use Rattle.ast.specs.Regular.{are_fitting}
+use Rattle.ast.proofs.Fitting.{zeros_fit}
+use Rattle.codegen.proofs.OpenedLoop.{starts}
+use Rattle.codegen.proofs.Meaning.{block_meant}
+use Rattle.codegen.proofs.MainNaming.{BlockRight, block_named}
 
--- the answer of a state is that of a run
+-- the answer of a state is that of a run (as in MainHeadline)
 module _ (m : Machine) (run : Run) where
-  Ends_so : End → Type 0
-  Ends_so e = (e ≡ run.end) × (m.output ≡ run.output) × (e ≡ Done → m.store ≡ run.store)
-
   ended_by : (d e : End) → run.end ≡ d → Final e m (told_by d run) → (e ≡ run.end) × (m.output ≡ run.output) × (e ≡ Done → m.store ≡ run.store)
   ended_by Done Done h f = let s : run.store ≡ m.store = cc in let o : run.output ≡ m.output = cc in (sym h, sym o, λ z. sym s)
   ended_by Done (Faulted k l) h f = cc
@@ -52,119 +65,127 @@ module _ (m : Machine) (run : Run) where
   text_by (Stopped l) = refl
   text_by (Faulted k l) = refl
 
--- no loop is opened, so nothing need be known of any
-abbrev no_iterations : Opened → StoreOf → ℕ → Process
-no_iterations l σ k = gone
+-- The code of a program: main's code stands in it from its beginning, with its records, a halt behind it, and
+-- room; each loop that it opens is that of its number. opens: the number of the loop that a DO opens.
+pub record OpenCompiled (code : Code) (may : ℕ → ℤ → ℤ → Bool) (places : ℕ → Places) (bodies : ℕ → PlanBlock) (fixed : ℕ → Cell → Bool) (opens : ℕ → Option ℕ) (symbols : List Symbol) (body : Block) : Type 0 where
+  pub distinct : IsDistinct same_name (names_of symbols)
+  pub placed : are_placed symbols body ≡ true
+  pub fit : are_fitting body ≡ true
+  pub reaches : BlockReaches code (main_places symbols) opens (plain_block body)
+  pub limit : ℕ
+  pub few : limit ≤ 2 ^ 32
+  pub stands : HasAt code.instructions limit 0 (block_code (main_places symbols) opens 0 0 (plain_block body))
+  pub records : HasList code.records 0 (block_records (main_places symbols) opens (plain_block body))
+  pub awaits : HasList code.awaits 0 (block_awaits (main_places symbols) opens (plain_block body))
+  pub operands : block_room (plain_block body) ≤ code.operands
+  pub counters : block_loops (plain_block body) ≤ code.counters
+  pub line : ℕ
+  pub halts : slice_get code.instructions (length (block_code (main_places symbols) opens 0 0 (plain_block body))) ≡ Some (instr line acts.Halt)
+  pub right : BlockRight code may places bodies fixed symbols distinct opens body
+  pub sound : (n : ℕ) (m1 m2 : ℤ) → may n m1 m2 ≡ true → Opens code n
 
-abbrev none_of : Opened → Cell → Type 0
-none_of l c = ⊥
+module _ (code : Code) (may : ℕ → ℤ → ℤ → Bool) (places : ℕ → Places) (bodies : ℕ → PlanBlock) (fixed : ℕ → Cell → Bool) (opens : ℕ → Option ℕ) (Hidden Fixed : Opened → Cell → Type 0) (Named : Opened → ℕ → Type 0)
+    (loops : Loops Frame Opened (view code) trips_of (begin code) Hidden Fixed Named (starts code may places bodies fixed) (Valid code may)) (program : ProgramTree) (compiled : OpenCompiled code may places bodies fixed opens program.symbols program.block) (input : List ℕ) where
+  abbrev main : Main Opened
+  main = block_into (Main Opened) (main_doing code may) (main_places program.symbols) opens (plain_block program.block) halt
 
-abbrev no_events : Opened → ℕ → Type 0
-no_events l e = ⊥
+  abbrev taken_in : Input
+  taken_in = record { left = []; records = records_of input }
 
-module _ (code : Code) where
-  none_valid : (l : Opened) → Valid code never l → ⊥
-  none_valid l v = let z : false ≡ true = v.3 in cc
+  abbrev answer : Outcome
+  answer = told (seq program input)
 
-  no_loops : Loops Frame Opened (view code) trips_of (begin code) none_of none_of no_events no_iterations (Valid code never)
-  no_loops = record {
-    plan = λ l v ι. absurd (none_valid l v);
-    never = λ l v ι k vs c h i. absurd i;
-    not_gone = λ l v ι k h. none_valid l v;
-    free_store = λ l v ι k vs c h i. absurd i;
-    free_leave = λ l v ι k vs xs h c i j. absurd j;
-    begins = λ l v ι k lt. absurd (none_valid l v);
-  }
+  ends_so : (x : Outcome) (run : Run) → then_told run (λ r. meant (starts code may places bodies fixed) x halt [] r) ≡ told run
+  ends_so x run = by run.end refl
+    where
+      by : (e : End) → run.end ≡ e → going_told e run (λ r. meant (starts code may places bodies fixed) x halt [] r) ≡ told run
+      by Done e = ap (λ (k : End). told_by k run) (sym e)
+      by (Stopped l) e = refl
+      by (Faulted k l) e = refl
 
-  module _ (program : ProgramTree) (compiled : Compiled code program.symbols program.block) (input : List ℕ) where
-    abbrev main : Main Opened
-    main = main_process code program.symbols program.block
+  means : (x : Outcome) → whole Opened trips_of (starts code may places bodies fixed) x main zeros taken_in [] ≡ answer
+  means x =
+      block_meant (Main Opened) (main_doing code may) (main_places program.symbols) (meant (starts code may places bodies fixed) x) (main_acts code may (starts code may places bodies fixed) program.symbols x) opens program.block halt (start input)
+      (block_named code may places bodies fixed program.symbols compiled.distinct opens x program.block compiled.right compiled.placed) compiled.fit refl zeros_fit
+      ∙ ends_so x (exec_block program.symbols program.block (start input))
 
-    abbrev taken_in : Input
-    taken_in = record { left = []; records = records_of input }
+  -- main's frame stands where main's process does
+  pub standing : Goes code may main (main_frame code)
+  standing =
+      block_runs (Main Opened) (main_doing code may) code compiled.limit (pos 0) (Goes code may) (main_does code may compiled.sound compiled.limit) (main_places program.symbols) (omega arith) compiled.few opens (plain_block program.block) 0 0 halt (main_frame code) 0 []
+      compiled.reaches compiled.records compiled.awaits (record { indexed = refl; privates = omega arith }) compiled.stands
+      (record { above = omega (arith, compiled.operands); loops = omega (arith, compiled.counters) })
+      (λ g k. halts g)
+    where
+      size : ℕ
+      size = length (block_code (main_places program.symbols) opens 0 0 (plain_block program.block))
 
-    abbrev answer : Outcome
-    answer = told (seq program input)
+      halts : (g : Frame) → Goes code may halt (at code g (0 + size) [])
+      halts g = let z : size ≡ 0 + size = omega arith in subst (λ (n : ℕ). Goes code may halt (at code g n [])) z (seen code g (instr compiled.line acts.Halt) size [] compiled.halts)
 
-    -- a run told where it has gone on to its end
-    ends_so : (x : Outcome) (run : Run) → then_told run (λ r. meant no_iterations x halt [] r) ≡ told run
-    ends_so x run = by run.end refl
-      where
-        by : (e : End) → run.end ≡ e → going_told e run (λ r. meant no_iterations x halt [] r) ≡ told run
-        by Done e = ap (λ (k : End). told_by k run) (sym e)
-        by (Stopped l) e = refl
-        by (Faulted k l) e = refl
+  module _ (p s : ℕ) where
+    pub claims : (qs : List ℕ) (m : Machine) → 0 < p → 0 < s → CodeRun code s p (Init code input) qs m → Claims Frame Opened (view code) trips_of (begin code) s Hidden Fixed Named (starts code may places bodies fixed) (Valid code may) p loops (record { main = main; store = zeros; input = taken_in; output = [] }) answer m
+    claims qs m some_p some_s run = claimed Frame Opened (view code) trips_of (begin code) s Hidden Fixed Named (starts code may places bodies fixed) (Valid code may) p loops main (main_frame code) input answer means standing some_p some_s qs m run
 
-    means : (x : Outcome) → whole Opened trips_of no_iterations x main zeros taken_in [] ≡ answer
-    means x =
-        block_meant (Main Opened) (main_doing code never) (main_places program.symbols) (meant no_iterations x) (main_acts code never no_iterations program.symbols x) none_open program.block halt (start input)
-        (block_named code never no_iterations program.symbols compiled.distinct x program.block compiled.placed) refl
-        ∙ ends_so x (exec_block program.symbols program.block (start input))
+    -- the program doesn't break off, or one iteration is open at a time
+    abbrev Mode : Type 0
+    Mode = ((τ : StoreOf) × (t : List ℕ) × (answer ≡ done τ t)) ⊎ ((s ≡ 1) ⊎ ((l : Opened) → Valid code may l → ⊥))
 
-    standing : Goes code never main (main_frame code)
-    standing = main_stands code program.symbols program.block compiled
-
-    module _ (p s : ℕ) where
-      claims : (qs : List ℕ) (m : Machine) → 0 < p → 0 < s → CodeRun code s p (Init code input) qs m → Claims Frame Opened (view code) trips_of (begin code) s none_of none_of no_events no_iterations (Valid code never) p no_loops (record { main = main; store = zeros; input = taken_in; output = [] }) answer m
-      claims qs m some_p some_s run = claimed Frame Opened (view code) trips_of (begin code) s none_of none_of no_events no_iterations (Valid code never) p no_loops main (main_frame code) input answer means standing some_p some_s qs m run
-
-      -- so many steps main makes alone
+    module _ (mode : ((τ : StoreOf) × (t : List ℕ) × (answer ≡ done τ t)) ⊎ ((s ≡ 1) ⊎ ((l : Opened) → Valid code may l → ⊥))) where
       abbrev alone : ℕ
-      alone = alone_takes Frame Opened (view code) trips_of (begin code) s none_of none_of no_events no_iterations (Valid code never) p no_loops main (main_frame code) input answer means standing (inr (inr none_valid))
+      alone = alone_takes Frame Opened (view code) trips_of (begin code) s Hidden Fixed Named (starts code may places bodies fixed) (Valid code may) p loops main (main_frame code) input answer means standing mode
 
-pub headline : (code : Code) (program : ProgramTree) → Compiled code program.symbols program.block → Headline code program
-headline code program compiled input p s qs m sizes run =
-    let c = claims code program compiled input p s qs m (omega (arith, (sizes.0).0)) (omega (arith, (sizes.1).0)) run in
-    record {
-      beginning = subst (λ (t : List ℕ). IsBeginning m.output t) (text_by m (seq program input) (seq program input).end) c.begins;
-      answer = λ e h.
-          let x = ended_by m (seq program input) (seq program input).end e refl (c.final e h) in
-          record { is = h ∙ ap (λ (d : End). Some d) x.0; printed = x.1; stored = λ d name place. ap (λ (σ : StoreOf). σ name place) (x.2 (x.0 ∙ d)) };
-      next = λ going. let g = c.goes going in (g.0, g.2, g.1, g.3);
-    }
+      at_most : (qs : List ℕ) (m : Machine) → CodeRun code s p (Init code input) qs m → length qs ≤ 3 * alone
+      at_most qs m run = most_steps Frame Opened (view code) trips_of (begin code) s Hidden Fixed Named (starts code may places bodies fixed) (Valid code may) p loops main (main_frame code) input answer means standing mode qs m run
 
--- ---- how long runs are
+      goes_to_end : 0 < p → 0 < s → (qs : List ℕ) (m : Machine) → CodeRun code s p (Init code input) qs m → (rs : List ℕ) × (n : Machine) × CodeRun code s p m rs n × (e : End) × (n.ended ≡ Some e)
+      goes_to_end some_p some_s qs m run = to_end Frame Opened (view code) trips_of (begin code) s Hidden Fixed Named (starts code may places bodies fixed) (Valid code may) p loops main (main_frame code) input answer means standing mode some_p some_s qs m run
 
--- one run after another
-run_on : (code : Code) (s p : ℕ) (qs rs : List ℕ) (m n k : Machine) → CodeRun code s p m qs n → CodeRun code s p n rs k → CodeRun code s p m (qs ++ rs) k
-run_on code s p [] rs m n k r t = subst (λ (x : Machine). CodeRun code s p x rs k) (sym r) t
-run_on code s p (q ∷ qs) rs m n k r t = (r.0, r.1, r.2, run_on code s p qs rs r.0 n k r.3 t)
+  run_on : (s p : ℕ) (qs rs : List ℕ) (m n k : Machine) → CodeRun code s p m qs n → CodeRun code s p n rs k → CodeRun code s p m (qs ++ rs) k
+  run_on s p [] rs m n k r t = subst (λ (x : Machine). CodeRun code s p x rs k) (sym r) t
+  run_on s p (q ∷ qs) rs m n k r t = (r.0, r.1, r.2, run_on s p qs rs r.0 n k r.3 t)
 
-module _ (code : Code) (program : ProgramTree) (compiled : Compiled code program.symbols program.block) (input : List ℕ) where
-  -- so many steps main makes alone
+  -- a run alone makes so many steps, whatever the program's end is
   abbrev steps : ℕ
-  steps = alone code program compiled input 1 1
+  steps = alone 1 1 (inr (inl refl))
 
-  -- a run alone that ends makes so many
   solo_is : (w : ℕ) → Solo code input w → w ≡ steps
   solo_is w o =
-      exactly Frame Opened (view code) trips_of (begin code) 1 none_of none_of no_events no_iterations (Valid code never) 1 (no_loops code) (main code program compiled input) (main_frame code) input (answer code program compiled input) (means code program compiled input) (standing code program compiled input) (inr (inr (none_valid code)))
+      exactly Frame Opened (view code) trips_of (begin code) 1 Hidden Fixed Named (starts code may places bodies fixed) (Valid code may) 1 loops main (main_frame code) input answer means standing (inr (inl refl))
       o.turns o.last o.run o.end o.ended w o.weight
-
-  at_most : (p s : ℕ) (qs : List ℕ) (m : Machine) → CodeRun code s p (Init code input) qs m → length qs ≤ 3 * steps
-  at_most p s qs m run =
-      most_steps Frame Opened (view code) trips_of (begin code) s none_of none_of no_events no_iterations (Valid code never) p (no_loops code) (main code program compiled input) (main_frame code) input (answer code program compiled input) (means code program compiled input) (standing code program compiled input) (inr (inr (none_valid code)))
-      qs m run
-
-  goes_to_end : (p s : ℕ) → 0 < p → 0 < s → (qs : List ℕ) (m : Machine) → CodeRun code s p (Init code input) qs m → (rs : List ℕ) × (n : Machine) × CodeRun code s p m rs n × (e : End) × (n.ended ≡ Some e)
-  goes_to_end p s some_p some_s qs m run =
-      to_end Frame Opened (view code) trips_of (begin code) s none_of none_of no_events no_iterations (Valid code never) p (no_loops code) (main code program compiled input) (main_frame code) input (answer code program compiled input) (means code program compiled input) (standing code program compiled input) (inr (inr (none_valid code)))
-      some_p some_s qs m run
 
   pub ends : Ends code input
   ends =
-      let c = goes_to_end 1 1 (omega arith) (omega arith) [] (Init code input) refl in
-      let w = weighed Frame Opened (view code) trips_of (begin code) 1 none_of none_of no_events no_iterations (Valid code never) 1 (no_loops code) (main code program compiled input) (main_frame code) input (answer code program compiled input) (means code program compiled input) (standing code program compiled input) (inr (inr (none_valid code))) c.0 c.1 c.2 in
+      let c = goes_to_end 1 1 (inr (inl refl)) (omega arith) (omega arith) [] (Init code input) refl in
+      let w = weighed Frame Opened (view code) trips_of (begin code) 1 Hidden Fixed Named (starts code may places bodies fixed) (Valid code may) 1 loops main (main_frame code) input answer means standing (inr (inl refl)) c.0 c.1 c.2 in
       let solo : Solo code input w.0 = record { turns = c.0; last = c.1; run = c.2; end = c.3; ended = c.4; weight = w.1 } in
       (w.0, solo, λ v other. solo_is v other ∙ sym (solo_is w.0 solo))
 
-  pub bounded : Bounded code input
-  bounded w solo p s qs m sizes run = let is = solo_is w solo in let most = at_most p s qs m run in omega (arith, is, most)
+  mode_of : (s : ℕ) → ((seq program input).end ≡ Done) ⊎ (s ≡ 1) → ((τ : StoreOf) × (t : List ℕ) × (answer ≡ done τ t)) ⊎ ((s ≡ 1) ⊎ ((l : Opened) → Valid code may l → ⊥))
+  mode_of s (inl e) = inl ((seq program input).store, (seq program input).output, ap (λ (d : End). told_by d (seq program input)) e)
+  mode_of s (inr e) = inr (inl e)
 
-  pub carried : Carried code input
-  carried w solo p s qs m sizes run =
-      let c = goes_to_end p s (omega (arith, (sizes.0).0)) (omega (arith, (sizes.1).0)) qs m run in
+  -- where the program doesn't break off, or one iteration is open at a time, no run has more than three times the steps of one alone
+  pub bounded : (w : ℕ) → Solo code input w → (p s : ℕ) (qs : List ℕ) (m : Machine) → AreSizes p s → ((seq program input).end ≡ Done) ⊎ (s ≡ 1) → CodeRun code s p (Init code input) qs m → length qs ≤ 3 * w
+  bounded w solo p s qs m sizes fine run = let is = solo_is w solo in let most = at_most p s (mode_of s fine) qs m run in omega (arith, is, most)
+
+  pub carried : (w : ℕ) → Solo code input w → (p s : ℕ) (qs : List ℕ) (m : Machine) → AreSizes p s → ((seq program input).end ≡ Done) ⊎ (s ≡ 1) → CodeRun code s p (Init code input) qs m → (rs : List ℕ) × (n : Machine) × (e : End) × CodeRun code s p m rs n × (n.ended ≡ Some e) × (length qs + length rs ≤ 3 * w)
+  carried w solo p s qs m sizes fine run =
+      let c = goes_to_end p s (mode_of s fine) (omega (arith, (sizes.0).0)) (omega (arith, (sizes.1).0)) qs m run in
       let is = solo_is w solo in
-      let most = at_most p s (qs ++ c.0) c.1 (run_on code s p qs c.0 (Init code input) m c.1 run c.2) in
+      let most = at_most p s (mode_of s fine) (qs ++ c.0) c.1 (run_on s p qs c.0 (Init code input) m c.1 run c.2) in
       let len = length-append qs c.0 in
       (c.0, c.1, c.3, c.2, c.4, omega (arith, is, most, len))
+
+module _ (code : Code) (may : ℕ → ℤ → ℤ → Bool) (places : ℕ → Places) (bodies : ℕ → PlanBlock) (fixed : ℕ → Cell → Bool) (opens : ℕ → Option ℕ) (Hidden Fixed : Opened → Cell → Type 0) (Named : Opened → ℕ → Type 0)
+    (loops : Loops Frame Opened (view code) trips_of (begin code) Hidden Fixed Named (starts code may places bodies fixed) (Valid code may)) (program : ProgramTree) (compiled : OpenCompiled code may places bodies fixed opens program.symbols program.block) where
+  pub headline : Headline code program
+  headline input p s qs m sizes run =
+      let c = claims code may places bodies fixed opens Hidden Fixed Named loops program compiled input p s qs m (omega (arith, (sizes.0).0)) (omega (arith, (sizes.1).0)) run in
+      record {
+        beginning = subst (λ (t : List ℕ). IsBeginning m.output t) (text_by m (seq program input) (seq program input).end) c.begins;
+        answer = λ e h.
+            let x = ended_by m (seq program input) (seq program input).end e refl (c.final e h) in
+            record { is = h ∙ ap (λ (d : End). Some d) x.0; printed = x.1; stored = λ d name place. ap (λ (σ : StoreOf). σ name place) (x.2 (x.0 ∙ d)) };
+        next = λ going. let g = c.goes going in (g.0, g.2, g.1, g.3);
+      }

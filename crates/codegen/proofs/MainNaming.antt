@@ -1,4 +1,4 @@
--- In a program each reference of main is found by its name.
+-- In a program that opens loops each reference of main is found by its name, and each opened loop means what its DO does.
 use Rattle.std.proofs.Common.{◌≡◌, ℕ, ℤ, Bool, true, List, [], ◌∷◌, ◌++◌, Option, Some, None, refl}
 use Rattle.std.specs.Prelude.{map}
 use Rattle.std.specs.List.{IsDistinct, list_all}
@@ -12,16 +12,45 @@ use Rattle.ast.specs.Tree.{Ref, Access, accessed, Term, constant, truth, paramet
 use Rattle.expr_code.specs.Places.{Home, loop_index, home, home_of}
 use Rattle.expr_code.proofs.Finding.{dimensions_same}
 use Rattle.expr_code.proofs.Meaning.{AllNamed, Named}
-use Rattle.codegen.specs.Program.{main_places, none_open}
+use Rattle.codegen.specs.Program.{main_places}
+use Rattle.codegen.specs.Plain.{plain_node, plain_block, plain_arms}
+use Rattle.dependence.specs.Plan.{PlanBlock}
+use Rattle.expr_code.specs.Places.{Places}
+use Rattle.machine.specs.Code.{Cell}
 use Rattle.machine.specs.Code.{Code}
 use Rattle.machine.specs.declared.code.Open.{Open as Opened}
 use Rattle.codegen.proofs.IterationSteps.{Process}
 use Rattle.codegen.proofs.MainSteps.{main_acts, main_doing, meant}
 use Rattle.codegen.proofs.Outcomes.{Outcome}
 use Rattle.codegen.proofs.ProgramSteps.{Main}
-use Rattle.codegen.proofs.Meaning.{ArmsNamed, BlockNamed, Counts, ElementsNamed, HeadNamed, ItemsNamed, KindNamed, NodeNamed, StepNamed}
+use Rattle.codegen.proofs.OpenedLoop.{IsOpened, open_meant, starts}
+use Rattle.codegen.proofs.Meaning.{ArmsNamed, BlockNamed, Counts, ElementsNamed, HeadNamed, ItemsNamed, KindNamed, NodeNamed, StepNamed, LoopNamed}
 
-module _ (code : Code) (may : ℕ → ℤ → ℤ → Bool) (start : Opened → StoreOf → ℕ → Process) (symbols : List Symbol) (distinct : IsDistinct same_name (names_of symbols)) (x : Outcome) where
+module _ (code : Code) (may : ℕ → ℤ → ℤ → Bool) (places : ℕ → Places) (bodies : ℕ → PlanBlock) (fixed : ℕ → Cell → Bool) (symbols : List Symbol) (distinct : IsDistinct same_name (names_of symbols)) (opens : ℕ → Option ℕ) where
+  -- each loop that is opened is that of its number
+  abbrev pub LoopRight : Option ℕ → DoHead → Block → Type 0 → Type 0
+  LoopRight None h b inner = inner
+  LoopRight (Some n) h b inner = IsOpened code may places bodies fixed symbols n h b
+
+  abbrev mutual
+    pub NodeRight : Node → Type 0
+    NodeRight (tree.plain s) = Unit {0}
+    NodeRight (tree.loop line h b) = LoopRight (opens h.variable.id) h b (BlockRight b)
+    NodeRight (tree.choose a) = ArmsRight a
+
+    pub BlockRight : Block → Type 0
+    BlockRight tree.no_nodes = Unit {0}
+    BlockRight (tree.then_node n b) = NodeRight n × BlockRight b
+
+    pub ArmsRight : Arms → Type 0
+    ArmsRight tree.no_arms = Unit {0}
+    ArmsRight (tree.then_arm line None b more) = BlockRight b
+    ArmsRight (tree.then_arm line (Some c) b more) = BlockRight b × ArmsRight more
+
+module _ (code : Code) (may : ℕ → ℤ → ℤ → Bool) (places : ℕ → Places) (bodies : ℕ → PlanBlock) (fixed : ℕ → Cell → Bool) (symbols : List Symbol) (distinct : IsDistinct same_name (names_of symbols)) (opens : ℕ → Option ℕ) (x : Outcome) where
+  abbrev start : Opened → StoreOf → ℕ → Process
+  start = starts code may places bodies fixed
+
   abbrev placed : Ref → Bool
   placed r = is_placed symbols r
 
@@ -38,7 +67,7 @@ module _ (code : Code) (may : ℕ → ℤ → ℤ → Bool) (start : Opened → 
       let l = both xs ys k.1 in
       (rw (k.0, l.0) refl, l.1)
 
-  apart : (es fs : List Term) → Every (es ++ fs) → Every es × Every fs
+  pub apart : (es fs : List Term) → Every (es ++ fs) → Every es × Every fs
   apart [] fs h = (refl, h)
   apart (e ∷ es) fs h =
       let k = both (term_references e) (expressions_references (es ++ fs)) h in
@@ -50,7 +79,7 @@ module _ (code : Code) (may : ℕ → ℤ → ℤ → Bool) (start : Opened → 
       joined (r ∷ xs) ys a b = let k = and_parts (placed r) (list_all placed xs) a in rw (k.0, joined xs ys k.1 b) refl
 
   mutual
-    named : (e : Term) → All (term_references e) → Named (main_places symbols) e
+    pub named : (e : Term) → All (term_references e) → Named (main_places symbols) e
     named (element r es) h =
         let k = both (terms_references es) (r ∷ []) h in
         (dimensions_same symbols r distinct (and_parts (placed r) true k.1).0, all_named es k.0)
@@ -66,7 +95,7 @@ module _ (code : Code) (may : ℕ → ℤ → ℤ → Bool) (start : Opened → 
     all_named no_terms h = tt
     all_named (then_term e es) h = let k = both (term_references e) (terms_references es) h in (named e k.0, all_named es k.1)
 
-  one : (e : Term) (es : List Term) → Every (e ∷ es) → Named (main_places symbols) e × Every es
+  pub one : (e : Term) (es : List Term) → Every (e ∷ es) → Named (main_places symbols) e × Every es
   one e es h = let k = both (term_references e) (expressions_references es) h in (named e k.0, k.1)
 
   -- no variable is an open loop's
@@ -89,13 +118,13 @@ module _ (code : Code) (may : ℕ → ℤ → ℤ → Bool) (start : Opened → 
       by (d ∷ ds) = refl
 
   abbrev NodeIs : Node → Type 0
-  NodeIs n = NodeNamed (Main Opened) (main_doing code may) (main_places symbols) (meant start x) (main_acts code may start symbols x) none_open n
+  NodeIs n = NodeNamed (Main Opened) (main_doing code may) (main_places symbols) (meant start x) (main_acts code may start symbols x) opens n
 
   abbrev BlockIs : Block → Type 0
-  BlockIs b = BlockNamed (Main Opened) (main_doing code may) (main_places symbols) (meant start x) (main_acts code may start symbols x) none_open b
+  BlockIs b = BlockNamed (Main Opened) (main_doing code may) (main_places symbols) (meant start x) (main_acts code may start symbols x) opens b
 
   abbrev ArmsAre : Arms → Type 0
-  ArmsAre a = ArmsNamed (Main Opened) (main_doing code may) (main_places symbols) (meant start x) (main_acts code may start symbols x) none_open a
+  ArmsAre a = ArmsNamed (Main Opened) (main_doing code may) (main_places symbols) (meant start x) (main_acts code may start symbols x) opens a
 
   items_named : (items : List PrintItem) → Every (items_expressions items) → ItemsNamed (Main Opened) (main_doing code may) (main_places symbols) (meant start x) (main_acts code may start symbols x) items
   items_named [] h = tt
@@ -135,21 +164,25 @@ module _ (code : Code) (may : ℕ → ℤ → ℤ → Bool) (start : Opened → 
       let b = one d.last (optional d.step ++ element d.variable no_terms ∷ []) a.1 in
       (a.0, b.0, step_named d.step (element d.variable no_terms ∷ []) b.1, counts d.variable)
 
+  loop_named : (o : Option ℕ) (line : ℕ) (d : DoHead) (b : Block) → LoopRight code may places bodies fixed symbols distinct opens o d b (BlockRight code may places bodies fixed symbols distinct opens b) → Every (head_expressions d ++ block_expressions b) → (BlockRight code may places bodies fixed symbols distinct opens b → Every (block_expressions b) → BlockIs b)
+      → LoopNamed (Main Opened) (main_doing code may) (main_places symbols) (meant start x) (main_acts code may start symbols x) opens o line d b (BlockIs b)
+  loop_named None line d b r h inner = (head_named d (block_expressions b) h, inner r (apart (head_expressions d) (block_expressions b) h).1)
+  loop_named (Some n) line d b r h inner = λ a run e f. open_meant code may places bodies fixed symbols x line n d b r a run e f
+
   mutual
-    node_named : (n : Node) → Every (node_expressions n) → NodeIs n
-    node_named (tree.plain s) h = kind_named s.kind h
-    node_named (tree.loop line d b) h = (head_named d (block_expressions b) h, block_named b (apart (head_expressions d) (block_expressions b) h).1)
-    node_named (tree.choose a) h = arms_named a h
+    node_named : (n : Node) → NodeRight code may places bodies fixed symbols distinct opens n → Every (node_expressions n) → NodeIs n
+    node_named (tree.plain s) r h = kind_named s.kind h
+    node_named (tree.loop line d b) r h = loop_named (opens d.variable.id) line d b r h (λ q k. block_named b q k)
+    node_named (tree.choose a) r h = arms_named a r h
 
-    -- main's references are found by their names
-    pub block_named : (b : Block) → Every (block_expressions b) → BlockIs b
-    block_named tree.no_nodes h = tt
-    block_named (tree.then_node n b) h = let k = apart (node_expressions n) (block_expressions b) h in (node_named n k.0, block_named b k.1)
+    pub block_named : (b : Block) → BlockRight code may places bodies fixed symbols distinct opens b → Every (block_expressions b) → BlockIs b
+    block_named tree.no_nodes r h = tt
+    block_named (tree.then_node n b) r h = let k = apart (node_expressions n) (block_expressions b) h in (node_named n r.0 k.0, block_named b r.1 k.1)
 
-    arms_named : (a : Arms) → Every (arms_expressions a) → ArmsAre a
-    arms_named tree.no_arms h = tt
-    arms_named (tree.then_arm line None b more) h = block_named b (apart (block_expressions b) (arms_expressions more) h).0
-    arms_named (tree.then_arm line (Some c) b more) h =
+    arms_named : (a : Arms) → ArmsRight code may places bodies fixed symbols distinct opens a → Every (arms_expressions a) → ArmsAre a
+    arms_named tree.no_arms r h = tt
+    arms_named (tree.then_arm line None b more) r h = block_named b r (apart (block_expressions b) (arms_expressions more) h).0
+    arms_named (tree.then_arm line (Some c) b more) r h =
         let k = one c (block_expressions b ++ arms_expressions more) h in
         let l = apart (block_expressions b) (arms_expressions more) k.1 in
-        (k.0, block_named b l.0, arms_named more l.1)
+        (k.0, block_named b r.0 l.0, arms_named more r.1 l.1)

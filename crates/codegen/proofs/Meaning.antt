@@ -2,12 +2,17 @@
 -- where each loop that is opened does what it means.
 use Rattle.std.proofs.Common.{◌≡◌, ◌∙◌, ℕ, zero, suc, ℤ, pos, Bool, true, false, List, [], ◌∷◌, ◌++◌, Option, Some, None, Result, Ok, Err, refl, sym, ap, subst}
 use Rattle.std.specs.Prelude.{if◌then◌else◌}
+use Rattle.std.specs.List.{list_all}
 use Rattle.std.specs.Ordering.{int_eq}
+use Rattle.std.proofs.lemmas.Bool.{and_parts}
+use Rattle.std.proofs.lemmas.List.Folds.{list_all-append}
 use Rattle.ast.specs.Exact.{is_true, trips, value_of}
 use Rattle.ast.specs.Input.{taken, next_integer}
 use Rattle.ast.specs.Meaning as meaning
 use Rattle.ast.specs.Meaning.{Run, going_on, then_do, given, written, printed, step_value, turns, target, read_elements, exec_plain, grown, looped, exec, exec_block, exec_arms, looked_up, value}
 use Rattle.ast.specs.Record.{Printed, number, text, record_of}
+use Rattle.ast.specs.References.{arms_expressions, block_expressions, head_expressions, node_expressions}
+use Rattle.ast.specs.Regular.{is_fitting, are_fitting}
 use Rattle.ast.specs.Results.{◌>>=◌}
 use Rattle.ast.specs.Symbols.{Extent, dimensions_in}
 use Rattle.ast.specs.Tree as tree
@@ -17,6 +22,7 @@ use Rattle.ast.specs.declared.fault.End.{End}
 use Rattle.ast.specs.declared.fault.End.TheVariants.{Done, Stopped, Fault as Faulted}
 use Rattle.ast.specs.declared.fault.Fault.{Fault}
 use Rattle.ast.specs.declared.fault.Fault.TheVariants.{ZeroStep}
+use Rattle.ast.proofs.Fitting.{Fit, RunFits, Fits, StoreFits, block_fits, expression_fits, grown_fits, node_fits, put_fits, then_fits, turns_fit}
 use Rattle.machine.specs.View.{failure}
 use Rattle.expr_code.specs.Places.{Places, Home, loop_index, private_scalar, in_store, dimensions_at, home, home_of}
 use Rattle.expr_code.specs.Process.{answered_into, term_into}
@@ -58,6 +64,11 @@ pub record Acts (A : Type 0) (D : Doing A) (p : Places) (meant : A → List ℤ 
 
 -- ---- laws of runs
 
+-- the constants in the first of these expressions, and in the others, are 64-bit integers
+pub fit_parts : (xs ys : List Term) → Fit (xs ++ ys) → Fit xs × Fit ys
+fit_parts xs ys h = and_parts (list_all (λ e. is_fitting e) xs) (list_all (λ e. is_fitting e) ys) (sym (list_all-append (λ e. is_fitting e) xs ys) ∙ h)
+
+
 given_on : (r : Result ℤ Fault) (line : ℕ) (run : Run) (k : ℤ → Outcome) → on (λ e. failed e line run) r k ≡ given_told r line run k
 given_on (Ok v) line run k = refl
 given_on (Err e) line run k = refl
@@ -69,6 +80,10 @@ given_all (Err e) line run k = refl
 given_under : {V : Type 0} (r : Result V Fault) (line : ℕ) (run : Run) (f g : V → Outcome) → ((x : V) → f x ≡ g x) → given_told r line run f ≡ given_told r line run g
 given_under (Ok v) line run f g h = h v
 given_under (Err e) line run f g h = refl
+
+given_at : {V : Type 0} (r : Result V Fault) (line : ℕ) (run : Run) (f g : V → Outcome) → ((x : V) → r ≡ Ok x → f x ≡ g x) → given_told r line run f ≡ given_told r line run g
+given_at (Ok v) line run f g h = h v refl
+given_at (Err e) line run f g h = refl
 
 given_then : {V : Type 0} (r : Result V Fault) (line : ℕ) (run : Run) (f : V → Run) (g : Run → Outcome) → given_told r line run (λ x. then_told (f x) g) ≡ then_told (given r line run f) g
 given_then (Ok v) line run f g = refl
@@ -88,6 +103,15 @@ then_then run f g = by run.end refl
     by Done e = refl
     by (Stopped l) e = ap (λ (z : End). going_told z run g) e
     by (Faulted k l) e = ap (λ (z : End). going_told z run g) e
+
+-- the same of the run itself
+then_here : (run : Run) (f g : Run → Outcome) → (run.end ≡ Done → f run ≡ g run) → then_told run f ≡ then_told run g
+then_here run f g h = by run.end refl
+  where
+    by : (x : End) → run.end ≡ x → going_told x run f ≡ going_told x run g
+    by Done e = h e
+    by (Stopped l) e = refl
+    by (Faulted k l) e = refl
 
 then_under : (run : Run) (f g : Run → Outcome) → ((r : Run) → r.end ≡ Done → f r ≡ g r) → then_told run f ≡ then_told run g
 then_under run f g h = by run.end refl
@@ -256,45 +280,45 @@ module _ (A : Type 0) (D : Doing A) (p : Places) (meant : A → List ℤ → Run
       variable_meant r u (D.local a) run w ∙ M.goes a [] (written run r.name 0 u) ∙ nothing_meant a (written run r.name 0 u) d)
       ∙ given_then (value_of Add (run.store r.name 0) m3) line run (λ u. written run r.name 0 u) (after a)
 
-  turns_meant : (n : ℕ) (turn : A → A) (makes : Run → Run) (a : A) (run : Run) → ((b : A) (r : Run) → r.end ≡ Done → meant (turn b) [] r ≡ then_told (makes r) (after b)) → run.end ≡ Done → meant (turns_into A D p turn n a) [] run ≡ then_told (turns makes n run) (after a)
-  turns_meant zero turn makes a run h d = M.goes a [] run ∙ nothing_meant a run d
-  turns_meant (suc n) turn makes a run h d =
+  turns_meant : (n : ℕ) (turn : A → A) (makes : Run → Run) (a : A) (run : Run) → ((b : A) (r : Run) → r.end ≡ Done → RunFits p.symbols r → meant (turn b) [] r ≡ then_told (makes r) (after b)) → ((r : Run) → RunFits p.symbols r → RunFits p.symbols (makes r)) → run.end ≡ Done → RunFits p.symbols run → meant (turns_into A D p turn n a) [] run ≡ then_told (turns makes n run) (after a)
+  turns_meant zero turn makes a run h keep d f = M.goes a [] run ∙ nothing_meant a run d
+  turns_meant (suc n) turn makes a run h keep d f =
       M.goes (turn (turns_into A D p turn n a)) [] run
-      ∙ h (turns_into A D p turn n a) run d
-      ∙ then_under (makes run) (after (turns_into A D p turn n a)) (λ r. then_told (turns makes n r) (after a)) (λ r e. turns_meant n turn makes a r h e)
+      ∙ h (turns_into A D p turn n a) run d f
+      ∙ then_here (makes run) (after (turns_into A D p turn n a)) (λ r. then_told (turns makes n r) (after a)) (λ e. turns_meant n turn makes a (makes run) h keep e (keep run f))
       ∙ sym (then_then (makes run) (turns makes n) (after a))
 
   abbrev pub HeadNamed : DoHead → Type 0
   HeadNamed h = Named p h.first × Named p h.last × StepNamed h.step × Counts h.variable
 
-  serial_meant : (line : ℕ) (h : DoHead) (range : A → A) (makes : Run → Run) (a : A) (run : Run) → HeadNamed h → ((b : A) (r : Run) → r.end ≡ Done → meant (range b) [] r ≡ then_told (makes r) (after b)) → run.end ≡ Done
+  serial_meant : (line : ℕ) (h : DoHead) (range : A → A) (makes : Run → Run) (a : A) (run : Run) → HeadNamed h → is_fitting h.first ≡ true → ((b : A) (r : Run) → r.end ≡ Done → RunFits p.symbols r → meant (range b) [] r ≡ then_told (makes r) (after b)) → ((r : Run) → RunFits p.symbols r → RunFits p.symbols (makes r)) → run.end ≡ Done → RunFits p.symbols run
       → meant (serial_into A D p line h range a) [] run
       ≡ then_told (given (value (looked_up p.symbols run.store) h.first) line run (λ m1. given (value (looked_up p.symbols run.store) h.last) line run (λ m2. given (step_value (looked_up p.symbols run.store) h.step) line run (λ m3. looped line h.variable.name makes m1 m2 m3 run)))) (after a)
-  serial_meant line h range makes a run w body d =
+  serial_meant line h range makes a run w wf body keep d f =
       let look = looked_up p.symbols run.store in
       value_meant line h.first (λ m1. term_into A (D.evaluate line) (process.on A D p line) h.last (λ m2. step_into A D p line h.step (λ m3. set_up_into A D p line m3 (variable_into A D p h.variable m1 (turns_into A D p (λ b. range (grown_into A D p line h.variable m3 b)) (trips m1 m2 m3) a))))) [] run w.0
-      ∙ given_under (value look h.first) line run (λ m1. meant (term_into A (D.evaluate line) (process.on A D p line) h.last (λ m2. step_into A D p line h.step (λ m3. set_up_into A D p line m3 (variable_into A D p h.variable m1 (turns_into A D p (λ b. range (grown_into A D p line h.variable m3 b)) (trips m1 m2 m3) a))))) [] run) (λ m1. then_told (given (value look h.last) line run (λ m2. given (step_value look h.step) line run (λ m3. looped line h.variable.name makes m1 m2 m3 run))) (after a)) (λ m1.
+      ∙ given_at (value look h.first) line run (λ m1. meant (term_into A (D.evaluate line) (process.on A D p line) h.last (λ m2. step_into A D p line h.step (λ m3. set_up_into A D p line m3 (variable_into A D p h.variable m1 (turns_into A D p (λ b. range (grown_into A D p line h.variable m3 b)) (trips m1 m2 m3) a))))) [] run) (λ m1. then_told (given (value look h.last) line run (λ m2. given (step_value look h.step) line run (λ m3. looped line h.variable.name makes m1 m2 m3 run))) (after a)) (λ m1 e1.
       value_meant line h.last (λ m2. step_into A D p line h.step (λ m3. set_up_into A D p line m3 (variable_into A D p h.variable m1 (turns_into A D p (λ b. range (grown_into A D p line h.variable m3 b)) (trips m1 m2 m3) a)))) [] run w.1
       ∙ given_under (value look h.last) line run (λ m2. meant (step_into A D p line h.step (λ m3. set_up_into A D p line m3 (variable_into A D p h.variable m1 (turns_into A D p (λ b. range (grown_into A D p line h.variable m3 b)) (trips m1 m2 m3) a)))) [] run) (λ m2. then_told (given (step_value look h.step) line run (λ m3. looped line h.variable.name makes m1 m2 m3 run)) (after a)) (λ m2.
       step_meant line h.step (λ m3. set_up_into A D p line m3 (variable_into A D p h.variable m1 (turns_into A D p (λ b. range (grown_into A D p line h.variable m3 b)) (trips m1 m2 m3) a))) run w.2
-      ∙ given_under (step_value look h.step) line run (λ m3. meant (set_up_into A D p line m3 (variable_into A D p h.variable m1 (turns_into A D p (λ b. range (grown_into A D p line h.variable m3 b)) (trips m1 m2 m3) a))) [] run) (λ m3. then_told (looped line h.variable.name makes m1 m2 m3 run) (after a)) (λ m3. begun m1 m2 m3 (int_eq m3 (pos 0)))
+      ∙ given_under (step_value look h.step) line run (λ m3. meant (set_up_into A D p line m3 (variable_into A D p h.variable m1 (turns_into A D p (λ b. range (grown_into A D p line h.variable m3 b)) (trips m1 m2 m3) a))) [] run) (λ m3. then_told (looped line h.variable.name makes m1 m2 m3 run) (after a)) (λ m3. begun m1 m2 m3 (expression_fits p.symbols run.store f h.first wf m1 e1) (int_eq m3 (pos 0)))
       ∙ given_then (step_value look h.step) line run (λ m3. looped line h.variable.name makes m1 m2 m3 run) (after a))
       ∙ given_then (value look h.last) line run (λ m2. given (step_value look h.step) line run (λ m3. looped line h.variable.name makes m1 m2 m3 run)) (after a))
       ∙ given_then (value look h.first) line run (λ m1. given (value look h.last) line run (λ m2. given (step_value look h.step) line run (λ m3. looped line h.variable.name makes m1 m2 m3 run))) (after a)
     where
-      trip : (m3 : ℤ) (b : A) (r : Run) → r.end ≡ Done → meant (range (grown_into A D p line h.variable m3 b)) [] r ≡ then_told (then_do (makes r) (λ x. grown line h.variable.name m3 x)) (after b)
-      trip m3 b r e =
-          body (grown_into A D p line h.variable m3 b) r e
+      trip : (m3 : ℤ) (b : A) (r : Run) → r.end ≡ Done → RunFits p.symbols r → meant (range (grown_into A D p line h.variable m3 b)) [] r ≡ then_told (then_do (makes r) (λ x. grown line h.variable.name m3 x)) (after b)
+      trip m3 b r e g =
+          body (grown_into A D p line h.variable m3 b) r e g
           ∙ then_under (makes r) (after (grown_into A D p line h.variable m3 b)) (λ x. then_told (grown line h.variable.name m3 x) (after b)) (λ x f. grown_meant line h.variable m3 b x w.3 f)
           ∙ sym (then_then (makes r) (λ x. grown line h.variable.name m3 x) (after b))
 
-      begun : (m1 m2 m3 : ℤ) (zero_step : Bool) → meant (if zero_step then (D.evaluate line).fails ZeroStep else D.local (variable_into A D p h.variable m1 (turns_into A D p (λ b. range (grown_into A D p line h.variable m3 b)) (trips m1 m2 m3) a))) [] run
+      begun : (m1 m2 m3 : ℤ) → Fits m1 → (zero_step : Bool) → meant (if zero_step then (D.evaluate line).fails ZeroStep else D.local (variable_into A D p h.variable m1 (turns_into A D p (λ b. range (grown_into A D p line h.variable m3 b)) (trips m1 m2 m3) a))) [] run
           ≡ then_told (if zero_step then record run { end = Faulted ZeroStep line } else turns (λ x. then_do (makes x) (λ y. grown line h.variable.name m3 y)) (trips m1 m2 m3) (written run h.variable.name 0 m1)) (after a)
-      begun m1 m2 m3 true = (M.evaluates line [] run).faults ZeroStep
-      begun m1 m2 m3 false =
+      begun m1 m2 m3 g true = (M.evaluates line [] run).faults ZeroStep
+      begun m1 m2 m3 g false =
           M.goes (variable_into A D p h.variable m1 (turns_into A D p (λ b. range (grown_into A D p line h.variable m3 b)) (trips m1 m2 m3) a)) [] run
           ∙ variable_meant h.variable m1 (turns_into A D p (λ b. range (grown_into A D p line h.variable m3 b)) (trips m1 m2 m3) a) run w.3
-          ∙ turns_meant (trips m1 m2 m3) (λ b. range (grown_into A D p line h.variable m3 b)) (λ x. then_do (makes x) (λ y. grown line h.variable.name m3 y)) a (written run h.variable.name 0 m1) (λ b r e. trip m3 b r e) d
+          ∙ turns_meant (trips m1 m2 m3) (λ b. range (grown_into A D p line h.variable m3 b)) (λ x. then_do (makes x) (λ y. grown line h.variable.name m3 y)) a (written run h.variable.name 0 m1) (λ b r e k. trip m3 b r e k) (λ r k. then_fits p.symbols (makes r) (λ y. grown line h.variable.name m3 y) (keep r k) (λ y l. grown_fits p.symbols line h.variable.name m3 y l)) d (put_fits run.store h.variable.name 0 m1 f g)
 
   -- ---- blocks
 
@@ -303,7 +327,7 @@ module _ (A : Type 0) (D : Doing A) (p : Places) (meant : A → List ℤ → Run
     -- an opened loop does what the sequential one does
     abbrev pub LoopNamed : Option ℕ → ℕ → DoHead → Block → Type 0 → Type 0
     LoopNamed None line h b inner = HeadNamed h × inner
-    LoopNamed (Some n) line h b inner = (a : A) (run : Run) → run.end ≡ Done → meant (opened_into A D p line h n a) [] run ≡ then_told (exec p.symbols (tree.loop line h b) run) (after a)
+    LoopNamed (Some n) line h b inner = (a : A) (run : Run) → run.end ≡ Done → RunFits p.symbols run → meant (opened_into A D p line h n a) [] run ≡ then_told (exec p.symbols (tree.loop line h b) run) (after a)
 
     abbrev mutual
       pub NodeNamed : Node → Type 0
@@ -320,10 +344,10 @@ module _ (A : Type 0) (D : Doing A) (p : Places) (meant : A → List ℤ → Run
       ArmsNamed (tree.then_arm line None b more) = BlockNamed b
       ArmsNamed (tree.then_arm line (Some c) b more) = Named p c × BlockNamed b × ArmsNamed more
 
-    loop_meant : (o : Option ℕ) (line : ℕ) (h : DoHead) (b : Block) (inner : Type 0) (a : A) (run : Run) → LoopNamed o line h b inner → ((x : A) (r : Run) → inner → r.end ≡ Done → meant (block_into A D p opens (plain_block b) x) [] r ≡ then_told (exec_block p.symbols b r) (after x)) → run.end ≡ Done
+    loop_meant : (o : Option ℕ) (line : ℕ) (h : DoHead) (b : Block) (inner : Type 0) (a : A) (run : Run) → LoopNamed o line h b inner → is_fitting h.first ≡ true → are_fitting b ≡ true → ((x : A) (r : Run) → inner → r.end ≡ Done → RunFits p.symbols r → meant (block_into A D p opens (plain_block b) x) [] r ≡ then_told (exec_block p.symbols b r) (after x)) → run.end ≡ Done → RunFits p.symbols run
         → meant (loop_into A D p o line h (λ x. block_into A D p opens (plain_block b) x) a) [] run ≡ then_told (exec p.symbols (tree.loop line h b) run) (after a)
-    loop_meant None line h b inner a run w body d = serial_meant line h (λ x. block_into A D p opens (plain_block b) x) (λ r. exec_block p.symbols b r) a run w.0 (λ x r e. body x r w.1 e) d
-    loop_meant (Some n) line h b inner a run w body d = w a run d
+    loop_meant None line h b inner a run w wf bf body d f = serial_meant line h (λ x. block_into A D p opens (plain_block b) x) (λ r. exec_block p.symbols b r) a run w.0 wf (λ x r e k. body x r w.1 e k) (λ r k. block_fits p.symbols b r bf k) d f
+    loop_meant (Some n) line h b inner a run w wf bf body d f = w a run d f
 
     unless_last : (b : Bool) (x a : A) (run last : Run) → run.end ≡ Done → meant x [] run ≡ then_told last (after a) → meant (if b then a else x) [] run ≡ then_told (if b then run else last) (after a)
     unless_last true x a run last d h = nothing_meant a run d
@@ -334,28 +358,33 @@ module _ (A : Type 0) (D : Doing A) (p : Places) (meant : A → List ℤ → Run
     chosen_meant false x y a run one other h k = k
 
     mutual
-      pub node_meant : (n : Node) (a : A) (run : Run) → NodeNamed n → run.end ≡ Done → meant (node_into A D p opens (plain_node n) a) [] run ≡ then_told (exec p.symbols n run) (after a)
-      node_meant (tree.plain s) a run w d = kind_meant s.line s.kind a run w d
-      node_meant (tree.loop line h b) a run w d = loop_meant (opens h.variable.id) line h b (BlockNamed b) a run w (λ x r n e. block_meant b x r n e) d
-      node_meant (tree.choose arms) a run w d = arms_meant arms a run w d
+      pub node_meant : (n : Node) (a : A) (run : Run) → NodeNamed n → Fit (node_expressions n) → run.end ≡ Done → RunFits p.symbols run → meant (node_into A D p opens (plain_node n) a) [] run ≡ then_told (exec p.symbols n run) (after a)
+      node_meant (tree.plain s) a run w v d f = kind_meant s.line s.kind a run w d
+      node_meant (tree.loop line h b) a run w v d f =
+          let q = fit_parts (head_expressions h) (block_expressions b) v in
+          loop_meant (opens h.variable.id) line h b (BlockNamed b) a run w (and_parts (is_fitting h.first) _ q.0).0 q.1 (λ x r n e k. block_meant b x r n q.1 e k) d f
+      node_meant (tree.choose arms) a run w v d f = arms_meant arms a run w v d f
 
-      pub block_meant : (b : Block) (a : A) (run : Run) → BlockNamed b → run.end ≡ Done → meant (block_into A D p opens (plain_block b) a) [] run ≡ then_told (exec_block p.symbols b run) (after a)
-      block_meant tree.no_nodes a run w d = nothing_meant a run d
-      block_meant (tree.then_node n b) a run w d =
+      pub block_meant : (b : Block) (a : A) (run : Run) → BlockNamed b → are_fitting b ≡ true → run.end ≡ Done → RunFits p.symbols run → meant (block_into A D p opens (plain_block b) a) [] run ≡ then_told (exec_block p.symbols b run) (after a)
+      block_meant tree.no_nodes a run w v d f = nothing_meant a run d
+      block_meant (tree.then_node n b) a run w v d f =
+          let q = fit_parts (node_expressions n) (block_expressions b) v in
           ap (λ (z : Bool). meant (if z then a else node_into A D p opens (plain_node n) (block_into A D p opens (plain_block b) a)) [] run) (last_same n b)
           ∙ unless_last (meaning.is_last_stop n b) (node_into A D p opens (plain_node n) (block_into A D p opens (plain_block b) a)) a run (then_do (exec p.symbols n run) (λ r. exec_block p.symbols b r)) d
-          (node_meant n (block_into A D p opens (plain_block b) a) run w.0 d
-          ∙ then_under (exec p.symbols n run) (after (block_into A D p opens (plain_block b) a)) (λ r. then_told (exec_block p.symbols b r) (after a)) (λ r e. block_meant b a r w.1 e)
+          (node_meant n (block_into A D p opens (plain_block b) a) run w.0 q.0 d f
+          ∙ then_here (exec p.symbols n run) (after (block_into A D p opens (plain_block b) a)) (λ r. then_told (exec_block p.symbols b r) (after a)) (λ e. block_meant b a (exec p.symbols n run) w.1 q.1 e (node_fits p.symbols n run q.0 f))
           ∙ sym (then_then (exec p.symbols n run) (λ r. exec_block p.symbols b r) (after a)))
 
-      pub arms_meant : (arms : Arms) (a : A) (run : Run) → ArmsNamed arms → run.end ≡ Done → meant (arms_into A D p opens (plain_arms arms) a) [] run ≡ then_told (exec_arms p.symbols arms run) (after a)
-      arms_meant tree.no_arms a run w d = nothing_meant a run d
-      arms_meant (tree.then_arm line None b more) a run w d = block_meant b a run w d
-      arms_meant (tree.then_arm line (Some c) b more) a run w d =
+      pub arms_meant : (arms : Arms) (a : A) (run : Run) → ArmsNamed arms → Fit (arms_expressions arms) → run.end ≡ Done → RunFits p.symbols run → meant (arms_into A D p opens (plain_arms arms) a) [] run ≡ then_told (exec_arms p.symbols arms run) (after a)
+      arms_meant tree.no_arms a run w v d f = nothing_meant a run d
+      arms_meant (tree.then_arm line None b more) a run w v d f = block_meant b a run w (fit_parts (block_expressions b) (arms_expressions more) v).0 d f
+      arms_meant (tree.then_arm line (Some c) b more) a run w v d f =
+          let q = fit_parts (c ∷ block_expressions b) (arms_expressions more) v in
+          let q1 = and_parts (is_fitting c) (list_all (λ e. is_fitting e) (block_expressions b)) q.0 in
           value_meant line c (λ v. D.local (if is_true v then block_into A D p opens (plain_block b) (D.local a) else arms_into A D p opens (plain_arms more) a)) [] run w.0
-          ∙ given_under (value (looked_up p.symbols run.store) c) line run (λ v. meant (D.local (if is_true v then block_into A D p opens (plain_block b) (D.local a) else arms_into A D p opens (plain_arms more) a)) [] run) (λ v. then_told (if is_true v then exec_block p.symbols b run else exec_arms p.symbols more run) (after a)) (λ v.
-          M.goes (if is_true v then block_into A D p opens (plain_block b) (D.local a) else arms_into A D p opens (plain_arms more) a) [] run
-          ∙ chosen_meant (is_true v) (block_into A D p opens (plain_block b) (D.local a)) (arms_into A D p opens (plain_arms more) a) a run (exec_block p.symbols b run) (exec_arms p.symbols more run)
-          (block_meant b (D.local a) run w.1 d ∙ then_under (exec_block p.symbols b run) (after (D.local a)) (after a) (λ r e. M.goes a [] r))
-          (arms_meant more a run w.2 d))
+          ∙ given_under (value (looked_up p.symbols run.store) c) line run (λ v. meant (D.local (if is_true v then block_into A D p opens (plain_block b) (D.local a) else arms_into A D p opens (plain_arms more) a)) [] run) (λ v. then_told (if is_true v then exec_block p.symbols b run else exec_arms p.symbols more run) (after a)) (λ u.
+          M.goes (if is_true u then block_into A D p opens (plain_block b) (D.local a) else arms_into A D p opens (plain_arms more) a) [] run
+          ∙ chosen_meant (is_true u) (block_into A D p opens (plain_block b) (D.local a)) (arms_into A D p opens (plain_arms more) a) a run (exec_block p.symbols b run) (exec_arms p.symbols more run)
+          (block_meant b (D.local a) run w.1 q1.1 d f ∙ then_under (exec_block p.symbols b run) (after (D.local a)) (after a) (λ r e. M.goes a [] r))
+          (arms_meant more a run w.2 q.1 d f))
           ∙ given_then (value (looked_up p.symbols run.store) c) line run (λ v. if is_true v then exec_block p.symbols b run else exec_arms p.symbols more run) (after a)

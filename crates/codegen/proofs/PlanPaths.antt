@@ -7,7 +7,7 @@ use Rattle.loop_tree.specs.Loops.{Loop}
 use Rattle.loop_tree.specs.Paths.{Token, uses, defines, await as awaited_at, advance as advanced_at, at_end, PathSet}
 use Rattle.machine.specs.Code.{Cell}
 use Rattle.expr_code.specs.Places.{Places}
-use Rattle.codegen.proofs.IterationLaws.{in-left, in-right, in-cases}
+use Rattle.codegen.proofs.IterationLaws.{in_left, in_right, in_which}
 use Rattle.codegen.proofs.IterationPaths.{Along, Begun, Quiet, along_begun}
 use Rattle.codegen.proofs.IterationSteps.{Process, load, store, print, await, advance, tick, fault, leave, gone, Act, loaded, stored, printed, awaited, advanced, ticked, left, nothing, In, act, acts, after, follow}
 use Rattle.codegen.proofs.LoopMachine.{Advances, Awaits, HasLeft}
@@ -91,16 +91,16 @@ advance_told nothing u e s z = cc
 
 pub awaits_done : (ds : List Act) (ts : List Token) (e n : ℕ) → AllShow ds ts → In (awaited_at e n) ts → In (awaited e n) ds
 awaits_done [] ts e n s i = subst (λ (t : List Token). In (awaited_at e n) t) s i
-awaits_done (d ∷ ds) ts e n s i = ⊎_elim (λ a. inl (await_shown d s.0 e n s.3 a)) (λ b. inr (awaits_done ds s.1 e n s.4 b)) (in-cases (awaited_at e n) s.0 s.1 (subst (λ (t : List Token). In (awaited_at e n) t) s.2 i))
+awaits_done (d ∷ ds) ts e n s i = ⊎_elim (λ a. inl (await_shown d s.0 e n s.3 a)) (λ b. inr (awaits_done ds s.1 e n s.4 b)) (in_which (awaited_at e n) s.0 s.1 (subst (λ (t : List Token). In (awaited_at e n) t) s.2 i))
 
 pub advances_done : (ds : List Act) (ts : List Token) (e : ℕ) → AllShow ds ts → In (advanced_at e) ts → In (advanced e) ds
 advances_done [] ts e s i = subst (λ (t : List Token). In (advanced_at e) t) s i
-advances_done (d ∷ ds) ts e s i = ⊎_elim (λ a. inl (advance_shown d s.0 e s.3 a)) (λ b. inr (advances_done ds s.1 e s.4 b)) (in-cases (advanced_at e) s.0 s.1 (subst (λ (t : List Token). In (advanced_at e) t) s.2 i))
+advances_done (d ∷ ds) ts e s i = ⊎_elim (λ a. inl (advance_shown d s.0 e s.3 a)) (λ b. inr (advances_done ds s.1 e s.4 b)) (in_which (advanced_at e) s.0 s.1 (subst (λ (t : List Token). In (advanced_at e) t) s.2 i))
 
 pub advances_told : (ds : List Act) (ts : List Token) (e : ℕ) → AllShow ds ts → In (advanced e) ds → In (advanced_at e) ts
 advances_told [] ts e s i = absurd i
-advances_told (d ∷ ds) ts e s (inl z) = subst (λ (t : List Token). In (advanced_at e) t) (sym s.2) (in-left (advanced_at e) s.0 s.1 (advance_told d s.0 e s.3 z))
-advances_told (d ∷ ds) ts e s (inr i) = subst (λ (t : List Token). In (advanced_at e) t) (sym s.2) (in-right (advanced_at e) s.0 s.1 (advances_told ds s.1 e s.4 i))
+advances_told (d ∷ ds) ts e s (inl z) = subst (λ (t : List Token). In (advanced_at e) t) (sym s.2) (in_left (advanced_at e) s.0 s.1 (advance_told d s.0 e s.3 z))
+advances_told (d ∷ ds) ts e s (inr i) = subst (λ (t : List Token). In (advanced_at e) t) (sym s.2) (in_right (advanced_at e) s.0 s.1 (advances_told ds s.1 e s.4 i))
 
 module _ (l : Loop) (held : ℕ → ℤ) (index : ℤ) (Stands : Ref → Terms → Type 0) (p : Places) (fixed : Cell → Bool) (opened : StoreOf) (S : PathSet) where
   abbrev Goes : Process → List Token → Type 0

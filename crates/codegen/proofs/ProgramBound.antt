@@ -188,7 +188,7 @@ final_broke (stop_at line) n h = h
 module _ (F L : Type 0) (view : F → View F L) (trips : L → ℕ) (begin : L → ℕ → F) (slots : ℕ) (Hidden Fixed : L → Cell → Type 0) (Named : L → ℕ → Type 0) (start : L → StoreOf → ℕ → Process) (Valid : L → Type 0) (p : ℕ) (origin : Here L) (answer : Outcome) (means : (x : Outcome) → meaning L trips start x origin ≡ answer)
     (loops : Loops F L view trips begin Hidden Fixed Named start Valid) where
   abbrev G : Ghost L → State F L → Type 0
-  G g m = Good F L view trips Hidden Fixed start Valid p origin answer g m
+  G g m = Good F L view trips begin Hidden Fixed start Valid p origin answer g m
 
   abbrev all : ℕ
   all = solo L trips start origin.main origin.store origin.input
@@ -236,7 +236,7 @@ module _ (F L : Type 0) (view : F → View F L) (trips : L → ℕ) (begin : L �
   waiting_is m n b s w = ⊎_elim (λ a. absurd (s a.1)) (λ a. a.0) w
 
   module _ (l : L) (ι : StoreOf) (past : ℕ → List ℤ) (before : List ℕ) (xs : List (Cell × ℤ)) (M : Main L) (m n : State F L) (q : ℕ) (good : G (within l ι past before xs M) m) (steps acting b : ℕ) (c : CountWithin l ι past xs M m steps acting) where
-    abbrev W : Within F L view trips Hidden Fixed start Valid p origin answer l ι past before xs M m
+    abbrev W : Within F L view trips begin Hidden Fixed start Valid p origin answer l ι past before xs M m
     W = good.kept
 
     count_acted : (k : ℕ) (v : ℤ) → m.held q ≡ Some (iteration k) → n.parked ≡ m.parked → n.waiting ≡ m.waiting → n.ticket ≡ m.ticket → ((e : ℕ) → m.counts e ≤ n.counts e) → m.retired ≤ n.retired → n.input ≡ m.input → b ≡ 1
@@ -634,7 +634,7 @@ module _ (F L : Type 0) (view : F → View F L) (trips : L → ℕ) (begin : L �
         (count_works M m n q (subst (λ x. G x m) eg good) steps acting b (subst (λ x. Counted x m steps acting) eg c) M' ew less (acting_is m n b (ep, ew) w)))
     tally_by g g' m n q on good good' (opens_up l xs M eg eg' hold ep ew et going ei) steps acting b c w =
         let P = good.places in
-        let B : Between F L view trips Hidden Fixed start Valid p origin answer (open_loop l xs M) m = (subst (λ x. G x m) eg good).kept in
+        let B : Between F L view trips begin Hidden Fixed start Valid p origin answer (open_loop l xs M) m = (subst (λ x. G x m) eg good).kept in
         subst (λ x. Tally x n (steps + 1) (acting + b)) (sym eg')
         (within_tally l m.store (λ k. []) m.output xs M n (steps + 1) (acting + b) going (subst (λ x. G x n) eg' good')
         (count_opens l xs M m n q (subst (λ x. G x m) eg good) steps acting b (subst (λ x. Counted x m steps acting) eg c) hold
@@ -685,7 +685,7 @@ module _ (F L : Type 0) (view : F → View F L) (trips : L → ℕ) (begin : L �
               let z = C.bound in ⊎_elim (λ h. absurd (not_ready h)) (λ ne. omega arith) (cases_eq C.main_phase 2);
           last = λ x h. let z = breaks_exact l ι past before xs M m n q (subst (λ x. G x m) eg good) steps acting b C one_slot f hold lt eq in omega arith;
         })
-        (λ none. let K : Within F L view trips Hidden Fixed start Valid p origin answer l ι past before xs M m = (subst (λ x. G x m) eg good).kept in absurd (none l K.valid))
+        (λ none. let K : Within F L view trips begin Hidden Fixed start Valid p origin answer l ι past before xs M m = (subst (λ x. G x m) eg good).kept in absurd (none l K.valid))
         other)
         mode
 
@@ -762,8 +762,8 @@ module _ (F L : Type 0) (view : F → View F L) (trips : L → ℕ) (begin : L �
   abbrev pub alone_takes : ℕ
   alone_takes = solo L trips start M zeros (record { left = []; records = records_of input })
 
-  good_first : Good F L view trips Hidden Fixed start Valid p origin answer (between M) (initial f input)
-  good_first = good_init F L view trips Hidden Fixed start Valid p answer M f input st
+  good_first : Good F L view trips begin Hidden Fixed start Valid p origin answer (between M) (initial f input)
+  good_first = good_init F L view trips begin Hidden Fixed start Valid p answer M f input st
 
   first_tally : Tally F L view trips begin slots Hidden Fixed Named start Valid p origin answer means loops mode (between M) (initial f input) 0 0
   first_tally = record {

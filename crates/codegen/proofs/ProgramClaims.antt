@@ -12,7 +12,7 @@ use Rattle.codegen.specs.Headline.{IsBeginning}
 use Rattle.codegen.proofs.IterationSteps.{Process, Whole, acts, after, cell_value, sequential, stopped, went}
 use Rattle.codegen.proofs.LoopRuns.{Stands as StandsAlone, list_of, output, pasts, prints, reached, shown, stands}
 use Rattle.codegen.proofs.ProgramGoes.{goes_on, good_init, good_run, lowest_reached}
-use Rattle.codegen.proofs.ProgramStanding.{Between, Final, Ghost, Good, Loops, MainStands, Stands, Within, between, inner, within}
+use Rattle.codegen.proofs.ProgramStanding.{Leads, Between, Final, Ghost, Good, Loops, MainStands, Stands, Within, between, inner, within}
 use Rattle.codegen.proofs.Outcomes.{text_of, Outcome, done, failed, then_do}
 use Rattle.codegen.proofs.ProgramSteps.{Main, take, keep, say, get, work, crash, halt, open_loop, astray, seen, Here, alone, alone_is, meaning, whole}
 
@@ -60,7 +60,7 @@ module _ (F L : Type 0) (view : F → View F L) (trips : L → ℕ) (begin : L �
     -- the sequential program comes to this loop with that store and that output
     pub comes : alone L trips start steps origin ≡ record { main = open_loop l xs behind; store = opened_on; input = m.input; output = before }
     -- each open iteration stands where its process stands after these values
-    pub frames : (i : ℕ) (a : Active F) → m.iterations i ≡ Some a → Stands F L view (Hidden l) (Fixed l) opened_on (after (start l opened_on i) (past i)) a.frame × (a.out ≡ prints (acts (start l opened_on i) (past i)))
+    pub frames : (i : ℕ) (a : Active F) → m.iterations i ≡ Some a → Stands F L view (Hidden l) (Fixed l) opened_on (after (start l opened_on i) (past i)) a.frame × (a.out ≡ prints (acts (start l opened_on i) (past i))) × Leads F L view (Hidden l) (Fixed l) opened_on (begin l i) (past i) a.frame
     -- and up to the first that breaks off, that is where its own sequential run stands; at a load the cell
     -- holds what that loads
     pub own : (k : ℕ) → k < trips l → (ls : List (List ℤ)) (τ : StoreOf) → sequential (start l opened_on) k opened_on ≡ went ls τ → StandsAlone (start l opened_on) (inner m past) k τ
@@ -79,7 +79,7 @@ module _ (F L : Type 0) (view : F → View F L) (trips : L → ℕ) (begin : L �
 
   module _ (origin : Here L) (answer : Outcome) (means : (x : Outcome) → meaning L trips start x origin ≡ answer) (m : State F L) (some_p : 0 < p) (some_s : 0 < slots) where
     abbrev G : Ghost L → Type 0
-    G g = Good F L view trips Hidden Fixed start Valid p origin answer g m
+    G g = Good F L view trips begin Hidden Fixed start Valid p origin answer g m
 
     -- what is told of a state that has ended has its output
     final_text : (e : End) → Final e m answer → IsBeginning m.output (text_of answer)
@@ -97,7 +97,7 @@ module _ (F L : Type 0) (view : F → View F L) (trips : L → ℕ) (begin : L �
 
     claims : (g : Ghost L) → G g → Claims origin answer m
     claims (between M) good =
-        let B : Between F L view trips Hidden Fixed start Valid p origin answer M m = good.kept in
+        let B : Between F L view trips begin Hidden Fixed start Valid p origin answer M m = good.kept in
         let so = B.sofar in
         let same : whole L trips start lost M m.store m.input m.output ≡ answer = ap (meaning L trips start lost) (sym so.1) ∙ alone_is L trips start lost so.0 origin ∙ means lost in
         record {
@@ -108,7 +108,7 @@ module _ (F L : Type 0) (view : F → View F L) (trips : L → ℕ) (begin : L �
           inside = λ l e. let a = B.loop in cc;
         }
     claims (within l ι past before xs M) good =
-        let W : Within F L view trips Hidden Fixed start Valid p origin answer l ι past before xs M m = good.kept in
+        let W : Within F L view trips begin Hidden Fixed start Valid p origin answer l ι past before xs M m = good.kept in
         let so = W.sofar in
         let s = inner m past in
         let w = sequential (start l ι) (trips l) ι in
@@ -148,5 +148,5 @@ module _ (F L : Type 0) (view : F → View F L) (trips : L → ℕ) (begin : L �
       → (qs : List ℕ) (m : State F L) → Run F L view trips begin slots p (initial f input) qs m → Claims (record { main = M; store = zeros; input = record { left = []; records = records_of input }; output = [] }) answer m
   claimed M f input answer means st some_p some_s qs m r =
       let origin : Here L = record { main = M; store = zeros; input = record { left = []; records = records_of input }; output = [] } in
-      let g = good_run F L view trips begin slots Hidden Fixed Named start Valid p origin answer means loops qs (between M) (initial f input) m (good_init F L view trips Hidden Fixed start Valid p answer M f input st) r in
+      let g = good_run F L view trips begin slots Hidden Fixed Named start Valid p origin answer means loops qs (between M) (initial f input) m (good_init F L view trips begin Hidden Fixed start Valid p answer M f input st) r in
       claims origin answer means m some_p some_s g.0 g.1

@@ -28,13 +28,13 @@ busy_or_idle {A = A} held (suc n) = by (held n) refl (busy_or_idle held n)
 module _ (F L : Type 0) (view : F → View F L) (trips : L → ℕ) (begin : L → ℕ → F) (slots : ℕ) (Hidden Fixed : L → Cell → Type 0) (Named : L → ℕ → Type 0) (start : L → StoreOf → ℕ → Process) (Valid : L → Type 0) (p : ℕ) (origin : Here L) (answer : Outcome) (means : (x : Outcome) → meaning L trips start x origin ≡ answer)
     (loops : Loops F L view trips begin Hidden Fixed Named start Valid) where
   abbrev G : Ghost L → State F L → Type 0
-  G g m = Good F L view trips Hidden Fixed start Valid p origin answer g m
+  G g m = Good F L view trips begin Hidden Fixed start Valid p origin answer g m
 
   abbrev Goes : State F L → Type 0
   Goes m = (q : ℕ) × (q < p) × (n : State F L) × Step F L view trips begin slots m q n
 
   module _ (l : L) (ι : StoreOf) (past : ℕ → List ℤ) (before : List ℕ) (xs : List (Cell × ℤ)) (M : Main L) (m : State F L) (good : G (within l ι past before xs M) m) where
-    abbrev W : Within F L view trips Hidden Fixed start Valid p origin answer l ι past before xs M m
+    abbrev W : Within F L view trips begin Hidden Fixed start Valid p origin answer l ι past before xs M m
     W = good.kept
 
     abbrev s : Inside
@@ -150,7 +150,7 @@ module _ (F L : Type 0) (view : F → View F L) (trips : L → ℕ) (begin : L �
     main_can halt going good q st = let n : State F L = record m { ended = Some Done } in (n, subst (λ (V : View F L). MainMove trips V m q n) (sym st) refl)
     main_can astray going good q st = absurd (never_astray F L view trips begin slots Hidden Fixed Named start Valid p origin answer means loops m going q good)
     main_can (open_loop l xs M) going good q st =
-        let B : Between F L view trips Hidden Fixed start Valid p origin answer (open_loop l xs M) m = good.kept in
+        let B : Between F L view trips begin Hidden Fixed start Valid p origin answer (open_loop l xs M) m = good.kept in
         let n : State F L = record m { main = st.1; loop = Some l; counts = λ e. 0; retired = 0; ticket = 0 } in
         (n, subst (λ (V : View F L). MainMove trips V m q n) (sym st.2) (none_open (Active F) p m.retired m.ticket m.iterations m.parked m.waiting m.held good.places q B.none, refl))
 
@@ -165,7 +165,7 @@ module _ (F L : Type 0) (view : F → View F L) (trips : L → ℕ) (begin : L �
         (busy_or_idle m.held p))
         (⊎_elim (λ a. inr a) (λ a. inl a) (good.places).main_somewhere)
       where
-        B : Between F L view trips Hidden Fixed start Valid p origin answer M m
+        B : Between F L view trips begin Hidden Fixed start Valid p origin answer M m
         B = good.kept
 
         picked : (w : Wait) × (m.waiting ≡ Some w) → m.held 0 ≡ None → Goes m
@@ -188,9 +188,9 @@ module _ (F L : Type 0) (view : F → View F L) (trips : L → ℕ) (begin : L �
   good_run (q ∷ qs) g m n good r = let o = step_out F L view trips begin slots Hidden Fixed Named start Valid p origin answer means loops g m r.0 q r.1 good r.2 in good_run qs o.ghost r.0 n o.good r.3
 
 -- main is parked at the beginning
-pub good_init : (F L : Type 0) (view : F → View F L) (trips : L → ℕ) (Hidden Fixed : L → Cell → Type 0) (start : L → StoreOf → ℕ → Process) (Valid : L → Type 0) (p : ℕ) (answer : Outcome) (M : Main L) (f : F) (input : List ℕ)
-    → MainStands F L view Valid M f → Good F L view trips Hidden Fixed start Valid p (record { main = M; store = zeros; input = record { left = []; records = records_of input }; output = [] }) answer (between M) (initial f input)
-good_init F L view trips Hidden Fixed start Valid p answer M f input st = record {
+pub good_init : (F L : Type 0) (view : F → View F L) (trips : L → ℕ) (begin : L → ℕ → F) (Hidden Fixed : L → Cell → Type 0) (start : L → StoreOf → ℕ → Process) (Valid : L → Type 0) (p : ℕ) (answer : Outcome) (M : Main L) (f : F) (input : List ℕ)
+    → MainStands F L view Valid M f → Good F L view trips begin Hidden Fixed start Valid p (record { main = M; store = zeros; input = record { left = []; records = records_of input }; output = [] }) answer (between M) (initial f input)
+good_init F L view trips begin Hidden Fixed start Valid p answer M f input st = record {
   places = places_init (Active F) p (until_retired 0);
   kept = record { loop = refl; at = st; sofar = (0, refl); waits = λ w h. let z : until_retired 0 ≡ w = cc in sym z; none = omega arith };
   final = λ e h. cc;

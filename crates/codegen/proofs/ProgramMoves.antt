@@ -6,14 +6,14 @@ use Rattle.ast.specs.declared.fault.End.{End}
 use Rattle.ast.specs.declared.fault.End.TheVariants.{Done, Stopped, Fault as Faulted}
 use Rattle.machine.specs.Code.{Cell}
 use Rattle.machine.specs.State.{State, Active, Wait, until_count, until_retired, Who, the_main, iteration, Choice, take_main, take_iteration, take_ticket, Reached, with_frame, park, NoneOpen, Move, MainMove, Takes, Turn, Step, put_at, put_cell, put_cells, end_of}
-use Rattle.machine.specs.View.{Cause, failure, stop_at, Input, View}
+use Rattle.machine.specs.View.{Cause, failure, stop_at, Input, View, doing, loading, storing, printing, awaiting, advancing}
 use Rattle.codegen.proofs.IterationLaws.{put_same, put_other, put_cases, cell_other, cells_other, after-snoc, acts-snoc}
 use Rattle.codegen.proofs.IterationSteps.{Process, load, store, print, await, advance, tick, fault, leave, gone, Whole, follow, act, after, acts, cell_value, stopped, sequential}
 use Rattle.codegen.proofs.LoopKeeps.{grows}
 use Rattle.codegen.proofs.LoopMachine.{Inside, Possible, value_of, written, counted, lowered, effect, Inv, Loads, Stores}
 use Rattle.codegen.proofs.LoopRuns.{prints, shown, pasts, step_keeps, opens, finished, faulted, prints-append, pasts_same, pasts-snoc, shown-snoc}
 use Rattle.codegen.proofs.ProgramPlaces.{Whereabouts, places_go, places_park, places_park_main, places_pick, places_pick_main, places_ticket, places_retire, places_open}
-use Rattle.codegen.proofs.ProgramStanding.{WaitsFor, Stands, MainStands, Loops, Ghost, between, within, inner, Final, Between, Within, Good}
+use Rattle.codegen.proofs.ProgramStanding.{Leads, Steps, leads_on, WaitsFor, Stands, MainStands, Loops, Ghost, between, within, inner, Final, Between, Within, Good}
 use Rattle.codegen.proofs.Outcomes.{Outcome, done, failed, then_do}
 use Rattle.codegen.proofs.ProgramSteps.{Main, take, keep, say, get, work, crash, halt, open_loop, astray, seen, loop_meaning, whole, Here, after_loop, next_by, alone, meaning, alone_is, solo}
 
@@ -41,19 +41,23 @@ module _ (F L : Type 0) (trips : L → ℕ) (slots : ℕ) (start : L → StoreOf
 module _ (F L : Type 0) (view : F → View F L) (trips : L → ℕ) (begin : L → ℕ → F) (slots : ℕ) (Hidden Fixed : L → Cell → Type 0) (Named : L → ℕ → Type 0) (start : L → StoreOf → ℕ → Process) (Valid : L → Type 0) (p : ℕ) (origin : Here L) (answer : Outcome) (means : (x : Outcome) → meaning L trips start x origin ≡ answer)
     (loops : Loops F L view trips begin Hidden Fixed Named start Valid) where
   abbrev G : Ghost L → State F L → Type 0
-  G g m = Good F L view trips Hidden Fixed start Valid p origin answer g m
+  G g m = Good F L view trips begin Hidden Fixed start Valid p origin answer g m
 
   pub record Out (m : State F L) (q : ℕ) (g : Ghost L) (n : State F L) : Type 0 where
     pub ghost : Ghost L
-    pub good : Good F L view trips Hidden Fixed start Valid p origin answer ghost n
+    pub good : Good F L view trips begin Hidden Fixed start Valid p origin answer ghost n
     pub how : Change F L trips slots start m n q g ghost
 
   module _ (l : L) (ι : StoreOf) (past : ℕ → List ℤ) (before : List ℕ) (xs : List (Cell × ℤ)) (M : Main L) (m : State F L) (good : G (within l ι past before xs M) m) (going : m.ended ≡ None) (q : ℕ) where
-    abbrev W : Within F L view trips Hidden Fixed start Valid p origin answer l ι past before xs M m
+    abbrev W : Within F L view trips begin Hidden Fixed start Valid p origin answer l ι past before xs M m
     W = good.kept
 
     abbrev St : Process → F → Type 0
     St P f = Stands F L view (Hidden l) (Fixed l) ι P f
+
+    -- an iteration's frame and output, after these values
+    abbrev Has : ℕ → List ℤ → F → List ℕ → Type 0
+    Has i x f out = St (after (start l ι i) x) f × (out ≡ prints (acts (start l ι i) x)) × Leads F L view (Hidden l) (Fixed l) ι (begin l i) x f
 
     abbrev Now : State F L → Type 0
     Now n = Out m q (within l ι past before xs M) n
@@ -67,9 +71,9 @@ module _ (F L : Type 0) (view : F → View F L) (trips : L → ℕ) (begin : L �
     module _ (k : ℕ) (hold : m.held q ≡ Some (iteration k)) (lt : k < trips l) where
       -- k made a step after which it still runs
       goes : (P : Process) → after (start l ι k) (past k) ≡ P → Possible P s k → (g : F) (out : List ℕ) → St (follow P (value_of P m.store)) g
-          → out ≡ prints (acts (start l ι k) (past k)) ++ prints (act P (value_of P m.store) ∷ []) → ((c : Cell) → Fixed l c → cell_value (written P m.store) c ≡ cell_value ι c) → lowered P m.retired ≡ m.retired
+          → out ≡ prints (acts (start l ι k) (past k)) ++ prints (act P (value_of P m.store) ∷ []) → ((c : Cell) → Fixed l c → cell_value (written P m.store) c ≡ cell_value ι c) → lowered P m.retired ≡ m.retired → Leads F L view (Hidden l) (Fixed l) ι (begin l k) (past k ++ value_of P m.store ∷ []) g
           → (n : State F L) → n ≡ record m { store = written P m.store; counts = counted P m.counts; iterations = put_at m.iterations k (Some (record { frame = g; out = out })) } → Now n
-      goes P eq may g out st out_is fixed' low_is n is = subst Now (sym is) (record {
+      goes P eq may g out st out_is fixed' low_is leads n is = subst Now (sym is) (record {
         ghost = within l ι past' before xs M;
         good = record {
           places = places_go (Active F) p m.retired m.ticket m.iterations m.parked m.waiting m.held good.places q k hold a;
@@ -85,9 +89,9 @@ module _ (F L : Type 0) (view : F → View F L) (trips : L → ℕ) (begin : L �
             ticket = W.ticket;
             fresh = λ i le. put_other past k (past k ++ v ∷ []) i (λ e. absurd (omega (arith, here))) ∙ W.fresh i le;
             active = λ i b h. ⊎_elim
-                (λ c. subst (λ x. St (after (start l ι x) (past' x)) b.frame × (b.out ≡ prints (acts (start l ι x) (past' x)))) (sym c.0)
-                (let y = c.1 in let z : a ≡ b = cc in subst (λ (x : Active F). St (after (start l ι k) (past' k)) x.frame × (x.out ≡ prints (acts (start l ι k) (past' k)))) z at_k))
-                (λ c. subst (λ x. St (after (start l ι i) x) b.frame × (b.out ≡ prints (acts (start l ι i) x))) (sym (put_other past k (past k ++ v ∷ []) i c.0)) (W.active i b c.1))
+                (λ c. subst (λ x. Has x (past' x) b.frame b.out) (sym c.0)
+                (let y = c.1 in let z : a ≡ b = cc in subst (λ (x : Active F). Has k (past' k) x.frame x.out) z at_k))
+                (λ c. subst (λ x. Has i x b.frame b.out) (sym (put_other past k (past k ++ v ∷ []) i c.0)) (W.active i b c.1))
                 (put_cases m.iterations k (Some a) i (Some b) h);
             waits = λ i w h.
                 let ne : i ≡ k → ⊥ = λ e. (good.places).apart q k w hold (subst (λ x. m.parked x ≡ Some w) e h) in
@@ -111,12 +115,13 @@ module _ (F L : Type 0) (view : F → View F L) (trips : L → ℕ) (begin : L �
           here : (m.retired ≤ k) × (k < m.ticket)
           here = (good.places).holds q k hold
 
-          at_k : St (after (start l ι k) (past' k)) g × (out ≡ prints (acts (start l ι k) (past' k)))
+          at_k : Has k (past' k) g out
           at_k = (
             subst (λ x. St x g) (sym (ap (after (start l ι k)) (put_same past k (past k ++ v ∷ [])) ∙ after-snoc (start l ι k) (past k) v ∙ ap (λ x. follow x v) eq)) st,
             out_is ∙ ap (λ x. prints (acts (start l ι k) (past k)) ++ prints (act x v ∷ [])) (sym eq)
                 ∙ sym (prints-append (acts (start l ι k) (past k)) (act (after (start l ι k) (past k)) v ∷ []))
                 ∙ sym (ap prints (ap (acts (start l ι k)) (put_same past k (past k ++ v ∷ [])) ∙ acts-snoc (start l ι k) (past k) v)),
+            subst (λ x. Leads F L view (Hidden l) (Fixed l) ι (begin l k) x g) (sym (put_same past k (past k ++ v ∷ []))) leads,
           )
 
       -- k was parked
@@ -166,7 +171,7 @@ module _ (F L : Type 0) (view : F → View F L) (trips : L → ℕ) (begin : L �
             ticket = W.ticket;
             fresh = λ i le. put_other past k (past k ++ pos 0 ∷ []) i (λ e. absurd (omega (arith, here))) ∙ W.fresh i le;
             active = λ i b h. ⊎_elim (λ c. cc)
-                (λ c. subst (λ x. St (after (start l ι i) x) b.frame × (b.out ≡ prints (acts (start l ι i) x))) (sym (put_other past k (past k ++ pos 0 ∷ []) i c.0)) (W.active i b c.1))
+                (λ c. subst (λ x. Has i x b.frame b.out) (sym (put_other past k (past k ++ pos 0 ∷ []) i c.0)) (W.active i b c.1))
                 (put_cases m.iterations k None i (Some b) h);
             waits = λ i w h.
                 let ne : i ≡ k → ⊥ = λ e. (good.places).apart q k w hold (subst (λ x. m.parked x ≡ Some w) e h) in
@@ -229,39 +234,49 @@ module _ (F L : Type 0) (view : F → View F L) (trips : L → ℕ) (begin : L �
               ∙ ap (λ x. failed c (before ++ x)) text ∙ ap (failed c) (sym (append_assoc before (shown (start l ι) 0 (pasts past m.retired 0)) a.out)) ∙ ap (λ x. failed c (x ++ a.out)) (sym (W.printed going))
 
       -- one step of k
-      move : (a : Active F) → a.out ≡ prints (acts (start l ι k) (past k)) → (P : Process) → after (start l ι k) (past k) ≡ P → St P a.frame → (n : State F L) → Move (view a.frame) a m q k n → Now n
-      move a out (load r c κ) eq st' n mv =
+      -- one step more
+      on : (f g : F) (v : ℤ) → Leads F L view (Hidden l) (Fixed l) ι (begin l k) (past k) f → Steps F L view (Hidden l) (Fixed l) ι (view f) v g → Leads F L view (Hidden l) (Fixed l) ι (begin l k) (past k ++ v ∷ []) g
+      on f g v h s = leads_on F L view (Hidden l) (Fixed l) ι (begin l k) (past k) v f g h s
+
+      by_view : (f : F) (V : View F L) (v : ℤ) (g : F) → view f ≡ V → Steps F L view (Hidden l) (Fixed l) ι V v g → Steps F L view (Hidden l) (Fixed l) ι (view f) v g
+      by_view f V v g e s = subst (λ (U : View F L). Steps F L view (Hidden l) (Fixed l) ι U v g) (sym e) s
+
+      move : (a : Active F) → Leads F L view (Hidden l) (Fixed l) ι (begin l k) (past k) a.frame → a.out ≡ prints (acts (start l ι k) (past k)) → (P : Process) → after (start l ι k) (past k) ≡ P → St P a.frame → (n : State F L) → Move (view a.frame) a m q k n → Now n
+      move a lead out (load r c κ) eq st' n mv =
           let st = st' (loops.never l W.valid ι k (past k) c (subst (λ x. Loads x c) (sym eq) refl)) in
-          goes (load r c κ) eq tt (st.0 (cell_value m.store c)) a.out (st.2 (cell_value m.store c)) (out ∙ sym (append-nil (prints (acts (start l ι k) (past k))))) W.fixed refl n (subst (λ V. Move V a m q k n) st.1 mv)
-      move a out (store r c v P) eq st n mv =
+          goes (load r c κ) eq tt (st.0 (cell_value m.store c)) a.out (st.2 (cell_value m.store c)) (out ∙ sym (append-nil (prints (acts (start l ι k) (past k))))) W.fixed refl
+          (on a.frame (st.0 (cell_value m.store c)) (cell_value m.store c) lead (by_view a.frame (loading c st.0) (cell_value m.store c) (st.0 (cell_value m.store c)) st.1 (⊎_elim (λ fx. inr (fx, ap st.0 (sym (W.fixed c fx)))) (λ no_fx. inl (no_fx, refl)) (loops.decides l W.valid c))))
+          n (subst (λ V. Move V a m q k n) st.1 mv)
+      move a lead out (store r c v P) eq st n mv =
           goes (store r c v P) eq tt st.0 a.out st.2 (out ∙ sym (append-nil (prints (acts (start l ι k) (past k)))))
-          (λ d fx. cell_other m.store c v d (λ z. loops.free_store l W.valid ι k (past k) c (subst (λ x. Stores x c) (sym eq) refl) (subst (Fixed l) z fx)) ∙ W.fixed d fx) refl n (subst (λ V. Move V a m q k n) st.1 mv)
-      move a out (print v P) eq st n mv =
-          goes (print v P) eq tt st.0 (a.out ++ v) st.2 (ap (λ (x : List ℕ). x ++ v) out ∙ ap (λ (x : List ℕ). prints (acts (start l ι k) (past k)) ++ x) (sym (append-nil v))) W.fixed refl n (subst (λ V. Move V a m q k n) st.1 mv)
-      move a out (tick P) eq (inl st) n mv =
-          goes (tick P) eq tt st.0 a.out st.2 (out ∙ sym (append-nil (prints (acts (start l ι k) (past k))))) W.fixed refl n (subst (λ V. Move V a m q k n) st.1 mv)
-      move a out (tick P) eq (inr st) n mv =
-          goes (tick P) eq tt (st.1 (cell_value m.store st.0)) a.out (subst (λ v. St P (st.1 v)) (sym (W.fixed st.0 st.2)) st.4) (out ∙ sym (append-nil (prints (acts (start l ι k) (past k))))) W.fixed refl n (subst (λ V. Move V a m q k n) st.3 mv)
-      move a out (advance e P) eq st n mv =
+          (λ d fx. cell_other m.store c v d (λ z. loops.free_store l W.valid ι k (past k) c (subst (λ x. Stores x c) (sym eq) refl) (subst (Fixed l) z fx)) ∙ W.fixed d fx) refl (on a.frame st.0 (pos 0) lead (by_view a.frame (storing c v st.0) (pos 0) st.0 st.1 refl)) n (subst (λ V. Move V a m q k n) st.1 mv)
+      move a lead out (print v P) eq st n mv =
+          goes (print v P) eq tt st.0 (a.out ++ v) st.2 (ap (λ (x : List ℕ). x ++ v) out ∙ ap (λ (x : List ℕ). prints (acts (start l ι k) (past k)) ++ x) (sym (append-nil v))) W.fixed refl (on a.frame st.0 (pos 0) lead (by_view a.frame (printing v st.0) (pos 0) st.0 st.1 refl)) n (subst (λ V. Move V a m q k n) st.1 mv)
+      move a lead out (tick P) eq (inl st) n mv =
+          goes (tick P) eq tt st.0 a.out st.2 (out ∙ sym (append-nil (prints (acts (start l ι k) (past k))))) W.fixed refl (on a.frame st.0 (pos 0) lead (by_view a.frame (doing st.0) (pos 0) st.0 st.1 refl)) n (subst (λ V. Move V a m q k n) st.1 mv)
+      move a lead out (tick P) eq (inr st) n mv =
+          goes (tick P) eq tt (st.1 (cell_value m.store st.0)) a.out (subst (λ v. St P (st.1 v)) (sym (W.fixed st.0 st.2)) st.4) (out ∙ sym (append-nil (prints (acts (start l ι k) (past k))))) W.fixed refl
+          (on a.frame (st.1 (cell_value m.store st.0)) (pos 0) lead (by_view a.frame (loading st.0 st.1) (pos 0) (st.1 (cell_value m.store st.0)) st.3 (inr (st.2, ap st.1 (sym (W.fixed st.0 st.2)))))) n (subst (λ V. Move V a m q k n) st.3 mv)
+      move a lead out (advance e P) eq st n mv =
           let is : (m.counts e ≡ k) × (n ≡ record (with_frame m k st.0 a.out) { counts = put_at m.counts e (m.counts e + 1) }) = subst (λ V. Move V a m q k n) st.1 mv in
-          goes (advance e P) eq is.0 st.0 a.out st.2 (out ∙ sym (append-nil (prints (acts (start l ι k) (past k))))) W.fixed refl n is.1
-      move a out (await e d P) eq st n mv =
+          goes (advance e P) eq is.0 st.0 a.out st.2 (out ∙ sym (append-nil (prints (acts (start l ι k) (past k))))) W.fixed refl (on a.frame st.0 (pos 0) lead (by_view a.frame (advancing e st.0) (pos 0) st.0 st.1 refl)) n is.1
+      move a lead out (await e d P) eq st n mv =
           let is : ((k < m.counts e + d) × (n ≡ with_frame m k st.0 a.out)) ⊎ ((m.counts e + d ≤ k) × (n ≡ park m q k (until_count e (k + 1 - d)))) = subst (λ V. Move V a m q k n) st.1 mv in
           ⊎_elim
-          (λ b. goes (await e d P) eq b.0 st.0 a.out st.2 (out ∙ sym (append-nil (prints (acts (start l ι k) (past k))))) W.fixed refl n b.1)
+          (λ b. goes (await e d P) eq b.0 st.0 a.out st.2 (out ∙ sym (append-nil (prints (acts (start l ι k) (past k))))) W.fixed refl (on a.frame st.0 (pos 0) lead (by_view a.frame (awaiting e d st.0) (pos 0) st.0 st.1 refl)) n b.1)
           (λ b. stops (until_count e (k + 1 - d)) (subst (λ x. WaitsFor x k (until_count e (k + 1 - d))) (sym eq) refl) (λ z. absurd (omega arith)) n b.1)
           is
-      move a out (leave ws) eq st n mv =
+      move a lead out (leave ws) eq st n mv =
           let is : ((m.retired ≡ k) × (n ≡ record m { store = put_cells m.store ws; output = m.output ++ a.out; retired = m.retired + 1; iterations = put_at m.iterations k None; held = put_at m.held q None })) ⊎ ((m.retired < k) × (n ≡ park m q k (until_retired k))) = subst (λ V. Move V a m q k n) st mv in
           ⊎_elim (λ b. retires a out ws eq b.0 n b.1)
           (λ b. stops (until_retired k) (subst (λ x. WaitsFor x k (until_retired k)) (sym eq) refl) (λ z. absurd (omega arith)) n b.1)
           is
-      move a out (fault c) eq st n mv =
+      move a lead out (fault c) eq st n mv =
           let is : ((m.retired ≡ k) × (n ≡ record m { output = m.output ++ a.out; ended = Some (end_of c) })) ⊎ ((m.retired < k) × (n ≡ park m q k (until_retired k))) = subst (λ V. Move V a m q k n) st mv in
           ⊎_elim (λ b. breaks a out c eq b.0 n b.1)
           (λ b. stops (until_retired k) (subst (λ x. WaitsFor x k (until_retired k)) (sym eq) refl) (λ z. absurd (omega arith)) n b.1)
           is
-      move a out gone eq st n mv =
+      move a lead out gone eq st n mv =
           let here = (good.places).holds q k hold in
           let x = (W.inv).has_left k ((loops.plan l W.valid ι).lasts k (past k) eq) in absurd (omega arith)
 
@@ -271,7 +286,7 @@ module _ (F L : Type 0) (view : F → View F L) (trips : L → ℕ) (begin : L �
         let here = (good.places).holds q k hold in
         let tk = W.ticket in
         let st = W.active k a at in
-        move k hold (omega arith) a st.1 (after (start l ι k) (past k)) refl st.0 n mv
+        move k hold (omega arith) a st.2 st.1 (after (start l ι k) (past k)) refl st.0 n mv
 
     -- main, at the join, moves
     join_turn : m.held q ≡ Some the_main → (n : State F L) → MainMove trips (view m.main) m q n → Now n
@@ -400,8 +415,8 @@ module _ (F L : Type 0) (view : F → View F L) (trips : L → ℕ) (begin : L �
               ticket = let z = is.0 in omega arith;
               fresh = λ i le. W.fresh i (omega arith);
               active = λ i b h. ⊎_elim
-                  (λ c. subst (λ x. St (after (start l ι x) (past x)) b.frame × (b.out ≡ prints (acts (start l ι x) (past x)))) (sym c.0)
-                  (let y = c.1 in let z : a ≡ b = cc in subst (λ (x : Active F). St (after (start l ι m.ticket) (past m.ticket)) x.frame × (x.out ≡ prints (acts (start l ι m.ticket) (past m.ticket)))) z (at_ticket is.0)))
+                  (λ c. subst (λ x. Has x (past x) b.frame b.out) (sym c.0)
+                  (let y = c.1 in let z : a ≡ b = cc in subst (λ (x : Active F). Has m.ticket (past m.ticket) x.frame x.out) z (at_ticket is.0)))
                   (λ c. W.active i b c.1)
                   (put_cases m.iterations m.ticket (Some a) i (Some b) h);
               waits = W.waits;
@@ -418,8 +433,8 @@ module _ (F L : Type 0) (view : F → View F L) (trips : L → ℕ) (begin : L �
         none : past m.ticket ≡ []
         none = W.fresh m.ticket (omega arith)
 
-        at_ticket : m.ticket < trips l → St (after (start l ι m.ticket) (past m.ticket)) (begin l m.ticket) × ([] ≡ prints (acts (start l ι m.ticket) (past m.ticket)))
-        at_ticket lt = (subst (λ x. St (after (start l ι m.ticket) x) (begin l m.ticket)) (sym none) (loops.begins l W.valid ι m.ticket lt), ap (λ x. prints (acts (start l ι m.ticket) x)) (sym none))
+        at_ticket : m.ticket < trips l → Has m.ticket (past m.ticket) (begin l m.ticket) []
+        at_ticket lt = (subst (λ x. St (after (start l ι m.ticket) x) (begin l m.ticket)) (sym none) (loops.begins l W.valid ι m.ticket lt), ap (λ x. prints (acts (start l ι m.ticket) x)) (sym none), subst (λ x. Leads F L view (Hidden l) (Fixed l) ι (begin l m.ticket) x (begin l m.ticket)) (sym none) refl)
 
     within_turn : q < p → (o : Option Who) → m.held q ≡ o → (n : State F L) → Turn F L view trips begin slots o m q n → Now n
     within_turn below None idle n t = pick_turn below idle n t.0 t.1
@@ -432,7 +447,7 @@ module _ (F L : Type 0) (view : F → View F L) (trips : L → ℕ) (begin : L �
     main_goes : (M M' : Main L) → (good : G (between M) m) → m.held q ≡ Some the_main → (f : F) (σ : StoreOf) (output : List ℕ) (input : Input) → MainStands F L view Valid M' f → next_by L trips start M (record { main = M; store = m.store; input = m.input; output = m.output }) ≡ record { main = M'; store = σ; input = input; output = output }
         → solo L trips start M m.store m.input ≡ 1 + solo L trips start M' σ input → (n : State F L) → n ≡ record m { main = f; store = σ; output = output; input = input } → Out m q (between M) n
     main_goes M M' good hold f σ output input st same count n is =
-        let B : Between F L view trips Hidden Fixed start Valid p origin answer M m = good.kept in
+        let B : Between F L view trips begin Hidden Fixed start Valid p origin answer M m = good.kept in
         subst (Out m q (between M)) (sym is) (record {
           ghost = between M';
           good = record {
@@ -445,7 +460,7 @@ module _ (F L : Type 0) (view : F → View F L) (trips : L → ℕ) (begin : L �
 
     main_ends : (M : Main L) (good : G (between M) m) (e : End) → Final e m answer → solo L trips start M m.store m.input ≡ 1 → (n : State F L) → n ≡ record m { ended = Some e } → Out m q (between M) n
     main_ends M good e told last n is =
-        let B : Between F L view trips Hidden Fixed start Valid p origin answer M m = good.kept in
+        let B : Between F L view trips begin Hidden Fixed start Valid p origin answer M m = good.kept in
         subst (Out m q (between M)) (sym is) (record {
           ghost = between M;
           good = record {
@@ -464,7 +479,7 @@ module _ (F L : Type 0) (view : F → View F L) (trips : L → ℕ) (begin : L �
     -- what main comes to from here
     told_here : (x : Outcome) (M : Main L) → G (between M) m → whole L trips start x M m.store m.input m.output ≡ answer
     told_here x M good =
-        let B : Between F L view trips Hidden Fixed start Valid p origin answer M m = good.kept in
+        let B : Between F L view trips begin Hidden Fixed start Valid p origin answer M m = good.kept in
         ap (meaning L trips start x) (sym (B.sofar).1) ∙ alone_is L trips start x (B.sofar).0 origin ∙ means x
 
     final_of : (c : Cause) → answer ≡ failed c m.output → Final (end_of c) m answer
@@ -485,7 +500,7 @@ module _ (F L : Type 0) (view : F → View F L) (trips : L → ℕ) (begin : L �
     main_turn halt good hold st so n mv = main_ends halt good Done (sym (told_here answer halt good)) refl n (subst (λ (V : View F L). MainMove trips V m q n) st mv)
     main_turn astray good hold st so n mv = absurd (never_astray good)
     main_turn (open_loop l xs M) good hold st so n mv =
-        let B : Between F L view trips Hidden Fixed start Valid p origin answer (open_loop l xs M) m = good.kept in
+        let B : Between F L view trips begin Hidden Fixed start Valid p origin answer (open_loop l xs M) m = good.kept in
         let P = good.places in
         let is : NoneOpen m × (n ≡ record m { main = st.1; loop = Some l; counts = λ e. 0; retired = 0; ticket = 0 }) = subst (λ (V : View F L). MainMove trips V m q n) st.2 mv in
         subst (Out m q (between (open_loop l xs M))) (sym is.1) (record {
@@ -513,7 +528,7 @@ module _ (F L : Type 0) (view : F → View F L) (trips : L → ℕ) (begin : L �
 
     between_pick : (M : Main L) → G (between M) m → q < p → m.held q ≡ None → (n : State F L) (c : Choice) → Takes F L view trips begin slots c m q n → Out m q (between M) n
     between_pick M good below idle n take_main t =
-        let B : Between F L view trips Hidden Fixed start Valid p origin answer M m = good.kept in
+        let B : Between F L view trips begin Hidden Fixed start Valid p origin answer M m = good.kept in
         subst (Out m q (between M)) (sym t.3) (record {
           ghost = between M;
           good = record {
@@ -524,16 +539,16 @@ module _ (F L : Type 0) (view : F → View F L) (trips : L → ℕ) (begin : L �
           how = main_picked t.0 refl t.1 t.2 refl;
         })
     between_pick M good below idle n (take_iteration k) t =
-        let B : Between F L view trips Hidden Fixed start Valid p origin answer M m = good.kept in
+        let B : Between F L view trips begin Hidden Fixed start Valid p origin answer M m = good.kept in
         let o = (good.places).waits k t.0 t.1 in let e = B.none in absurd (omega arith)
     between_pick M good below idle n take_ticket t =
-        let B : Between F L view trips Hidden Fixed start Valid p origin answer M m = good.kept in
+        let B : Between F L view trips begin Hidden Fixed start Valid p origin answer M m = good.kept in
         let e = B.loop in let z = t.1 in absurd cc
 
     between_turn : (M : Main L) → G (between M) m → q < p → (o : Option Who) → m.held q ≡ o → (n : State F L) → Turn F L view trips begin slots o m q n → Out m q (between M) n
-    between_turn M good below (Some the_main) hold n t = let B : Between F L view trips Hidden Fixed start Valid p origin answer M m = good.kept in main_turn M good hold B.at B.sofar n t
+    between_turn M good below (Some the_main) hold n t = let B : Between F L view trips begin Hidden Fixed start Valid p origin answer M m = good.kept in main_turn M good hold B.at B.sofar n t
     between_turn M good below (Some (iteration k)) hold n t =
-        let B : Between F L view trips Hidden Fixed start Valid p origin answer M m = good.kept in
+        let B : Between F L view trips begin Hidden Fixed start Valid p origin answer M m = good.kept in
         let o = (good.places).holds q k hold in let e = B.none in absurd (omega arith)
     between_turn M good below None idle n t = between_pick M good below idle n t.0 t.1
 

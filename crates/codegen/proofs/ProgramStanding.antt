@@ -1,5 +1,5 @@
 -- Between frames and processes, and what holds in every state of every run.
-use Rattle.std.proofs.Common.{◌≡◌, ℕ, ◌+◌, ◌-◌, ◌<◌, ◌≤◌, ◌⊎◌, ℤ, List, [], ◌++◌, Some, None}
+use Rattle.std.proofs.Common.{refl, sym, subst, ◌∷◌, ◌≡◌, ℕ, ◌+◌, ◌-◌, ◌<◌, ◌≤◌, ◌⊎◌, ℤ, List, [], ◌++◌, Some, None}
 use Rattle.ast.specs.Store.{StoreOf}
 use Rattle.ast.specs.declared.fault.End.{End}
 use Rattle.ast.specs.declared.fault.End.TheVariants.{Done, Stopped, Fault as Faulted}
@@ -36,6 +36,25 @@ module _ (F L : Type 0) (view : F → View F L) where
     Stands (leave xs) f = view f ≡ leaving xs
     Stands gone f = Unit {0}
 
+    -- where one step leads that is given this value, 0 where nothing is loaded
+    abbrev pub Steps : View F L → ℤ → F → Type 0
+    Steps (doing g) v h = g ≡ h
+    Steps (loading c φ) v h = ((Fixed c → ⊥) × (φ v ≡ h)) ⊎ (Fixed c × (φ (cell_value opened c) ≡ h))
+    Steps (storing c w g) v h = g ≡ h
+    Steps (printing bytes g) v h = g ≡ h
+    Steps (awaiting e d g) v h = g ≡ h
+    Steps (advancing e g) v h = g ≡ h
+    Steps _ v h = ⊥
+
+    -- and several
+    abbrev pub Leads : F → List ℤ → F → Type 0
+    Leads f [] g = f ≡ g
+    Leads f (v ∷ vs) g = (h : F) × Steps (view f) v h × Leads h vs g
+
+    pub leads_on : (f : F) (vs : List ℤ) (v : ℤ) (g h : F) → Leads f vs g → Steps (view g) v h → Leads f (vs ++ v ∷ []) h
+    leads_on f [] v g h e s = (h, subst (λ (x : F). Steps (view x) v h) (sym e) s, refl)
+    leads_on f (w ∷ vs) v g h l s = (l.0, l.1, leads_on l.0 vs v g h l.2 s)
+
   -- the frame does what main may still do; Valid: the loops of the program
   module _ (Valid : L → Type 0) where
     abbrev pub MainStands : Main L → F → Type 0
@@ -60,6 +79,7 @@ module _ (F L : Type 0) (view : F → View F L) where
     pub not_gone : (l : L) → Valid l → (ι : StoreOf) (k : ℕ) → start l ι k ≡ gone → ⊥
     pub free_store : (l : L) → Valid l → (ι : StoreOf) (k : ℕ) (vs : List ℤ) (c : Cell) → Stores (after (start l ι k) vs) c → Fixed l c → ⊥
     pub free_leave : (l : L) → Valid l → (ι : StoreOf) (k : ℕ) (vs : List ℤ) (xs : List (Cell × ℤ)) → after (start l ι k) vs ≡ leave xs → (c : Cell) → IsKey c xs → Fixed l c → ⊥
+    pub decides : (l : L) → Valid l → (c : Cell) → Fixed l c ⊎ (Fixed l c → ⊥)
     pub begins : (l : L) → Valid l → (ι : StoreOf) (k : ℕ) → k < trips l → Stands (Hidden l) (Fixed l) ι (start l ι k) (begin l k)
 
 -- What is kept beside the state: what main has left, and, of an open loop, the store at its opening, what
@@ -77,7 +97,7 @@ Final Done m answer = answer ≡ done m.store m.output
 Final (Faulted e line) m answer = answer ≡ failed (failure e line) m.output
 Final (Stopped line) m answer = answer ≡ failed (stop_at line) m.output
 
-module _ (F L : Type 0) (view : F → View F L) (trips : L → ℕ) (Hidden Fixed : L → Cell → Type 0) (start : L → StoreOf → ℕ → Process) (Valid : L → Type 0) (p : ℕ) (origin : Here L) (answer : Outcome) where
+module _ (F L : Type 0) (view : F → View F L) (trips : L → ℕ) (begin : L → ℕ → F) (Hidden Fixed : L → Cell → Type 0) (start : L → StoreOf → ℕ → Process) (Valid : L → Type 0) (p : ℕ) (origin : Here L) (answer : Outcome) where
   -- no loop is open
   pub record Between (M : Main L) (m : State F L) : Type 0 where
     pub loop : m.loop ≡ None
@@ -97,7 +117,7 @@ module _ (F L : Type 0) (view : F → View F L) (trips : L → ℕ) (Hidden Fixe
     pub fixed : (c : Cell) → Fixed l c → cell_value m.store c ≡ cell_value ι c
     pub ticket : m.ticket ≤ trips l
     pub fresh : (i : ℕ) → m.ticket ≤ i → past i ≡ []
-    pub active : (i : ℕ) (a : Active F) → m.iterations i ≡ Some a → Stands F L view (Hidden l) (Fixed l) ι (after (start l ι i) (past i)) a.frame × (a.out ≡ prints (acts (start l ι i) (past i)))
+    pub active : (i : ℕ) (a : Active F) → m.iterations i ≡ Some a → Stands F L view (Hidden l) (Fixed l) ι (after (start l ι i) (past i)) a.frame × (a.out ≡ prints (acts (start l ι i) (past i))) × Leads F L view (Hidden l) (Fixed l) ι (begin l i) (past i) a.frame
     pub waits : (i : ℕ) (w : Wait) → m.parked i ≡ Some w → WaitsFor (after (start l ι i) (past i)) i w
     pub printed : m.ended ≡ None → m.output ≡ before ++ shown (start l ι) 0 (pasts past m.retired 0)
 

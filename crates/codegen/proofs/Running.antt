@@ -32,7 +32,7 @@ pub record Does (A : Type 0) (D : Doing A) (code : Code) (limit : ℕ) (index : 
   pub gets : (line : ℕ) (κ : ℤ → A) (f : Frame) (pc : ℕ) (st : List ℤ) → f.index ≡ index → length st < f.operands.room → view code (at code f pc st) ≡ act_view code acts.TakeValue line (at code f pc st) → ((v : ℤ) → St (κ v) (at code f (pc + 1) (v ∷ st))) → St (D.take_value line κ) (at code f pc st)
   pub drops : (line : ℕ) (a : A) (f : Frame) (pc : ℕ) (st : List ℤ) → f.index ≡ index → view code (at code f pc st) ≡ act_view code acts.DropRecord line (at code f pc st) → St a (at code f (pc + 1) st) → St (D.drop_record a) (at code f pc st)
   pub goes : (a : A) (f g : Frame) (pc to : ℕ) (st us : List ℤ) → f.index ≡ index → g.privates ≡ f.privates → view code (at code f pc st) ≡ doing (at code g to us) → St a (at code g to us) → St (D.local a) (at code f pc st)
-  pub awaits : (e d w line : ℕ) (a : A) (f : Frame) (pc : ℕ) (st : List ℤ) → f.index ≡ index → slice_get code.awaits w ≡ Some (record { event = e; distance = d }) → slice_get code.instructions pc ≡ Some (instr line (acts.Await w)) → St a (at code f (pc + 1) st) → St (D.await e d a) (at code f pc st)
+  pub awaits : (e d w line : ℕ) (a : A) (f : Frame) (pc : ℕ) (st : List ℤ) → f.index ≡ index → slice_get code.awaits w ≡ Some (record { event = short e; distance = d }) → slice_get code.instructions pc ≡ Some (instr line (acts.Await w)) → St a (at code f (pc + 1) st) → St (D.await e d a) (at code f pc st)
   pub advances : (e line : ℕ) (a : A) (f : Frame) (pc : ℕ) (st : List ℤ) → f.index ≡ index → slice_get code.instructions pc ≡ Some (instr line (acts.Advance (short e))) → St a (at code f (pc + 1) st) → St (D.advance e a) (at code f pc st)
   pub opens : (n line : ℕ) (m1 m2 : ℤ) (a : A) (f : Frame) (pc : ℕ) (st : List ℤ) → f.index ≡ index → slice_get code.instructions pc ≡ Some (instr line (acts.Open (short n))) → slice_get code.instructions (pc + 1) ≡ Some (instr line acts.Join) → St a (at code f (pc + 1 + 1) st) → St (D.opening line n m1 m2 a) (at code f pc (m2 ∷ m1 ∷ st))
   pub stops : (line : ℕ) (f : Frame) (pc : ℕ) (st : List ℤ) → f.index ≡ index → view code (at code f pc st) ≡ breaking (stop_at line) → St (D.stop line) (at code f pc st)

@@ -108,8 +108,8 @@ module _ (l : Loop) (held : ℕ → ℤ) (i : ℤ) (Stands : Ref → Terms → T
   -- wherever a path has begun.
   pub record WalksTerms (A : Type 0) (S : Steps A) (symbols : List Symbol) (homes : Ref → Home) (Q : A → List Token → Type 0) (Begun : List Token → Type 0) : Type 0 where
     pub loads : (r : Ref) (es : Terms) (n : ℕ) (κ : ℤ → A) (h : List Token) → homes r ≡ in_store → Located symbols r es n → ((v : ℤ) → May (element r es) v → Q (κ v) (h ++ uses r ∷ [])) → Q (S.load r (record { name = r.name; place = n }) κ) h
-    pub owns : (r : Ref) (x : ℕ) (κ : ℤ → A) (h : List Token) → homes r ≡ private_scalar x → ((v : ℤ) → May (element r no_terms) v → Q (κ v) (h ++ uses r ∷ [])) → Q (S.own r x κ) h
-    pub indexes : (r : Ref) (κ : ℤ → A) (h : List Token) → homes r ≡ loop_index → ((v : ℤ) → May (element r no_terms) v → Q (κ v) (h ++ uses r ∷ [])) → Q (S.index r κ) h
+    pub owns : (r : Ref) (es : Terms) (x : ℕ) (κ : ℤ → A) (h : List Token) → homes r ≡ private_scalar x → Located symbols r es 0 → ((v : ℤ) → May (element r no_terms) v → Q (κ v) (h ++ uses r ∷ [])) → Q (S.own r x κ) h
+    pub indexes : (r : Ref) (es : Terms) (κ : ℤ → A) (h : List Token) → homes r ≡ loop_index → Located symbols r es 0 → ((v : ℤ) → May (element r no_terms) v → Q (κ v) (h ++ uses r ∷ [])) → Q (S.index r κ) h
     pub goes : (a : A) (h : List Token) → Q a h → Q (S.local a) h
     pub faults : (e : Fault) (h : List Token) → Begun h → Q (S.fails e) h
 
@@ -168,8 +168,8 @@ module _ (l : Loop) (held : ℕ → ℤ) (i : ℤ) (Stands : Ref → Terms → T
 
     -- a scalar
     pub scalar_walks : (o : Home) (r : Ref) (es : Terms) (κ : ℤ → A) (h : List Token) → home_at p r ≡ o → Located p.symbols r es 0 → ((v : ℤ) → May (element r es) v → Q (κ v) (h ++ uses r ∷ [])) → Q (scalar_into A S o r κ) h
-    scalar_walks loop_index r es κ h held_so at next = W.indexes r κ h held_so (λ v m. next v (wider r es v m))
-    scalar_walks (private_scalar x) r es κ h held_so at next = W.owns r x κ h held_so (λ v m. next v (wider r es v m))
+    scalar_walks loop_index r es κ h held_so at next = W.indexes r es κ h held_so at (λ v m. next v (wider r es v m))
+    scalar_walks (private_scalar x) r es κ h held_so at next = W.owns r es x κ h held_so at (λ v m. next v (wider r es v m))
     scalar_walks in_store r es κ h held_so at next = W.loads r es 0 κ h held_so at next
 
     -- a function on all arguments, where there are just as many, or on none

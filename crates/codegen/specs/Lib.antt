@@ -1,6 +1,7 @@
 pub mod Blocks
 pub mod Emitted
 pub mod Headline
+pub mod Made
 pub mod Noted
 pub mod OpenedView
 pub mod Plain

@@ -90,14 +90,17 @@ abbrev pub place_of_name : ℕ → List Symbol → List ℕ → ℕ
 place_of_name n [] name = n
 place_of_name n (s ∷ ss) name = if same_name s.name name then n else place_of_name (n + 1) ss name
 
--- what code tells of a loop whose iterations begin at this place
-abbrev pub loop_entry : List Symbol → ℕ → Planned → machine.Loop
-loop_entry symbols place x = record {
+-- what code tells of a loop whose iterations begin at this place and have these private scalars
+abbrev pub entry_of : List Symbol → ℕ → Loop → List (List ℕ) → machine.Loop
+entry_of symbols place l names = record {
   body = place;
-  variable = x.loop.head.variable.cell;
-  step = unwrap_or x.loop.step (pos 0);
-  privates = map (λ name. place_of_name 0 symbols name) x.plan.privates;
+  variable = l.head.variable.cell;
+  step = unwrap_or l.step (pos 0);
+  privates = map (λ name. short (place_of_name 0 symbols name)) names;
 }
+
+abbrev pub loop_entry : List Symbol → ℕ → Planned → machine.Loop
+loop_entry symbols place x = entry_of symbols place x.loop x.plan.privates
 
 module _ (symbols : List Symbol) where
   abbrev pub ranges_code : (n r w : ℕ) → List Planned → List Instr
@@ -145,10 +148,15 @@ room_of t = max (block_room (plain_block t.block)) (block_loops (plain_block t.b
 abbrev pub IsTooLong : ProgramTree → List Planned → Type 0
 IsTooLong t xs = (most_instructions < length (all_code t xs)) ⊎ ((most_room ≤ room_of t) ⊎ (most_symbols < length t.symbols))
 
--- a program has no code: it would be too long, and no line is at fault
+-- a program has no code with these loops opened: it would be too long, and no line is at fault
+abbrev pub RefusesWith : ProgramTree → List Planned → Refusal → Type 0
+RefusesWith t xs Memory = ⊤
+RefusesWith t xs (Refused number line) = (number ≡ 61) × (line ≡ 0) × IsTooLong t xs
+
+-- a program has no code
 abbrev pub Refuses : ProgramTree → Refusal → Type 0
 Refuses t Memory = ⊤
-Refuses t (Refused number line) = (number ≡ 61) × (line ≡ 0) × ((xs : List Planned) × AreOpened t xs × IsTooLong t xs)
+Refuses t (Refused number line) = (xs : List Planned) × AreOpened t xs × RefusesWith t xs (Refused number line)
 
 -- the code of a program with these loops opened
 pub record IsCodeOf (t : ProgramTree) (xs : List Planned) (code : Code) : Type 0 where

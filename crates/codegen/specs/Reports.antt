@@ -1,12 +1,16 @@
 -- What is reported of a program's loops.
-use Rattle.std.specs.Prelude.{◌≡◌, ◌==◌, ◌+◌, ⊤, ℕ, Bool, true, false, if◌then◌else◌, List, [], ◌∷◌, map, Option, Some, None, slice_get}
+use Rattle.std.specs.Prelude.{◌≡◌, ◌==◌, ◌+◌, ⊤, ℕ, Bool, true, false, if◌then◌else◌, List, [], ◌∷◌, ◌++◌, map, Option, Some, None, slice_get}
 use Rattle.ast.specs.Program.{ProgramTree}
+use Rattle.dependence.specs.Plan.{PlanTree}
+use Rattle.dependence.specs.PlanView.{plan_of}
 use Rattle.loop_tree.specs.Loops.{Loop, loops_of}
 use Rattle.loop_tree.specs.Occurrences.{block_lines}
 use Rattle.placement.specs.Judged.{IsInside, IsPlaced}
 use Rattle.placement.specs.Placement.{IsPlacement, loops_around}
 use Rattle.placement.specs.declared.analysis.Kept.{Kept}
 use Rattle.placement.specs.declared.planning.Placed.{Placed}
+use Rattle.plan_check.specs.Checks.{HasBody, IsGood}
+use Rattle.codegen.specs.Program.{Planned}
 use Rattle.codegen.specs.declared.reports.LoopReport.{LoopReport}
 
 abbrev pub line_or_none : Option ℕ → ℕ
@@ -33,13 +37,15 @@ pub record IsReport (lines : List ℕ) (line : ℕ) (placed : Placed) (report : 
   pub sources_are : report.sources.items ≡ map (line_at lines) placed.sources.items
   pub kept_are : report.kept.items ≡ map (kept_line lines placed.sources.items) placed.kept.items
 
--- A report of what placement gives for a loop of a program with these loops.
+-- A report of what placement gives for a loop of a program with these loops; the check of plans accepts it.
 pub record IsPlacedReport (all : List Loop) (lines : List ℕ) (l : Loop) (report : LoopReport) : Type 0 where
   pub inside : Bool
   pub is_inside : IsInside (loops_around all l) inside
   pub placed : Placed
   pub is_placed : IsPlaced l inside placed
   pub plan : IsPlacement all l report.plan
+  pub good : IsGood l (plan_of report.plan)
+  pub body : HasBody l (plan_of report.plan)
   pub reported : IsReport lines l.line placed report
 
 -- each of these loops has its report, in order
@@ -47,6 +53,20 @@ abbrev pub AreReports : List Loop → List ℕ → List Loop → List LoopReport
 AreReports all lines [] [] = ⊤
 AreReports all lines (l ∷ ls) (r ∷ rs) = IsPlacedReport all lines l r × AreReports all lines ls rs
 AreReports all lines ls rs = ⊥
+
+-- the loops that are opened, by their reports: those whose plans have a body, in order
+abbrev pub planned_by : Loop → Option PlanTree → List Planned
+planned_by l None = []
+planned_by l (Some p) = record { loop = l; plan = p } ∷ []
+
+abbrev pub planned_in : List Loop → List LoopReport → List Planned
+planned_in [] rs = []
+planned_in (l ∷ ls) [] = []
+planned_in (l ∷ ls) (r ∷ rs) = planned_by l (plan_of r.plan) ++ planned_in ls rs
+
+-- the loops of a program that are opened
+abbrev pub opened_of : ProgramTree → List LoopReport → List Planned
+opened_of t reports = planned_in (loops_of t.block) reports
 
 -- the reports of a program's loops
 abbrev pub Reports : ProgramTree → List LoopReport → Type 0

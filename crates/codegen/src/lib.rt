@@ -6,6 +6,7 @@ mod nodes;
 mod opened;
 mod plans;
 mod programs;
+mod ranges;
 mod reports;
 mod rooms;
 mod skips;

@@ -6,21 +6,26 @@ ghost use Rattle.ast.specs.ProgramView.{program as program_of};
 ghost use Rattle.ast.specs.Symbols.{is_sized};
 ghost use Rattle.ast.specs.View.{symbol};
 ghost use Rattle.codegen.specs.Headline.{Bounded, Carried, Ends, Headline};
-ghost use Rattle.codegen.specs.Program.{IsCodeOf, Refuses, main_code, main_records, most_symbols};
-ghost use Rattle.codegen.specs.Records.{records_of};
-ghost use Rattle.codegen.specs.Reports.{Reports};
+ghost use Rattle.codegen.specs.Made.{all_made, made_of, main_made};
+ghost use Rattle.codegen.specs.OpenedView.{opens_in};
+ghost use Rattle.codegen.specs.Program.{AreOpened, IsCodeOf, Refuses, RefusesWith, most_symbols};
+ghost use Rattle.codegen.specs.Reports.{Reports, opened_of, planned_in};
 ghost use Rattle.expr_code.specs.Computes.{variables_for, variables_in};
+ghost use Rattle.loop_tree.specs.TreeView.{loops_seen};
 ghost use Rattle.machine.specs.CodeView.{code_of};
 ghost use Rattle.machine.specs.Laid.{are_laid};
 
 use crate::nodes::emit_block;
+use crate::opened::Opened;
+use crate::ranges::{Made, emit_ranges, variables_of};
 use crate::reports::{LoopReport, reports};
 use crate::rooms::{loops_of_block, of_block};
 use crate::statements::put;
 use ast::{Program, Refusal, Symbol};
 use expr_code::Places;
-use loop_tree::ScalarSet;
-use machine::{Act, Code, Instr, Parts, Piece, Variable};
+use expr_code::room::greater;
+use loop_tree::{LoopTree, ScalarSet, loops};
+use machine::{Act, Code, Parts, Variable};
 use std::alloc::{AllocError, Global};
 
 /// Code may have so many instructions,
@@ -56,10 +61,9 @@ fn variables(alloc: Global, symbols: &[Symbol]) -> Result<Vec<Variable>, AllocEr
     Ok(variables)
 }
 
-/// Main's instructions, and the records that they print.
-fn emit_main(alloc: Global, program: &Program) -> Result<(Vec<Instr>, Vec<Vec<Piece>>), AllocError>
-    ensures instructions { IfOk result (λ made. made.0.items ≡ main_code (program_of program.now)) }
-    ensures records { IfOk result (λ made. records_of made.1 ≡ main_records (program_of program.now)) }
+/// What main does.
+fn emit_main(alloc: Global, program: &Program, opened: &Opened) -> Result<Made, AllocError>
+    ensures { IfOk result (λ made. made_of made ≡ main_made (program_of program.now) (opens_in opened.now)) }
 {
     let privates = ScalarSet {
         names: Vec::new(alloc),
@@ -75,31 +79,65 @@ fn emit_main(alloc: Global, program: &Program) -> Result<(Vec<Instr>, Vec<Vec<Pi
     emit_block(
         alloc,
         &program.body,
+        opened,
         &places,
         &mut records,
         &mut instructions,
     )?;
     put(&mut instructions, 0, Act::Halt)?;
-    Ok((instructions, records))
-}
-
-/// The code of a program whose loops main runs alone.
-fn whole(alloc: Global, program: &Program) -> Result<Code, Refusal>
-    ensures code { IfOk result (λ code. IsCodeOf (program_of program.now) (code_of code)) }
-    ensures refused { IfErr result (Refuses (program_of program.now)) }
-{
-    let (instructions, records) = emit_main(alloc, program)?;
-    if instructions.len() > MOST_INSTRUCTIONS || program.symbols.len() > MOST_SYMBOLS {
-        return Err(TOO_LONG);
-    }
-    let parts = Parts {
+    Ok(Made {
         instructions,
         records,
         awaits: Vec::new(alloc),
-        variables: variables(alloc, &program.symbols)?,
         loops: Vec::new(alloc),
-        operands: of_block(&program.body) as usize,
-        counters: loops_of_block(&program.body) as usize,
+    })
+}
+
+/// What main does, and behind it the ranges of the loops that are opened.
+fn emit_all(
+    alloc: Global,
+    program: &Program,
+    tree: &LoopTree<'_>,
+    reports: &[LoopReport],
+) -> Result<Made, AllocError>
+    requires count { length reports.now ≡ length (loops_seen tree.now) }
+    ensures { IfOk result (λ made. made_of made ≡ all_made (program_of program.now) (planned_in (loops_seen tree.now) reports.now)) }
+{
+    let variables = variables_of(alloc, tree, reports)?;
+    let opened = Opened::new(alloc, &variables)?;
+    let mut made = emit_main(alloc, program, &opened)?;
+    emit_ranges(alloc, program, tree, reports, &mut made)?;
+    Ok(made)
+}
+
+/// The code of a program, of whose loops these are the reports.
+fn whole(
+    alloc: Global,
+    program: &Program,
+    tree: &LoopTree<'_>,
+    reports: &[LoopReport],
+) -> Result<Code, Refusal>
+    requires count { length reports.now ≡ length (loops_seen tree.now) }
+    ensures code { IfOk result (λ code. IsCodeOf (program_of program.now) (planned_in (loops_seen tree.now) reports.now) (code_of code)) }
+    ensures refused { IfErr result (RefusesWith (program_of program.now) (planned_in (loops_seen tree.now) reports.now)) }
+{
+    let made = emit_all(alloc, program, tree, reports)?;
+    let operands = of_block(&program.body);
+    let counters = loops_of_block(&program.body);
+    if made.instructions.len() > MOST_INSTRUCTIONS
+        || program.symbols.len() > MOST_SYMBOLS
+        || greater(operands, counters) == u32::MAX
+    {
+        return Err(TOO_LONG);
+    }
+    let parts = Parts {
+        instructions: made.instructions,
+        records: made.records,
+        awaits: made.awaits,
+        variables: variables(alloc, &program.symbols)?,
+        loops: made.loops,
+        operands: operands as usize,
+        counters: counters as usize,
     };
     match Code::new(parts) {
         Some(code) => Ok(code),
@@ -114,23 +152,26 @@ pub struct Compiled {
     pub reports: Vec<LoopReport>,
 }
 
-/// The code of a program, with a report of each of its loops. Its loops are run by main alone, one trip
-/// after another.
+/// The code of a program, with a report of each of its loops. Those that may be open have plans that
+/// the check accepts, and are opened: their iterations are run at once. Main runs the others alone, one
+/// trip after another.
 ///
 /// # Errors
 ///
-/// 61 at line 0 where the code would have more than 1,048,576 instructions, or the program has more
-/// than 4,294,967,296 symbols; and want of memory.
+/// 61 at line 0 where the code would have more than 1,048,576 instructions or want more room than 32
+/// bits count, or the program has more than 4,294,967,296 symbols; and want of memory.
 pub fn compile(alloc: Global, program: &Program) -> Result<Compiled, Refusal>
-    ensures code { IfOk result (λ compiled. IsCodeOf (program_of program.now) (code_of compiled.code)) }
+    ensures code { IfOk result (λ compiled. IsCodeOf (program_of program.now) (opened_of (program_of program.now) compiled.reports.items) (code_of compiled.code)) }
+    ensures opened { IfOk result (λ compiled. AreOpened (program_of program.now) (opened_of (program_of program.now) compiled.reports.items)) }
     ensures headline { IfOk result (λ compiled. Headline (code_of compiled.code) (program_of program.now)) }
     ensures ends { IfOk result (λ compiled. (input : List ℕ) → Ends (code_of compiled.code) input) }
-    ensures bounded { IfOk result (λ compiled. (input : List ℕ) → Bounded (code_of compiled.code) input) }
-    ensures carried { IfOk result (λ compiled. (input : List ℕ) → Carried (code_of compiled.code) input) }
+    ensures bounded { IfOk result (λ compiled. (input : List ℕ) → Bounded (code_of compiled.code) (program_of program.now) input) }
+    ensures carried { IfOk result (λ compiled. (input : List ℕ) → Carried (code_of compiled.code) (program_of program.now) input) }
     ensures reports { IfOk result (λ compiled. Reports (program_of program.now) compiled.reports.items) }
     ensures refused { IfErr result (Refuses (program_of program.now)) }
 {
-    let code = whole(alloc, program)?;
-    let reports = reports(alloc, program)?;
+    let tree = loops(alloc, program)?;
+    let reports = reports(alloc, &tree)?;
+    let code = whole(alloc, program, &tree, &reports)?;
     Ok(Compiled { code, reports })
 }

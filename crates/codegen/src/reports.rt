@@ -1,17 +1,20 @@
 //! What is reported of loops.
 
 ghost use Rattle.std.specs.Prelude.{◌≡◌, ◌+◌, ◌++◌, ◌||◌, [], ◌∷◌, IfOk, OnOk, Some, length, map};
-ghost use Rattle.ast.specs.ProgramView.{program as program_of};
 ghost use Rattle.loop_tree.specs.Loops.{AreWhole, IsWhole, loop_numbered};
 ghost use Rattle.loop_tree.specs.TreeView.{all_seen, lines_seen, loops_seen, seen};
 ghost use Rattle.codegen.specs.Noted.{AreNested, AreNoted, is_noted};
+ghost use Rattle.dependence.specs.PlanView.{plan_of};
+ghost use Rattle.placement.specs.Placement.{IsPlacement};
+ghost use Rattle.plan_check.specs.Checks.{HasBody, IsGood};
 ghost use Rattle.codegen.specs.Reports as spec;
 ghost use Rattle.codegen.specs.Reports.{AreReports, IsPlacedReport, IsReport};
 
-use ast::{Line, Program};
+use ast::Line;
 use dependence::LoopPlan;
-use loop_tree::{LoopTree, LoopView, loops};
+use loop_tree::{LoopTree, LoopView};
 use placement::{Kept, Placed, place};
+use plan_check::{PlanFault, check};
 use std::alloc::{AllocError, Global};
 
 /// What is reported of a loop.
@@ -119,6 +122,31 @@ fn note(noted: &mut Vec<bool>, inside: bool, suits: bool) -> Result<(), AllocErr
     Ok(())
 }
 
+/// What placement gives for a loop, where the check of plans accepts it. One that it refused would leave
+/// the loop serial, for reason 6; it refuses none.
+fn checked(
+    alloc: Global,
+    view: &LoopView<'_, '_>,
+    placed: Placed,
+) -> Result<Placed, AllocError>
+    requires whole { IsWhole (seen view.now) }
+    requires placed { IsPlacement (all_seen view.now) (seen view.now) placed.plan }
+    ensures same { IfOk result (λ given. given ≡ placed.entry) }
+    ensures good { IfOk result (λ given. IsGood (seen view.now) (plan_of given.plan)) }
+    ensures body { IfOk result (λ given. HasBody (seen view.now) (plan_of given.plan)) }
+{
+    match check(alloc, view, &placed.plan) {
+        Ok(()) => Ok(placed),
+        Err(PlanFault::Memory) => Err(AllocError),
+        Err(PlanFault::Refused(_)) => Ok(Placed {
+            plan: LoopPlan::Serial(6),
+            suits: placed.suits,
+            sources: placed.sources,
+            kept: placed.kept,
+        }),
+    }
+}
+
 /// The report of the next loop, which a view shows. It is noted whether this loop or one around it may
 /// be open.
 fn next_report(
@@ -138,11 +166,12 @@ fn next_report(
     let inside = is_inside(view, noted);
     let placed = place(alloc, view, inside)?;
     note(noted, inside, placed.suits)?;
+    let placed = checked(alloc, view, placed)?;
     report(alloc, lines, view.line(), placed)
 }
 
-/// The reports of a tree's loops.
-fn reports_of(alloc: Global, tree: &LoopTree<'_>) -> Result<Vec<LoopReport>, AllocError>
+/// The reports of a program's loops, in order.
+pub fn reports(alloc: Global, tree: &LoopTree<'_>) -> Result<Vec<LoopReport>, AllocError>
     requires whole { AreWhole (loops_seen tree.now) }
     requires nested { AreNested (loops_seen tree.now) }
     ensures { IfOk result (λ reports. AreReports (loops_seen tree.now) (lines_seen tree.now) (loops_seen tree.now) reports.items) }
@@ -154,12 +183,4 @@ fn reports_of(alloc: Global, tree: &LoopTree<'_>) -> Result<Vec<LoopReport>, All
         reports.push(next_report(alloc, tree.lines(), &view, &mut noted)?)?;
     }
     Ok(reports)
-}
-
-/// The reports of a program's loops, in order.
-pub fn reports(alloc: Global, program: &Program) -> Result<Vec<LoopReport>, AllocError>
-    ensures { IfOk result (λ reports. spec.Reports (program_of program.now) reports.items) }
-{
-    let tree = loops(alloc, program)?;
-    reports_of(alloc, &tree)
 }
