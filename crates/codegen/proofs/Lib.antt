@@ -42,6 +42,7 @@ pub mod Opening
 pub mod Outcomes
 pub mod OwnBefore
 pub mod OwnRun
+pub mod PlanParts
 pub mod PlanPaths
 pub mod ProgramBound
 pub mod ProgramClaims

@@ -1,9 +1,10 @@
-use Rattle.std.proofs.Common.{rules, ◌≡◌, ◌+◌, ◌-◌, ◌++◌, ◌∷◌, [], false, length, map, drop, List, Some, refl, sym, ap, subst, ◌∙◌}
-use Rattle.ast.specs.Meaning.{is_last_stop_of}
+use Rattle.std.proofs.Common.{rules, ◌≡◌, ◌+◌, ◌-◌, ◌++◌, ◌∷◌, [], false, length, map, drop, List, OnOk, Some, refl, sym, ap, subst, ◌∙◌}
+use Rattle.std.proofs.lemmas.Result.{on_ok_weaker}
 use Rattle.ast.specs.Tree.{arms as arms_tree}
 use Rattle.ast.specs.View.{arm as arm_of, block_view, node as node_of, ref, term}
 use Rattle.dependence.specs.Plan.{then_arm}
 use Rattle.expr_code.specs.Emitted.{term_code}
+use Rattle.expr_code.specs.Places.{Places}
 use Rattle.expr_code.specs.PlacesView.{places_of}
 use Rattle.machine.specs.declared.code.Await.{Await}
 use Rattle.codegen.specs.Blocks.{Ends, code_of_arms, code_of_block, records_in_arms, records_in_block, records_in_node, trip_ended}
@@ -17,10 +18,22 @@ use Rattle.codegen.proofs.Waiting.{block_waits, node_waits}
 use Rattle.codegen.proofs.nodes.+nodes.Goals as goal
 
 pub emit_trips-returns-clause-code : goal.emit_trips-returns-clause-code
-emit_trips-returns-clause-code t c = ?
+emit_trips-returns-clause-code t c =
+    let opens = opens_in c.args.opened.now in
+    let p = places_of c.args.places.now in
+    let q = record p { line = c.args.line } in
+    let variable = ref c.args.variable.now in
+    let range = code_of_block opens p (length c.args.records.now.items) (block_view c.args.range.now) in
+    let start : c.len-start.result ≡ length c.args.code.now.items = search rules in
+    let ended : OnOk c.end_trip.result (c.end_trip.new.code.items ≡ trip_ended q variable c.len-start.result c.emit_block.new.code.items) =
+    subst (λ (l : Places). OnOk c.end_trip.result (c.end_trip.new.code.items ≡ trip_ended l variable c.len-start.result c.emit_block.new.code.items)) c.on.ensures c.end_trip.ensures in
+    on_ok_weaker c.end_trip.result (trips_emitted q variable c.args.code.now.items range c.put.new.code.items c.emit_block.new.code.items c.end_trip.new.code.items c.len-start.result start c.in_ok-put.ensures c.in_ok-emit_block.ensures.code) ended
 
 pub emit_body-returns-clause-code : goal.emit_body-returns-clause-code
-emit_body-returns-clause-code t c = ?
+emit_body-returns-clause-code t c =
+    let body = code_of_block (opens_in c.args.opened.now) (places_of c.args.places.now) (length c.args.records.now.items) (block_view c.args.body.now) in
+    let start : c.len-start.result ≡ length c.args.code.now.items = search rules in
+    on_ok_weaker c.end_body.result (body_emitted c.args.line c.args.code.now.items body c.put.new.code.items c.emit_block.new.code.items c.end_body.new.code.items c.len-start.result start c.in_ok-put.ensures c.in_ok-emit_block.ensures.code) c.end_body.ensures
 
 pub emit_arms-loop-arm-preserved : goal.emit_arms-loop-arm-preserved
 emit_arms-loop-arm-preserved t c =
@@ -37,7 +50,7 @@ emit_arms-loop-arm-preserved t c =
     let pushed : c.push.new.self.items ≡ c.loop-arm.pending.items ++ record { place = length c.emit_body.new.code.items - 1; line = line } ∷ [] = search rules in
     let emitted : c.emit.new.code.items ≡ c.loop-arm.code.items ++ term_code (record p { line = line }) x = search rules in
     let counted : length c.emit_body.new.records.items ≡ length c.loop-arm.records.items + length (records_in_block opens p b) = count_on c.loop-arm.records c.emit_body.new.records (records_in_block opens p b) c.in_ok-emit_body.ensures.records in
-    let waits = sym (ap length (block_waits p opens b)) in
+    let waits = ap (λ (ws : List Await). 0 + length ws) (sym (block_waits p opens b)) in
     record {
       code = subst (λ (ss : List Pending). Ends ss (c.emit_body.new.code.items ++ code_of_arms opens p (length c.emit_body.new.records.items) (arms_tree (map arm_of (drop (c.loop-arm.arm-index + 1) c.args.arms.now)))) target) (sym pushed)
           (arm_next p opens line x (plain_block b) others all (length c.loop-arm.records.items) (length c.emit_body.new.records.items) 0 0 c.loop-arm.pending.items c.loop-arm.code.items c.emit.new.code.items c.emit_body.new.code.items target (length c.emit_body.new.code.items - 1) here emitted c.in_ok-emit_body.ensures.code counted waits refl c.loop-arm.invariant.code);
@@ -54,7 +67,7 @@ emit_block-loop-i-preserved t c =
     let here = node_here c.args.nodes.now c.loop-i.i c.index-nodes-i.result c.loop-i-test.true c.index-nodes-i.is in
     let goes = goes_on c.args.nodes.now c.loop-i.i c.index-nodes-i.result c.loop-i-test.true c.index-nodes-i.is (sym c.if-is_last_stop.false ∙ c.is_last_stop.ensures) in
     let counted : length c.emit_node.new.records.items ≡ length c.loop-i.records.items + length (records_in_node opens p n) = count_on c.loop-i.records c.emit_node.new.records (records_in_node opens p n) c.in_ok-emit_node.ensures.records in
-    let waits = sym (ap length (node_waits p opens n)) in
+    let waits = ap (λ (ws : List Await). 0 + length ws) (sym (node_waits p opens n)) in
     record {
       code = block_next p opens (plain_node n) b all (length c.loop-i.records.items) (length c.emit_node.new.records.items) 0 0 c.loop-i.code.items c.emit_node.new.code.items (c.args.code.now.items ++ code_of_block opens p (length c.args.records.now.items) (block_view c.args.nodes.now)) here goes c.in_ok-emit_node.ensures.code counted waits c.loop-i.invariant.code;
       records = records_next p opens (plain_node n) b all (records_of c.loop-i.records) (records_of c.emit_node.new.records) (records_of c.args.records.now ++ records_in_block opens p (block_view c.args.nodes.now)) here goes c.in_ok-emit_node.ensures.records c.loop-i.invariant.records;
