@@ -1,4 +1,5 @@
 pub mod AcceptedLoops
+pub mod AcceptedPlans
 pub mod AssignedOnce
 pub mod AssignedScalars
 pub mod BlockWalking
@@ -58,6 +59,7 @@ pub mod RangeParts
 pub mod RangeRoom
 pub mod RangeSegments
 pub mod RangeSound
+pub mod RangesMade
 pub mod RegularPlans
 pub mod Reported
 pub mod Running

@@ -157,8 +157,9 @@ pub fn variables_of(
 {
     let mut variables = Vec::new(alloc);
     for place in 0..tree.count() {
+        let view = tree.view(place + 1);
         if is_open(&reports[place].plan) {
-            variables.push(tree.view(place + 1).head().variable.id)?;
+            variables.push(view.head().variable.id)?;
         }
     }
     Ok(variables)

@@ -166,8 +166,8 @@ fn next_report(
     let inside = is_inside(view, noted);
     let placed = place(alloc, view, inside)?;
     note(noted, inside, placed.suits)?;
-    let placed = checked(alloc, view, placed)?;
-    report(alloc, lines, view.line(), placed)
+    let accepted = checked(alloc, view, placed)?;
+    report(alloc, lines, view.line(), accepted)
 }
 
 /// The reports of a program's loops, in order.
