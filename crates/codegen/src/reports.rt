@@ -131,7 +131,7 @@ fn checked(
 ) -> Result<Placed, AllocError>
     requires whole { IsWhole (seen view.now) }
     requires placed { IsPlacement (all_seen view.now) (seen view.now) placed.plan }
-    ensures same { IfOk result (λ given. given ≡ placed.entry) }
+    ensures same { IfOk result (λ given. given ≡ placed) }
     ensures good { IfOk result (λ given. IsGood (seen view.now) (plan_of given.plan)) }
     ensures body { IfOk result (λ given. HasBody (seen view.now) (plan_of given.plan)) }
 {
