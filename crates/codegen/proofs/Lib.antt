@@ -7,7 +7,6 @@ pub mod CodeLoops
 pub mod Comes
 pub mod Compiling
 pub mod Emitting
-pub mod Fitting
 pub mod GivenPaths
 pub mod GoodLoops
 pub mod GoodPaths
