@@ -42,6 +42,7 @@ pub mod Outcomes
 pub mod OwnBefore
 pub mod OwnRun
 pub mod PlanPaths
+pub mod PlanPieces
 pub mod ProgramBound
 pub mod ProgramClaims
 pub mod ProgramFacts

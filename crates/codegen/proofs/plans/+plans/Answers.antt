@@ -1,0 +1,69 @@
+use Rattle.std.proofs.Common.{rules, ◌≡◌, ◌+◌, ◌-◌, ◌++◌, ◌∷◌, [], false, length, drop, Some, List, refl, sym, subst, ◌∙◌}
+use Rattle.ast.specs.View.{ref, term}
+use Rattle.dependence.specs.Plan.{then_arm}
+use Rattle.dependence.specs.PlanView.{plan_block, plan_node}
+use Rattle.expr_code.specs.Emitted.{term_code}
+use Rattle.expr_code.specs.PlacesView.{places_of}
+use Rattle.codegen.specs.Blocks.{Ends, trip_ended}
+use Rattle.codegen.specs.Emitted.{arms_awaits, arms_code, arms_records, block_awaits, block_code, block_records, node_awaits, node_records}
+use Rattle.codegen.specs.PlanParts.{arms_of}
+use Rattle.codegen.specs.Program.{none_open}
+use Rattle.codegen.specs.Records.{records_of}
+use Rattle.codegen.specs.declared.skips.Pending.{Pending}
+use Rattle.codegen.proofs.Emitting.{arm_awaits_next, arm_next, arm_records_next, awaits_count, awaits_next, block_next, body_emitted, count_on, records_next, trips_emitted}
+use Rattle.codegen.proofs.PlanPieces.{plan_arm_here, plan_goes_on, statement_here}
+use Rattle.codegen.proofs.plans.+plans.Goals as goal
+
+pub emit_trips-returns-clause-code : goal.emit_trips-returns-clause-code
+emit_trips-returns-clause-code t c = ?
+
+pub emit_body-returns-clause-code : goal.emit_body-returns-clause-code
+emit_body-returns-clause-code t c = ?
+
+pub emit_made-emit_plan-requires : goal.emit_made-emit_plan-requires
+emit_made-emit_plan-requires t c = ?
+
+pub emit_arms-emit_made-requires : goal.emit_arms-emit_made-requires
+emit_arms-emit_made-requires t c = ?
+
+pub emit_arms-loop-arm-preserved : goal.emit_arms-loop-arm-preserved
+emit_arms-loop-arm-preserved t c =
+    let p = places_of c.args.places.now in
+    let made = c.args.made.now in
+    let line = c.arm-item.result.line in
+    let body : c.arm-item.result.body.items ≡ c.deref-in-loop-arm.result.now = search rules in
+    let b = plan_block c.deref-in-loop-arm.result.now in
+    let x = term c.in-Some.condition in
+    let others = arms_of (drop (c.loop-arm.arm-index + 1) c.args.arms.now) made in
+    let all = arms_of (drop c.loop-arm.arm-index c.args.arms.now) made in
+    let whole = arms_of c.args.arms.now made in
+    let target = c.args.code.now.items ++ arms_code p none_open (length c.args.records.now.items) (length c.args.awaits.now.items) whole in
+    let here : all ≡ then_arm line (Some x) b others = plan_arm_here c.args.arms.now c.loop-arm.arm-index c.arm-item.result (Some c.in-Some.condition) c.deref-in-loop-arm.result.now made c.loop-arm-test.true c.arm-item.is c.in-Some.is body in
+    let pushed : c.push.new.self.items ≡ c.loop-arm.pending.items ++ record { place = length c.emit_body.new.code.items - 1; line = line } ∷ [] = search rules in
+    let emitted : c.emit.new.code.items ≡ c.loop-arm.code.items ++ term_code (record p { line = line }) x = search rules in
+    let counted : length c.emit_body.new.records.items ≡ length c.loop-arm.records.items + length (block_records p none_open b) = count_on c.loop-arm.records c.emit_body.new.records (block_records p none_open b) c.in_ok-emit_body.ensures.records in
+    let waits : length c.emit_body.new.awaits.items ≡ length c.loop-arm.awaits.items + length (block_awaits p none_open b) = awaits_count c.loop-arm.awaits.items c.emit_body.new.awaits.items (block_awaits p none_open b) c.in_ok-emit_body.ensures.awaits in
+    record {
+      code = subst (λ (ss : List Pending). Ends ss (c.emit_body.new.code.items ++ arms_code p none_open (length c.emit_body.new.records.items) (length c.emit_body.new.awaits.items) others) target) (sym pushed)
+          (arm_next p none_open line x b others all (length c.loop-arm.records.items) (length c.emit_body.new.records.items) (length c.loop-arm.awaits.items) (length c.emit_body.new.awaits.items) c.loop-arm.pending.items c.loop-arm.code.items c.emit.new.code.items c.emit_body.new.code.items target (length c.emit_body.new.code.items - 1) here emitted c.in_ok-emit_body.ensures.code counted waits refl c.loop-arm.invariant.code);
+      records = arm_records_next p none_open line x b others all (records_of c.loop-arm.records) (records_of c.emit_body.new.records) (records_of c.args.records.now ++ arms_records p none_open whole) here c.in_ok-emit_body.ensures.records c.loop-arm.invariant.records;
+      awaits = arm_awaits_next p none_open line x b others all c.loop-arm.awaits.items c.emit_body.new.awaits.items (c.args.awaits.now.items ++ arms_awaits p none_open whole) here c.in_ok-emit_body.ensures.awaits c.loop-arm.invariant.awaits;
+    }
+
+pub emit_plan-loop-i-preserved : goal.emit_plan-loop-i-preserved
+emit_plan-loop-i-preserved t c =
+    let p = places_of c.args.places.now in
+    let n = plan_node c.index-body-i.result in
+    let b = plan_block (drop (c.loop-i.i + 1) c.args.body.now) in
+    let all = plan_block (drop c.loop-i.i c.args.body.now) in
+    let whole = plan_block c.args.body.now in
+    let here = statement_here c.args.body.now c.loop-i.i c.index-body-i.result c.loop-i-test.true c.index-body-i.is in
+    let goes = plan_goes_on c.args.body.now c.loop-i.i c.index-body-i.result c.loop-i-test.true c.index-body-i.is (sym c.if-is_last_stop.false ∙ c.is_last_stop.ensures) in
+    let counted : length c.emit_statement.new.records.items ≡ length c.loop-i.records.items + length (node_records p none_open n) = count_on c.loop-i.records c.emit_statement.new.records (node_records p none_open n) c.in_ok-emit_statement.ensures.records in
+    let waits : length c.emit_statement.new.awaits.items ≡ length c.loop-i.awaits.items + length (node_awaits p none_open n) = awaits_count c.loop-i.awaits.items c.emit_statement.new.awaits.items (node_awaits p none_open n) c.in_ok-emit_statement.ensures.awaits in
+    record {
+      code = block_next p none_open n b all (length c.loop-i.records.items) (length c.emit_statement.new.records.items) (length c.loop-i.awaits.items) (length c.emit_statement.new.awaits.items) c.loop-i.code.items c.emit_statement.new.code.items
+          (c.args.code.now.items ++ block_code p none_open (length c.args.records.now.items) (length c.args.awaits.now.items) whole) here goes c.in_ok-emit_statement.ensures.code counted waits c.loop-i.invariant.code;
+      records = records_next p none_open n b all (records_of c.loop-i.records) (records_of c.emit_statement.new.records) (records_of c.args.records.now ++ block_records p none_open whole) here goes c.in_ok-emit_statement.ensures.records c.loop-i.invariant.records;
+      awaits = awaits_next p none_open n b all c.loop-i.awaits.items c.emit_statement.new.awaits.items (c.args.awaits.now.items ++ block_awaits p none_open whole) here goes c.in_ok-emit_statement.ensures.awaits c.loop-i.invariant.awaits;
+    }
