@@ -129,7 +129,7 @@ module _ (p : Places) (opens : ℕ → Option ℕ) where
       let w3 = w + length (node_awaits p opens n) in
       next code code2 first (block_code p opens r2 w2 b) (block_code p opens r w all) target
       (ap (block_code p opens r w) a ∙ unless (is_last_stop n b) (first ++ block_code p opens (r + length (node_records p opens n)) w3 b) f
-       ∙ ap (λ (m : ℕ). first ++ block_code p opens m w3 b) (sym h) ∙ ap (λ (m : ℕ). first ++ block_code p opens r2 m b) (sym i)) g k
+      ∙ ap (λ (m : ℕ). first ++ block_code p opens m w3 b) (sym h) ∙ ap (λ (m : ℕ). first ++ block_code p opens r2 m b) (sym i)) g k
 
   pub records_next : (n : PlanNode) (b all : PlanBlock) (old new target : List (List Part)) → all ≡ then_node n b → false ≡ is_last_stop n b → new ≡ old ++ node_records p opens n → old ++ block_records p opens all ≡ target → new ++ block_records p opens b ≡ target
   records_next n b all old new target a f g k =

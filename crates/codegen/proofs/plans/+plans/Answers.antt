@@ -1,8 +1,10 @@
-use Rattle.std.proofs.Common.{rules, ◌≡◌, ◌+◌, ◌-◌, ◌++◌, ◌∷◌, [], false, length, drop, Some, List, refl, sym, subst, ◌∙◌}
+use Rattle.std.proofs.Common.{rules, ◌≡◌, ◌+◌, ◌-◌, ◌++◌, ◌∷◌, [], false, length, drop, OnOk, Some, List, refl, sym, subst, ◌∙◌}
+use Rattle.std.proofs.lemmas.Result.{on_ok_weaker}
 use Rattle.ast.specs.View.{ref, term}
 use Rattle.dependence.specs.Plan.{then_arm}
 use Rattle.dependence.specs.PlanView.{plan_block, plan_node}
 use Rattle.expr_code.specs.Emitted.{term_code}
+use Rattle.expr_code.specs.Places.{Places}
 use Rattle.expr_code.specs.PlacesView.{places_of}
 use Rattle.codegen.specs.Blocks.{Ends, trip_ended}
 use Rattle.codegen.specs.Emitted.{arms_awaits, arms_code, arms_records, block_awaits, block_code, block_records, node_awaits, node_records}
@@ -15,16 +17,21 @@ use Rattle.codegen.proofs.PlanPieces.{plan_arm_here, plan_goes_on, statement_her
 use Rattle.codegen.proofs.plans.+plans.Goals as goal
 
 pub emit_trips-returns-clause-code : goal.emit_trips-returns-clause-code
-emit_trips-returns-clause-code t c = ?
+emit_trips-returns-clause-code t c =
+    let p = places_of c.args.places.now in
+    let q = record p { line = c.args.line } in
+    let variable = ref c.args.variable.now in
+    let range = block_code p none_open (length c.args.records.now.items) (length c.args.awaits.now.items) (plan_block c.args.range.now) in
+    let start : c.len-start.result ≡ length c.args.code.now.items = search rules in
+    let ended : OnOk c.end_trip.result (c.end_trip.new.code.items ≡ trip_ended q variable c.len-start.result c.emit_plan.new.code.items) =
+    subst (λ (l : Places). OnOk c.end_trip.result (c.end_trip.new.code.items ≡ trip_ended l variable c.len-start.result c.emit_plan.new.code.items)) c.on.ensures c.end_trip.ensures in
+    on_ok_weaker c.end_trip.result (trips_emitted q variable c.args.code.now.items range c.put.new.code.items c.emit_plan.new.code.items c.end_trip.new.code.items c.len-start.result start c.in_ok-put.ensures c.in_ok-emit_plan.ensures.code) ended
 
 pub emit_body-returns-clause-code : goal.emit_body-returns-clause-code
-emit_body-returns-clause-code t c = ?
-
-pub emit_made-emit_plan-requires : goal.emit_made-emit_plan-requires
-emit_made-emit_plan-requires t c = ?
-
-pub emit_arms-emit_made-requires : goal.emit_arms-emit_made-requires
-emit_arms-emit_made-requires t c = ?
+emit_body-returns-clause-code t c =
+    let body = block_code (places_of c.args.places.now) none_open (length c.args.records.now.items) (length c.args.awaits.now.items) (plan_block c.args.body.now) in
+    let start : c.len-start.result ≡ length c.args.code.now.items = search rules in
+    on_ok_weaker c.end_body.result (body_emitted c.args.line c.args.code.now.items body c.put.new.code.items c.emit_plan.new.code.items c.end_body.new.code.items c.len-start.result start c.in_ok-put.ensures c.in_ok-emit_plan.ensures.code) c.end_body.ensures
 
 pub emit_arms-loop-arm-preserved : goal.emit_arms-loop-arm-preserved
 emit_arms-loop-arm-preserved t c =
