@@ -46,5 +46,6 @@ no_mistake l p c Untrue w = let a = c.true_claims in let b = w.has in let z : tr
 pub never_refused : (all : List Loop) (l : Loop) → IsWhole l → are_in_turn (references l.references) ≡ true → are_told (known l) ≡ true → (plan : LoopPlan) → IsPlacement all l plan → (m : Mistake) → Refuses l (plan_of plan) (Refused m) → ⊥
 never_refused all l whole turn told (Serial n) placed m w = w
 never_refused all l whole turn told (Body b ps rs) placed m w =
-    let checked : IsChecked l placed.1 = are_accepted (cells_of l) l placed.1 (loops_around all l) whole turn told (λ c h. below_cells 0 l.assigned c h) placed.0 placed.3 in
-    no_mistake l placed.1 checked m (subst (λ (o : Option PlanTree). Refuses l o (Refused m)) placed.2 w)
+    let p = placed.1.0 in
+    let checked : IsChecked l p = are_accepted (cells_of l) l p (loops_around all l) whole turn told (λ c h. below_cells 0 l.assigned c h) placed.0 placed.1.2 in
+    no_mistake l p checked m (subst (λ (o : Option PlanTree). Refuses l o (Refused m)) placed.1.1 w)

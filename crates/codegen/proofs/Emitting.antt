@@ -1,5 +1,5 @@
 -- Code is emitted piece by piece: laws of what was appended, and of what was filled in.
-use Rattle.std.proofs.Common.{◌≡◌, ◌∙◌, ◌+◌, ◌-◌, ◌<◌, ℕ, Bool, true, false, List, [], ◌∷◌, ◌++◌, length, drop, take, Option, Some, refl, sym, ap, subst, get_or, arith}
+use Rattle.std.proofs.Common.{◌≡◌, ◌∙◌, ◌+◌, ◌-◌, ◌<◌, ◌≤◌, ℕ, Bool, true, false, List, [], ◌∷◌, ◌++◌, length, drop, take, Option, Some, refl, sym, ap, subst, get_or, arith}
 use Rattle.std.specs.Prelude.{if◌then◌else◌, set, Vec}
 use Rattle.std.specs.Global.{Global}
 use Rattle.std.proofs.lemmas.List.{append_assoc, length-append, length-map, length-drop, length-set, drop_more, set_at, take_all}
@@ -33,6 +33,10 @@ item_here xs i x l e = drop_more xs i x l ∙ ap (λ y. y ∷ drop (i + 1) xs) (
 -- a slice from an index on
 pub rest_of : {X : Type 0} (xs : List X) (i : ℕ) → take (length xs - i) (drop i xs) ≡ drop i xs
 rest_of xs i = take_all (length xs - i) (drop i xs) (let k = length-drop i xs in omega (arith, k))
+
+-- what holds of all from an index on holds of all
+pub all_done : {X : Type 0} (f : List X → ℕ) (xs : List X) (n most : ℕ) → n ≤ 0 → most ≡ f (drop n xs) → most ≡ f xs
+all_done f xs n most h e = let z : n ≡ 0 = omega (arith, h) in e ∙ ap (λ (k : ℕ). f (drop k xs)) z
 
 -- ---- numbers of records and awaits
 

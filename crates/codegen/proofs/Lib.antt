@@ -8,7 +8,6 @@ pub mod CodeLoops
 pub mod Comes
 pub mod Compiling
 pub mod Emitting
-pub mod Fitting
 pub mod GivenPaths
 pub mod GoodLoops
 pub mod GoodPaths
@@ -45,6 +44,7 @@ pub mod OwnBefore
 pub mod OwnRun
 pub mod PlanParts
 pub mod PlanPaths
+pub mod PlanPieces
 pub mod ProgramBound
 pub mod ProgramClaims
 pub mod ProgramFacts

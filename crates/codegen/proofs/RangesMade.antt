@@ -113,3 +113,7 @@ variable_next ls rs k l r h c i old new target b e f t = by (plan_of r.plan) ref
         ∙ append_assoc old (l.head.variable.id ∷ []) (Variables rest)
         ∙ ap (λ (xs : List Planned). old ++ Variables xs) (sym (planned_next ls rs k l r h c i ∙ ap (λ (o : Option PlanTree). planned_by l o ++ rest) q)) ∙ t
     by (Some p) q false e f = cc
+
+pub mapped_end : {X Y : Type 0} (f : X → Y) (xs : List X) (x : X) → map f (xs ++ x ∷ []) ≡ map f xs ++ f x ∷ []
+mapped_end f [] x = refl
+mapped_end f (y ∷ xs) x = ap (λ ys. f y ∷ ys) (mapped_end f xs x)

@@ -1,4 +1,4 @@
-use Rattle.std.proofs.Common.{rules, ◌≡◌, ◌+◌, ◌-◌, ◌++◌, ◌∷◌, [], false, length, drop, OnOk, Some, refl, sym, subst, ap, ◌∙◌, List}
+use Rattle.std.proofs.Common.{rules, ◌≡◌, ◌+◌, ◌-◌, ◌++◌, ◌∷◌, [], false, length, drop, OnOk, Some, List, refl, sym, subst, ◌∙◌}
 use Rattle.std.proofs.lemmas.Result.{on_ok_weaker}
 use Rattle.ast.specs.View.{ref, term}
 use Rattle.dependence.specs.Plan.{then_arm}
@@ -13,7 +13,7 @@ use Rattle.codegen.specs.Program.{none_open}
 use Rattle.codegen.specs.Records.{records_of}
 use Rattle.codegen.specs.declared.skips.Pending.{Pending}
 use Rattle.codegen.proofs.Emitting.{arm_awaits_next, arm_next, arm_records_next, awaits_count, awaits_next, block_next, body_emitted, count_on, records_next, trips_emitted}
-use Rattle.codegen.proofs.PlanParts.{plan_arm_here, plan_goes_on, statement_here}
+use Rattle.codegen.proofs.PlanPieces.{plan_arm_here, plan_goes_on, statement_here}
 use Rattle.codegen.proofs.plans.+plans.Goals as goal
 
 pub emit_trips-returns-clause-code : goal.emit_trips-returns-clause-code
@@ -36,26 +36,23 @@ emit_body-returns-clause-code t c =
 pub emit_arms-loop-arm-preserved : goal.emit_arms-loop-arm-preserved
 emit_arms-loop-arm-preserved t c =
     let p = places_of c.args.places.now in
+    let made = c.args.made.now in
     let line = c.arm-item.result.line in
     let body : c.arm-item.result.body.items ≡ c.deref-in-loop-arm.result.now = search rules in
     let b = plan_block c.deref-in-loop-arm.result.now in
     let x = term c.in-Some.condition in
-    let others = arms_of (drop (c.loop-arm.arm-index + 1) c.args.arms.now) c.args.made.now in
-    let all = arms_of (drop c.loop-arm.arm-index c.args.arms.now) c.args.made.now in
-    let whole = arms_of c.args.arms.now c.args.made.now in
+    let others = arms_of (drop (c.loop-arm.arm-index + 1) c.args.arms.now) made in
+    let all = arms_of (drop c.loop-arm.arm-index c.args.arms.now) made in
+    let whole = arms_of c.args.arms.now made in
     let target = c.args.code.now.items ++ arms_code p none_open (length c.args.records.now.items) (length c.args.awaits.now.items) whole in
-    let here : all ≡ then_arm line (Some x) b others = plan_arm_here c.args.arms.now c.args.made.now c.loop-arm.arm-index c.arm-item.result (Some c.in-Some.condition) c.deref-in-loop-arm.result.now c.loop-arm-test.true c.arm-item.is c.in-Some.is body in
+    let here : all ≡ then_arm line (Some x) b others = plan_arm_here c.args.arms.now c.loop-arm.arm-index c.arm-item.result (Some c.in-Some.condition) c.deref-in-loop-arm.result.now made c.loop-arm-test.true c.arm-item.is c.in-Some.is body in
     let pushed : c.push.new.self.items ≡ c.loop-arm.pending.items ++ record { place = length c.emit_body.new.code.items - 1; line = line } ∷ [] = search rules in
     let emitted : c.emit.new.code.items ≡ c.loop-arm.code.items ++ term_code (record p { line = line }) x = search rules in
-    let r = length c.loop-arm.records.items in
-    let r2 = length c.emit_body.new.records.items in
-    let w = length c.loop-arm.awaits.items in
-    let w2 = length c.emit_body.new.awaits.items in
-    let counted : r2 ≡ r + length (block_records p none_open b) = count_on c.loop-arm.records c.emit_body.new.records (block_records p none_open b) c.in_ok-emit_body.ensures.records in
-    let awaited : w2 ≡ w + length (block_awaits p none_open b) = awaits_count c.loop-arm.awaits.items c.emit_body.new.awaits.items (block_awaits p none_open b) c.in_ok-emit_body.ensures.awaits in
+    let counted : length c.emit_body.new.records.items ≡ length c.loop-arm.records.items + length (block_records p none_open b) = count_on c.loop-arm.records c.emit_body.new.records (block_records p none_open b) c.in_ok-emit_body.ensures.records in
+    let waits : length c.emit_body.new.awaits.items ≡ length c.loop-arm.awaits.items + length (block_awaits p none_open b) = awaits_count c.loop-arm.awaits.items c.emit_body.new.awaits.items (block_awaits p none_open b) c.in_ok-emit_body.ensures.awaits in
     record {
-      code = subst (λ (ss : List Pending). Ends ss (c.emit_body.new.code.items ++ arms_code p none_open r2 w2 others) target) (sym pushed)
-          (arm_next p none_open line x b others all r r2 w w2 c.loop-arm.pending.items c.loop-arm.code.items c.emit.new.code.items c.emit_body.new.code.items target (length c.emit_body.new.code.items - 1) here emitted c.in_ok-emit_body.ensures.code counted awaited refl c.loop-arm.invariant.code);
+      code = subst (λ (ss : List Pending). Ends ss (c.emit_body.new.code.items ++ arms_code p none_open (length c.emit_body.new.records.items) (length c.emit_body.new.awaits.items) others) target) (sym pushed)
+          (arm_next p none_open line x b others all (length c.loop-arm.records.items) (length c.emit_body.new.records.items) (length c.loop-arm.awaits.items) (length c.emit_body.new.awaits.items) c.loop-arm.pending.items c.loop-arm.code.items c.emit.new.code.items c.emit_body.new.code.items target (length c.emit_body.new.code.items - 1) here emitted c.in_ok-emit_body.ensures.code counted waits refl c.loop-arm.invariant.code);
       records = arm_records_next p none_open line x b others all (records_of c.loop-arm.records) (records_of c.emit_body.new.records) (records_of c.args.records.now ++ arms_records p none_open whole) here c.in_ok-emit_body.ensures.records c.loop-arm.invariant.records;
       awaits = arm_awaits_next p none_open line x b others all c.loop-arm.awaits.items c.emit_body.new.awaits.items (c.args.awaits.now.items ++ arms_awaits p none_open whole) here c.in_ok-emit_body.ensures.awaits c.loop-arm.invariant.awaits;
     }
@@ -69,14 +66,11 @@ emit_plan-loop-i-preserved t c =
     let whole = plan_block c.args.body.now in
     let here = statement_here c.args.body.now c.loop-i.i c.index-body-i.result c.loop-i-test.true c.index-body-i.is in
     let goes = plan_goes_on c.args.body.now c.loop-i.i c.index-body-i.result c.loop-i-test.true c.index-body-i.is (sym c.if-is_last_stop.false ∙ c.is_last_stop.ensures) in
-    let r = length c.loop-i.records.items in
-    let r2 = length c.emit_statement.new.records.items in
-    let w = length c.loop-i.awaits.items in
-    let w2 = length c.emit_statement.new.awaits.items in
-    let counted : r2 ≡ r + length (node_records p none_open n) = count_on c.loop-i.records c.emit_statement.new.records (node_records p none_open n) c.in_ok-emit_statement.ensures.records in
-    let awaited : w2 ≡ w + length (node_awaits p none_open n) = awaits_count c.loop-i.awaits.items c.emit_statement.new.awaits.items (node_awaits p none_open n) c.in_ok-emit_statement.ensures.awaits in
+    let counted : length c.emit_statement.new.records.items ≡ length c.loop-i.records.items + length (node_records p none_open n) = count_on c.loop-i.records c.emit_statement.new.records (node_records p none_open n) c.in_ok-emit_statement.ensures.records in
+    let waits : length c.emit_statement.new.awaits.items ≡ length c.loop-i.awaits.items + length (node_awaits p none_open n) = awaits_count c.loop-i.awaits.items c.emit_statement.new.awaits.items (node_awaits p none_open n) c.in_ok-emit_statement.ensures.awaits in
     record {
-      code = block_next p none_open n b all r r2 w w2 c.loop-i.code.items c.emit_statement.new.code.items (c.args.code.now.items ++ block_code p none_open (length c.args.records.now.items) (length c.args.awaits.now.items) whole) here goes c.in_ok-emit_statement.ensures.code counted awaited c.loop-i.invariant.code;
+      code = block_next p none_open n b all (length c.loop-i.records.items) (length c.emit_statement.new.records.items) (length c.loop-i.awaits.items) (length c.emit_statement.new.awaits.items) c.loop-i.code.items c.emit_statement.new.code.items
+          (c.args.code.now.items ++ block_code p none_open (length c.args.records.now.items) (length c.args.awaits.now.items) whole) here goes c.in_ok-emit_statement.ensures.code counted waits c.loop-i.invariant.code;
       records = records_next p none_open n b all (records_of c.loop-i.records) (records_of c.emit_statement.new.records) (records_of c.args.records.now ++ block_records p none_open whole) here goes c.in_ok-emit_statement.ensures.records c.loop-i.invariant.records;
       awaits = awaits_next p none_open n b all c.loop-i.awaits.items c.emit_statement.new.awaits.items (c.args.awaits.now.items ++ block_awaits p none_open whole) here goes c.in_ok-emit_statement.ensures.awaits c.loop-i.invariant.awaits;
     }

@@ -4,7 +4,7 @@ use Rattle.ast.specs.View.{arm as arm_of, block_view}
 use Rattle.expr_code.specs.Emitted.{short}
 use Rattle.codegen.specs.Plain.{plain_arms, plain_block}
 use Rattle.codegen.specs.Room.{arms_loops, block_loops}
-use Rattle.codegen.proofs.Fitting.{all_done}
+use Rattle.codegen.proofs.Emitting.{all_done}
 use Rattle.codegen.proofs.rooms.+loops.Goals as goal
 
 pub loops_of_arms-returns : goal.loops_of_arms-returns

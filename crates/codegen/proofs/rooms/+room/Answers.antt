@@ -4,7 +4,7 @@ use Rattle.ast.specs.View.{arm as arm_of, block_view}
 use Rattle.expr_code.specs.Emitted.{short}
 use Rattle.codegen.specs.Plain.{plain_arms, plain_block}
 use Rattle.codegen.specs.Room.{arms_room, block_room}
-use Rattle.codegen.proofs.Fitting.{all_done}
+use Rattle.codegen.proofs.Emitting.{all_done}
 use Rattle.codegen.proofs.rooms.+room.Goals as goal
 
 pub of_arms-returns : goal.of_arms-returns
