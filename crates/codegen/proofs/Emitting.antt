@@ -1,5 +1,5 @@
 -- Code is emitted piece by piece: laws of what was appended, and of what was filled in.
-use Rattle.std.proofs.Common.{◌≡◌, ◌∙◌, ◌+◌, ◌-◌, ◌<◌, ◌≤◌, ℕ, Bool, true, false, List, [], ◌∷◌, ◌++◌, length, drop, take, Option, Some, refl, sym, ap, subst, get_or, arith}
+use Rattle.std.proofs.Common.{◌≡◌, ◌∙◌, ◌+◌, ◌-◌, ◌<◌, ◌≤◌, ℕ, Bool, false, List, [], ◌∷◌, ◌++◌, length, drop, take, Option, Some, refl, sym, ap, get_or, arith}
 use Rattle.std.specs.Prelude.{if◌then◌else◌, set, Vec}
 use Rattle.std.specs.Global.{Global}
 use Rattle.std.proofs.lemmas.List.{append_assoc, length-append, length-map, length-drop, length-set, drop_more, set_at, take_all}

@@ -1,15 +1,15 @@
 -- Parts of plans: what is left of a list of statements or arms, seen as plain data.
-use Rattle.std.proofs.Common.{◌≡◌, ◌∙◌, ◌+◌, ◌<◌, ◌≤◌, ℕ, Bool, false, List, [], ◌∷◌, length, map, drop, take, Option, Some, refl, sym, ap, get_or, rules, arith}
-use Rattle.std.specs.Prelude.{◌-◌, zero, Vec}
+use Rattle.std.proofs.Common.{◌≡◌, ◌∙◌, ◌+◌, ◌<◌, ◌≤◌, ℕ, false, List, [], ◌∷◌, length, drop, take, Option, refl, ap, get_or, rules, arith}
+use Rattle.std.specs.Prelude.{◌-◌, Vec}
 use Rattle.std.specs.Global.{Global}
 use Rattle.ast.specs.Tree.{Term}
 use Rattle.ast.specs.View.{optional_term}
 use Rattle.ast.specs.declared.expression.Expr.{Expr}
 use Rattle.dependence.specs.Plan.{PlanNode, awaits, advances, plain, loop, choose, PlanBlock, no_nodes, then_node, then_arm}
-use Rattle.dependence.specs.PlanView.{ArmOf, arm_step, arm_view, arms, node_step, plan_block, plan_node}
+use Rattle.dependence.specs.PlanView.{ArmOf, arm_step, arm_view, node_step, plan_block, plan_node}
 use Rattle.dependence.specs.declared.plan.PlanArm.{PlanArm, fold_out-PlanArm}
 use Rattle.dependence.specs.declared.plan.PlanStmt.{PlanStmt}
-use Rattle.codegen.specs.PlanParts.{arms_of, ends_with_stop, made_arms}
+use Rattle.codegen.specs.PlanParts.{arms_of, ends_with_stop}
 use Rattle.codegen.specs.Process.{is_last_stop}
 use Rattle.codegen.proofs.Emitting.{item_here, rest_of}
 
