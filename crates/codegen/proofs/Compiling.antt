@@ -1,9 +1,10 @@
 -- Programs to code: their variables, and that what is made is code that the headline holds of.
 use Rattle.std.proofs.Common.{◌≡◌, ◌∙◌, ◌+◌, ◌*◌, ◌≤◌, ◌<◌, ◌^◌, ℕ, zero, suc, Bool, true, false, List, [], ◌∷◌, ◌++◌, map, take, length, get_or, refl, sym, ap, subst, arith, length-append}
-use Rattle.std.specs.Prelude.{not, nat_lt, nat_le, int_lt, ◌&&◌, ◌||◌, ◌==◌}
+use Rattle.std.specs.Prelude.{◌-◌, None, not, nat_lt, nat_le, int_lt, pos, ◌&&◌, ◌||◌, ◌==◌, if◌then◌else◌}
 use Rattle.std.specs.List.{AllByRecursion, IsDistinct, list_all}
 use Rattle.std.specs.Cmp.Lexicographic.{same_text}
-use Rattle.std.proofs.lemmas.Bool.{and_parts, leb-true, lt-ltb}
+use Rattle.std.proofs.Math.Nat.{le-max_left, le-max_right}
+use Rattle.std.proofs.lemmas.Bool.{and_parts, leb-true, lt-ltb, ltb-false, ltb-true}
 use Rattle.std.proofs.lemmas.Bool.Decides.{Decides-eqb}
 use Rattle.std.proofs.lemmas.Cmp.{nat_list_eq_equiv}
 use Rattle.ast.specs.Program.{ProgramTree, are_placed}
@@ -13,22 +14,25 @@ use Rattle.ast.specs.Symbols.{Symbol, is_sized, dimensions_of, most_elements, na
 use Rattle.ast.specs.declared.program.Program.{Program}
 use Rattle.ast.specs.declared.program.Symbol.{Symbol as Named}
 use Rattle.ast.specs.View.{symbol}
+use Rattle.ast.specs.Tree.{constant, no_nodes}
+use Rattle.dependence.specs.Plan as plan
+use Rattle.loop_tree.specs.Loops.{loop_at, loops_of}
+use Rattle.loop_tree.specs.Occurrences.{block_lines}
 use Rattle.machine.specs.Code.{Code}
 use Rattle.machine.specs.Laid.{are_distinct, are_laid, count_of, is_among, names_in}
 use Rattle.machine.specs.declared.code.Variable.{Variable}
-use Rattle.machine.specs.declared.instr.Act.TheVariants.{Halt}
 use Rattle.expr_code.specs.Computes.{variables_for, variables_in}
-use Rattle.expr_code.specs.Emitted.{instr, short}
+use Rattle.expr_code.specs.Emitted.{short}
 use Rattle.expr_code.proofs.Finding.{short_is}
-use Rattle.codegen.specs.Emitted.{block_code}
 use Rattle.codegen.specs.Headline.{Bounded, Carried, Ends, Headline}
 use Rattle.codegen.specs.Plain.{plain_block}
-use Rattle.codegen.specs.Program.{IsCodeOf, main_code, main_places, most_instructions, none_open}
+use Rattle.codegen.specs.Program.{IsCodeOf, Planned, most_room, room_of}
+use Rattle.codegen.specs.Reports.{Reports, opened_of}
 use Rattle.codegen.specs.Room.{block_loops, block_room}
-use Rattle.codegen.proofs.Fitting.{block_fits}
-use Rattle.codegen.proofs.MainCompiled.{compiled}
-use Rattle.codegen.proofs.MainHeadline.{bounded, carried, ends, headline}
-use Rattle.codegen.proofs.MainStanding.{Compiled}
+use Rattle.codegen.specs.declared.reports.LoopReport.{LoopReport}
+use Rattle.codegen.proofs.AcceptedLoops.{accepted}
+use Rattle.codegen.proofs.OpenedReports.{Known, known_at}
+use Rattle.codegen.proofs.Theorem.{Opens, bounded, carried, ends, headline}
 
 -- ---- variables
 
@@ -83,41 +87,64 @@ distinct_law xs ss d h = ap are_distinct (names_same xs ss h) ∙ distinct_names
 
 -- ---- room
 
-fits_main : (t : ProgramTree) → length (main_code t) ≤ most_instructions → (block_room (plain_block t.block) ≤ most_instructions) × (block_loops (plain_block t.block) ≤ most_instructions)
-fits_main t few =
-    let f = block_fits (main_places t.symbols) (plain_block t.block) 0 0 in
-    let l = length-append (block_code (main_places t.symbols) none_open 0 0 (plain_block t.block)) (instr 0 Halt ∷ []) in
-    let i = f.operands in
-    let j = f.counters in
-    (omega (arith, few, l, i), omega (arith, few, l, j))
+short_below : (n : ℕ) → short n < 2 ^ 32 - 1 → n < 2 ^ 32
+short_below n h = by (nat_lt n (2 ^ 32)) refl h
+  where
+    by : (b : Bool) → nat_lt n (2 ^ 32) ≡ b → (if b then n else 2 ^ 32 - 1) < 2 ^ 32 - 1 → n < 2 ^ 32
+    by true e k = ltb-true n (2 ^ 32) e
+    by false e k = absurd (omega (arith, k))
 
-pub room_law : (t : ProgramTree) (n : ℕ) → length (main_code t) ≤ most_instructions → n ≡ short (block_room (plain_block t.block)) → n ≡ block_room (plain_block t.block)
-room_law t n few e = let k = fits_main t few in e ∙ short_is (block_room (plain_block t.block)) (omega (arith, k.0))
+-- where 32 bits hold the room they tell it
+pub room_law : (t : ProgramTree) (m n r : ℕ) → m ≡ short (block_room (plain_block t.block)) → n ≡ short (block_loops (plain_block t.block)) → r ≡ short (room_of t) → r < 2 ^ 32 - 1 → (m ≡ block_room (plain_block t.block)) × (n ≡ block_loops (plain_block t.block))
+room_law t m n r e f g h =
+    let k = short_below (room_of t) (omega (arith, g, h)) in
+    let i = le-max_left (block_room (plain_block t.block)) (block_loops (plain_block t.block)) in
+    let j = le-max_right (block_room (plain_block t.block)) (block_loops (plain_block t.block)) in
+    (e ∙ short_is (block_room (plain_block t.block)) (omega (arith, i, k)), f ∙ short_is (block_loops (plain_block t.block)) (omega (arith, j, k)))
 
-pub loops_law : (t : ProgramTree) (n : ℕ) → length (main_code t) ≤ most_instructions → n ≡ short (block_loops (plain_block t.block)) → n ≡ block_loops (plain_block t.block)
-loops_law t n few e = let k = fits_main t few in e ∙ short_is (block_loops (plain_block t.block)) (omega (arith, k.1))
+-- and where they don't, there is more
+pub much_room : (t : ProgramTree) (r : ℕ) → r ≡ short (room_of t) → r ≡ 2 ^ 32 - 1 → most_room ≤ room_of t
+much_room t r e f = by (nat_lt (room_of t) (2 ^ 32)) refl (sym f ∙ e)
+  where
+    by : (b : Bool) → nat_lt (room_of t) (2 ^ 32) ≡ b → 2 ^ 32 - 1 ≡ (if b then room_of t else 2 ^ 32 - 1) → most_room ≤ room_of t
+    by true q k = omega (arith, k)
+    by false q k = by_size (ltb-false (room_of t) (2 ^ 32) q)
+      where
+        by_size : 2 ^ 32 ≤ room_of t → most_room ≤ room_of t
+        by_size l = omega (arith, l)
 
 -- ---- the headline
 
-made : (p : Program) (code : Code) → IsCodeOf (program_of p) code → Compiled code (program_of p).symbols (program_of p).block
-made p code w =
-    let i = w.operands in
-    let j = w.counters in
-    let k = ap length w.instructions in
-    let few = w.few in
-    compiled (program_of p).symbols (program_of p).block code 0 p.distinct p.sized p.placed w.variables w.few_symbols w.instructions (omega (arith, few, k)) w.records (omega (arith, i)) (omega (arith, j))
+-- any loop, for numbers past the last
+none_such : Planned
+none_such = record { loop = loop_at None 0 0 (record { variable = record { name = []; id = 0; cell = 0 }; first = constant (pos 0); last = constant (pos 0); step = None }) no_nodes; plan = record { body = plan.no_nodes; privates = []; relations = [] } }
 
-pub headline_law : (p : Program) (code : Code) → IsCodeOf (program_of p) code → Headline code (program_of p)
-headline_law p code w = headline code (program_of p) (made p code w)
+module _ (p : Program) (reports : List LoopReport) (code : Code) (w : IsCodeOf (program_of p) (opened_of (program_of p) reports) code) (told : Reports (program_of p) reports) where
+  abbrev t : ProgramTree
+  t = program_of p
 
-pub ends_law : (p : Program) (code : Code) → IsCodeOf (program_of p) code → (input : List ℕ) → Ends code input
-ends_law p code w input = ends code (program_of p) (made p code w) input
+  abbrev xs : List Planned
+  xs = opened_of (program_of p) reports
 
-pub bounded_law : (p : Program) (code : Code) → IsCodeOf (program_of p) code → (input : List ℕ) → Bounded code input
-bounded_law p code w input = bounded code (program_of p) (made p code w) input
+  known : (n : ℕ) → n < length (opened_of (program_of p) reports) → Known (loops_of (program_of p).block) (loops_of (program_of p).block) (get_or (opened_of (program_of p) reports) n none_such)
+  known n h = known_at (loops_of (program_of p).block) (block_lines (program_of p).block) none_such (loops_of (program_of p).block) reports told n h
 
-pub carried_law : (p : Program) (code : Code) → IsCodeOf (program_of p) code → (input : List ℕ) → Carried code input
-carried_law p code w input = carried code (program_of p) (made p code w) input
+  opens : (n : ℕ) → n < length (opened_of (program_of p) reports) → Opens (program_of p).symbols (get_or (opened_of (program_of p) reports) n none_such)
+  opens n h =
+      let k = known n h in
+      accepted (program_of p) p.distinct p.placed p.numbered p.regular w.few_symbols (get_or (opened_of (program_of p) reports) n none_such) k.among k.good k.same (k.placed).privates
+
+  pub headline_law : Headline code (program_of p)
+  headline_law = headline (program_of p) (opened_of (program_of p) reports) none_such code w p.distinct p.sized p.placed p.numbered p.fitting (λ n h. (known n h).among) opens
+
+  pub ends_law : (input : List ℕ) → Ends code input
+  ends_law = ends (program_of p) (opened_of (program_of p) reports) none_such code w p.distinct p.sized p.placed p.numbered p.fitting (λ n h. (known n h).among) opens
+
+  pub bounded_law : (input : List ℕ) → Bounded code (program_of p) input
+  bounded_law = bounded (program_of p) (opened_of (program_of p) reports) none_such code w p.distinct p.sized p.placed p.numbered p.fitting (λ n h. (known n h).among) opens
+
+  pub carried_law : (input : List ℕ) → Carried code (program_of p) input
+  carried_law = carried (program_of p) (opened_of (program_of p) reports) none_such code w p.distinct p.sized p.placed p.numbered p.fitting (λ n h. (known n h).among) opens
 
 -- ---- one symbol more
 

@@ -38,11 +38,11 @@ pub mod Numbering
 pub mod OnePlace
 pub mod OpenedLoop
 pub mod OpenedProgram
+pub mod OpenedReports
 pub mod Opening
 pub mod Outcomes
 pub mod OwnBefore
 pub mod OwnRun
-pub mod PlanParts
 pub mod PlanPaths
 pub mod PlanPieces
 pub mod ProgramBound

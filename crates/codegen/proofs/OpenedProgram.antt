@@ -28,7 +28,7 @@ use Rattle.expr_code.specs.Places.{Places}
 use Rattle.expr_code.proofs.Meaning.{Named}
 use Rattle.expr_code.proofs.Standing.{HasAt, has_here}
 use Rattle.codegen.specs.Emitted.{arms_awaits, block_awaits, block_code, block_records, if_serial, node_awaits}
-use Rattle.codegen.specs.Headline.{Headline, Ends}
+use Rattle.codegen.specs.Headline.{Bounded, Carried, Ends, Headline}
 use Rattle.codegen.specs.Plain.{plain_arms, plain_block, plain_node}
 use Rattle.codegen.specs.Process.{is_last_stop}
 use Rattle.codegen.specs.Program.{main_places}
@@ -44,7 +44,7 @@ use Rattle.ast.specs.Regular.{is_fitting, are_fitting}
 use Rattle.ast.proofs.Fitting.{Fit, Fits}
 use Rattle.codegen.proofs.LoopMeaning.{IsLoop}
 use Rattle.codegen.proofs.RangeBody.{block_known}
-use Rattle.codegen.proofs.MainHeadline.{OpenCompiled, headline, ends}
+use Rattle.codegen.proofs.MainHeadline.{OpenCompiled, bounded, carried, headline, ends}
 use Rattle.codegen.proofs.Meaning.{fit_parts}
 use Rattle.codegen.proofs.OpenedLoop.{IsOpened, starts}
 use Rattle.codegen.proofs.MainNaming as naming
@@ -312,3 +312,9 @@ module _ (t : ProgramTree) (xs : List Planned) (some : Planned) (code : Code) (w
 
     pub it_ends : (input : List ℕ) → Ends code input
     it_ends input = ends code may places bodies fixed (opened_by xs) (HiddenIn code source places bodies fixed named Stands (held_by t.symbols) (Valid code may)) (FixedIn code source places bodies fixed named Stands (held_by t.symbols) (Valid code may)) (NamedIn code source places bodies fixed named Stands (held_by t.symbols) (Valid code may)) loops t compiled input
+
+    pub it_is_bounded : (input : List ℕ) → Bounded code t input
+    it_is_bounded input w solo p s qs m sizes fine run = bounded code may places bodies fixed (opened_by xs) (HiddenIn code source places bodies fixed named Stands (held_by t.symbols) (Valid code may)) (FixedIn code source places bodies fixed named Stands (held_by t.symbols) (Valid code may)) (NamedIn code source places bodies fixed named Stands (held_by t.symbols) (Valid code may)) loops t compiled input w solo p s qs m sizes fine run
+
+    pub it_is_carried : (input : List ℕ) → Carried code t input
+    it_is_carried input w solo p s qs m sizes fine run = carried code may places bodies fixed (opened_by xs) (HiddenIn code source places bodies fixed named Stands (held_by t.symbols) (Valid code may)) (FixedIn code source places bodies fixed named Stands (held_by t.symbols) (Valid code may)) (NamedIn code source places bodies fixed named Stands (held_by t.symbols) (Valid code may)) loops t compiled input w solo p s qs m sizes fine run

@@ -22,7 +22,7 @@ use Rattle.machine.specs.declared.code.Open.{Open as Opened}
 use Rattle.expr_code.specs.Places.{dimensions_at}
 use Rattle.expr_code.specs.Process.{count}
 use Rattle.expr_code.proofs.Finding.{dimensions_same}
-use Rattle.codegen.specs.Headline.{Headline, Ends}
+use Rattle.codegen.specs.Headline.{Bounded, Carried, Ends, Headline}
 use Rattle.codegen.specs.Process.{is_last_stop}
 use Rattle.codegen.specs.Room.{block_loops, block_room}
 use Rattle.codegen.proofs.GoodPaths.{GoodPaths}
@@ -32,7 +32,7 @@ use Rattle.plan_check.specs.GoodPlan.{GoodPlan, Names, SameBody, made_bare, made
 use Rattle.plan_check.proofs.Members.{In}
 use Rattle.codegen.proofs.OnePlace.{one_place}
 use Rattle.codegen.proofs.LoopNumbers.{matches}
-use Rattle.codegen.proofs.OpenedProgram.{Facts, it_ends, may, nth, the_headline}
+use Rattle.codegen.proofs.OpenedProgram.{Facts, it_ends, it_is_bounded, it_is_carried, may, nth, the_headline}
 use Rattle.codegen.proofs.GivenPaths.{good_paths}
 use Rattle.codegen.proofs.RangeLayout.{entry, few_loops, few_records, ranges}
 use Rattle.codegen.proofs.GoodLoops.{GoodLoop}
@@ -189,3 +189,9 @@ module _ (t : ProgramTree) (xs : List Planned) (some : Planned) (code : Code) (w
 
   pub ends : (input : List ℕ) → Ends code input
   ends input = it_ends t xs some code w named facts input
+
+  pub bounded : (input : List ℕ) → Bounded code t input
+  bounded input = it_is_bounded t xs some code w named facts input
+
+  pub carried : (input : List ℕ) → Carried code t input
+  carried input = it_is_carried t xs some code w named facts input

@@ -124,9 +124,10 @@ fn whole(
     let made = emit_all(alloc, program, tree, reports)?;
     let operands = of_block(&program.body);
     let counters = loops_of_block(&program.body);
+    let room = greater(operands, counters);
     if made.instructions.len() > MOST_INSTRUCTIONS
         || program.symbols.len() > MOST_SYMBOLS
-        || greater(operands, counters) == u32::MAX
+        || room == u32::MAX
     {
         return Err(TOO_LONG);
     }
