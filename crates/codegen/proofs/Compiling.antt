@@ -1,10 +1,10 @@
 -- Programs to code: their variables, and that what is made is code that the headline holds of.
-use Rattle.std.proofs.Common.{◌≡◌, ◌∙◌, ◌+◌, ◌*◌, ◌≤◌, ◌<◌, ◌^◌, ℕ, zero, suc, Bool, true, false, List, [], ◌∷◌, ◌++◌, map, take, length, get_or, refl, sym, ap, subst, arith, length-append}
+use Rattle.std.proofs.Common.{◌≡◌, ◌∙◌, ◌⊎◌, inl, inr, ◌+◌, ◌*◌, ◌≤◌, ◌<◌, ◌^◌, ℕ, zero, suc, Bool, true, false, List, [], ◌∷◌, ◌++◌, map, take, length, get_or, refl, sym, ap, subst, arith, length-append}
 use Rattle.std.specs.Prelude.{◌-◌, None, not, nat_lt, nat_le, int_lt, pos, ◌&&◌, ◌||◌, ◌==◌, if◌then◌else◌}
 use Rattle.std.specs.List.{AllByRecursion, IsDistinct, list_all}
 use Rattle.std.specs.Cmp.Lexicographic.{same_text}
 use Rattle.std.proofs.Math.Nat.{le-max_left, le-max_right}
-use Rattle.std.proofs.lemmas.Bool.{and_parts, leb-true, lt-ltb, ltb-false, ltb-true}
+use Rattle.std.proofs.lemmas.Bool.{and_parts, cases_eq, leb-true, lt-ltb, ltb-false, ltb-true}
 use Rattle.std.proofs.lemmas.Bool.Decides.{Decides-eqb}
 use Rattle.std.proofs.lemmas.Cmp.{nat_list_eq_equiv}
 use Rattle.ast.specs.Program.{ProgramTree, are_placed}
@@ -12,6 +12,8 @@ use Rattle.ast.specs.ProgramView.{program as program_of}
 use Rattle.ast.specs.Store.{same_name}
 use Rattle.ast.specs.Symbols.{Symbol, is_sized, dimensions_of, most_elements, names_of, size}
 use Rattle.ast.specs.declared.program.Program.{Program}
+use Rattle.ast.specs.declared.refusal.Refusal.{Refusal}
+use Rattle.ast.specs.declared.refusal.Refusal.TheVariants.{Memory, Refused}
 use Rattle.ast.specs.declared.program.Symbol.{Symbol as Named}
 use Rattle.ast.specs.View.{symbol}
 use Rattle.ast.specs.Tree.{constant, no_nodes}
@@ -26,7 +28,7 @@ use Rattle.expr_code.specs.Emitted.{short}
 use Rattle.expr_code.proofs.Finding.{short_is}
 use Rattle.codegen.specs.Headline.{Bounded, Carried, Ends, Headline}
 use Rattle.codegen.specs.Plain.{plain_block}
-use Rattle.codegen.specs.Program.{IsCodeOf, Planned, most_room, room_of}
+use Rattle.codegen.specs.Program.{AreOpened, IsCodeOf, Planned, Refuses, RefusesWith, most_room, room_of}
 use Rattle.codegen.specs.Reports.{Reports, opened_of}
 use Rattle.codegen.specs.Room.{block_loops, block_room}
 use Rattle.codegen.specs.declared.reports.LoopReport.{LoopReport}
@@ -117,7 +119,7 @@ much_room t r e f = by (nat_lt (room_of t) (2 ^ 32)) refl (sym f ∙ e)
 
 -- any loop, for numbers past the last
 none_such : Planned
-none_such = record { loop = loop_at None 0 0 (record { variable = record { name = []; id = 0; cell = 0 }; first = constant (pos 0); last = constant (pos 0); step = None }) no_nodes; plan = record { body = plan.no_nodes; privates = []; relations = [] } }
+none_such = record { loop = loop_at None 0 0 (record { variable = record { name = []; id = 0; cell = 0 }; first = constant (pos 0); last = constant (pos 0); step = None; terminal = 0 }) no_nodes; plan = record { body = plan.no_nodes; privates = []; relations = [] } }
 
 module _ (p : Program) (reports : List LoopReport) (code : Code) (w : IsCodeOf (program_of p) (opened_of (program_of p) reports) code) (told : Reports (program_of p) reports) where
   abbrev t : ProgramTree
@@ -176,3 +178,23 @@ pub none_refused : (a b : Bool) → false ≡ (a && b) → a ≡ true → b ≡ 
 none_refused true true h e f = cc
 none_refused true false h e f = cc
 none_refused false b h e f = cc
+
+-- ---- refusals
+
+pub refused_law : (t : ProgramTree) (xs : List Planned) → AreOpened t xs → (r : Refusal) → RefusesWith t xs r → Refuses t r
+refused_law t xs opened Memory w = tt
+refused_law t xs opened (Refused number line) w = (xs, opened, w)
+
+short_at_most : (n : ℕ) → short n ≤ 2 ^ 32 - 1
+short_at_most n = by (nat_lt n (2 ^ 32)) refl
+  where
+    by : (b : Bool) → nat_lt n (2 ^ 32) ≡ b → (if b then n else 2 ^ 32 - 1) ≤ 2 ^ 32 - 1
+    by true e = let k = ltb-true n (2 ^ 32) e in omega (arith, k)
+    by false e = omega arith
+
+pub not_full : (r n : ℕ) → r ≡ short n → (r ≡ 2 ^ 32 - 1 → ⊥) → r < 2 ^ 32 - 1
+not_full r n e apart = by (cases_eq r (2 ^ 32 - 1)) (short_at_most n)
+  where
+    by : (r ≡ 2 ^ 32 - 1) ⊎ (r ≡ 2 ^ 32 - 1 → ⊥) → short n ≤ 2 ^ 32 - 1 → r < 2 ^ 32 - 1
+    by (inl z) m = absurd (apart z)
+    by (inr z) m = omega (arith, e, m, z)

@@ -33,20 +33,25 @@ pub record Known (all ls : List Loop) (x : Planned) : Type 0 where
   pub good : GoodPlan x.loop x.plan
   pub same : SameBody x.loop x.plan
 
+same_some : (p q : PlanTree) → Some p ≡ Some q → p ≡ q
+same_some p q e = cc
+
 some_none : (around : List Loop) → SomeEligible around → NoneSuits around → ⊥
 some_none [] s n = s
 some_none (m ∷ around) (inl e) n = n.0 ((is_outermost m around).0 e).0
 some_none (m ∷ around) (inr s) n = some_none around s n.1
+
+not_none : (p : PlanTree) → Some p ≡ None → ⊥
+not_none p e = cc
 
 module _ (all : List Loop) (lines : List ℕ) where
   opened_one : (l : Loop) (ls : List Loop) (r : LoopReport) → IsPlacedReport all lines l r → (p : PlanTree) → plan_of r.plan ≡ Some p → Known all (l ∷ ls) (record { loop = l; plan = p })
   opened_one l ls r w p e = by r.plan w.plan w.good w.body e
     where
       by : (plan : LoopPlan) → IsPlacement all l plan → IsGood l (plan_of plan) → HasBody l (plan_of plan) → plan_of plan ≡ Some p → Known all (l ∷ ls) (record { loop = l; plan = p })
-      by (Serial n) i g h e = cc
+      by (Serial n) i g h e = absurd (not_none p (sym e))
       by (Body b ps rs) i g h e =
-          let same : Some i.1.0 ≡ Some p = sym i.1.1 ∙ e in
-          let is : i.1.0 ≡ p = cc in
+          let is : i.1.0 ≡ p = same_some i.1.0 p (sym i.1.1 ∙ e) in
           record { among = inl refl; eligible = i.0; placed = subst (λ (z : PlanTree). IsPlacedBody l z) is i.1.2; good = subst (λ (o : Option PlanTree). IsGood l o) e g; same = subst (λ (o : Option PlanTree). HasBody l o) e h }
 
   serial_one : (l : Loop) (r : LoopReport) → IsPlacedReport all lines l r → plan_of r.plan ≡ None → EligibleIn l (loops_around all l) → ⊥
@@ -56,7 +61,7 @@ module _ (all : List Loop) (lines : List ℕ) where
       outermost = (is_outermost l (loops_around all l)).0 eligible
 
       opened : IsOpened l w.placed → ⊥
-      opened o = let a : plan_of (w.placed).plan ≡ None = ap plan_of (sym (w.reported).plan_is) ∙ e in let b : Some o.tree ≡ None = sym o.is ∙ a in cc
+      opened o = let a : plan_of (w.placed).plan ≡ None = ap plan_of (sym (w.reported).plan_is) ∙ e in not_none o.tree (sym o.is ∙ a)
 
       unless : (b : Bool) → IsInside (loops_around all l) b → IsOpenedUnless b l w.placed → ⊥
       unless true i o = some_none (loops_around all l) i outermost.1

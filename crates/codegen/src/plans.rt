@@ -46,7 +46,6 @@ fn is_end(statement: &PlanStmt) -> bool
 }
 
 /// Whether statements are a STOP and the END that follows it, which do what END alone does.
-#[tactic(auto, using(crate::proofs::PlanParts::two_nodes, crate::proofs::PlanParts::other_nodes))]
 fn is_last_stop(body: &[PlanStmt]) -> bool
     ensures { result ≡ ends_with_stop (plan_block body.now) }
 {
