@@ -1,6 +1,6 @@
 -- What a program's type says makes each of its loops one that a good plan may open.
-use Rattle.std.proofs.Common.{◌≡◌, ◌∙◌, ◌≤◌, ◌<◌, ◌^◌, ◌⊎◌, inl, inr, ℕ, zero, suc, Bool, true, false, List, [], ◌∷◌, ◌++◌, Option, Some, None, length, map, get_or, refl, sym, ap, subst, ⊎_elim, arith}
-use Rattle.std.specs.Prelude.{◌==◌, ◌||◌, not}
+use Rattle.std.proofs.Common.{◌≡◌, ◌∙◌, ◌≤◌, ◌<◌, ◌^◌, inl, inr, ℕ, Bool, true, false, List, [], ◌∷◌, length, get_or, refl, sym, ap, subst, ⊎_elim, arith}
+use Rattle.std.specs.Prelude.{◌||◌, not}
 use Rattle.std.specs.List.{IsDistinct, list_all}
 use Rattle.std.proofs.lemmas.Bool.{and_parts, eqb-true, or_parts}
 use Rattle.ast.specs.Program.{ProgramTree, are_placed, is_placed}
@@ -8,9 +8,9 @@ use Rattle.ast.specs.References.{are_numbered, block_expressions, block_referenc
 use Rattle.ast.specs.Regular.{is_none_of, is_regular, block_has_end, arms_have_end}
 use Rattle.ast.specs.Stops.{is_end_kind}
 use Rattle.ast.specs.Store.{same_name}
-use Rattle.ast.specs.Symbols.{Symbol, dimensions_in, names_of}
+use Rattle.ast.specs.Symbols.{dimensions_in, names_of}
 use Rattle.ast.specs.Tree.{Ref, Terms, no_terms, then_term, Block, count_of}
-use Rattle.dependence.specs.Plan.{PlanNode, awaits, advances, plain, loop, choose, PlanBlock, no_nodes, then_node, PlanArms, no_arms, made_else, then_arm}
+use Rattle.dependence.specs.Plan.{awaits, advances, plain, loop, choose, PlanBlock, no_nodes, then_node, PlanArms, no_arms, made_else, then_arm}
 use Rattle.loop_tree.specs.Loops.{Loop, loops_of}
 use Rattle.loop_tree.specs.Occurrences.{Occurrence}
 use Rattle.loop_tree.specs.Private.{Private}

@@ -1,11 +1,11 @@
 -- The scalars that a range assigns are those at which a reference defines.
-use Rattle.std.proofs.Common.{◌≡◌, ◌∙◌, ◌+◌, ◌⊎◌, inl, inr, ℕ, zero, suc, Bool, true, false, List, [], ◌∷◌, ◌++◌, Option, Some, None, length, refl, sym, ap, subst, ⊎_elim}
+use Rattle.std.proofs.Common.{◌≡◌, ◌∙◌, ◌+◌, ◌⊎◌, inl, inr, ℕ, Bool, true, false, List, [], ◌∷◌, ◌++◌, Option, Some, None, length, refl, sym, ap, subst, ⊎_elim}
 use Rattle.std.specs.Prelude.{◌==◌, ◌||◌, if◌then◌else◌}
 use Rattle.std.specs.List.{list_any}
 use Rattle.std.proofs.lemmas.Bool.{eq-eqb}
 use Rattle.ast.specs.Tree.{Ref, Term, Terms, no_terms, then_term, Access, PrintItem, value_item, text_item, DoHead, Kind, assign, print, read, stop, program, integer, dimension, parameters, do_loop, go_on, block_if, else_if, else_arm, end_if, logical_if, end, Node, plain, loop, choose, Block, no_nodes, then_node, Arms, no_arms, then_arm, element, call, parentheses, unary, binary, constant, truth, parameter}
 use Rattle.loop_tree.specs.Loops.{has_cell, with_arms, with_block, with_kind, with_named, with_node, with_scalar, with_target, with_targets}
-use Rattle.loop_tree.specs.Occurrences.{Occurrence, arms_occurrences, block_lines, block_occurrences, defined_at, head_occurrences, items_occurrences, item_occurrences, kind_occurrences, node_lines, node_occurrences, optional_occurrences, target_occurrences, targets_occurrences, term_occurrences, terms_occurrences, used_at}
+use Rattle.loop_tree.specs.Occurrences.{Occurrence, arms_occurrences, block_lines, block_occurrences, defined_at, head_occurrences, items_occurrences, kind_occurrences, node_lines, node_occurrences, optional_occurrences, target_occurrences, targets_occurrences, term_occurrences, terms_occurrences, used_at}
 use Rattle.codegen.proofs.IterationLaws.{in_left, in_right, in_which}
 use Rattle.codegen.proofs.IterationSteps.{In}
 

@@ -1,13 +1,12 @@
 -- Programs to code: their variables, and that what is made is code that the headline holds of.
-use Rattle.std.proofs.Common.{◌≡◌, ◌∙◌, ◌⊎◌, inl, inr, ◌+◌, ◌*◌, ◌≤◌, ◌<◌, ◌^◌, ℕ, zero, suc, Bool, true, false, List, [], ◌∷◌, ◌++◌, map, take, length, get_or, refl, sym, ap, subst, arith, length-append}
+use Rattle.std.proofs.Common.{◌≡◌, ◌∙◌, ◌⊎◌, inl, inr, ◌+◌, ◌*◌, ◌≤◌, ◌<◌, ◌^◌, ℕ, zero, suc, Bool, true, false, List, [], ◌∷◌, ◌++◌, map, take, length, get_or, refl, sym, ap, arith}
 use Rattle.std.specs.Prelude.{◌-◌, None, not, nat_lt, nat_le, int_lt, pos, ◌&&◌, ◌||◌, ◌==◌, if◌then◌else◌}
 use Rattle.std.specs.List.{AllByRecursion, IsDistinct, list_all}
-use Rattle.std.specs.Cmp.Lexicographic.{same_text}
 use Rattle.std.proofs.Math.Nat.{le-max_left, le-max_right}
 use Rattle.std.proofs.lemmas.Bool.{and_parts, cases_eq, leb-true, lt-ltb, ltb-false, ltb-true}
 use Rattle.std.proofs.lemmas.Bool.Decides.{Decides-eqb}
 use Rattle.std.proofs.lemmas.Cmp.{nat_list_eq_equiv}
-use Rattle.ast.specs.Program.{ProgramTree, are_placed}
+use Rattle.ast.specs.Program.{ProgramTree}
 use Rattle.ast.specs.ProgramView.{program as program_of}
 use Rattle.ast.specs.Store.{same_name}
 use Rattle.ast.specs.Symbols.{Symbol, is_sized, dimensions_of, most_elements, names_of, size}
@@ -182,8 +181,8 @@ none_refused false b h e f = cc
 -- ---- refusals
 
 pub refused_law : (t : ProgramTree) (xs : List Planned) → AreOpened t xs → (r : Refusal) → RefusesWith t xs r → Refuses t r
-refused_law t xs opened Memory w = tt
-refused_law t xs opened (Refused number line) w = (xs, opened, w)
+refused_law t ys opened Memory w = tt
+refused_law t ys opened (Refused number line) w = (ys, opened, w)
 
 short_at_most : (n : ℕ) → short n ≤ 2 ^ 32 - 1
 short_at_most n = by (nat_lt n (2 ^ 32)) refl

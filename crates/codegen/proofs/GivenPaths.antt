@@ -1,5 +1,5 @@
 -- A good plan gives what the proofs of the iterations ask for.
-use Rattle.std.proofs.Common.{◌≡◌, ◌∙◌, ◌+◌, ◌<◌, ◌≤◌, ◌⊎◌, inl, inr, ℕ, zero, suc, ℤ, pos, ◌+ℤ◌, ◌*ℤ◌, Bool, true, false, ◌||◌, List, [], ◌∷◌, ◌++◌, Option, Some, None, get_or, length, if◌then◌else◌, Result, Ok, Err, refl, sym, ap, subst, ⊎_elim, arith, append_assoc}
+use Rattle.std.proofs.Common.{◌≡◌, ◌∙◌, ◌+◌, ◌<◌, ◌≤◌, ◌⊎◌, inl, inr, ℕ, zero, suc, ℤ, pos, ◌+ℤ◌, ◌*ℤ◌, Bool, true, false, List, [], ◌∷◌, ◌++◌, Option, Some, None, get_or, length, if◌then◌else◌, Ok, refl, sym, ap, subst, ⊎_elim, arith, append_assoc}
 use Rattle.std.specs.Cmp.Lexicographic.{same_text}
 use Rattle.std.proofs.lemmas.Cmp.{nat_list_eq_equiv}
 use Rattle.std.proofs.lemmas.Bool.{or_left, or_right}
@@ -10,17 +10,15 @@ use Rattle.dependence.specs.Meets.{Meets as MayMeet, MayAgree, IsStep, IsWithin}
 use Rattle.dependence.specs.Plan.{PlanPaths, PlanTree}
 use Rattle.loop_tree.specs.Loops.{Loop}
 use Rattle.loop_tree.specs.Occurrences.{Occurrence}
-use Rattle.loop_tree.specs.Paths.{Token, uses, defines, await, advance, Ending, at_end}
+use Rattle.loop_tree.specs.Paths.{Token, uses, defines, await, advance, Ending}
 use Rattle.subscripts.specs.Values.{AllMayBe, MayBe}
 use Rattle.plan_check.proofs.Members.{In, among, contained}
 use Rattle.plan_check.proofs.Naming.{named_on}
 use Rattle.plan_check.specs.GoodPlan.{GoodPlan, IsPrivate, Together, Names, named, token_of}
 use Rattle.ast.specs.Store.{StoreOf}
 use Rattle.machine.specs.Code.{Cell}
-use Rattle.expr_code.specs.Places.{Places, Home, loop_index, private_scalar, in_store, dimensions_at, home, is_loop_name, number_in, private_or_stored}
-use Rattle.codegen.proofs.GoodPaths.{GoodPaths, AtIn, Begins, Meets, Defines, Occurs}
-use Rattle.codegen.proofs.IterationStanding.{Hidden}
-use Rattle.codegen.proofs.Walking.{home_at}
+use Rattle.expr_code.specs.Places.{Places, loop_index, in_store, dimensions_at, home, is_loop_name, number_in, private_or_stored}
+use Rattle.codegen.proofs.GoodPaths.{GoodPaths, AtIn, Begins, Meets}
 
 count : Terms → ℕ
 count no_terms = 0

@@ -1,41 +1,30 @@
 -- Each loop that is opened is known, by its plan.
-use Rattle.std.proofs.Common.{◌≡◌, ◌∙◌, ◌+◌, ◌≤◌, ◌<◌, ◌^◌, ◌⊎◌, inl, inr, ℕ, zero, suc, ℤ, pos, Bool, true, false, List, [], ◌∷◌, ◌++◌, Option, Some, None, length, map, get_or, refl, sym, ap, subst, ⊎_elim, arith}
-use Rattle.std.specs.Prelude.{◌==◌, ◌&&◌, ◌||◌, not, slice_get, unwrap_or, if◌then◌else◌}
+use Rattle.std.proofs.Common.{◌≡◌, ◌∙◌, ◌+◌, ◌≤◌, ◌<◌, ◌^◌, inl, inr, ℕ, zero, suc, ℤ, pos, Bool, true, false, List, [], ◌∷◌, ◌++◌, Option, Some, None, length, map, get_or, refl, sym, ap, subst, ⊎_elim, arith}
+use Rattle.std.specs.Prelude.{◌&&◌, ◌||◌, not, slice_get, if◌then◌else◌}
 use Rattle.std.specs.List.{IsDistinct, list_all, list_any}
 use Rattle.std.specs.Ordering.{int_eq}
-use Rattle.std.proofs.lemmas.Bool.{and_parts, eqb-true}
-use Rattle.ast.specs.Exact.{fits, trips}
+use Rattle.std.proofs.lemmas.Bool.{and_parts}
 use Rattle.ast.specs.Program.{is_placed}
-use Rattle.ast.specs.Store.{StoreOf, same_name}
+use Rattle.ast.specs.Store.{same_name}
 use Rattle.ast.specs.Symbols.{Extent, Symbol, dimensions_in, elements, is_sized, names_of}
 use Rattle.ast.specs.Tree.{Ref, Terms}
-use Rattle.dependence.specs.Plan.{PlanBlock, PlanPaths}
+use Rattle.dependence.specs.Plan.{PlanPaths}
 use Rattle.loop_tree.specs.Loops.{Loop}
 use Rattle.loop_tree.specs.Occurrences.{Occurrence, block_occurrences}
-use Rattle.loop_tree.specs.Paths.{Token, uses, defines, Ending}
+use Rattle.loop_tree.specs.Paths.{Token, defines, Ending}
 use Rattle.machine.specs.Code as machine
 use Rattle.machine.specs.Code.{Code, Cell, cell_at, loop_at}
-use Rattle.machine.specs.Frame.{Frame}
-use Rattle.machine.specs.View.{begin, defined_cells, index_at, stored_if, trips_of, view}
-use Rattle.machine.specs.declared.code.Open.{Open as Opened}
+use Rattle.machine.specs.View.{defined_cells, stored_if}
 use Rattle.machine.proofs.Naming.{same, same_itself}
-use Rattle.expr_code.specs.Computes.{HasVariables, variables_for, variables_in}
+use Rattle.expr_code.specs.Computes.{HasVariables}
 use Rattle.expr_code.specs.Emitted.{short}
-use Rattle.expr_code.specs.Places.{Places, Home, loop_index, private_scalar, in_store, dimensions_at, home, home_of}
+use Rattle.expr_code.specs.Places.{Places, loop_index, private_scalar, dimensions_at, home_of}
 use Rattle.expr_code.proofs.Finding.{Reach, cell_law, reach, short_is}
-use Rattle.codegen.proofs.CodeLoops.{HiddenIn, FixedIn, IsPlanned, NamedIn, code_loops}
-use Rattle.codegen.proofs.GoodPaths.{GoodPaths}
-use Rattle.codegen.proofs.IterationCode.{IsRange}
-use Rattle.codegen.proofs.IterationPaths.{At, Begun}
 use Rattle.codegen.proofs.IterationSteps.{In, IsKey}
-use Rattle.codegen.proofs.MainSteps.{Valid}
-use Rattle.codegen.proofs.ProgramStanding.{Loops}
 use Rattle.codegen.proofs.LoopMeaning.{Aligned, IsLoop}
-use Rattle.codegen.proofs.RangeBody.{Calm, block_is, block_known}
-use Rattle.codegen.proofs.OpenedLoop.{starts}
-use Rattle.codegen.proofs.RangeSound.{IsPlace, StandsIn, fixed_in, held_by, is_assigned, is_scalar, one_place, open_sound, same_cells, symbol_at}
+use Rattle.codegen.proofs.RangeBody.{Calm, block_is}
+use Rattle.codegen.proofs.RangeSound.{IsPlace, StandsIn, fixed_in, is_assigned, is_scalar, one_place, symbol_at}
 use Rattle.codegen.specs.Program.{Planned, loop_entry, place_of_name, range_places}
-use Rattle.codegen.proofs.Opening.{may_if, may_open}
 use Rattle.plan_check.specs.GoodPlan.{stripped}
 
 -- the first place of a name is its place, where names are distinct

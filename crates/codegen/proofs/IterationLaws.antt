@@ -7,7 +7,7 @@ use Rattle.machine.specs.Code.{Cell}
 use Rattle.machine.specs.State.{put_at, put_cell, put_cells}
 use Rattle.machine.proofs.Naming.{same, same_itself}
 pub use Rattle.plan_check.proofs.Members.{in_left, in_right, in_which}
-use Rattle.codegen.proofs.IterationSteps.{Process, load, store, print, await, advance, tick, fault, leave, gone, IsKey, In, Ran, act, acts, after, cell_value, first, follow, run}
+use Rattle.codegen.proofs.IterationSteps.{Process, load, store, print, await, advance, tick, fault, leave, gone, IsKey, Ran, act, acts, after, cell_value, first, follow, run}
 
 -- ---- maps
 

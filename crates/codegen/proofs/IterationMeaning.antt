@@ -1,9 +1,8 @@
 -- An iteration comes to what its range means, its private scalars and its loop's variable in the place of
 -- the store's.
-use Rattle.std.proofs.Common.{◌≡◌, ◌∙◌, ◌<◌, ◌+◌, ◌⊎◌, inl, inr, ℕ, zero, suc, ℤ, pos, Bool, true, false, List, [], ◌∷◌, ◌++◌, Option, Some, None, Result, Ok, Err, length, get_or, refl, sym, ap, subst, ⊎_elim, arith}
+use Rattle.std.proofs.Common.{◌≡◌, ◌∙◌, ◌<◌, ◌+◌, ℕ, zero, suc, ℤ, pos, Bool, true, false, List, [], ◌∷◌, ◌++◌, Option, Some, None, Result, Ok, Err, length, get_or, refl, sym, ap, subst, ⊎_elim, arith}
 use Rattle.std.specs.Prelude.{◌+ℤ◌, slice_get, slice_set, if◌then◌else◌}
 use Rattle.std.specs.Ordering.{int_eq}
-use Rattle.std.proofs.lemmas.Bool.{cases_eq}
 use Rattle.ast.specs.Exact.{in_range, is_true, trips, value_of}
 use Rattle.ast.specs.Meaning as meaning
 use Rattle.ast.specs.Meaning.{Run, going_on, then_do, given, written, printed, step_value, turns, target, exec_plain, grown, looped, exec, exec_block, exec_arms, looked_up, value}
@@ -31,8 +30,8 @@ use Rattle.codegen.specs.Process.{arms_into, block_into, given_into, grown_into,
 use Rattle.codegen.specs.Program.{none_open}
 use Rattle.codegen.proofs.IterationLaws.{cases_cell, cell_other, cell_same}
 use Rattle.codegen.proofs.IterationStanding.{Work, iteration_doing, iteration_steps, own_value}
-use Rattle.codegen.proofs.IterationSteps.{Process, load, store, print as print_bytes, await, advance, tick, fault, leave, gone, cell_value}
-use Rattle.codegen.proofs.Outcomes.{Outcome, done, failed}
+use Rattle.codegen.proofs.IterationSteps.{load, await, advance, tick, gone, cell_value}
+use Rattle.codegen.proofs.Outcomes.{Outcome, failed}
 use Rattle.codegen.proofs.Comes.{comes}
 use Rattle.plan_check.specs.GoodPlan.{stripped, stripped_arms, only_events}
 

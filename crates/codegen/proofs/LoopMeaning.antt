@@ -1,10 +1,10 @@
 -- A loop's iterations one after another come to what its DO means.
-use Rattle.std.proofs.Common.{◌≡◌, ◌∙◌, ◌<◌, ◌+◌, ◌⊎◌, inl, inr, ℕ, zero, suc, ℤ, pos, Bool, true, false, List, [], ◌∷◌, ◌++◌, Option, Some, None, Result, Ok, Err, length, get_or, refl, sym, ap, subst, ⊎_elim, arith}
-use Rattle.std.specs.Prelude.{◌+ℤ◌, ◌*ℤ◌, replicate, slice_get, if◌then◌else◌}
+use Rattle.std.proofs.Common.{◌≡◌, ◌∙◌, ◌<◌, ◌+◌, ℕ, zero, suc, ℤ, Bool, true, false, List, [], ◌∷◌, Option, Some, None, Result, Ok, Err, length, get_or, refl, sym, ap, subst, ⊎_elim, arith}
+use Rattle.std.specs.Prelude.{◌+ℤ◌, replicate, slice_get, if◌then◌else◌}
 use Rattle.std.proofs.lemmas.List.{length-replicate}
 use Rattle.ast.specs.Exact.{fits, in_range}
 use Rattle.ast.specs.Meaning.{Run, going_on, then_do, given, written, turns, grown, exec_block}
-use Rattle.ast.specs.Store.{StoreOf, same_name}
+use Rattle.ast.specs.Store.{StoreOf}
 use Rattle.ast.specs.Symbols.{Extent, dimensions_in}
 use Rattle.ast.specs.declared.fault.End.{End}
 use Rattle.ast.specs.declared.fault.End.TheVariants.{Done, Stopped, Fault as Faulted}
@@ -15,7 +15,7 @@ use Rattle.machine.specs.Code.{Code, Cell, cell_at, loop_at}
 use Rattle.machine.specs.State.{put_cell, put_cells}
 use Rattle.machine.specs.View.{failure, stop_at, defined_cells, index_at, stored_if}
 use Rattle.machine.specs.declared.code.Open.{Open as Opened}
-use Rattle.expr_code.specs.Places.{Places, Home, loop_index, private_scalar, in_store, home, home_of, is_loop_name, number_in, private_or_stored}
+use Rattle.expr_code.specs.Places.{Places, Home, loop_index, private_scalar, in_store, home, home_of}
 use Rattle.codegen.proofs.IterationCode.{iteration_process}
 use Rattle.codegen.proofs.IterationLaws.{cases_cell, cell_other, cell_same, same_stores}
 use Rattle.codegen.proofs.IterationSteps.{Process, leave, cell_value}

@@ -1,12 +1,11 @@
 -- A loop is told by the number of its DO variable's reference.
-use Rattle.std.proofs.Common.{◌≡◌, ◌∙◌, ◌+◌, ◌≤◌, ◌<◌, ◌⊎◌, inl, inr, ℕ, zero, suc, Bool, true, false, List, [], ◌∷◌, ◌++◌, Option, Some, None, length, get_or, refl, sym, ap, subst, ⊎_elim, arith, length-append, append_assoc}
+use Rattle.std.proofs.Common.{◌≡◌, ◌∙◌, ◌+◌, ◌≤◌, ◌<◌, inl, inr, ℕ, suc, Bool, true, false, List, [], ◌∷◌, ◌++◌, Option, Some, None, length, get_or, refl, sym, ap, subst, ⊎_elim, arith, length-append, append_assoc}
 use Rattle.std.specs.Prelude.{◌==◌, ◌&&◌, if◌then◌else◌}
 use Rattle.std.proofs.lemmas.Bool.{and_parts, eqb-true}
 use Rattle.ast.specs.Program.{ProgramTree}
 use Rattle.ast.specs.References.{are_numbered, arms_expressions, block_expressions, block_references, expressions_references, head_expressions, node_expressions, optional, term_references}
 use Rattle.ast.specs.Tree as tree
 use Rattle.ast.specs.Tree.{Ref, Term, DoHead, Node, Block, Arms, element, no_terms}
-use Rattle.loop_tree.specs.Constants.{step_of, trips_of as trips_known}
 use Rattle.loop_tree.specs.Loops.{Loop, arms_loops, block_loops, loop_at, loops_of, node_loops}
 use Rattle.loop_tree.specs.Occurrences.{node_lines, block_lines}
 use Rattle.machine.specs.Code.{Code}

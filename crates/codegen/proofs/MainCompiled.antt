@@ -1,29 +1,24 @@
 -- What emitted code cites stands where it looks for it.
 use Rattle.std.proofs.Common.{◌≡◌, ◌∙◌, ◌+◌, ◌≤◌, ◌<◌, ◌^◌, ℕ, Bool, true, false, List, [], ◌∷◌, ◌++◌, Option, Some, None, length, refl, sym, ap, subst, arith, length-append, append_assoc}
 use Rattle.std.specs.Prelude.{map, slice_get, if◌then◌else◌}
-use Rattle.std.specs.List.{IsDistinct, list_all}
+use Rattle.std.specs.List.{list_all}
 use Rattle.ast.specs.Meaning.{are_stop_and_end}
-use Rattle.ast.specs.Program.{are_placed, is_placed}
+use Rattle.ast.specs.Program.{is_placed}
 use Rattle.ast.specs.References.{arms_expressions, block_expressions, expressions_references, head_expressions, items_expressions, kind_expressions, node_expressions, optional, term_references}
-use Rattle.ast.specs.Store.{same_name}
-use Rattle.ast.specs.Symbols.{Symbol, is_sized, names_of}
+use Rattle.ast.specs.Symbols.{is_sized}
 use Rattle.ast.specs.Tree as tree
 use Rattle.ast.specs.Tree.{Ref, Access, accessed, Term, element, no_terms, PrintItem, value_item, text_item, DoHead, Kind, assign, print, read, stop, program, integer, dimension, parameters, do_loop, go_on, block_if, else_if, else_arm, end_if, logical_if, end, Node, Block, Arms}
 use Rattle.dependence.specs.Plan.{PlanNode, awaits, advances, plain, loop, choose, PlanBlock, no_nodes, then_node, PlanArms, no_arms, made_else, then_arm}
 use Rattle.machine.specs.Code.{Code, Part}
-use Rattle.machine.specs.declared.code.Await.{Await}
 use Rattle.machine.specs.declared.instr.Act.TheVariants as acts
 use Rattle.machine.specs.declared.instr.Instr.{Instr}
 use Rattle.expr_code.specs.Computes.{HasVariables}
 use Rattle.expr_code.specs.Emitted.{given_act, instr, short, term_code}
 use Rattle.expr_code.specs.Places.{Places, dimensions_at, home}
 use Rattle.expr_code.proofs.Running.{Reaches}
-use Rattle.expr_code.proofs.Standing.{has_here, HasAt}
 use Rattle.codegen.specs.Emitted.{arms_code, arms_records, block_awaits, block_code, block_records, chosen_code, elements_code, grown_code, if_serial, items_code, kind_code, kind_records, loop_code, node_awaits, node_code, node_records, serial_code, step_code, stored_code, turns_code, variable_code}
 use Rattle.codegen.specs.Plain.{plain_arms, plain_block, plain_node}
 use Rattle.codegen.specs.Process.{is_last_stop}
-use Rattle.codegen.specs.Program.{main_places, none_open}
-use Rattle.codegen.specs.Room.{block_loops, block_room}
 use Rattle.codegen.proofs.Blocks.{ArmsReach, BlockReaches, HasList, LoopReaches, NodeReaches}
 use Rattle.codegen.proofs.MainReaching.{back_few, front_few, given_reaches, reaches, reference, both}
 use Rattle.codegen.proofs.Nesting.{StepReaches}

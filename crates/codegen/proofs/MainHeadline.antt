@@ -1,5 +1,5 @@
 -- The headline, and how long runs are, for code that may open loops.
-use Rattle.std.proofs.Common.{◌≡◌, ◌∙◌, ◌*◌, ◌+◌, ◌≤◌, ◌<◌, ◌^◌, ◌⊎◌, inl, inr, ℕ, ℤ, pos, Bool, true, false, List, [], ◌∷◌, ◌++◌, Option, Some, refl, sym, ap, subst, arith, length-append}
+use Rattle.std.proofs.Common.{◌≡◌, ◌∙◌, ◌*◌, ◌+◌, ◌≤◌, ◌<◌, ◌^◌, ◌⊎◌, inl, inr, ℕ, ℤ, pos, Bool, true, List, [], ◌∷◌, ◌++◌, Option, Some, refl, sym, ap, subst, arith, length-append}
 use Rattle.std.specs.Prelude.{length, slice_get}
 use Rattle.std.specs.List.{IsDistinct}
 use Rattle.ast.specs.Input.{records_of}
@@ -32,7 +32,7 @@ use Rattle.codegen.proofs.Blocks.{BlockReaches, HasList, block_runs}
 use Rattle.codegen.proofs.MainStanding.{Goes, Opens, main_does}
 use Rattle.codegen.proofs.MainSteps.{Valid, main_acts, main_doing, meant}
 use Rattle.codegen.proofs.Meaning.{going_told, then_told}
-use Rattle.codegen.proofs.Outcomes.{Outcome, done, failed, text_of, told, told_by}
+use Rattle.codegen.proofs.Outcomes.{Outcome, done, text_of, told, told_by}
 use Rattle.codegen.proofs.ProgramBound.{alone_takes, bounded as most_steps, carried as to_end, exactly, weighed}
 use Rattle.codegen.proofs.ProgramClaims.{Claims, claimed}
 use Rattle.codegen.proofs.ProgramStanding.{Final, Loops}

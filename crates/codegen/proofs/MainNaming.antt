@@ -13,7 +13,6 @@ use Rattle.expr_code.specs.Places.{Home, loop_index, home, home_of}
 use Rattle.expr_code.proofs.Finding.{dimensions_same}
 use Rattle.expr_code.proofs.Meaning.{AllNamed, Named}
 use Rattle.codegen.specs.Program.{main_places}
-use Rattle.codegen.specs.Plain.{plain_node, plain_block, plain_arms}
 use Rattle.dependence.specs.Plan.{PlanBlock}
 use Rattle.expr_code.specs.Places.{Places}
 use Rattle.machine.specs.Code.{Cell}

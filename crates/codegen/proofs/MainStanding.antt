@@ -1,34 +1,23 @@
 -- Main's frame does what main's process does.
-use Rattle.std.proofs.Common.{◌≡◌, ◌∙◌, ◌+◌, ◌≤◌, ◌<◌, ◌^◌, ℕ, ℤ, pos, Bool, true, false, List, [], ◌∷◌, Option, Some, Result, Ok, Err, length, refl, ap, subst, arith}
+use Rattle.std.proofs.Common.{◌≡◌, ◌∙◌, ◌+◌, ◌<◌, ◌^◌, ℕ, ℤ, pos, Bool, true, false, List, ◌∷◌, Option, Some, Result, Ok, Err, length, refl, ap}
 use Rattle.std.specs.Prelude.{slice_get, if◌then◌else◌}
-use Rattle.std.specs.List.{IsDistinct}
 use Rattle.std.specs.Ordering.{int_eq}
 use Rattle.std.proofs.lemmas.Bool.{lt-ltb}
 use Rattle.ast.specs.Exact.{in_range}
 use Rattle.ast.specs.Input.{taken, next_integer}
-use Rattle.ast.specs.Program.{are_placed}
-use Rattle.ast.specs.Store.{same_name}
-use Rattle.ast.specs.Symbols.{Symbol, names_of}
-use Rattle.ast.specs.Tree.{Block}
 use Rattle.ast.specs.declared.fault.Fault.{Fault}
 use Rattle.machine.specs.Code.{Code, Loop, loop_at}
 use Rattle.machine.specs.Frame.{Frame}
 use Rattle.machine.specs.Local.{faulted}
-use Rattle.machine.specs.View.{Input, opening, reading, frame_after, frame_joined, frame_with, index_at, input_behind, join_stores, main_frame, act_view, opening_if, stuck, view}
+use Rattle.machine.specs.View.{Input, opening, reading, frame_after, frame_joined, frame_with, index_at, input_behind, join_stores, act_view, opening_if, stuck, view}
 use Rattle.machine.specs.declared.code.Open.{Open as Opened}
 use Rattle.machine.specs.declared.instr.Act.TheVariants as acts
 use Rattle.expr_code.specs.Emitted.{instr, short}
 use Rattle.expr_code.proofs.Finding.{short_is}
-use Rattle.expr_code.proofs.Standing.{HasAt, at, seen}
-use Rattle.codegen.specs.Emitted.{block_awaits, block_code, block_records}
-use Rattle.codegen.specs.Plain.{plain_block}
-use Rattle.codegen.specs.Process.{block_into}
-use Rattle.codegen.specs.Program.{main_places, none_open}
-use Rattle.codegen.specs.Room.{block_loops, block_room}
-use Rattle.codegen.proofs.Blocks.{BlockReaches, HasList, block_runs}
+use Rattle.expr_code.proofs.Standing.{at, seen}
 use Rattle.codegen.proofs.MainSteps.{Valid, after_join, if_taken, loop_opened, main_doing, open_then}
 use Rattle.codegen.proofs.ProgramStanding.{MainStands}
-use Rattle.codegen.proofs.ProgramSteps.{Main, astray, halt}
+use Rattle.codegen.proofs.ProgramSteps.{Main, astray}
 use Rattle.codegen.proofs.Running.{Does}
 
 -- a loop that can be opened stands in the code, and has a step

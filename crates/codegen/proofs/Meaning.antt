@@ -22,7 +22,7 @@ use Rattle.ast.specs.declared.fault.End.{End}
 use Rattle.ast.specs.declared.fault.End.TheVariants.{Done, Stopped, Fault as Faulted}
 use Rattle.ast.specs.declared.fault.Fault.{Fault}
 use Rattle.ast.specs.declared.fault.Fault.TheVariants.{ZeroStep}
-use Rattle.ast.proofs.Fitting.{Fit, RunFits, Fits, StoreFits, block_fits, expression_fits, grown_fits, node_fits, put_fits, then_fits, turns_fit}
+use Rattle.ast.proofs.Fitting.{Fit, RunFits, Fits, block_fits, expression_fits, grown_fits, node_fits, put_fits, then_fits}
 use Rattle.machine.specs.View.{failure}
 use Rattle.expr_code.specs.Places.{Places, Home, loop_index, private_scalar, in_store, dimensions_at, home, home_of}
 use Rattle.expr_code.specs.Process.{answered_into, term_into}

@@ -4,11 +4,9 @@ use Rattle.std.proofs.Common.{◌≡◌, ◌∙◌, ◌+◌, ◌<◌, ◌≤◌,
 use Rattle.std.specs.Prelude.{◌||◌, slice_get}
 use Rattle.std.proofs.lemmas.Option.{slice_get_within}
 use Rattle.ast.specs.Tree.{Node, plain, loop, choose, Block, no_nodes, then_node, Arms, no_arms, then_arm}
-use Rattle.dependence.specs.Kept.{Suits}
 use Rattle.loop_tree.specs.Loops.{Loop, arms_loops, block_loops, loop_around, loop_numbered, loops_of, node_loops}
 use Rattle.loop_tree.specs.Occurrences.{block_lines, node_lines}
 use Rattle.placement.specs.Judged.{IsInside, IsPlaced}
-use Rattle.placement.specs.Opening.{NoneSuits}
 use Rattle.placement.specs.Placement.{around_in, loops_around, with_outer}
 use Rattle.placement.specs.declared.planning.Placed.{Placed}
 use Rattle.placement.proofs.Eligible.{is_outermost}

@@ -1,6 +1,6 @@
 -- Parts of a program's statements: what is left of a list of nodes or arms, seen as plain data.
-use Rattle.std.proofs.Common.{◌≡◌, ◌∙◌, ◌+◌, ◌<◌, ℕ, false, List, ◌∷◌, length, map, drop, take, Option, Some, refl, sym, ap, get_or, rules}
-use Rattle.std.specs.Prelude.{◌-◌, zero}
+use Rattle.std.proofs.Common.{◌≡◌, ◌∙◌, ◌+◌, ◌<◌, ℕ, false, List, length, map, drop, take, Option, ap, get_or, rules}
+use Rattle.std.specs.Prelude.{◌-◌}
 use Rattle.ast.specs.Meaning.{is_last_stop_of}
 use Rattle.ast.specs.Tree as tree
 use Rattle.ast.specs.Tree.{Term, Block, then_node, then_arm, arms as arms_tree}

@@ -1,9 +1,8 @@
 -- Main's process at a loop that is opened comes to what the DO means.
-use Rattle.std.proofs.Common.{◌≡◌, ◌∙◌, ◌<◌, ◌+◌, ℕ, zero, suc, ℤ, pos, Bool, true, false, List, [], ◌∷◌, ◌++◌, Option, Some, None, Result, Ok, Err, refl, sym, ap, subst, arith}
+use Rattle.std.proofs.Common.{◌≡◌, ◌∙◌, ◌<◌, ℕ, suc, ℤ, pos, Bool, true, false, List, [], Option, Some, Result, Ok, Err, refl, sym, ap, arith}
 use Rattle.std.specs.Prelude.{◌+ℤ◌, ◌*ℤ◌, slice_get, if◌then◌else◌}
 use Rattle.std.specs.Ordering.{int_eq}
-use Rattle.std.specs.Result.{result_ok}
-use Rattle.ast.specs.Exact.{fits, in_range, trips}
+use Rattle.ast.specs.Exact.{in_range, trips}
 use Rattle.ast.specs.Meaning.{Run, then_do, given, written, turns, grown, looped, exec, exec_block, looked_up, step_value, value}
 use Rattle.ast.specs.Store.{StoreOf}
 use Rattle.ast.specs.Symbols.{Symbol}
@@ -13,7 +12,7 @@ use Rattle.ast.specs.declared.fault.End.TheVariants.{Done, Fault as Faulted}
 use Rattle.ast.specs.declared.fault.Fault.{Fault}
 use Rattle.ast.specs.declared.fault.Fault.TheVariants.{Overflow, ZeroStep}
 use Rattle.dependence.specs.Plan.{PlanBlock}
-use Rattle.loop_tree.specs.Constants.{no_variables, step_of, trips_of as trips_known}
+use Rattle.loop_tree.specs.Constants.{step_of, trips_of as trips_known}
 use Rattle.machine.specs.Code.{Code, Cell, cell_at, loop_at}
 use Rattle.machine.specs.State.{put_cells}
 use Rattle.machine.specs.View.{failure, index_at, join_stores, joined_with, trips_of}
@@ -25,17 +24,17 @@ use Rattle.codegen.specs.Process as process
 use Rattle.codegen.specs.Process.{opened_into}
 use Rattle.codegen.specs.Program.{main_places}
 use Rattle.codegen.proofs.IterationCode.{iteration_process}
-use Rattle.codegen.proofs.IterationSteps.{Process, sequential}
-use Rattle.codegen.proofs.MainSteps.{after_join, loop_opened, main_acts, main_doing, main_steps, meant, open_then}
+use Rattle.codegen.proofs.IterationSteps.{Process}
+use Rattle.codegen.proofs.MainSteps.{after_join, loop_opened, main_acts, main_doing, meant, open_then}
 use Rattle.codegen.proofs.Meaning.{given_told, then_told}
 use Rattle.codegen.proofs.Outcomes.{Outcome, failed}
 use Rattle.codegen.proofs.Outcomes as outcomes
-use Rattle.codegen.proofs.ProgramSteps.{Main, astray, open_loop, seen, whole}
-use Rattle.loop_tree.proofs.KnownTrips.{constant_is, step_is, trips_are}
+use Rattle.codegen.proofs.ProgramSteps.{Main, astray, whole}
+use Rattle.loop_tree.proofs.KnownTrips.{step_is, trips_are}
 use Rattle.ast.proofs.Trips.{in_trips, next_value, no_trip}
 use Rattle.ast.specs.Regular.{is_fitting}
 use Rattle.ast.proofs.Fitting.{Fits, RunFits, expression_fits}
-use Rattle.codegen.proofs.Comes.{loop_is, one_by_one}
+use Rattle.codegen.proofs.Comes.{loop_is}
 use Rattle.codegen.proofs.IterationMeaning.{At}
 use Rattle.codegen.proofs.LoopMeaning.{IsLoop, first_at, last_is, loop_comes, none, ok_is}
 use Rattle.plan_check.specs.GoodPlan.{stripped}

@@ -1,6 +1,6 @@
 -- The headline of the code of a program that opens loops.
-use Rattle.std.proofs.Common.{◌≡◌, ◌∙◌, ◌+◌, ◌*◌, ◌≤◌, ◌<◌, ◌^◌, ◌⊎◌, inl, inr, ℕ, zero, suc, ℤ, pos, Bool, true, false, List, [], ◌∷◌, ◌++◌, Option, Some, None, length, map, get_or, refl, sym, ap, subst, ⊎_elim, arith, length-append, append_assoc}
-use Rattle.std.specs.Prelude.{◌==◌, ◌&&◌, slice_get, unwrap_or, if◌then◌else◌}
+use Rattle.std.proofs.Common.{◌≡◌, ◌∙◌, ◌≤◌, ◌<◌, ◌^◌, ℕ, zero, suc, ℤ, pos, Bool, true, false, List, [], ◌∷◌, ◌++◌, Option, Some, None, length, get_or, refl, sym, ap, subst, arith, length-append, append_assoc}
+use Rattle.std.specs.Prelude.{◌&&◌, slice_get, unwrap_or, if◌then◌else◌}
 use Rattle.std.specs.List.{IsDistinct, list_all}
 use Rattle.std.specs.Ordering.{int_eq}
 use Rattle.std.proofs.lemmas.Bool.{and_parts, eq-eqb}
@@ -8,7 +8,7 @@ use Rattle.ast.specs.Exact.{fits, trips}
 use Rattle.ast.specs.Program.{ProgramTree, are_placed, is_placed}
 use Rattle.ast.specs.References.{arms_expressions, block_expressions, expressions_references, head_expressions, node_expressions, optional}
 use Rattle.ast.specs.Store.{StoreOf, same_name, zeros}
-use Rattle.ast.specs.Symbols.{Symbol, is_sized, names_of}
+use Rattle.ast.specs.Symbols.{is_sized, names_of}
 use Rattle.ast.specs.Tree as tree
 use Rattle.ast.specs.Tree.{Ref, Terms, Term, DoHead, Node, Block, Arms, element, no_terms}
 use Rattle.dependence.specs.Plan.{PlanBlock, PlanPaths}
@@ -27,7 +27,7 @@ use Rattle.expr_code.specs.Emitted.{instr}
 use Rattle.expr_code.specs.Places.{Places}
 use Rattle.expr_code.proofs.Meaning.{Named}
 use Rattle.expr_code.proofs.Standing.{HasAt, has_here}
-use Rattle.codegen.specs.Emitted.{arms_awaits, block_awaits, block_code, block_records, if_serial, node_awaits}
+use Rattle.codegen.specs.Emitted.{arms_awaits, block_awaits, if_serial, node_awaits}
 use Rattle.codegen.specs.Headline.{Bounded, Carried, Ends, Headline}
 use Rattle.codegen.specs.Plain.{plain_arms, plain_block, plain_node}
 use Rattle.codegen.specs.Process.{is_last_stop}
@@ -46,14 +46,14 @@ use Rattle.codegen.proofs.LoopMeaning.{IsLoop}
 use Rattle.codegen.proofs.RangeBody.{block_known}
 use Rattle.codegen.proofs.MainHeadline.{OpenCompiled, bounded, carried, headline, ends}
 use Rattle.codegen.proofs.Meaning.{fit_parts}
-use Rattle.codegen.proofs.OpenedLoop.{IsOpened, starts}
+use Rattle.codegen.proofs.OpenedLoop.{starts}
 use Rattle.codegen.proofs.MainNaming as naming
 use Rattle.codegen.proofs.MainNaming.{ArmsRight, BlockRight, LoopRight, NodeRight}
 use Rattle.codegen.proofs.GoodLoops.{GoodLoop, all_keys, is_loop, not_given, not_private}
 use Rattle.codegen.proofs.RangeSound.{StandsIn, fixed_in, held_by, open_sound}
 use Rattle.codegen.proofs.RangeSegments.{has_some}
 use Rattle.codegen.proofs.Opening.{agrees, may_if, may_open}
-use Rattle.codegen.specs.Program.{IsCodeOf, Planned, all_code, all_records, loop_entry, main_block, main_code, main_records, opened_by, range_places, ranges_awaits, ranges_code, ranges_records}
+use Rattle.codegen.specs.Program.{IsCodeOf, Planned, loop_entry, main_block, main_code, main_records, opened_by, range_places, ranges_code, ranges_records}
 
 -- a program awaits nothing in main
 none_else : {X : Type 0} (b : Bool) (xs : List X) → xs ≡ [] → (if b then [] else xs) ≡ []

@@ -10,7 +10,6 @@ use Rattle.loop_tree.specs.Loops.{Loop}
 use Rattle.placement.specs.Judged.{IsInside, IsOpened, IsOpenedUnless}
 use Rattle.placement.specs.Opening.{NoneSuits}
 use Rattle.placement.specs.Placement.{IsPlacedBody, IsPlacement, SomeEligible, loops_around}
-use Rattle.placement.specs.declared.planning.Placed.{Placed}
 use Rattle.placement.proofs.Eligible.{is_outermost}
 use Rattle.plan_check.specs.Checks.{HasBody, IsGood}
 use Rattle.plan_check.specs.GoodPlan.{GoodPlan, SameBody}

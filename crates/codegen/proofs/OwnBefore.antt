@@ -1,11 +1,11 @@
 -- Iterations alone, one after another, leave the store that the sequential program has.
-use Rattle.std.proofs.Common.{◌≡◌, ◌∙◌, ◌+◌, ◌<◌, ◌≤◌, ◌⊎◌, inl, inr, ℕ, zero, suc, ℤ, pos, List, [], ◌∷◌, ◌++◌, Option, Some, None, length, refl, sym, ap, subst, ⊎_elim, arith}
+use Rattle.std.proofs.Common.{◌≡◌, ◌∙◌, ◌+◌, ◌<◌, ◌≤◌, inl, inr, ℕ, zero, suc, ℤ, pos, List, [], ◌∷◌, ◌++◌, Option, Some, None, refl, sym, ap, subst, arith}
 use Rattle.ast.specs.Store.{StoreOf}
 use Rattle.machine.specs.Code.{Cell}
 use Rattle.machine.specs.State.{State, Active, put_cell, put_cells}
 use Rattle.machine.specs.View.{Cause, View, doing, loading, storing, printing, awaiting, advancing, leaving, breaking}
 use Rattle.codegen.proofs.IterationLaws.{cell_other, cells_other}
-use Rattle.codegen.proofs.IterationSteps.{Process, load, store, print, await, advance, tick, fault, leave, gone, IsKey, Whole, acts, add, after, cell_value, finish, going, run, sequential, went}
+use Rattle.codegen.proofs.IterationSteps.{Process, load, store, print, await, advance, tick, fault, leave, gone, IsKey, Whole, acts, add, after, cell_value, finish, going, run, went}
 use Rattle.codegen.proofs.LoopMachine.{HasLeft, Loads, Stores}
 use Rattle.codegen.proofs.ProgramClaims.{InLoop}
 use Rattle.codegen.proofs.ProgramStanding.{Loops, Stands}

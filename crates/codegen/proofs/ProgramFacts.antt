@@ -1,7 +1,7 @@
 -- What a program's type gives of each of its loops.
-use Rattle.std.proofs.Common.{◌≡◌, ◌∙◌, ◌+◌, ◌≤◌, ◌<◌, ◌⊎◌, inl, inr, ℕ, zero, suc, Bool, true, false, List, [], ◌∷◌, ◌++◌, map, Option, Some, None, length, refl, sym, ap, subst, ⊎_elim, arith}
-use Rattle.std.specs.Prelude.{◌==◌, ◌&&◌, ◌||◌}
-use Rattle.std.specs.List.{IsDistinct, list_all, list_any}
+use Rattle.std.proofs.Common.{◌≡◌, ◌∙◌, ◌+◌, ◌≤◌, inl, inr, ℕ, Bool, true, List, [], ◌∷◌, ◌++◌, Option, Some, None, length, refl, sym, ap, subst, ⊎_elim, arith}
+use Rattle.std.specs.Prelude.{◌==◌}
+use Rattle.std.specs.List.{IsDistinct, list_all}
 use Rattle.std.proofs.lemmas.Bool.{and_parts, eqb-true}
 use Rattle.ast.specs.Program.{ProgramTree, are_placed, is_placed}
 use Rattle.ast.specs.References.{are_numbered, arms_expressions, block_expressions, block_references, expressions_references, head_expressions, node_expressions, optional}
@@ -22,7 +22,7 @@ use Rattle.codegen.proofs.IterationSteps.{In}
 use Rattle.codegen.proofs.AssignedScalars.{assigned_at, at_block}
 use Rattle.codegen.proofs.LoopNumbers.{parts, size}
 use Rattle.codegen.proofs.RegularPlans.{Regular}
-use Rattle.codegen.proofs.RangeSound.{any_among, among_any, is_assigned, same_names}
+use Rattle.codegen.proofs.RangeSound.{any_among, among_any, same_names}
 use Rattle.codegen.proofs.RangeParts.{of_block}
 
 -- a loop has its range's references and assigned scalars

@@ -1,26 +1,21 @@
 -- The range of a loop that is opened: its references are the loop's, and its names are found.
-use Rattle.std.proofs.Common.{◌≡◌, ◌∙◌, ◌+◌, ◌<◌, ◌⊎◌, inl, inr, ℕ, zero, suc, ℤ, pos, Bool, true, false, List, [], ◌∷◌, ◌++◌, Option, Some, None, length, get_or, refl, sym, ap, subst, ⊎_elim, arith}
-use Rattle.std.specs.Prelude.{◌==◌, ◌&&◌, ◌||◌, not, slice_get, if◌then◌else◌}
-use Rattle.std.specs.List.{list_any}
-use Rattle.std.proofs.lemmas.Bool.{and_parts}
+use Rattle.std.proofs.Common.{◌≡◌, ◌∙◌, ◌+◌, inl, ℕ, ℤ, pos, Bool, true, false, List, [], ◌∷◌, ◌++◌, Option, Some, None, length, refl, sym, ap}
+use Rattle.std.specs.Prelude.{◌&&◌, not}
 use Rattle.ast.specs.Meaning as meaning
-use Rattle.ast.specs.Program.{is_placed}
-use Rattle.ast.specs.Store.{StoreOf, same_name}
+use Rattle.ast.specs.Store.{StoreOf}
 use Rattle.ast.specs.Symbols.{Extent, Symbol, dimensions_in}
 use Rattle.ast.specs.Tree as tree
 use Rattle.ast.specs.Tree.{Ref, Term, constant, truth, parameter, element, call, parentheses, unary, binary, Terms, no_terms, then_term, Access, accessed, PrintItem, value_item, text_item, DoHead, Kind, assign, print, read, stop, program, integer, dimension, parameters, do_loop, go_on, block_if, else_if, else_arm, end_if, logical_if, end}
-use Rattle.dependence.specs.Plan.{PlanNode, awaits, advances, plain, loop, choose, PlanBlock, no_nodes, then_node, PlanArms, no_arms, made_else, then_arm}
+use Rattle.dependence.specs.Plan.{awaits, advances, plain, loop, choose, PlanBlock, no_nodes, then_node, PlanArms, no_arms, made_else, then_arm}
 use Rattle.loop_tree.specs.Loops.{Loop}
 use Rattle.loop_tree.specs.Occurrences.{Occurrence, used_at, defined_at, arms_occurrences, block_lines, block_occurrences, head_occurrences, items_occurrences, kind_occurrences, node_lines, node_occurrences, optional_occurrences, target_occurrences, term_occurrences, terms_occurrences}
-use Rattle.machine.specs.Code.{Cell}
 use Rattle.machine.specs.View.{is_event}
-use Rattle.machine.proofs.Naming.{same, same_itself}
-use Rattle.expr_code.specs.Places.{Places, Home, loop_index, private_scalar, in_store, dimensions_at, home, home_of, is_loop_name, number_in, private_or_stored}
+use Rattle.expr_code.specs.Places.{Places, loop_index, private_scalar, in_store, dimensions_at, home, home_of}
 use Rattle.expr_code.proofs.Meaning.{AllNamed, Named}
 use Rattle.codegen.specs.Process.{is_last_stop}
 use Rattle.codegen.proofs.BlockWalking as walking
 use Rattle.codegen.proofs.BlockWalking.{AreBodies, IsBody}
-use Rattle.codegen.proofs.IterationLaws.{in_left, in_right, in_which}
+use Rattle.codegen.proofs.IterationLaws.{in_left, in_right}
 use Rattle.codegen.proofs.IterationSteps.{In}
 use Rattle.codegen.proofs.Walking.{AllKnown, Known, home_at}
 use Rattle.codegen.proofs.IterationMeaning as ran

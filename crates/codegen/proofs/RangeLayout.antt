@@ -1,5 +1,5 @@
 -- In the code of a program each opened loop's range stands, with its records, awaits and entry.
-use Rattle.std.proofs.Common.{◌≡◌, ◌∙◌, ◌+◌, ◌≤◌, ◌<◌, ◌^◌, ℕ, zero, suc, ℤ, pos, Bool, true, false, List, [], ◌∷◌, ◌++◌, Option, Some, None, length, map, get_or, refl, sym, ap, subst, arith, length-append}
+use Rattle.std.proofs.Common.{◌≡◌, ◌∙◌, ◌+◌, ◌≤◌, ◌<◌, ◌^◌, ℕ, zero, suc, true, List, [], ◌∷◌, Some, length, get_or, refl, ap, arith, length-append}
 use Rattle.std.specs.Prelude.{slice_get}
 use Rattle.std.specs.List.{list_all}
 use Rattle.ast.specs.Program.{ProgramTree, is_placed}
@@ -7,19 +7,17 @@ use Rattle.ast.specs.References.{block_expressions, expressions_references}
 use Rattle.ast.specs.Symbols.{Symbol, is_sized}
 use Rattle.machine.specs.Code as machine
 use Rattle.machine.specs.Code.{Code, Part, loop_at, no_loop}
-use Rattle.machine.specs.declared.code.Await.{Await}
 use Rattle.machine.specs.declared.instr.Act.TheVariants as acts
-use Rattle.machine.specs.declared.instr.Instr.{Instr}
 use Rattle.expr_code.specs.Emitted.{instr, short}
-use Rattle.codegen.specs.Emitted.{block_awaits, block_code, block_records}
+use Rattle.codegen.specs.Emitted.{block_code}
 use Rattle.codegen.specs.Plain.{plain_block}
 use Rattle.codegen.specs.Program.{main_places, none_open}
 use Rattle.codegen.specs.Room.{block_loops, block_room}
 use Rattle.codegen.proofs.IterationCode.{IsRange}
 use Rattle.codegen.proofs.MainCompiled.{block_prints}
 use Rattle.codegen.proofs.RangeParts.{block_few}
-use Rattle.codegen.proofs.RangeSegments.{Bare, Segment, find, loop_is, range}
-use Rattle.codegen.specs.Program.{IsCodeOf, Planned, all_code, all_records, loop_entry, main_block, main_code, main_records, opened_by, range_awaits, range_code, range_places, range_records, ranges_awaits, ranges_code, ranges_loops, ranges_records}
+use Rattle.codegen.proofs.RangeSegments.{Bare, Segment, find, range}
+use Rattle.codegen.specs.Program.{IsCodeOf, Planned, loop_entry, main_block, main_code, main_records, opened_by, range_awaits, range_code, range_places, range_records, ranges_awaits, ranges_code, ranges_loops, ranges_records}
 use Rattle.plan_check.specs.GoodPlan.{stripped}
 
 module _ (symbols : List Symbol) where

@@ -1,8 +1,7 @@
 -- What holds of a program holds of the range of each of its loops; a plan's body wants no more room than the
 -- loop's range.
-use Rattle.std.proofs.Common.{◌≡◌, ◌∙◌, ◌+◌, ◌≤◌, ◌<◌, ◌^◌, ◌⊎◌, inl, inr, ℕ, zero, suc, ℤ, pos, Bool, true, false, List, [], ◌∷◌, ◌++◌, Option, Some, None, length, refl, sym, ap, subst, ⊎_elim, arith, length-append}
+use Rattle.std.proofs.Common.{◌≡◌, ◌+◌, ◌≤◌, ◌⊎◌, inl, inr, ℕ, zero, suc, Bool, true, false, List, [], ◌∷◌, ◌++◌, Option, Some, None, length, sym, subst, ⊎_elim, arith, length-append}
 use Rattle.std.specs.Prelude.{max, if◌then◌else◌}
-use Rattle.std.specs.List.{list_all}
 use Rattle.std.proofs.lemmas.Bool.{and_parts}
 use Rattle.std.proofs.Math.Nat.{le-max_left, le-max_right, max-eq_left, max-eq_right}
 use Rattle.ast.specs.Tree as tree
@@ -10,17 +9,15 @@ use Rattle.ast.specs.Tree.{Term, DoHead, Node, Block, Arms}
 use Rattle.dependence.specs.Plan.{PlanNode, awaits, advances, plain, loop, choose, PlanBlock, no_nodes, then_node, PlanArms, no_arms, made_else, then_arm}
 use Rattle.loop_tree.specs.Loops.{Loop, arms_loops as loops_in_arms, block_loops as loops_in_block, node_loops as loops_in_node}
 use Rattle.loop_tree.specs.Occurrences.{node_lines, block_lines}
-use Rattle.machine.specs.declared.code.Await.{Await}
 use Rattle.machine.specs.declared.instr.Act.TheVariants as acts
-use Rattle.machine.specs.declared.instr.Instr.{Instr}
 use Rattle.expr_code.specs.Computes.{operands}
 use Rattle.expr_code.specs.Emitted.{instr, short, term_code}
 use Rattle.expr_code.specs.Places.{Places}
-use Rattle.codegen.specs.Emitted.{arms_awaits, arms_code, arms_records, block_awaits, block_code, block_records, chosen_code, if_serial, loop_code, node_awaits, node_code, node_records, serial_code}
-use Rattle.codegen.specs.Plain.{plain_arms, plain_block, plain_node}
+use Rattle.codegen.specs.Emitted.{arms_awaits, arms_code, block_awaits, block_code, block_records, chosen_code, node_awaits, node_code, node_records}
+use Rattle.codegen.specs.Plain.{plain_arms, plain_block}
 use Rattle.codegen.specs.Process.{is_last_stop}
 use Rattle.codegen.specs.Program.{none_open}
-use Rattle.codegen.specs.Room.{arms_loops, arms_room, block_loops, block_room, head_room, node_loops, node_room}
+use Rattle.codegen.specs.Room.{arms_loops, arms_room, block_loops, block_room, head_room, node_room}
 use Rattle.codegen.proofs.IterationLaws.{in_which}
 use Rattle.codegen.proofs.IterationSteps.{In}
 use Rattle.codegen.proofs.MainCompiled.{serial_holds}

@@ -1,12 +1,11 @@
 -- Where the code of a program that opens loops stands.
-use Rattle.std.proofs.Common.{◌≡◌, ◌∙◌, ◌+◌, ◌≤◌, ◌<◌, ◌^◌, ℕ, zero, suc, ℤ, pos, Bool, true, false, List, [], ◌∷◌, ◌++◌, Option, Some, None, length, map, get_or, refl, sym, ap, subst, arith, length-append, append_assoc}
+use Rattle.std.proofs.Common.{◌≡◌, ◌∙◌, ◌+◌, ◌≤◌, ◌<◌, ◌^◌, ℕ, zero, suc, Bool, true, false, List, [], ◌∷◌, ◌++◌, Some, None, length, map, get_or, refl, sym, ap, subst, arith, length-append, append_assoc}
 use Rattle.std.specs.Prelude.{slice_get, if◌then◌else◌}
 use Rattle.std.specs.List.{list_all}
 use Rattle.ast.specs.Program.{is_placed}
-use Rattle.ast.specs.References.{arms_expressions, block_expressions, expressions_references, head_expressions, kind_expressions, node_expressions}
+use Rattle.ast.specs.References.{arms_expressions, block_expressions, expressions_references, head_expressions, kind_expressions}
 use Rattle.ast.specs.Symbols.{Symbol, is_sized}
-use Rattle.ast.specs.Tree as tree
-use Rattle.ast.specs.Tree.{Ref, Term, Block, Arms}
+use Rattle.ast.specs.Tree.{Term}
 use Rattle.dependence.specs.Plan.{PlanNode, awaits, advances, plain, loop, choose, PlanBlock, no_nodes, then_node, PlanArms, no_arms, made_else, then_arm}
 use Rattle.machine.specs.Code as machine
 use Rattle.machine.specs.Code.{Code, Part, loop_at, no_loop}
@@ -22,7 +21,7 @@ use Rattle.codegen.specs.Emitted.{arms_code, block_awaits, block_code, block_rec
 use Rattle.codegen.specs.Process.{is_last_stop}
 use Rattle.codegen.specs.Program.{none_open}
 use Rattle.codegen.specs.Room.{block_loops, block_room}
-use Rattle.codegen.proofs.Blocks.{ArmsReach, BlockReaches, HasList, NodeReaches}
+use Rattle.codegen.proofs.Blocks.{ArmsReach, BlockReaches, HasList}
 use Rattle.codegen.proofs.IterationCode.{IsRange}
 use Rattle.codegen.proofs.MainCompiled.{apart, kind_reaches, loop_reaches, one, term_reaches}
 use Rattle.codegen.proofs.MainReaching.{back_few, front_few}

@@ -1,12 +1,12 @@
 -- What is known of the references of a loop that is opened.
-use Rattle.std.proofs.Common.{◌≡◌, ◌∙◌, ◌+◌, ◌≤◌, ◌<◌, ◌⊎◌, inl, inr, ℕ, zero, suc, ℤ, pos, Bool, true, false, List, [], ◌∷◌, ◌++◌, Option, Some, None, Result, Ok, Err, length, get_or, refl, sym, ap, subst, ⊎_elim, arith, append_assoc}
-use Rattle.std.specs.Prelude.{◌==◌, ◌&&◌, ◌||◌, nat_le, nat_lt, not, slice_get, if◌then◌else◌}
+use Rattle.std.proofs.Common.{◌≡◌, ◌∙◌, ◌<◌, inl, inr, ℕ, zero, suc, ℤ, pos, Bool, true, false, List, [], ◌∷◌, ◌++◌, Option, Some, None, Ok, length, get_or, refl, sym, ap, subst, arith, append_assoc}
+use Rattle.std.specs.Prelude.{◌==◌, ◌&&◌, ◌||◌, not, slice_get, if◌then◌else◌}
 use Rattle.std.specs.List.{AllByRecursion, IsDistinct, list_any}
-use Rattle.std.proofs.lemmas.Bool.{and_parts, eq-eqb, eqb-true, le-leb, lt-ltb}
+use Rattle.std.proofs.lemmas.Bool.{and_parts, eq-eqb, eqb-true}
 use Rattle.ast.specs.Program.{is_placed, is_variable_named, is_variable as is_variable_sort}
 use Rattle.ast.specs.Store.{StoreOf, same_name}
 use Rattle.ast.specs.Symbols.{Extent, Symbol, dimensions_in, names_of, place_of}
-use Rattle.ast.specs.Tree.{Ref, Term, Terms, element, no_terms, then_term}
+use Rattle.ast.specs.Tree.{Ref, Terms, element, no_terms, then_term}
 use Rattle.dependence.specs.Plan.{PlanBlock, PlanPaths}
 use Rattle.loop_tree.specs.Loops.{Loop, has_cell}
 use Rattle.loop_tree.specs.Occurrences.{Occurrence}
@@ -16,11 +16,11 @@ use Rattle.machine.specs.View.{is_event}
 use Rattle.machine.proofs.Naming.{same, same_itself}
 use Rattle.subscripts.specs.Forms.{is_variable, varies}
 use Rattle.subscripts.specs.Values.{MayBe, ScalarMayBe}
-use Rattle.expr_code.specs.Places.{Places, Home, loop_index, private_scalar, in_store, dimensions_at, home, is_loop_name, number_in, private_or_stored}
+use Rattle.expr_code.specs.Places.{Places, Home, loop_index, private_scalar, in_store, dimensions_at, home, number_in, private_or_stored}
 use Rattle.expr_code.specs.Process.{count}
 use Rattle.expr_code.proofs.Finding.{dimensions_same}
-use Rattle.codegen.proofs.IterationPaths.{At, Begun, Sound}
-use Rattle.codegen.proofs.IterationSteps.{In, cell_value}
+use Rattle.codegen.proofs.IterationPaths.{Sound}
+use Rattle.codegen.proofs.IterationSteps.{In}
 use Rattle.codegen.proofs.Walking.{Located, home_at}
 use Rattle.codegen.proofs.IterationMeaning.{private_named}
 

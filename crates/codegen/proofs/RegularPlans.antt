@@ -1,6 +1,6 @@
 -- A good plan of a loop of an accepted program is one of a loop that may be opened.
-use Rattle.std.proofs.Common.{◌≡◌, ◌∙◌, ◌+◌, ◌≤◌, ◌<◌, ◌⊎◌, inl, inr, ℕ, zero, suc, ℤ, pos, Bool, true, false, List, [], ◌∷◌, ◌++◌, Option, Some, None, length, map, get_or, refl, sym, ap, subst, ⊎_elim, arith, append_assoc}
-use Rattle.std.specs.Prelude.{◌&&◌, ◌||◌, nat_le, nat_lt, not, if◌then◌else◌}
+use Rattle.std.proofs.Common.{◌≡◌, ◌∙◌, ◌+◌, ◌≤◌, ◌<◌, inl, inr, ℕ, zero, suc, ℤ, pos, Bool, true, false, List, [], ◌∷◌, ◌++◌, Option, Some, None, length, map, get_or, refl, sym, ap, subst, arith, append_assoc}
+use Rattle.std.specs.Prelude.{◌&&◌, ◌||◌, nat_le, if◌then◌else◌}
 use Rattle.std.specs.List.{IsDistinct, list_any}
 use Rattle.std.specs.Ordering.{int_eq}
 use Rattle.std.proofs.lemmas.Bool.{and_parts, le-leb, lt-ltb}
@@ -11,14 +11,14 @@ use Rattle.ast.specs.Store.{same_name}
 use Rattle.ast.specs.Symbols.{Extent, Symbol, dimensions_in, names_of}
 use Rattle.ast.specs.Tree as tree
 use Rattle.ast.specs.Tree.{Ref, Terms, no_terms, then_term, DoHead, Kind, assign, print, read, stop, program, integer, dimension, parameters, do_loop, go_on, block_if, else_if, else_arm, end_if, logical_if, end, Node, Block, Arms}
-use Rattle.dependence.specs.Kept.{IsNonzero, arms_kinds, block_kinds, block_reads, is_read, node_kinds}
-use Rattle.dependence.specs.Plan.{PlanNode, awaits, advances, plain, loop, choose, PlanBlock, no_nodes, then_node, PlanArms, no_arms, made_else, then_arm, PlanPaths, PlanTree}
+use Rattle.dependence.specs.Kept.{IsNonzero, arms_kinds, block_kinds, block_reads, is_read}
+use Rattle.dependence.specs.Plan.{awaits, advances, plain, loop, choose, PlanBlock, no_nodes, then_node, PlanArms, no_arms, made_else, then_arm, PlanPaths}
 use Rattle.loop_tree.specs.Loops.{Loop, arms_loops, block_loops, loop_at, loops_of}
 use Rattle.loop_tree.specs.Occurrences.{Occurrence, block_lines, block_occurrences, node_lines}
 use Rattle.loop_tree.specs.Paths.{Token, uses, defines, await, advance, Ending}
 use Rattle.machine.specs.View.{is_event}
 use Rattle.machine.proofs.Naming.{same, same_itself}
-use Rattle.expr_code.specs.Places.{Places, Home, loop_index, private_scalar, in_store, dimensions_at, home, home_of, is_loop_name, number_in, private_or_stored}
+use Rattle.expr_code.specs.Places.{Places, loop_index, private_scalar, dimensions_at, home, home_of, is_loop_name, number_in, private_or_stored}
 use Rattle.expr_code.specs.Process.{count}
 use Rattle.expr_code.proofs.Finding.{dimensions_same}
 use Rattle.codegen.specs.Process.{is_last_stop}

@@ -1,5 +1,5 @@
 -- Reports of loops, one after another.
-use Rattle.std.proofs.Common.{◌≡◌, ◌∙◌, ◌+◌, ◌++◌, ◌∷◌, [], List, Option, Some, None, ap, arith, refl, subst, sym, suc, take, ℕ, zero}
+use Rattle.std.proofs.Common.{◌≡◌, ◌∙◌, ◌+◌, ◌++◌, ◌∷◌, [], List, Some, ap, arith, subst, sym, suc, take, ℕ, zero}
 use Rattle.std.specs.Prelude.{slice_get}
 use Rattle.loop_tree.specs.Loops.{Loop, loop_numbered}
 use Rattle.codegen.specs.Reports.{AreReports, IsPlacedReport}

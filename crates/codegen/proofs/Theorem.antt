@@ -1,38 +1,35 @@
 -- The headline of a program some of whose loops are opened by good plans.
-use Rattle.std.proofs.Common.{◌≡◌, ◌∙◌, ◌+◌, ◌*◌, ◌≤◌, ◌<◌, ◌^◌, ◌⊎◌, inl, inr, ℕ, zero, suc, ℤ, pos, Bool, true, false, List, [], ◌∷◌, ◌++◌, Option, Some, None, length, get_or, refl, sym, ap, subst, ⊎_elim, arith}
-use Rattle.std.specs.Prelude.{◌==◌, ◌&&◌, ◌+ℤ◌, ◌*ℤ◌, slice_get, unwrap_or, if◌then◌else◌}
+use Rattle.std.proofs.Common.{◌≡◌, ◌∙◌, ◌≤◌, ◌<◌, ◌^◌, ◌⊎◌, inl, inr, ℕ, zero, suc, ℤ, pos, Bool, true, false, List, [], ◌∷◌, ◌++◌, Option, Some, None, length, get_or, refl, sym, ap, subst, arith}
+use Rattle.std.specs.Prelude.{◌==◌, ◌&&◌, slice_get, unwrap_or, if◌then◌else◌}
 use Rattle.std.specs.List.{IsDistinct, list_all}
-use Rattle.std.specs.Ordering.{int_eq}
 use Rattle.std.proofs.lemmas.Bool.{and_parts, eqb-true}
 use Rattle.ast.specs.Exact.{fits, trips}
 use Rattle.ast.specs.Program.{ProgramTree, are_placed, is_placed}
 use Rattle.ast.specs.References.{are_numbered, block_expressions, block_references, expressions_references}
 use Rattle.ast.specs.Store.{StoreOf, same_name}
-use Rattle.ast.specs.Symbols.{Extent, Symbol, dimensions_in, is_sized, names_of}
+use Rattle.ast.specs.Symbols.{Symbol, dimensions_in, is_sized, names_of}
 use Rattle.ast.specs.Tree.{Ref, Terms, no_terms, then_term}
 use Rattle.dependence.specs.Meets.{IsStep, IsWithin}
-use Rattle.dependence.specs.Plan.{PlanNode, awaits, advances, plain, loop, choose, PlanBlock, no_nodes, then_node, PlanArms, no_arms, made_else, then_arm, PlanPaths}
+use Rattle.dependence.specs.Plan.{awaits, advances, plain, loop, choose, PlanBlock, no_nodes, then_node, PlanArms, no_arms, made_else, then_arm, PlanPaths}
 use Rattle.loop_tree.specs.Loops.{Loop, loops_of}
 use Rattle.loop_tree.specs.Occurrences.{Occurrence}
 use Rattle.loop_tree.specs.Paths.{Token, uses, defines, Ending}
 use Rattle.subscripts.specs.Values.{AllMayBe}
-use Rattle.machine.specs.Code.{Code, Cell, loop_at}
-use Rattle.machine.specs.View.{index_at, opened}
+use Rattle.machine.specs.Code.{Code, loop_at}
+use Rattle.machine.specs.View.{index_at}
 use Rattle.machine.specs.declared.code.Open.{Open as Opened}
 use Rattle.expr_code.specs.Places.{dimensions_at}
 use Rattle.expr_code.specs.Process.{count}
 use Rattle.expr_code.proofs.Finding.{dimensions_same}
 use Rattle.codegen.specs.Headline.{Bounded, Carried, Ends, Headline}
-use Rattle.codegen.specs.Process.{is_last_stop}
-use Rattle.codegen.specs.Room.{block_loops, block_room}
 use Rattle.codegen.proofs.GoodPaths.{GoodPaths}
 use Rattle.codegen.proofs.MainSteps.{Valid}
 use Rattle.ast.specs.Regular.{are_fitting}
-use Rattle.plan_check.specs.GoodPlan.{GoodPlan, Names, SameBody, made_bare, made_bare_arms, only_events, stripped, token_of}
+use Rattle.plan_check.specs.GoodPlan.{GoodPlan, Names, SameBody, made_bare, made_bare_arms, stripped, token_of}
 use Rattle.plan_check.proofs.Members.{In}
 use Rattle.codegen.proofs.OnePlace.{one_place}
 use Rattle.codegen.proofs.LoopNumbers.{matches}
-use Rattle.codegen.proofs.OpenedProgram.{Facts, it_ends, it_is_bounded, it_is_carried, may, nth, the_headline}
+use Rattle.codegen.proofs.OpenedProgram.{Facts, it_ends, it_is_bounded, it_is_carried, may, the_headline}
 use Rattle.codegen.proofs.GivenPaths.{good_paths}
 use Rattle.codegen.proofs.RangeLayout.{entry, few_loops, few_records, ranges}
 use Rattle.codegen.proofs.GoodLoops.{GoodLoop}
@@ -41,7 +38,7 @@ use Rattle.codegen.proofs.RangeSound.{StandsIn, fixed_in, held_by, same_cells}
 use Rattle.codegen.proofs.RangeRoom.{plan_loops, plan_room}
 use Rattle.codegen.proofs.RangeSegments.{ArmsBare, Bare}
 use Rattle.codegen.proofs.Opening.{agrees, may_if}
-use Rattle.codegen.specs.Program.{IsCodeOf, Planned, loop_entry, range_places}
+use Rattle.codegen.specs.Program.{IsCodeOf, Planned, range_places}
 
 -- What is known of a loop that is opened: its plan is good and is the loop's body; the loop is one of an
 -- accepted program.

@@ -1,4 +1,4 @@
-use Rattle.std.proofs.Common.{◌≡◌, ◌∙◌, List, ap, length, rules, subst, sym}
+use Rattle.std.proofs.Common.{◌≡◌, ◌∙◌, ap, length, rules, subst, sym}
 use Rattle.ast.specs.ProgramView.{program as program_of}
 use Rattle.ast.specs.View.{block_view}
 use Rattle.loop_tree.specs.Loops.{loops_of}
@@ -6,7 +6,7 @@ use Rattle.loop_tree.specs.Occurrences.{block_lines}
 use Rattle.loop_tree.specs.TreeView.{lines_seen, loops_seen}
 use Rattle.machine.specs.CodeView.{code_of}
 use Rattle.codegen.specs.Noted.{AreNested}
-use Rattle.codegen.specs.Program.{AreOpened, IsCodeOf, Refuses, RefusesWith}
+use Rattle.codegen.specs.Program.{IsCodeOf, Refuses, RefusesWith}
 use Rattle.codegen.specs.Reports.{AreReports, Reports, opened_of, planned_in}
 use Rattle.codegen.proofs.Compiling.{bounded_law, carried_law, ends_law, headline_law, refused_law}
 use Rattle.codegen.proofs.Nested.{are_nested}

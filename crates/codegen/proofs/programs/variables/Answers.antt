@@ -1,6 +1,6 @@
-use Rattle.std.proofs.Common.{◌≡◌, ◌∙◌, ◌+◌, ◌*◌, ◌≤◌, ◌<◌, ◌++◌, ◌∷◌, [], List, length, map, rules, arith, ap, refl, sym, subst, take, true}
-use Rattle.ast.specs.Symbols.{is_sized, most_elements, size}
-use Rattle.ast.specs.View.{sort, symbol}
+use Rattle.std.proofs.Common.{◌≡◌, ◌∙◌, ◌≤◌, ◌<◌, ◌++◌, ◌∷◌, [], length, map, rules, arith, ap, refl, sym, subst, take}
+use Rattle.ast.specs.Symbols.{most_elements}
+use Rattle.ast.specs.View.{symbol}
 use Rattle.machine.specs.Laid.{are_laid, count_of}
 use Rattle.machine.specs.declared.code.Variable.{Variable}
 use Rattle.expr_code.specs.Computes.{variables_for, variables_in}

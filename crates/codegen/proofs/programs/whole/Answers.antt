@@ -1,9 +1,8 @@
-use Rattle.std.proofs.Common.{◌≡◌, ◌∙◌, ◌^◌, ◌≤◌, ◌<◌, inl, inr, ap, length, map, refl, rules, subst, sym, true, arith}
+use Rattle.std.proofs.Common.{◌≡◌, ◌∙◌, ◌^◌, ◌≤◌, ◌<◌, inl, inr, ap, length, map, refl, rules, subst, sym, arith}
 use Rattle.std.specs.Prelude.{◌-◌}
 use Rattle.std.proofs.lemmas.List.{length-map}
 use Rattle.ast.specs.View.{symbol}
 use Rattle.ast.specs.ProgramView.{program as program_of}
-use Rattle.ast.specs.Symbols.{names_of}
 use Rattle.loop_tree.specs.TreeView.{loops_seen}
 use Rattle.machine.specs.CodeView.{code_of, loop_of}
 use Rattle.machine.specs.Laid.{are_distinct, are_laid, names_in}
@@ -11,7 +10,7 @@ use Rattle.expr_code.specs.Computes.{variables_for, variables_in}
 use Rattle.expr_code.specs.Emitted.{short}
 use Rattle.codegen.specs.Made.{Made, main_made}
 use Rattle.codegen.specs.Plain.{plain_block}
-use Rattle.codegen.specs.Program.{IsCodeOf, all_code, most_instructions, most_symbols, opened_by, room_of}
+use Rattle.codegen.specs.Program.{IsCodeOf, most_instructions, most_symbols, opened_by, room_of}
 use Rattle.codegen.specs.Records.{records_of}
 use Rattle.codegen.specs.Reports.{planned_in}
 use Rattle.codegen.specs.Room.{block_loops, block_room}

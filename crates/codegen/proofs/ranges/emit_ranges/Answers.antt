@@ -1,4 +1,4 @@
-use Rattle.std.proofs.Common.{◌≡◌, ◌∙◌, ◌+◌, ◌<◌, ap, arith, drop, length, sym}
+use Rattle.std.proofs.Common.{◌∙◌, ◌+◌, ◌<◌, ap, arith, drop, length, sym}
 use Rattle.ast.specs.ProgramView.{program as program_of}
 use Rattle.dependence.specs.PlanView.{plan_of}
 use Rattle.loop_tree.specs.TreeView.{loops_seen, seen}

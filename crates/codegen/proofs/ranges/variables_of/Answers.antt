@@ -1,4 +1,4 @@
-use Rattle.std.proofs.Common.{◌≡◌, ◌∙◌, ◌+◌, ◌++◌, ◌∷◌, [], ◌<◌, List, ℕ, ap, arith, length, map, rules, sym, false, true}
+use Rattle.std.proofs.Common.{◌≡◌, ◌∙◌, ◌++◌, ◌∷◌, [], ◌<◌, ap, arith, length, map, rules, sym, false, true}
 use Rattle.ast.specs.declared.expression.RefId.{RefId}
 use Rattle.std.specs.Prelude.{is_some}
 use Rattle.dependence.specs.PlanView.{plan_of}
