@@ -153,10 +153,14 @@ abbrev pub RefusesWith : ProgramTree → List Planned → Refusal → Type 0
 RefusesWith t xs Memory = ⊤
 RefusesWith t xs (Refused number line) = (number ≡ 61) × (line ≡ 0) × IsTooLong t xs
 
+-- with the loops opened that may be, its code would be too long
+abbrev pub HasLongCode : ProgramTree → Type 0
+HasLongCode t = (xs : List Planned) × AreOpened t xs × IsTooLong t xs
+
 -- a program has no code
 abbrev pub Refuses : ProgramTree → Refusal → Type 0
 Refuses t Memory = ⊤
-Refuses t (Refused number line) = (xs : List Planned) × AreOpened t xs × RefusesWith t xs (Refused number line)
+Refuses t (Refused number line) = (number ≡ 61) × (line ≡ 0) × HasLongCode t
 
 -- the code of a program with these loops opened
 pub record IsCodeOf (t : ProgramTree) (xs : List Planned) (code : Code) : Type 0 where
@@ -171,3 +175,7 @@ pub record IsCodeOf (t : ProgramTree) (xs : List Planned) (code : Code) : Type 0
   pub counters : code.counters ≡ block_loops (plain_block t.block)
   pub few : length (all_code t xs) ≤ most_instructions
   pub few_symbols : length t.symbols ≤ most_symbols
+
+-- the code of a program, with the loops opened that may be
+abbrev pub IsCompiled : ProgramTree → Code → Type 0
+IsCompiled t code = (xs : List Planned) × AreOpened t xs × IsCodeOf t xs code

@@ -8,7 +8,7 @@ ghost use Rattle.ast.specs.View.{symbol};
 ghost use Rattle.codegen.specs.Headline.{Bounded, Carried, Ends, Headline};
 ghost use Rattle.codegen.specs.Made.{all_made, made_of, main_made};
 ghost use Rattle.codegen.specs.OpenedView.{opens_in};
-ghost use Rattle.codegen.specs.Program.{AreOpened, IsCodeOf, Refuses, RefusesWith, most_symbols};
+ghost use Rattle.codegen.specs.Program.{IsCodeOf, IsCompiled, Refuses, RefusesWith, most_symbols};
 ghost use Rattle.codegen.specs.Reports.{Reports, opened_of, planned_in};
 ghost use Rattle.expr_code.specs.Computes.{variables_for, variables_in};
 ghost use Rattle.loop_tree.specs.TreeView.{loops_seen};
@@ -162,8 +162,8 @@ pub struct Compiled {
 /// 61 at line 0 where the code would have more than 1,048,576 instructions or want more room than 32
 /// bits count, or the program has more than 4,294,967,296 symbols; and want of memory.
 pub fn compile(alloc: Global, program: &Program) -> Result<Compiled, Refusal>
-    ensures code { IfOk result (λ compiled. IsCodeOf (program_of program.now) (opened_of (program_of program.now) compiled.reports.items) (code_of compiled.code)) }
-    ensures opened { IfOk result (λ compiled. AreOpened (program_of program.now) (opened_of (program_of program.now) compiled.reports.items)) }
+    ensures code { IfOk result (λ compiled. IsCompiled (program_of program.now) (code_of compiled.code)) }
+    ensures opened { IfOk result (λ compiled. IsCodeOf (program_of program.now) (opened_of (program_of program.now) compiled.reports.items) (code_of compiled.code)) }
     ensures headline { IfOk result (λ compiled. Headline (code_of compiled.code) (program_of program.now)) }
     ensures ends { IfOk result (λ compiled. (input : List ℕ) → Ends (code_of compiled.code) input) }
     ensures bounded { IfOk result (λ compiled. (input : List ℕ) → Bounded (code_of compiled.code) (program_of program.now) input) }

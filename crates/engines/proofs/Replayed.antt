@@ -7,8 +7,7 @@ use Rattle.ast.specs.declared.answer.Answer.{Answer}
 use Rattle.ast.specs.declared.fault.End.{End}
 use Rattle.ast.specs.declared.fault.End.TheVariants.{Done, Stopped, Fault as FaultedAt}
 use Rattle.ast.specs.declared.program.Program.{Program}
-use Rattle.codegen.proofs.Compiling.{headline_law}
-use Rattle.codegen.specs.Program.{IsCodeOf}
+use Rattle.codegen.specs.Headline.{Headline}
 use Rattle.machine.specs.Code.{Code}
 use Rattle.replay.proofs.Running.{is_run}
 use Rattle.replay.specs.Replayed.{IsReplay}
@@ -32,12 +31,12 @@ by_end tree code input schedule outcome text (FaultedAt fault line) h w = subst 
 same_some : (a b : End) → Some a ≡ Some b → a ≡ b
 same_some a b h = cc
 
-pub replayed_shown : (p : Program) (code : Code) (input : List ℕ) (x : Schedule) (schedule : List ℕ) (answer : Answer) (outcome : Outcome) (text : List ℕ) → IsCodeOf (program_of p) code → SchedText x schedule → IsReplay code input x answer
+pub replayed_shown : (p : Program) (code : Code) (input : List ℕ) (x : Schedule) (schedule : List ℕ) (answer : Answer) (outcome : Outcome) (text : List ℕ) → Headline code (program_of p) → SchedText x schedule → IsReplay code input x answer
     → outcome ≡ outcome_of answer.end → Extends (EndShown false [] answer.end) answer.output.items text → ShowsReplay (program_of p) code input schedule outcome text
-replayed_shown p code input x schedule answer outcome text compiled spelled r ended more =
+replayed_shown p code input x schedule answer outcome text headline spelled r ended more =
     let tree = program_of p in
     let run = is_run code input x r.point spelled.schedule r.replays in
-    let agrees = headline_law p code compiled input x.processors x.slots run.0 r.point.machine spelled.schedule.0 run.1 in
+    let agrees = headline input x.processors x.slots run.0 r.point.machine spelled.schedule.0 run.1 in
     let end = agrees.answer answer.end r.is.end in
     let same : answer.end ≡ (seq tree input).end = same_some answer.end (seq tree input).end (sym r.is.end ∙ end.is) in
     let outcome_is : outcome ≡ outcome_of (seq tree input).end = ended ∙ ap outcome_of same in

@@ -2,7 +2,7 @@
 use Rattle.std.specs.Prelude.{◌≡◌, ◌⊎◌, ℕ, List}
 use Rattle.ast.specs.Program.{ProgramTree}
 use Rattle.ast.specs.ProgramView.{program as program_of}
-use Rattle.codegen.specs.Program.{IsCodeOf, IsTooLong}
+use Rattle.codegen.specs.Program.{IsCompiled, HasLongCode as HasNoCode}
 use Rattle.codegen.specs.Reports.{Reports}
 use Rattle.codegen.specs.declared.reports.LoopReport.{LoopReport}
 use Rattle.machine.specs.Code.{Code}
@@ -20,14 +20,14 @@ use Rattle.engines.specs.declared.survey.Survey.TheVariants as survey
 pub record IsReported (source : List ℕ) (tree : ProgramTree) (reports : List LoopReport) : Type 0 where
   pub reads : Reads source tree
   pub code : Code
-  pub compiled : IsCodeOf tree code
+  pub compiled : IsCompiled tree code
   pub are : Reports tree reports
 
 -- the source reads as a program whose code would be too long
 pub record HasLongCode (source : List ℕ) (number line : ℕ) : Type 0 where
   pub tree : ProgramTree
   pub reads : Reads source tree
-  pub long : IsTooLong tree
+  pub long : HasNoCode tree
   pub number_is : number ≡ 61
   pub line_is : line ≡ 0
 

@@ -3,7 +3,7 @@ use Rattle.std.specs.Prelude.{◌≡◌, ◌⊎◌, ℕ, false, List, Option, So
 use Rattle.std.specs.Io.KnownBytes.{Appends}
 use Rattle.ast.specs.Meaning.{seq}
 use Rattle.ast.specs.Program.{ProgramTree}
-use Rattle.codegen.specs.Program.{IsCodeOf, IsTooLong}
+use Rattle.codegen.specs.Program.{HasLongCode, IsCompiled}
 use Rattle.machine.specs.Code.{Code}
 use Rattle.profile_check.specs.Reads.{Reads}
 use Rattle.replay.specs.Refusals.{Refuses}
@@ -24,14 +24,14 @@ pub record WithCode (source : List ℕ) (P : ProgramTree → Code → Type 0) : 
   pub tree : ProgramTree
   pub code : Code
   pub reads : Reads source tree
-  pub compiled : IsCodeOf tree code
+  pub compiled : IsCompiled tree code
   pub holds : P tree code
 
 -- a source reads as a program whose code would be too long, which is refused so
 pub record IsLong (source : List ℕ) (number line : ℕ) (text : List ℕ) : Type 0 where
   pub tree : ProgramTree
   pub reads : Reads source tree
-  pub long : IsTooLong tree
+  pub long : HasLongCode tree
   pub number_is : number ≡ 61
   pub line_is : line ≡ 0
   pub shown : text ≡ refused number line

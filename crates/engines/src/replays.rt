@@ -2,7 +2,7 @@
 
 ghost use Rattle.std.specs.Prelude.{◌≡◌, [], IfOk, List, false, ℕ};
 ghost use Rattle.ast.specs.ProgramView.{program as program_of};
-ghost use Rattle.codegen.specs.Program.{IsCodeOf};
+ghost use Rattle.codegen.specs.Headline.{Headline};
 ghost use Rattle.machine.specs.CodeView.{code_of};
 ghost use Rattle.profile_check.specs.Reads.{Reads};
 ghost use Rattle.replay.specs.Schedules.{SchedText};
@@ -96,7 +96,7 @@ fn replayed_schedule(
     schedule: &Schedule,
     text: &[u8],
 ) -> Result<Page, AllocError>
-    requires compiled { IsCodeOf (program_of program.now) (code_of code.now) }
+    requires headline { Headline (code_of code.now) (program_of program.now) }
     requires spelled { SchedText schedule.now text.now }
     ensures { IfOk result (λ page. ShowsReplay (program_of program.now) (code_of code.now) input.now text.now page.outcome page.text.items) }
 {
@@ -115,7 +115,7 @@ fn replayed_code(
     input: &[u8],
     schedule: &[u8],
 ) -> Result<Page, AllocError>
-    requires compiled { IsCodeOf (program_of program.now) (code_of code.now) }
+    requires headline { Headline (code_of code.now) (program_of program.now) }
     ensures { IfOk result (λ page. ShowsReplay (program_of program.now) (code_of code.now) input.now schedule.now page.outcome page.text.items) }
 {
     match Schedule::parse(alloc, schedule) {
