@@ -78,9 +78,9 @@ module _ (t : ProgramTree) (distinct : IsDistinct same_name (names_of t.symbols)
   is_regular_loop =
       regular t distinct placed numbered x.loop among
       (λ o i.
-          same_count o.subscripts
-          ∙ eqb-true (count_of o.subscripts) (length (dimensions_in t.symbols o.ref.name)) (all_at (is_right t.symbols) x.loop.references o is.counted i)
-          ∙ ap length (dimensions_same t.symbols o.ref distinct (reference_placed t distinct placed numbered x.loop among o i)))
+      same_count o.subscripts
+      ∙ eqb-true (count_of o.subscripts) (length (dimensions_in t.symbols o.ref.name)) (all_at (is_right t.symbols) x.loop.references o is.counted i)
+      ∙ ap length (dimensions_same t.symbols o.ref distinct (reference_placed t distinct placed numbered x.loop among o i)))
       (sym (dimensions_same t.symbols x.loop.head.variable distinct (parts_placed t distinct placed numbered x.loop among).0) ∙ is.scalar)
       (λ o i d e. unassigned o (all_at (is_left (x.loop.head.variable.name ∷ [])) x.loop.references o is.left i) d e)
     where

@@ -146,7 +146,7 @@ names_long (r ∷ rs) = ap suc (names_long rs)
 pub few_scalars : (symbols : List Symbol) (rs : List Ref) → Apart rs → ((r : Ref) → In r rs → is_placed symbols r ≡ true) → length (map (λ (r : Ref). r.name) rs) ≤ length symbols
 few_scalars symbols rs a placed =
     let k = length-le_from_distinct_below (Cells rs) (length symbols) (cells_distinct rs a)
-        (λ c h. let g = cell_of rs c h in subst (λ (n : ℕ). n < length symbols) g.2 (placed_within symbols g.0 (placed g.0 g.1))) in
+    (λ c h. let g = cell_of rs c h in subst (λ (n : ℕ). n < length symbols) g.2 (placed_within symbols g.0 (placed g.0 g.1))) in
     let l = lengths rs in
     let m = names_long rs in
     omega (arith, k, l, m)

@@ -93,112 +93,111 @@ module _ (l : Loop) (p : PlanTree) (held : ℕ → ℤ) (first step : ℤ) (inde
     (is_step : IsStep l.step step)
     (within : (j : ℕ) → j < total → IsWithin l.trips j)
   where
-  abbrev NamedEvent : ℕ → Type 0
-  NamedEvent e = (d : ℕ) × Names p e d
+    abbrev NamedEvent : ℕ → Type 0
+    NamedEvent e = (d : ℕ) × Names p e d
 
-  abbrev Here : List Token → Type 0
-  Here u = Begins l held index Stands pl fixed opened (PlanPaths p.body) total NamedEvent u
+    abbrev Here : List Token → Type 0
+    Here u = Begins l held index Stands pl fixed opened (PlanPaths p.body) total NamedEvent u
 
-  abbrev AtHere : ℕ → Ref → Cell → Type 0
-  AtHere k r c = AtIn l held index Stands pl fixed opened (PlanPaths p.body) total NamedEvent k r c
+    abbrev AtHere : ℕ → Ref → Cell → Type 0
+    AtHere k r c = AtIn l held index Stands pl fixed opened (PlanPaths p.body) total NamedEvent k r c
 
-  abbrev MeetsHere : ℕ → Token → Cell → Type 0
-  MeetsHere k a c = Meets l held index Stands pl fixed opened (PlanPaths p.body) total NamedEvent k a c
+    abbrev MeetsHere : ℕ → Token → Cell → Type 0
+    MeetsHere k a c = Meets l held index Stands pl fixed opened (PlanPaths p.body) total NamedEvent k a c
 
-  split : (u : List Token) (x : Token) → Here (u ++ x ∷ []) → (e : Ending) × (v : List Token) × PlanPaths p.body e (u ++ x ∷ v)
-  split u x b = (b.0, b.1, subst (λ (t : List Token). PlanPaths p.body b.0 t) (append_assoc u (x ∷ []) b.1) b.2)
+    split : (u : List Token) (x : Token) → Here (u ++ x ∷ []) → (e : Ending) × (v : List Token) × PlanPaths p.body e (u ++ x ∷ v)
+    split u x b = (b.0, b.1, subst (λ (t : List Token). PlanPaths p.body b.0 t) (append_assoc u (x ∷ []) b.1) b.2)
 
-  far : (u : List Token) (e d : ℕ) → Here (u ++ await e d ∷ []) → (1 ≤ d) × NamedEvent e
-  far u e d b =
-      let s = split u (await e d) b in
-      let n = named_on p.body s.0 u s.1 (await e d) s.2 in
-      let c = contained (e, d) (named p.body) n in
-      ((good.events e d c).2, (d, c))
+    far : (u : List Token) (e d : ℕ) → Here (u ++ await e d ∷ []) → (1 ≤ d) × NamedEvent e
+    far u e d b =
+        let s = split u (await e d) b in
+        let n = named_on p.body s.0 u s.1 (await e d) s.2 in
+        let c = contained (e, d) (named p.body) n in
+        ((good.events e d c).2, (d, c))
 
-  occurrence : (k : ℕ) (a : Token) (c : Cell) (m : MeetsHere k a c) → (u : List Token) → Here (u ++ a ∷ []) → (o : Occurrence) × In o l.references × (o.ref ≡ m.0) × (token_of o ≡ a)
-  occurrence k a c m u b = let s = split u a b in shown u s.1 a s.0 s.2 m.0 m.2
+    occurrence : (k : ℕ) (a : Token) (c : Cell) (m : MeetsHere k a c) → (u : List Token) → Here (u ++ a ∷ []) → (o : Occurrence) × In o l.references × (o.ref ≡ m.0) × (token_of o ≡ a)
+    occurrence k a c m u b = let s = split u a b in shown u s.1 a s.0 s.2 m.0 m.2
 
-  -- the name of what is in the store is neither private nor the loop's variable
-  stored : (k : ℕ) (r : Ref) (c : Cell) → AtHere k r c → IsPrivate p r.name → ⊥
-  stored k r c a i =
-      let s = good.scalars r.name i in
-      let d = scalar s.0 r a.1 (among s.0 l.assigned s.1) a.3.1 (sym s.2) in
-      not_stored pl r.name (subst (λ (ns : List (List ℕ)). In r.name ns) (sym privates) (among r.name p.privates i)) (subst (λ (ds : List Extent). home pl ds r.name ≡ in_store) d a.0)
+    -- the name of what is in the store is neither private nor the loop's variable
+    stored : (k : ℕ) (r : Ref) (c : Cell) → AtHere k r c → IsPrivate p r.name → ⊥
+    stored k r c a i =
+        let s = good.scalars r.name i in
+        let d = scalar s.0 r a.1 (among s.0 l.assigned s.1) a.3.1 (sym s.2) in
+        not_stored pl r.name (subst (λ (ns : List (List ℕ)). In r.name ns) (sym privates) (among r.name p.privates i)) (subst (λ (ds : List Extent). home pl ds r.name ≡ in_store) d a.0)
 
-  not_variable : (k : ℕ) (r : Ref) (c : Cell) → AtHere k r c → r.name ≡ l.head.variable.name → ⊥
-  not_variable k r c a e =
-      let d = variable r a.1 a.3.1 e in
-      let h = subst (λ (ds : List Extent). home pl ds r.name ≡ in_store) d a.0 in
-      let yes : is_loop_name pl.loop_name r.name ≡ true = ap (λ (o : Option (List ℕ)). is_loop_name o r.name) loop_name ∙ subst (λ (x : List ℕ). same_name x r.name ≡ true) e (itself r.name) in
-      index_home (is_loop_name pl.loop_name r.name) yes h
-    where
-      index_home : (b : Bool) → b ≡ true → (if b then loop_index else private_or_stored (number_in 0 r.name pl.privates)) ≡ in_store → ⊥
-      index_home true q z = cc
-      index_home false q z = cc
+    not_variable : (k : ℕ) (r : Ref) (c : Cell) → AtHere k r c → r.name ≡ l.head.variable.name → ⊥
+    not_variable k r c a e =
+        let d = variable r a.1 a.3.1 e in
+        let h = subst (λ (ds : List Extent). home pl ds r.name ≡ in_store) d a.0 in
+        let yes : is_loop_name pl.loop_name r.name ≡ true = ap (λ (o : Option (List ℕ)). is_loop_name o r.name) loop_name ∙ subst (λ (x : List ℕ). same_name x r.name ≡ true) e (itself r.name) in
+        index_home (is_loop_name pl.loop_name r.name) yes h
+      where
+        index_home : (b : Bool) → b ≡ true → (if b then loop_index else private_or_stored (number_in 0 r.name pl.privates)) ≡ in_store → ⊥
+        index_home true q z = cc
+        index_home false q z = cc
 
-  same_cell : (k j : ℕ) (r s : Ref) (c : Cell) (x : AtHere k r c) (y : AtHere j s c) → (r.name ≡ s.name) × (x.2 ≡ y.2)
-  same_cell k j r s c x y =
-      let e : ◌≡◌ {A = Cell} (record { name = r.name; place = x.2 }) (record { name = s.name; place = y.2 }) = sym x.4 ∙ y.4 in
-      (ap (λ (z : Cell). z.name) e, ap (λ (z : Cell). z.place) e)
+    same_cell : (k j : ℕ) (r s : Ref) (c : Cell) (x : AtHere k r c) (y : AtHere j s c) → (r.name ≡ s.name) × (x.2 ≡ y.2)
+    same_cell k j r s c x y =
+        let e : ◌≡◌ {A = Cell} (record { name = r.name; place = x.2 }) (record { name = s.name; place = y.2 }) = sym x.4 ∙ y.4 in
+        (ap (λ (z : Cell). z.name) e, ap (λ (z : Cell). z.place) e)
 
-  meets : (k j : ℕ) (r s : Ref) (c : Cell) (oa ob : Occurrence) → In oa l.references → In ob l.references → oa.ref ≡ r → ob.ref ≡ s → AtHere k r c → AtHere j s c → MayMeet l oa ob k j
-  meets k j r s c oa ob i m ra rb x y =
-      let same = same_cell k j r s c x y in
-      let ds = dimensions_at pl.symbols r.cell in
-      let d = same_dimensions r s x.1 y.1 x.3.1 y.3.1 same.0 in
-      let vs = x.3.0 in
-      let ws = y.3.0 in
-      let at_w : place_of ds ws ≡ Ok x.2 = ap (λ (es : List Extent). place_of es ws) d ∙ y.3.3 ∙ ap (λ (n : ℕ). Ok n) (sym same.1) in
-      let equal : vs ≡ ws = injective ds vs ws x.2 (counted r x.1 vs k x.3.1 x.3.2) (counted s y.1 ws j y.3.1 y.3.2 ∙ ap (λ (es : List Extent). length es) (sym d)) x.3.3 at_w in
-      record {
-        first = first;
-        step = step;
-        held = held;
-        name = ap (λ (q : Ref). q.name) ra ∙ same.0 ∙ ap (λ (q : Ref). q.name) (sym rb);
-        is_step = is_step;
-        agree = agree l held (first +ℤ (pos k *ℤ step)) (first +ℤ (pos j *ℤ step)) oa.subscripts ob.subscripts vs ws
-            (taken k r oa i ra x.1 vs x.3.1 x.3.2) (taken j s ob m rb y.1 ws y.3.1 y.3.2) equal;
-      }
-    where
-      taken : (n : ℕ) (q : Ref) (o : Occurrence) → In o l.references → o.ref ≡ q → (es : Terms) (us : List ℤ) → Stands q es → AllMayBe l held (index n) es us → AllMayBe l held (first +ℤ (pos n *ℤ step)) o.subscripts us
-      taken n q o i e es us st h = subst (λ (z : ℤ). AllMayBe l held z o.subscripts us) (at_index n) (subst (λ (fs : Terms). AllMayBe l held (index n) fs us) (sym (subs q es o st i e)) h)
+    meets : (k j : ℕ) (r s : Ref) (c : Cell) (oa ob : Occurrence) → In oa l.references → In ob l.references → oa.ref ≡ r → ob.ref ≡ s → AtHere k r c → AtHere j s c → MayMeet l oa ob k j
+    meets k j r s c oa ob i m ra rb x y =
+        let same = same_cell k j r s c x y in
+        let ds = dimensions_at pl.symbols r.cell in
+        let d = same_dimensions r s x.1 y.1 x.3.1 y.3.1 same.0 in
+        let vs = x.3.0 in
+        let ws = y.3.0 in
+        let at_w : place_of ds ws ≡ Ok x.2 = ap (λ (es : List Extent). place_of es ws) d ∙ y.3.3 ∙ ap (λ (n : ℕ). Ok n) (sym same.1) in
+        let equal : vs ≡ ws = injective ds vs ws x.2 (counted r x.1 vs k x.3.1 x.3.2) (counted s y.1 ws j y.3.1 y.3.2 ∙ ap (λ (es : List Extent). length es) (sym d)) x.3.3 at_w in
+        record {
+          first = first;
+          step = step;
+          held = held;
+          name = ap (λ (q : Ref). q.name) ra ∙ same.0 ∙ ap (λ (q : Ref). q.name) (sym rb);
+          is_step = is_step;
+          agree = agree l held (first +ℤ (pos k *ℤ step)) (first +ℤ (pos j *ℤ step)) oa.subscripts ob.subscripts vs ws
+              (taken k r oa i ra x.1 vs x.3.1 x.3.2) (taken j s ob m rb y.1 ws y.3.1 y.3.2) equal;
+        }
+      where
+        taken : (n : ℕ) (q : Ref) (o : Occurrence) → In o l.references → o.ref ≡ q → (es : Terms) (us : List ℤ) → Stands q es → AllMayBe l held (index n) es us → AllMayBe l held (first +ℤ (pos n *ℤ step)) o.subscripts us
+        taken n q o i e es us st h = subst (λ (z : ℤ). AllMayBe l held z o.subscripts us) (at_index n) (subst (λ (fs : Terms). AllMayBe l held (index n) fs us) (sym (subs q es o st i e)) h)
 
-  defining : (a : Token) (o : Occurrence) → token_of o ≡ a → (r : Ref) → a ≡ defines r → o.defines ≡ true
-  defining a o e r d = by o.defines (e ∙ d)
-    where
-      by : (b : Bool) → (if b then defines o.ref else uses o.ref) ≡ defines r → b ≡ true
-      by true q = refl
-      by false q = cc
+    defining : (a : Token) (o : Occurrence) → token_of o ≡ a → (r : Ref) → a ≡ defines r → o.defines ≡ true
+    defining a o e r d = by o.defines (e ∙ d)
+      where
+        by : (b : Bool) → (if b then defines o.ref else uses o.ref) ≡ defines r → b ≡ true
+        by true q = refl
+        by false q = cc
 
-  kept : (k j : ℕ) (a b : Token) (c : Cell) → k < j → j < total → MeetsHere k a c → MeetsHere j b c → (u : List Token) × Here (u ++ a ∷ []) → (u : List Token) × Here (u ++ b ∷ []) → ((r : Ref) × (a ≡ defines r)) ⊎ ((r : Ref) × (b ≡ defines r))
-      → (e : ℕ) × ((u : List Token) → Here (u ++ a ∷ []) → In (advance e) u → ⊥) × ((u : List Token) → Here (u ++ b ∷ []) → (d : ℕ) × (k + d ≤ j) × In (await e d) u)
-  kept k j a b c lt below ma mb ua ub d =
-      let oa = occurrence k a c ma ua.0 ua.1 in
-      let ob = occurrence j b c mb ub.0 ub.1 in
-      let m = meets k j ma.0 mb.0 c oa.0 ob.0 oa.1 ob.1 oa.2 ob.2 ma.1 mb.1 in
-      let name = ap (λ (q : Ref). q.name) oa.2 in
-      let t : Together l p oa.0 ob.0 = record {
-        a_in = contained oa.0 l.references oa.1;
-        b_in = contained ob.0 l.references ob.1;
-        name = m.name;
-        shared = λ i. stored k ma.0 c ma.1 (subst (λ (n : List ℕ). IsPrivate p n) name i);
-        other = λ e. not_variable k ma.0 c ma.1 (sym name ∙ e);
-        defining = ⊎_elim (λ x. or_left oa.0.defines ob.0.defines (defining a oa.0 oa.3 x.0 x.1)) (λ x. or_right oa.0.defines ob.0.defines (defining b ob.0 ob.3 x.0 x.1)) d;
-      } in
-      let g = good.kept oa.0 ob.0 k j t lt (within j below) m in
-      (
-        g.0,
-        (λ u h i. g.1.source u (subst (λ (x : Token). Here (u ++ x ∷ [])) (sym oa.3) h) (contained (advance g.0) u i)),
-        (λ u h. let z = g.1.sink u (subst (λ (x : Token). Here (u ++ x ∷ [])) (sym ob.3) h) in (z.0, z.1, among (await g.0 z.0) u z.2)),
-      )
+    kept : (k j : ℕ) (a b : Token) (c : Cell) → k < j → j < total → MeetsHere k a c → MeetsHere j b c → (u : List Token) × Here (u ++ a ∷ []) → (u : List Token) × Here (u ++ b ∷ []) → ((r : Ref) × (a ≡ defines r)) ⊎ ((r : Ref) × (b ≡ defines r))
+        → (e : ℕ) × ((u : List Token) → Here (u ++ a ∷ []) → In (advance e) u → ⊥) × ((u : List Token) → Here (u ++ b ∷ []) → (d : ℕ) × (k + d ≤ j) × In (await e d) u)
+    kept k j a b c lt below ma mb ua ub d =
+        let oa = occurrence k a c ma ua.0 ua.1 in
+        let ob = occurrence j b c mb ub.0 ub.1 in
+        let m = meets k j ma.0 mb.0 c oa.0 ob.0 oa.1 ob.1 oa.2 ob.2 ma.1 mb.1 in
+        let name = ap (λ (q : Ref). q.name) oa.2 in
+        let t : Together l p oa.0 ob.0 = record {
+          a_in = contained oa.0 l.references oa.1;
+          b_in = contained ob.0 l.references ob.1;
+          name = m.name;
+          shared = λ i. stored k ma.0 c ma.1 (subst (λ (n : List ℕ). IsPrivate p n) name i);
+          other = λ e. not_variable k ma.0 c ma.1 (sym name ∙ e);
+          defining = ⊎_elim (λ x. or_left oa.0.defines ob.0.defines (defining a oa.0 oa.3 x.0 x.1)) (λ x. or_right oa.0.defines ob.0.defines (defining b ob.0 ob.3 x.0 x.1)) d;
+        } in
+        let g = good.kept oa.0 ob.0 k j t lt (within j below) m in (
+          g.0,
+          (λ u h i. g.1.source u (subst (λ (x : Token). Here (u ++ x ∷ [])) (sym oa.3) h) (contained (advance g.0) u i)),
+          (λ u h. let z = g.1.sink u (subst (λ (x : Token). Here (u ++ x ∷ [])) (sym ob.3) h) in (z.0, z.1, among (await g.0 z.0) u z.2)),
+        )
 
-  pub good_paths : GoodPaths l held index Stands pl fixed opened (PlanPaths p.body) total NamedEvent
-  good_paths = record {
-    once = λ u e b i. good.once u e b (contained (advance e) u i);
-    before = λ u e b. among (await e 1) u (good.behind u e b);
-    each = λ t e n s. among (advance e) t (good.each t e n.0 n.1 s);
-    far = λ u e d b. far u e d b;
-    kept = λ k j a b c lt below ma mb ua ub d. kept k j a b c lt below ma mb ua ub d;
-    apart = λ k r c a h. stored k r c a
-        (subst (λ (n : List ℕ). IsPrivate p n) (sym (ap (λ (z : Cell). z.name) (sym a.4 ∙ h.2))) (contained (get_or pl.privates h.0 []) p.privates (subst (λ (ns : List (List ℕ)). In (get_or pl.privates h.0 []) ns) privates (get_in pl.privates h.0 h.1))));
-  }
+    pub good_paths : GoodPaths l held index Stands pl fixed opened (PlanPaths p.body) total NamedEvent
+    good_paths = record {
+      once = λ u e b i. good.once u e b (contained (advance e) u i);
+      before = λ u e b. among (await e 1) u (good.behind u e b);
+      each = λ t e n s. among (advance e) t (good.each t e n.0 n.1 s);
+      far = λ u e d b. far u e d b;
+      kept = λ k j a b c lt below ma mb ua ub d. kept k j a b c lt below ma mb ua ub d;
+      apart = λ k r c a h. stored k r c a
+          (subst (λ (n : List ℕ). IsPrivate p n) (sym (ap (λ (z : Cell). z.name) (sym a.4 ∙ h.2))) (contained (get_or pl.privates h.0 []) p.privates (subst (λ (ns : List (List ℕ)). In (get_or pl.privates h.0 []) ns) privates (get_in pl.privates h.0 h.1))));
+    }

@@ -224,7 +224,6 @@ module _ (code : Code) (l : Opened) (p : Places) (body : PlanBlock) (fixed : Cel
         first : Outcome
         first = comes (begins k) σ run.output
 
-
         by : (x : End) → (exec_block p.symbols (stripped body) run).end ≡ x → leads_by p (index_at code l k) fixed opened x run (exec_block p.symbols (stripped body) run) (λ ps. leave (defined_cells code (loop_at code l.number).privates ps)) (comes (begins k) σ run.output)
             → (suc k + n ≡ total → (run' : Run) (σ' : StoreOf) → run'.end ≡ Done → AtIn (suc k) run'.store none σ' → run'.input ≡ input → (n ≡ 0 → (v : ℤ) × (in_range (index_at code l total) ≡ Ok v)) → outcomes.then_do (one_by_one begins n (suc k) σ' run'.output) K ≡ then_told (turns trip n run') N)
             → outcomes.then_do (outcomes.then_do (comes (begins k) σ run.output) (λ τ t. one_by_one begins n (suc k) τ t)) K ≡ then_told (then_do (trip run) (λ r. turns trip n r)) N

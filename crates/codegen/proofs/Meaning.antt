@@ -68,7 +68,6 @@ pub record Acts (A : Type 0) (D : Doing A) (p : Places) (meant : A → List ℤ 
 pub fit_parts : (xs ys : List Term) → Fit (xs ++ ys) → Fit xs × Fit ys
 fit_parts xs ys h = and_parts (list_all (λ e. is_fitting e) xs) (list_all (λ e. is_fitting e) ys) (sym (list_all-append (λ e. is_fitting e) xs ys) ∙ h)
 
-
 given_on : (r : Result ℤ Fault) (line : ℕ) (run : Run) (k : ℤ → Outcome) → on (λ e. failed e line run) r k ≡ given_told r line run k
 given_on (Ok v) line run k = refl
 given_on (Err e) line run k = refl

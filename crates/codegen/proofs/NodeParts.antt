@@ -39,8 +39,8 @@ pub arm_here : (xs : List Arm) (i : ℕ) (a : Arm) (c : Option Expr) (ns : List 
 arm_here xs i a c ns l e f g =
     let others = arms_tree (map arm_of (drop (i + 1) xs)) in
     ap plain_arms (
-      ap (λ (as_list : List Arm). arms_tree (map arm_of as_list)) (item_here xs i a l e)
-      ∙ ap (λ (n : ℕ). then_arm n (arm_of a).condition (arm_of a).body others) (line_of a)
-      ∙ ap (λ (o : Option Term). then_arm a.line o (arm_of a).body others) (condition_of a ∙ ap optional_term f)
-      ∙ ap (λ (b : Block). then_arm a.line (optional_term c) b others) (body_of a ∙ ap block_view g)
+    ap (λ (as_list : List Arm). arms_tree (map arm_of as_list)) (item_here xs i a l e)
+    ∙ ap (λ (n : ℕ). then_arm n (arm_of a).condition (arm_of a).body others) (line_of a)
+    ∙ ap (λ (o : Option Term). then_arm a.line o (arm_of a).body others) (condition_of a ∙ ap optional_term f)
+    ∙ ap (λ (b : Block). then_arm a.line (optional_term c) b others) (body_of a ∙ ap block_view g)
     )

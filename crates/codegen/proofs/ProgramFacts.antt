@@ -116,9 +116,9 @@ numbered_range b l i h =
     (λ line d c q. let k = parts (head_expressions d) (block_expressions c) q.0 q.1 in (q.0 + size (head_expressions d), k.1))
     (λ a q. q)
     (λ line c x more q.
-        let k = parts (optional c ++ block_expressions x) (arms_expressions more) q.0 q.1 in
-        let j = parts (optional c) (block_expressions x) q.0 k.0 in
-        ((q.0 + size (optional c), j.1), (q.0 + size (optional c ++ block_expressions x), k.1)))
+    let k = parts (optional c ++ block_expressions x) (arms_expressions more) q.0 q.1 in
+    let j = parts (optional c) (block_expressions x) q.0 k.0 in
+    ((q.0 + size (optional c), j.1), (q.0 + size (optional c ++ block_expressions x), k.1)))
     b None 0 0 l i h
 
 -- what a loop shows of a block whose references are placed is placed

@@ -194,10 +194,13 @@ module _ (symbols : List Symbol) (l : Loop) (line : ℕ) (privates : List (List 
         let o = defined_at n a.ref a.subscripts in
         let i = h o (in_right o (terms_occurrences n a.subscripts) (o ∷ []) (inl refl)) in
         let st : StandsIn l a.ref a.subscripts = (o, i, refl, refl) in
-        let d = dims symbols l line privates body w a.ref a.subscripts st in
-        ((d, all_named_of a.subscripts (terms_known n a.subscripts (front (terms_occurrences n a.subscripts) (o ∷ []) h))),
-        ((λ e. not_loop_variable a.ref a.subscripts o i refl refl (sym (ap (λ (ds : List Extent). home pl ds a.ref.name) d) ∙ e)),
-        (λ m e. not_fixed a.ref m (is_assigned l a.ref.name) (dimensions_in symbols a.ref.name) refl refl (λ z. assigned a.ref a.subscripts st o i refl refl z))))
+        let d = dims symbols l line privates body w a.ref a.subscripts st in (
+          (d, all_named_of a.subscripts (terms_known n a.subscripts (front (terms_occurrences n a.subscripts) (o ∷ []) h))),
+          (
+            (λ e. not_loop_variable a.ref a.subscripts o i refl refl (sym (ap (λ (ds : List Extent). home pl ds a.ref.name) d) ∙ e)),
+            (λ m e. not_fixed a.ref m (is_assigned l a.ref.name) (dimensions_in symbols a.ref.name) refl refl (λ z. assigned a.ref a.subscripts st o i refl refl z)),
+          ),
+        )
 
     items_named : (n : ℕ) (items : List PrintItem) → All (items_occurrences n items) → ran.ItemsKnown pl index (fixed_in symbols l) opened items
     items_named n [] h = tt

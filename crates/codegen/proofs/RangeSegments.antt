@@ -147,33 +147,35 @@ module _ (symbols : List Symbol) (C : List Instr) (R : List (List Part)) (W : Li
       let same : y ≡ x = cc in
       let number : n ≡ m = omega (arith, e) in
       subst (λ (k : ℕ). (s : Segment symbols k x C R W) × (Some (loop_entry symbols (length cb) y) ≡ Some (loop_entry symbols (length s.cb) x))) number
-      (subst (λ (z : Planned). (s : Segment symbols n z C R W) × (Some (loop_entry symbols (length cb) y) ≡ Some (loop_entry symbols (length s.cb) z))) same
-      (record {
-        cb = cb;
-        ca = ranges_code symbols (n + 1) (length rb + length (range_records symbols y)) (length wb + length (range_awaits symbols y)) ys;
-        rb = rb;
-        ra = ranges_records symbols ys;
-        wb = wb;
-        wa = ranges_awaits symbols ys;
-        code_is = c;
-        records_is = r;
-        awaits_is = w;
-      }, refl))
+      (subst (λ (z : Planned). (s : Segment symbols n z C R W) × (Some (loop_entry symbols (length cb) y) ≡ Some (loop_entry symbols (length s.cb) z))) same (
+        record {
+          cb = cb;
+          ca = ranges_code symbols (n + 1) (length rb + length (range_records symbols y)) (length wb + length (range_awaits symbols y)) ys;
+          rb = rb;
+          ra = ranges_records symbols ys;
+          wb = wb;
+          wa = ranges_awaits symbols ys;
+          code_is = c;
+          records_is = r;
+          awaits_is = w;
+        },
+        refl,
+      ))
   find (y ∷ ys) (suc i) m n x cb rb wb g e c r w =
       let k1 : length rb + length (range_records symbols y) ≡ length (rb ++ range_records symbols y) = sym (length-append rb (range_records symbols y)) in
       let k2 : length wb + length (range_awaits symbols y) ≡ length (wb ++ range_awaits symbols y) = sym (length-append wb (range_awaits symbols y)) in
       let k0 : length cb + length (range_code symbols n (length rb) (length wb) y) ≡ length (cb ++ range_code symbols n (length rb) (length wb) y) = sym (length-append cb (range_code symbols n (length rb) (length wb) y)) in
       let h = find ys i m (n + 1) x (cb ++ range_code symbols n (length rb) (length wb) y) (rb ++ range_records symbols y) (wb ++ range_awaits symbols y) g (omega (arith, e))
       (c ∙ sym (append_assoc cb (range_code symbols n (length rb) (length wb) y) (ranges_code symbols (n + 1) (length rb + length (range_records symbols y)) (length wb + length (range_awaits symbols y)) ys))
-          ∙ ap (λ (k : ℕ). (cb ++ range_code symbols n (length rb) (length wb) y) ++ ranges_code symbols (n + 1) k (length wb + length (range_awaits symbols y)) ys) k1
-          ∙ ap (λ (k : ℕ). (cb ++ range_code symbols n (length rb) (length wb) y) ++ ranges_code symbols (n + 1) (length (rb ++ range_records symbols y)) k ys) k2)
+      ∙ ap (λ (k : ℕ). (cb ++ range_code symbols n (length rb) (length wb) y) ++ ranges_code symbols (n + 1) k (length wb + length (range_awaits symbols y)) ys) k1
+      ∙ ap (λ (k : ℕ). (cb ++ range_code symbols n (length rb) (length wb) y) ++ ranges_code symbols (n + 1) (length (rb ++ range_records symbols y)) k ys) k2)
       (r ∙ sym (append_assoc rb (range_records symbols y) (ranges_records symbols ys)))
       (w ∙ sym (append_assoc wb (range_awaits symbols y) (ranges_awaits symbols ys))) in (
         h.0,
         ap (λ (k : ℕ). slice_get (ranges_loops symbols k (n + 1) (length rb + length (range_records symbols y)) (length wb + length (range_awaits symbols y)) ys) i) k0
-        ∙ ap (λ (k : ℕ). slice_get (ranges_loops symbols (length (cb ++ range_code symbols n (length rb) (length wb) y)) (n + 1) k (length wb + length (range_awaits symbols y)) ys) i) k1
-        ∙ ap (λ (k : ℕ). slice_get (ranges_loops symbols (length (cb ++ range_code symbols n (length rb) (length wb) y)) (n + 1) (length (rb ++ range_records symbols y)) k ys) i) k2
-        ∙ h.1,
+            ∙ ap (λ (k : ℕ). slice_get (ranges_loops symbols (length (cb ++ range_code symbols n (length rb) (length wb) y)) (n + 1) k (length wb + length (range_awaits symbols y)) ys) i) k1
+            ∙ ap (λ (k : ℕ). slice_get (ranges_loops symbols (length (cb ++ range_code symbols n (length rb) (length wb) y)) (n + 1) (length (rb ++ range_records symbols y)) k ys) i) k2
+            ∙ h.1,
       )
 
 at_number : {X : Type 0} (ys : List X) (i : ℕ) (y z : X) → slice_get ys i ≡ Some y → get_or ys i z ≡ y
@@ -190,7 +192,6 @@ module _ (symbols : List Symbol) (code : Code) (n : ℕ) (x : Planned) (s : Segm
     (placed : list_all (λ r. is_placed symbols r) (expressions_references (block_expressions (stripped x.plan.body))) ≡ true) (operands : block_room x.plan.body ≤ code.operands) (counters : block_loops x.plan.body ≤ code.counters) where
   pub loop_is : loop_at code n ≡ loop_entry symbols (length s.cb) x
   loop_is = at_number code.loops n (loop_entry symbols (length s.cb) x) (no_loop code) entry
-
 
   code_is : code.instructions ≡ s.cb ++ (block_code (range_places symbols x) none_open (length s.rb) (length s.wb) x.plan.body ++ (instr x.loop.line (acts.Retire (short n)) ∷ s.ca))
   code_is = s.code_is ∙ ap (λ (is : List Instr). s.cb ++ is) (append_assoc (block_code (range_places symbols x) none_open (length s.rb) (length s.wb) x.plan.body) (instr x.loop.line (acts.Retire (short n)) ∷ []) s.ca)

@@ -73,17 +73,17 @@ made_with symbols (x ∷ xs) m =
     let rest = λ (a b c : ℕ). ranges_code symbols a b c xs in
     made_with symbols xs (with_range symbols x m)
     ∙ build
-      (append_assoc m.instructions first (rest (length (m.loops ++ loop_entry symbols (length m.instructions) x ∷ [])) (length (m.records ++ range_records symbols x)) (length (m.awaits ++ range_awaits symbols x)))
-       ∙ ap (λ (a : ℕ). m.instructions ++ (first ++ rest a (length (m.records ++ range_records symbols x)) (length (m.awaits ++ range_awaits symbols x)))) n2
-       ∙ ap (λ (b : ℕ). m.instructions ++ (first ++ rest (n + 1) b (length (m.awaits ++ range_awaits symbols x)))) r2
-       ∙ ap (λ (c : ℕ). m.instructions ++ (first ++ rest (n + 1) (r + length (range_records symbols x)) c)) w2)
-      (append_assoc m.records (range_records symbols x) (ranges_records symbols xs))
-      (append_assoc m.awaits (range_awaits symbols x) (ranges_awaits symbols xs))
-      (append_assoc m.loops (loop_entry symbols (length m.instructions) x ∷ []) (ranges_loops symbols (length (m.instructions ++ first)) (length (m.loops ++ loop_entry symbols (length m.instructions) x ∷ [])) (length (m.records ++ range_records symbols x)) (length (m.awaits ++ range_awaits symbols x)) xs)
-       ∙ ap (λ (p : ℕ). m.loops ++ (loop_entry symbols (length m.instructions) x ∷ ranges_loops symbols p (length (m.loops ++ loop_entry symbols (length m.instructions) x ∷ [])) (length (m.records ++ range_records symbols x)) (length (m.awaits ++ range_awaits symbols x)) xs)) i2
-       ∙ ap (λ (a : ℕ). m.loops ++ (loop_entry symbols (length m.instructions) x ∷ ranges_loops symbols (length m.instructions + length first) a (length (m.records ++ range_records symbols x)) (length (m.awaits ++ range_awaits symbols x)) xs)) n2
-       ∙ ap (λ (b : ℕ). m.loops ++ (loop_entry symbols (length m.instructions) x ∷ ranges_loops symbols (length m.instructions + length first) (n + 1) b (length (m.awaits ++ range_awaits symbols x)) xs)) r2
-       ∙ ap (λ (c : ℕ). m.loops ++ (loop_entry symbols (length m.instructions) x ∷ ranges_loops symbols (length m.instructions + length first) (n + 1) (r + length (range_records symbols x)) c xs)) w2)
+    (append_assoc m.instructions first (rest (length (m.loops ++ loop_entry symbols (length m.instructions) x ∷ [])) (length (m.records ++ range_records symbols x)) (length (m.awaits ++ range_awaits symbols x)))
+    ∙ ap (λ (a : ℕ). m.instructions ++ (first ++ rest a (length (m.records ++ range_records symbols x)) (length (m.awaits ++ range_awaits symbols x)))) n2
+    ∙ ap (λ (b : ℕ). m.instructions ++ (first ++ rest (n + 1) b (length (m.awaits ++ range_awaits symbols x)))) r2
+    ∙ ap (λ (c : ℕ). m.instructions ++ (first ++ rest (n + 1) (r + length (range_records symbols x)) c)) w2)
+    (append_assoc m.records (range_records symbols x) (ranges_records symbols xs))
+    (append_assoc m.awaits (range_awaits symbols x) (ranges_awaits symbols xs))
+    (append_assoc m.loops (loop_entry symbols (length m.instructions) x ∷ []) (ranges_loops symbols (length (m.instructions ++ first)) (length (m.loops ++ loop_entry symbols (length m.instructions) x ∷ [])) (length (m.records ++ range_records symbols x)) (length (m.awaits ++ range_awaits symbols x)) xs)
+    ∙ ap (λ (p : ℕ). m.loops ++ (loop_entry symbols (length m.instructions) x ∷ ranges_loops symbols p (length (m.loops ++ loop_entry symbols (length m.instructions) x ∷ [])) (length (m.records ++ range_records symbols x)) (length (m.awaits ++ range_awaits symbols x)) xs)) i2
+    ∙ ap (λ (a : ℕ). m.loops ++ (loop_entry symbols (length m.instructions) x ∷ ranges_loops symbols (length m.instructions + length first) a (length (m.records ++ range_records symbols x)) (length (m.awaits ++ range_awaits symbols x)) xs)) n2
+    ∙ ap (λ (b : ℕ). m.loops ++ (loop_entry symbols (length m.instructions) x ∷ ranges_loops symbols (length m.instructions + length first) (n + 1) b (length (m.awaits ++ range_awaits symbols x)) xs)) r2
+    ∙ ap (λ (c : ℕ). m.loops ++ (loop_entry symbols (length m.instructions) x ∷ ranges_loops symbols (length m.instructions + length first) (n + 1) (r + length (range_records symbols x)) c xs)) w2)
   where
     build : {i j : List Instr} {r s : List (List Part)} {v w : List Await} {k l : List machine.Loop} → i ≡ j → r ≡ s → v ≡ w → k ≡ l → ◌≡◌ {A = Made} (record { instructions = i; records = r; awaits = v; loops = k }) (record { instructions = j; records = s; awaits = w; loops = l })
     build {i} {j} {r} {s} {v} {w} {k} {l} a b c d =

@@ -349,13 +349,12 @@ module _ (symbols : List Symbol) (x : Planned) (g : GoodPlan x.loop x.plan) (sam
   private_home q d i =
       let k = index_of x.plan.privates q.name (among q.name x.plan.privates i) in
       let s = scalars k.0 k.1 in
-      let ds : dimensions_in symbols (get_or x.plan.privates k.0 []) ≡ [] = ap (dimensions_in symbols) (sym s.2) ∙ dimensions_same symbols s.0 r.distinct (assigned_placed s.0 s.1) ∙ assigned_scalar s.0 s.1 in
-      (
+      let ds : dimensions_in symbols (get_or x.plan.privates k.0 []) ≡ [] = ap (dimensions_in symbols) (sym s.2) ∙ dimensions_same symbols s.0 r.distinct (assigned_placed s.0 s.1) ∙ assigned_scalar s.0 s.1 in (
         k.0,
         ap (λ (es : List Extent). home (range_places symbols x) es q.name) d
-        ∙ ap (λ (m : List ℕ). home (range_places symbols x) [] m) (sym k.2)
-        ∙ sym (ap (λ (es : List Extent). home (range_places symbols x) es (get_or x.plan.privates k.0 [])) ds)
-        ∙ homes k.0 k.1,
+            ∙ ap (λ (m : List ℕ). home (range_places symbols x) [] m) (sym k.2)
+            ∙ sym (ap (λ (es : List Extent). home (range_places symbols x) es (get_or x.plan.privates k.0 [])) ds)
+            ∙ homes k.0 k.1,
       )
 
   variable_among : (ls : List Loop) (lp : Loop) → In lp ls → In lp.head.variable (map (λ (y : Loop). y.head.variable) ls)

@@ -160,8 +160,8 @@ module _ (t : ProgramTree) (xs : List Planned) (some : Planned) (code : Code) (w
         (λ r s es fs a b e. sym (dimensions_same t.symbols r distinct (stands_placed r es a)) ∙ ap (λ (n : List ℕ). dimensions_in t.symbols n) e ∙ dimensions_same t.symbols s distinct (stands_placed s fs b))
         (λ r es vs k st m. value_count es vs (held_by t.symbols ι) (index_at code l k) m ∙ ((good l.number h).place).counted r es st)
         (λ s r es i st e.
-            let a = ((good l.number h).place).assigned s i in
-            ap (dimensions_at t.symbols) (same_cells t.symbols distinct r s (stands_placed r es st) a e) ∙ ((good l.number h).place).assigned_scalar s i)
+        let a = ((good l.number h).place).assigned s i in
+        ap (dimensions_at t.symbols) (same_cells t.symbols distinct r s (stands_placed r es st) a e) ∙ ((good l.number h).place).assigned_scalar s i)
         (λ r es st e. ap (dimensions_at t.symbols) (same_cells t.symbols distinct r (get_or xs l.number some).loop.head.variable (stands_placed r es st) ((opens l.number h).regular).variable e) ∙ ((opens l.number h).regular).variable_scalar)
         one_place (λ k. refl) step_known within
 

@@ -124,11 +124,7 @@ fn note(noted: &mut Vec<bool>, inside: bool, suits: bool) -> Result<(), AllocErr
 
 /// What placement gives for a loop, where the check of plans accepts it. One that it refused would leave
 /// the loop serial, for reason 6; it refuses none.
-fn checked(
-    alloc: Global,
-    view: &LoopView<'_, '_>,
-    placed: Placed,
-) -> Result<Placed, AllocError>
+fn checked(alloc: Global, view: &LoopView<'_, '_>, placed: Placed) -> Result<Placed, AllocError>
     requires whole { IsWhole (seen view.now) }
     requires placed { IsPlacement (all_seen view.now) (seen view.now) placed.plan }
     ensures same { IfOk result (λ given. given ≡ placed) }
