@@ -27,6 +27,35 @@ const ELEMENTS: &[u8] =
 const TO_ITS_END: &[u8] =
     b"DOACROSS SCHEDULE 2\n1 1\n0 M\n0 0\n0 0\n0 2\n0 0\n0 0\n0 2\n0 0\n0 2\n0 0\n0 0\n";
 
+/// Two trips, whose records are printed in turn.
+const TRIPS: &[u8] = b"      DO 10 I=1,2\n   10 PRINT *,I\n      END\n";
+
+/// Both are open; the second prints first, and holds its record until the first has retired.
+const OVERLAPPING: &[u8] =
+    b"DOACROSS SCHEDULE 1\n2 2\n0 0\n0 2\n0 0\n1 0\n0 0\n0 0\n0 1\n0 0\n0 0\n1 1\n1 0\n1 0\n1 0\n1 0\n0 0\n0 0\n0 0\n";
+
+/// Two trips that store.
+const STORING: &[u8] =
+    b"      INTEGER A(2)\n      DO 10 I=1,2\n   10 A(I)=I\n      PRINT *,A(2),I\n      END\n";
+
+/// The second stores first. Behind the loop an element and the DO variable are printed.
+const STORED_AHEAD: &[u8] =
+    b"DOACROSS SCHEDULE 2\n2 2\n0 M\n0 2\n0 0\n1 T\n0 0\n0 T\n0 3\n0 0\n0 0\n1 3\n1 0\n1 0\n1 I 1\n1 0\n0 M\n0 0\n0 2\n0 0\n0 0\n0 0\n0 0\n";
+
+#[test]
+fn iterations_that_overlap(rt: HostRuntime) -> Result<(), Fail> {
+    let rows: [(&[u8], &[u8], &[u8]); 2] = [
+        (TRIPS, OVERLAPPING, b" 1\n 2\n"),
+        (STORING, STORED_AHEAD, b" 2 3\n"),
+    ];
+    for (source, schedule, shown) in rows {
+        let mut out = Vec::new(rt.alloc());
+        replay_texts(rt.alloc(), source, b"", schedule, &mut out)?;
+        assert_eq!(rt; out.as_slice(), shown);
+    }
+    Ok(())
+}
+
 #[test]
 fn schedules_of_the_end_alone(rt: HostRuntime) -> Result<(), Fail> {
     let rows: [(&[u8], &[u8]); 8] = [
