@@ -154,7 +154,7 @@ module _ (F L : Type 0) (view : F → View F L) (trips : L → ℕ) (begin : L �
       let R = run (start l claim.opened_on j) σ in
       (goes_on R.bad R.values R.end (finish (start l claim.opened_on) (λ i. []) n (suc j)) ρ τ r.bad r.end h.0, h.1)
 
-  -- T4: where those before iteration k retire, each alone, and leave the store τ, it stands where it stands
+  -- where those before iteration k retire, each alone, and leave the store τ, it stands where it stands
   -- alone on τ, with what it has printed so; and at a load the cell has the value that it has there
   pub stands_alone : (k : ℕ) (a : Active F) (τ : StoreOf) → k < trips l → m.iterations k ≡ Some a → Before F L view begin l k 0 claim.opened_on τ
       → (n : ℕ) × (x : Own F) × (x ≡ own_after F L view n (record { frame = begin l k; store = τ; out = [] })) × (x.frame ≡ a.frame) × (x.out ≡ a.out)
