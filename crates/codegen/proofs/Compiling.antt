@@ -1,5 +1,5 @@
 -- Programs to code: their variables, and that what is made is code that the headline holds of.
-use Rattle.std.proofs.Common.{◌≡◌, ◌∙◌, ◌⊎◌, inl, inr, ◌+◌, ◌*◌, ◌≤◌, ◌<◌, ◌^◌, ℕ, zero, suc, Bool, true, false, List, [], ◌∷◌, ◌++◌, map, take, length, get_or, refl, sym, ap, arith}
+use Rattle.std.proofs.Common.{◌≡◌, ◌∙◌, ◌⊎◌, inl, inr, ◌+◌, ◌*◌, ◌≤◌, ◌<◌, ◌^◌, ℕ, zero, suc, Bool, true, false, List, [], ◌∷◌, ◌++◌, map, take, length, get_or, refl, sym, ap, subst, arith}
 use Rattle.std.specs.Prelude.{◌-◌, None, not, nat_lt, nat_le, int_lt, pos, ◌&&◌, ◌||◌, ◌==◌, if◌then◌else◌}
 use Rattle.std.specs.List.{AllByRecursion, IsDistinct, list_all}
 use Rattle.std.proofs.Math.Nat.{le-max_left, le-max_right}
@@ -17,7 +17,7 @@ use Rattle.ast.specs.declared.program.Symbol.{Symbol as Named}
 use Rattle.ast.specs.View.{symbol}
 use Rattle.ast.specs.Tree.{constant, no_nodes}
 use Rattle.dependence.specs.Plan as plan
-use Rattle.loop_tree.specs.Loops.{loop_at, loops_of}
+use Rattle.loop_tree.specs.Loops.{Loop, loop_at, loops_of}
 use Rattle.loop_tree.specs.Occurrences.{block_lines}
 use Rattle.machine.specs.Code.{Code}
 use Rattle.machine.specs.Laid.{are_distinct, are_laid, count_of, is_among, names_in}
@@ -28,12 +28,15 @@ use Rattle.expr_code.proofs.Finding.{short_is}
 use Rattle.codegen.specs.Headline.{Bounded, Carried, Ends, Headline}
 use Rattle.codegen.specs.Plain.{plain_block}
 use Rattle.codegen.specs.Program.{AreOpened, IsCodeOf, Planned, Refuses, RefusesWith, most_room, room_of}
-use Rattle.codegen.specs.Reports.{Reports, opened_of}
+use Rattle.codegen.specs.Awaited.{AreAwaitsKept}
+use Rattle.codegen.specs.Reports.{AreReports, Reports, opened_of, planned_in}
 use Rattle.codegen.specs.Room.{block_loops, block_room}
+use Rattle.codegen.specs.States.{AreAsAlone}
 use Rattle.codegen.specs.declared.reports.LoopReport.{LoopReport}
 use Rattle.codegen.proofs.AcceptedLoops.{accepted}
-use Rattle.codegen.proofs.OpenedReports.{Known, known_at}
-use Rattle.codegen.proofs.Theorem.{Opens, bounded, carried, ends, headline}
+use Rattle.codegen.proofs.Awaited.{awaits_kept}
+use Rattle.codegen.proofs.OpenedReports.{Known, are_opened, known_at}
+use Rattle.codegen.proofs.Theorem.{Opens, bounded, carried, ends, headline, states}
 
 -- ---- variables
 
@@ -120,32 +123,58 @@ much_room t r e f = by (nat_lt (room_of t) (2 ^ 32)) refl (sym f ∙ e)
 none_such : Planned
 none_such = record { loop = loop_at None 0 0 (record { variable = record { name = []; id = 0; cell = 0 }; first = constant (pos 0); last = constant (pos 0); step = None; terminal = 0 }) no_nodes; plan = record { body = plan.no_nodes; privates = []; relations = [] } }
 
-module _ (p : Program) (reports : List LoopReport) (code : Code) (w : IsCodeOf (program_of p) (opened_of (program_of p) reports) code) (told : Reports (program_of p) reports) where
+-- the code is that of the program with the loops opened that these reports open
+pub record IsMade (p : Program) (reports : List LoopReport) (code : Code) : Type 0 where
+  pub code_is : IsCodeOf (program_of p) (opened_of (program_of p) reports) code
+  pub told : Reports (program_of p) reports
+
+pub are_told : (p : Program) (ls : List Loop) (lines : List ℕ) (reports : List LoopReport) → ls ≡ loops_of (program_of p).block → lines ≡ block_lines (program_of p).block → AreReports ls lines ls reports → Reports (program_of p) reports
+are_told p ls lines reports all lined told = subst (λ ms. AreReports ms (block_lines (program_of p).block) ms reports) all (subst (λ ns. AreReports ls ns ls reports) lined told)
+
+pub made : (p : Program) (ls : List Loop) (lines : List ℕ) (reports seen : List LoopReport) (code : Code) → ls ≡ loops_of (program_of p).block → lines ≡ block_lines (program_of p).block → AreReports ls lines ls reports → seen ≡ reports
+    → IsCodeOf (program_of p) (planned_in ls seen) code → IsMade p reports code
+made p ls lines reports seen code all lined told same is =
+    let planned : planned_in ls seen ≡ opened_of (program_of p) reports = ap (λ ms. planned_in ms seen) all ∙ ap (λ rs. planned_in (loops_of (program_of p).block) rs) same in
+    record { code_is = subst (λ xs. IsCodeOf (program_of p) xs code) planned is; told = are_told p ls lines reports all lined told }
+
+module _ (p : Program) (reports : List LoopReport) (code : Code) (is : IsMade p reports code) where
   abbrev t : ProgramTree
   t = program_of p
 
   abbrev xs : List Planned
   xs = opened_of (program_of p) reports
 
+  abbrev w : IsCodeOf (program_of p) (opened_of (program_of p) reports) code
+  w = is.code_is
+
   known : (n : ℕ) → n < length (opened_of (program_of p) reports) → Known (loops_of (program_of p).block) (loops_of (program_of p).block) (get_or (opened_of (program_of p) reports) n none_such)
-  known n h = known_at (loops_of (program_of p).block) (block_lines (program_of p).block) none_such (loops_of (program_of p).block) reports told n h
+  known n h = known_at (loops_of (program_of p).block) (block_lines (program_of p).block) none_such (loops_of (program_of p).block) reports is.told n h
 
   opens : (n : ℕ) → n < length (opened_of (program_of p) reports) → Opens (program_of p).symbols (get_or (opened_of (program_of p) reports) n none_such)
   opens n h =
       let k = known n h in
       accepted (program_of p) p.distinct p.placed p.numbered p.regular w.few_symbols (get_or (opened_of (program_of p) reports) n none_such) k.among k.good k.same (k.placed).privates
 
+  pub opened_law : AreOpened (program_of p) (opened_of (program_of p) reports)
+  opened_law = are_opened (loops_of (program_of p).block) (block_lines (program_of p).block) (loops_of (program_of p).block) reports is.told
+
   pub headline_law : Headline code (program_of p)
   headline_law = headline (program_of p) (opened_of (program_of p) reports) none_such code w p.distinct p.sized p.placed p.numbered p.fitting (λ n h. (known n h).among) opens
 
-  pub ends_law : (input : List ℕ) → Ends code input
+  pub ends_law : Ends code
   ends_law = ends (program_of p) (opened_of (program_of p) reports) none_such code w p.distinct p.sized p.placed p.numbered p.fitting (λ n h. (known n h).among) opens
 
-  pub bounded_law : (input : List ℕ) → Bounded code (program_of p) input
+  pub bounded_law : Bounded code (program_of p)
   bounded_law = bounded (program_of p) (opened_of (program_of p) reports) none_such code w p.distinct p.sized p.placed p.numbered p.fitting (λ n h. (known n h).among) opens
 
-  pub carried_law : (input : List ℕ) → Carried code (program_of p) input
+  pub carried_law : Carried code (program_of p)
   carried_law = carried (program_of p) (opened_of (program_of p) reports) none_such code w p.distinct p.sized p.placed p.numbered p.fitting (λ n h. (known n h).among) opens
+
+  pub states_law : AreAsAlone code (opened_of (program_of p) reports)
+  states_law = states (program_of p) (opened_of (program_of p) reports) none_such code w p.distinct p.sized p.placed p.numbered p.fitting (λ n h. (known n h).among) opens
+
+  pub awaits_law : AreAwaitsKept (opened_of (program_of p) reports)
+  awaits_law = awaits_kept (program_of p).block (opened_of (program_of p) reports) none_such known
 
 -- ---- one symbol more
 

@@ -1,7 +1,10 @@
 pub mod AcceptedLoops
 pub mod AcceptedPlans
+pub mod AloneRuns
 pub mod AssignedOnce
 pub mod AssignedScalars
+pub mod Awaited
+pub mod Beside
 pub mod BlockWalking
 pub mod Blocks
 pub mod CodeLoops

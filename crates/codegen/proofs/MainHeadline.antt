@@ -1,5 +1,5 @@
 -- The headline, and how long runs are, for code that may open loops.
-use Rattle.std.proofs.Common.{◌≡◌, ◌∙◌, ◌*◌, ◌+◌, ◌≤◌, ◌<◌, ◌^◌, ◌⊎◌, inl, inr, ℕ, ℤ, pos, Bool, true, List, [], ◌∷◌, ◌++◌, Option, Some, refl, sym, ap, subst, arith, length-append}
+use Rattle.std.proofs.Common.{◌≡◌, ◌∙◌, ◌*◌, ◌+◌, ◌≤◌, ◌<◌, ◌^◌, ◌⊎◌, inl, inr, ℕ, ℤ, pos, Bool, true, List, [], ◌++◌, Option, Some, None, refl, sym, ap, subst, arith, length-append}
 use Rattle.std.specs.Prelude.{length, slice_get}
 use Rattle.std.specs.List.{IsDistinct}
 use Rattle.ast.specs.Input.{records_of}
@@ -23,11 +23,15 @@ use Rattle.expr_code.specs.Emitted.{instr}
 use Rattle.expr_code.specs.Places.{Places}
 use Rattle.expr_code.proofs.Standing.{HasAt, at, seen}
 use Rattle.codegen.specs.Emitted.{block_awaits, block_code, block_records}
-use Rattle.codegen.specs.Headline.{Headline, IsBeginning, Ends}
+use Rattle.codegen.specs.Alone.{Before}
+use Rattle.codegen.specs.Headline.{Headline, IsBeginning}
 use Rattle.codegen.specs.Plain.{plain_block}
 use Rattle.codegen.specs.Process.{block_into}
-use Rattle.codegen.specs.Program.{main_places}
+use Rattle.codegen.specs.Program.{Planned, main_places}
 use Rattle.codegen.specs.Room.{block_loops, block_room}
+use Rattle.codegen.specs.States.{AreAsAlone, AsAlone, IsAlone, IsWithin}
+use Rattle.codegen.proofs.AloneRuns.{AtOpening, SameMain, run_on}
+use Rattle.codegen.proofs.Beside.{Beside, beside}
 use Rattle.codegen.proofs.Blocks.{BlockReaches, HasList, block_runs}
 use Rattle.codegen.proofs.MainStanding.{Goes, Opens, main_does}
 use Rattle.codegen.proofs.MainSteps.{Valid, main_acts, main_doing, meant}
@@ -35,8 +39,13 @@ use Rattle.codegen.proofs.Meaning.{going_told, then_told}
 use Rattle.codegen.proofs.Outcomes.{Outcome, done, text_of, told, told_by}
 use Rattle.codegen.proofs.ProgramBound.{alone_takes, bounded as most_steps, carried as to_end, exactly, weighed}
 use Rattle.codegen.proofs.ProgramClaims.{Claims, claimed}
-use Rattle.codegen.proofs.ProgramStanding.{Final, Loops}
-use Rattle.codegen.proofs.ProgramSteps.{Main, halt, whole}
+use Rattle.codegen.proofs.IterationSteps.{Process, after}
+use Rattle.codegen.proofs.LoopRuns.{reached}
+use Rattle.codegen.proofs.OwnBefore.{stands_alone}
+use Rattle.codegen.proofs.ProgramGoes.{lowest_reached}
+use Rattle.codegen.proofs.ProgramStanding.{Between, Final, Ghost, Good, Loops, Within, between, inner, within}
+use Rattle.codegen.proofs.ProgramSteps.{Here, Main, halt, whole}
+use Rattle.plan_check.specs.GoodPlan.{Names}
 use Rattle.ast.specs.Regular.{are_fitting}
 use Rattle.ast.proofs.Fitting.{zeros_fit}
 use Rattle.codegen.proofs.OpenedLoop.{starts}
@@ -141,10 +150,6 @@ module _ (code : Code) (may : ℕ → ℤ → ℤ → Bool) (places : ℕ → Pl
       goes_to_end : 0 < p → 0 < s → (qs : List ℕ) (m : Machine) → CodeRun code s p (Init code input) qs m → (rs : List ℕ) × (n : Machine) × CodeRun code s p m rs n × (e : End) × (n.ended ≡ Some e)
       goes_to_end some_p some_s qs m run = to_end Frame Opened (view code) trips_of (begin code) s Hidden Fixed Named (starts code may places bodies fixed) (Valid code may) p loops main (main_frame code) input answer means standing mode some_p some_s qs m run
 
-  run_on : (s p : ℕ) (qs rs : List ℕ) (m n k : Machine) → CodeRun code s p m qs n → CodeRun code s p n rs k → CodeRun code s p m (qs ++ rs) k
-  run_on s p [] rs m n k r t = subst (λ (x : Machine). CodeRun code s p x rs k) (sym r) t
-  run_on s p (q ∷ qs) rs m n k r t = (r.0, r.1, r.2, run_on s p qs rs r.0 n k r.3 t)
-
   -- a run alone makes so many steps, whatever the program's end is
   abbrev steps : ℕ
   steps = alone 1 1 (inr (inl refl))
@@ -154,7 +159,7 @@ module _ (code : Code) (may : ℕ → ℤ → ℤ → Bool) (places : ℕ → Pl
       exactly Frame Opened (view code) trips_of (begin code) 1 Hidden Fixed Named (starts code may places bodies fixed) (Valid code may) 1 loops main (main_frame code) input answer means standing (inr (inl refl))
       o.turns o.last o.run o.end o.ended w o.weight
 
-  pub ends : Ends code input
+  pub ends : (w : ℕ) × Solo code input w × ((v : ℕ) → Solo code input v → v ≡ w)
   ends =
       let c = goes_to_end 1 1 (inr (inl refl)) (omega arith) (omega arith) [] (Init code input) refl in
       let w = weighed Frame Opened (view code) trips_of (begin code) 1 Hidden Fixed Named (starts code may places bodies fixed) (Valid code may) 1 loops main (main_frame code) input answer means standing (inr (inl refl)) c.0 c.1 c.2 in
@@ -173,7 +178,7 @@ module _ (code : Code) (may : ℕ → ℤ → ℤ → Bool) (places : ℕ → Pl
   carried w solo p s qs m sizes fine run =
       let c = goes_to_end p s (mode_of s fine) (omega (arith, (sizes.0).0)) (omega (arith, (sizes.1).0)) qs m run in
       let is = solo_is w solo in
-      let most = at_most p s (mode_of s fine) (qs ++ c.0) c.1 (run_on s p qs c.0 (Init code input) m c.1 run c.2) in
+      let most = at_most p s (mode_of s fine) (qs ++ c.0) c.1 (run_on Frame Opened (view code) trips_of (begin code) s p qs c.0 (Init code input) m c.1 run c.2) in
       let len = length-append qs c.0 in
       (c.0, c.1, c.3, c.2, c.4, omega (arith, is, most, len))
 
@@ -189,3 +194,62 @@ module _ (code : Code) (may : ℕ → ℤ → ℤ → Bool) (places : ℕ → Pl
             record { is = h ∙ ap (λ (d : End). Some d) x.0; printed = x.1; stored = λ d name place. ap (λ (σ : StoreOf). σ name place) (x.2 (x.0 ∙ d)) };
         next = λ going. let g = c.goes going in (g.0, g.2, g.1, g.3);
       }
+
+  -- every state of every run is as those of the run alone
+  module _ (xs : List Planned) (names : (l : Opened) (x : Planned) (e d : ℕ) → slice_get xs l.number ≡ Some x → Names x.plan e d → Named l e) (input : List ℕ) (p s : ℕ) (m : Machine) where
+    abbrev Starts : Opened → StoreOf → ℕ → Process
+    Starts = starts code may places bodies fixed
+
+    abbrev means_so : (x : Outcome) → whole Opened trips_of (starts code may places bodies fixed) x (main code may places bodies fixed opens Hidden Fixed Named loops program compiled input) zeros (record { left = []; records = records_of input }) [] ≡ told (seq program input)
+    means_so = means code may places bodies fixed opens Hidden Fixed Named loops program compiled input
+
+    abbrev G : Ghost Opened → Machine → Type 0
+    G g n = Good Frame Opened (view code) trips_of (begin code) Hidden Fixed (starts code may places bodies fixed) (Valid code may) p (record { main = main code may places bodies fixed opens Hidden Fixed Named loops program compiled input; store = zeros; input = record { left = []; records = records_of input }; output = [] }) (told (seq program input)) g n
+
+    abbrev B : Ghost Opened → Machine → Type 0
+    B g n = Beside Frame Opened (view code) trips_of (begin code) Hidden Fixed Named (starts code may places bodies fixed) (Valid code may) loops (main code may places bodies fixed opens Hidden Fixed Named loops program compiled input) (main_frame code) input (told (seq program input)) (means code may places bodies fixed opens Hidden Fixed Named loops program compiled input) (standing code may places bodies fixed opens Hidden Fixed Named loops program compiled input) g n
+
+    abbrev at_first : Here Opened
+    at_first = record { main = main code may places bodies fixed opens Hidden Fixed Named loops program compiled input; store = zeros; input = record { left = []; records = records_of input }; output = [] }
+
+    outside_so : (M : Main Opened) → G (between M) m → B (between M) m → IsAlone code input m
+    outside_so M good b =
+        let k : SameMain Frame Opened (view code) trips_of (begin code) m b.other = b.like in
+        record { other = b.other; alone = b.comes; loop = k.loop; main = k.main; store = λ name place. ap (λ (σ : StoreOf). σ name place) k.store; unread = k.unread; output = k.output; ended = k.ended }
+
+    inside_so : (l : Opened) (ι : StoreOf) (past : ℕ → List ℤ) (before : List ℕ) (ys : List (Cell × ℤ)) (M : Main Opened) → G (within l ι past before ys M) m → B (within l ι past before ys M) m → IsWithin code xs input l m
+    inside_so l ι past before ys M good b =
+        let W : Within Frame Opened (view code) trips_of (begin code) Hidden Fixed (starts code may places bodies fixed) (Valid code may) p at_first (told (seq program input)) l ι past before ys M m = good.kept in
+        let k : AtOpening Frame Opened (view code) trips_of (begin code) Hidden Fixed Named (starts code may places bodies fixed) (Valid code may) loops at_first (told (seq program input)) means_so l ι before m b.other = b.like in
+        let O : Within Frame Opened (view code) trips_of (begin code) Hidden Fixed (starts code may places bodies fixed) (Valid code may) 1 at_first (told (seq program input)) l ι k.past before k.xs k.behind b.other = (k.good).kept in
+        record {
+          opening = b.other;
+          alone = b.comes;
+          loop = O.loop;
+          first = k.first;
+          main = k.main;
+          unread = k.unread;
+          iterations = λ i a σ open_so h.
+              let st = stands_alone Frame Opened (view code) trips_of (begin code) Hidden Fixed Named (starts code may places bodies fixed) (Valid code may) p loops at_first (told (seq program input)) l ι past before ys M m good i a σ open_so (subst (λ (τ : StoreOf). Before Frame Opened (view code) (begin code) l i 0 τ σ) k.store h) in
+              record { steps = st.steps; own = st.own; is = st.is; frame = st.frame; out = st.out; loads = st.loads };
+          lowest = λ w h. lowest_reached Frame Opened (view code) trips_of (begin code) s Hidden Fixed Named (starts code may places bodies fixed) (Valid code may) p at_first (told (seq program input)) means_so loops l ι past before ys M m good (after (starts code may places bodies fixed l ι m.retired) (past m.retired)) refl w (W.waits m.retired w h);
+          counts = λ x e d at named. reached (starts code may places bodies fixed l ι) l.trips (Named l) (loops.plan l W.valid ι) ι (inner m past) W.inv e (names l x e d at named);
+        }
+
+    all_so : (g : Ghost Opened) → G g m → B g m → AsAlone code xs input m
+    all_so (between M) good b =
+        let W : Between Frame Opened (view code) trips_of (begin code) Hidden Fixed (starts code may places bodies fixed) (Valid code may) p at_first (told (seq program input)) M m = good.kept in
+        record { outside = λ e. outside_so M good b; inside = λ l e. let a : None ≡ Some l = sym W.loop ∙ e in absurd cc }
+    all_so (within l ι past before ys M) good b =
+        let W : Within Frame Opened (view code) trips_of (begin code) Hidden Fixed (starts code may places bodies fixed) (Valid code may) p at_first (told (seq program input)) l ι past before ys M m = good.kept in
+        record {
+          outside = λ e. let a : None ≡ Some l = sym e ∙ W.loop in absurd cc;
+          inside = λ k e. let a : Some l ≡ Some k = sym W.loop ∙ e in let is : l ≡ k = cc in subst (λ (j : Opened). IsWithin code xs input j m) is (inside_so l ι past before ys M good b);
+        }
+
+  pub as_alone : (xs : List Planned) → ((l : Opened) (x : Planned) (e d : ℕ) → slice_get xs l.number ≡ Some x → Names x.plan e d → Named l e) → AreAsAlone code xs
+  as_alone xs names input p s qs m sizes run =
+      let b =
+      beside Frame Opened (view code) trips_of (begin code) Hidden Fixed Named (starts code may places bodies fixed) (Valid code may) loops (main code may places bodies fixed opens Hidden Fixed Named loops program compiled input) (main_frame code) input (told (seq program input))
+      (means code may places bodies fixed opens Hidden Fixed Named loops program compiled input) (standing code may places bodies fixed opens Hidden Fixed Named loops program compiled input) s p qs m run in
+      all_so xs names input p s m b.0 b.1 b.2

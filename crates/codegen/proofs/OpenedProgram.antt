@@ -32,6 +32,8 @@ use Rattle.codegen.specs.Headline.{Bounded, Carried, Ends, Headline}
 use Rattle.codegen.specs.Plain.{plain_arms, plain_block, plain_node}
 use Rattle.codegen.specs.Process.{is_last_stop}
 use Rattle.codegen.specs.Program.{main_places}
+use Rattle.codegen.specs.States.{AreAsAlone}
+use Rattle.plan_check.specs.GoodPlan.{Names}
 use Rattle.codegen.proofs.Blocks.{HasList}
 use Rattle.codegen.proofs.CodeLoops.{HiddenIn, FixedIn, IsPlanned, NamedIn, code_loops}
 use Rattle.codegen.proofs.GoodPaths.{GoodPaths}
@@ -44,7 +46,7 @@ use Rattle.ast.specs.Regular.{is_fitting, are_fitting}
 use Rattle.ast.proofs.Fitting.{Fit, Fits}
 use Rattle.codegen.proofs.LoopMeaning.{IsLoop}
 use Rattle.codegen.proofs.RangeBody.{block_known}
-use Rattle.codegen.proofs.MainHeadline.{OpenCompiled, bounded, carried, headline, ends}
+use Rattle.codegen.proofs.MainHeadline.{OpenCompiled, as_alone, bounded, carried, headline, ends}
 use Rattle.codegen.proofs.Meaning.{fit_parts}
 use Rattle.codegen.proofs.OpenedLoop.{starts}
 use Rattle.codegen.proofs.MainNaming as naming
@@ -310,11 +312,15 @@ module _ (t : ProgramTree) (xs : List Planned) (some : Planned) (code : Code) (w
     pub the_headline : Headline code t
     the_headline = headline code may places bodies fixed (opened_by xs) (HiddenIn code source places bodies fixed named Stands (held_by t.symbols) (Valid code may)) (FixedIn code source places bodies fixed named Stands (held_by t.symbols) (Valid code may)) (NamedIn code source places bodies fixed named Stands (held_by t.symbols) (Valid code may)) loops t compiled
 
-    pub it_ends : (input : List ℕ) → Ends code input
+    pub it_ends : Ends code
     it_ends input = ends code may places bodies fixed (opened_by xs) (HiddenIn code source places bodies fixed named Stands (held_by t.symbols) (Valid code may)) (FixedIn code source places bodies fixed named Stands (held_by t.symbols) (Valid code may)) (NamedIn code source places bodies fixed named Stands (held_by t.symbols) (Valid code may)) loops t compiled input
 
-    pub it_is_bounded : (input : List ℕ) → Bounded code t input
+    pub it_is_bounded : Bounded code t
     it_is_bounded input w solo p s qs m sizes fine run = bounded code may places bodies fixed (opened_by xs) (HiddenIn code source places bodies fixed named Stands (held_by t.symbols) (Valid code may)) (FixedIn code source places bodies fixed named Stands (held_by t.symbols) (Valid code may)) (NamedIn code source places bodies fixed named Stands (held_by t.symbols) (Valid code may)) loops t compiled input w solo p s qs m sizes fine run
 
-    pub it_is_carried : (input : List ℕ) → Carried code t input
+    pub it_is_carried : Carried code t
     it_is_carried input w solo p s qs m sizes fine run = carried code may places bodies fixed (opened_by xs) (HiddenIn code source places bodies fixed named Stands (held_by t.symbols) (Valid code may)) (FixedIn code source places bodies fixed named Stands (held_by t.symbols) (Valid code may)) (NamedIn code source places bodies fixed named Stands (held_by t.symbols) (Valid code may)) loops t compiled input w solo p s qs m sizes fine run
+
+    -- every state of every run is as those of the run alone
+    pub it_is_as_alone : ((l : Opened) (x : Planned) (e d : ℕ) → slice_get xs l.number ≡ Some x → Names x.plan e d → named l.number e) → AreAsAlone code xs
+    it_is_as_alone names = as_alone code may places bodies fixed (opened_by xs) (HiddenIn code source places bodies fixed named Stands (held_by t.symbols) (Valid code may)) (FixedIn code source places bodies fixed named Stands (held_by t.symbols) (Valid code may)) (NamedIn code source places bodies fixed named Stands (held_by t.symbols) (Valid code may)) loops t compiled xs names

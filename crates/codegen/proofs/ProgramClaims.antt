@@ -1,20 +1,20 @@
 -- What holds of every state of every run, also where loops are open.
-use Rattle.std.proofs.Common.{◌≡◌, ◌∙◌, ℕ, ◌<◌, ◌≤◌, ℤ, List, [], ◌++◌, Option, Some, None, refl, sym, ap, subst, append_assoc}
+use Rattle.std.proofs.Common.{◌≡◌, ◌∙◌, ℕ, ◌<◌, List, [], ◌++◌, Option, Some, None, refl, sym, ap, subst, append_assoc}
 use Rattle.std.proofs.lemmas.List.{append-nil}
 use Rattle.ast.specs.Input.{records_of}
 use Rattle.ast.specs.Store.{StoreOf, zeros}
 use Rattle.ast.specs.declared.fault.End.{End}
 use Rattle.ast.specs.declared.fault.End.TheVariants.{Done, Stopped, Fault as Faulted}
 use Rattle.machine.specs.Code.{Cell}
-use Rattle.machine.specs.State.{State, Active, Wait, Reached, Step, Run, initial, put_cell, put_cells}
+use Rattle.machine.specs.State.{State, Step, Run, initial, put_cell, put_cells}
 use Rattle.machine.specs.View.{Input, View}
 use Rattle.codegen.specs.Headline.{IsBeginning}
-use Rattle.codegen.proofs.IterationSteps.{Process, Whole, acts, after, cell_value, sequential, stopped, went}
-use Rattle.codegen.proofs.LoopRuns.{Stands as StandsAlone, list_of, output, pasts, prints, reached, shown, stands}
-use Rattle.codegen.proofs.ProgramGoes.{goes_on, good_init, good_run, lowest_reached}
-use Rattle.codegen.proofs.ProgramStanding.{Leads, Between, Final, Ghost, Good, Loops, MainStands, Stands, Within, between, inner, within}
+use Rattle.codegen.proofs.IterationSteps.{Process, Whole, cell_value, sequential, stopped, went}
+use Rattle.codegen.proofs.LoopRuns.{list_of, output, pasts, shown}
+use Rattle.codegen.proofs.ProgramGoes.{goes_on, good_init, good_run}
+use Rattle.codegen.proofs.ProgramStanding.{Between, Final, Ghost, Good, Loops, MainStands, Within, between, inner, within}
 use Rattle.codegen.proofs.Outcomes.{text_of, Outcome, done, failed, then_do}
-use Rattle.codegen.proofs.ProgramSteps.{Main, take, keep, say, get, work, crash, halt, open_loop, astray, seen, Here, alone, alone_is, meaning, whole}
+use Rattle.codegen.proofs.ProgramSteps.{Main, take, keep, say, get, work, crash, halt, open_loop, astray, seen, Here, alone_is, meaning, whole}
 
 begins_on : (xs ys zs : List ℕ) → IsBeginning xs ys → IsBeginning xs (ys ++ zs)
 begins_on xs ys zs h = (h.0 ++ zs, ap (λ (us : List ℕ). us ++ zs) h.1 ∙ append_assoc xs h.0 zs)
@@ -49,33 +49,10 @@ module _ (L : Type 0) (trips : L → ℕ) (start : L → StoreOf → ℕ → Pro
 
 module _ (F L : Type 0) (view : F → View F L) (trips : L → ℕ) (begin : L → ℕ → F) (slots : ℕ) (Hidden Fixed : L → Cell → Type 0) (Named : L → ℕ → Type 0) (start : L → StoreOf → ℕ → Process) (Valid : L → Type 0) (p : ℕ)
     (loops : Loops F L view trips begin Hidden Fixed Named start Valid) where
-  -- Where a loop is open, in terms of the sequential program from its beginning.
-  pub record InLoop (origin : Here L) (l : L) (m : State F L) : Type 0 where
-    pub steps : ℕ
-    pub xs : List (Cell × ℤ)
-    pub behind : Main L
-    pub opened_on : StoreOf
-    pub before : List ℕ
-    pub past : ℕ → List ℤ
-    -- the sequential program comes to this loop with that store and that output
-    pub comes : alone L trips start steps origin ≡ record { main = open_loop l xs behind; store = opened_on; input = m.input; output = before }
-    -- each open iteration stands where its process stands after these values
-    pub frames : (i : ℕ) (a : Active F) → m.iterations i ≡ Some a → Stands F L view (Hidden l) (Fixed l) opened_on (after (start l opened_on i) (past i)) a.frame × (a.out ≡ prints (acts (start l opened_on i) (past i))) × Leads F L view (Hidden l) (Fixed l) opened_on (begin l i) (past i) a.frame
-    -- and up to the first that breaks off, that is where its own sequential run stands; at a load the cell
-    -- holds what that loads
-    pub own : (k : ℕ) → k < trips l → (ls : List (List ℤ)) (τ : StoreOf) → sequential (start l opened_on) k opened_on ≡ went ls τ → StandsAlone (start l opened_on) (inner m past) k τ
-    -- the lowest, where it is parked, may go on
-    pub lowest : (w : Wait) → m.parked m.retired ≡ Some w → Reached m w
-    -- since every event that the range names has reached its number
-    pub counts : (e : ℕ) → Named l e → m.retired ≤ m.counts e
-
   pub record Claims (origin : Here L) (answer : Outcome) (m : State F L) : Type 0 where
     pub final : (e : End) → m.ended ≡ Some e → Final e m answer
     pub goes : m.ended ≡ None → (q : ℕ) × (q < p) × (n : State F L) × Step F L view trips begin slots m q n
     pub begins : IsBeginning m.output (text_of answer)
-    -- outside of loops, and so directly after a join, store and output are the sequential ones
-    pub serial : m.loop ≡ None → (n : ℕ) × (M : Main L) × (alone L trips start n origin ≡ record { main = M; store = m.store; input = m.input; output = m.output })
-    pub inside : (l : L) → m.loop ≡ Some l → InLoop origin l m
 
   module _ (origin : Here L) (answer : Outcome) (means : (x : Outcome) → meaning L trips start x origin ≡ answer) (m : State F L) (some_p : 0 < p) (some_s : 0 < slots) where
     abbrev G : Ghost L → Type 0
@@ -104,8 +81,6 @@ module _ (F L : Type 0) (view : F → View F L) (trips : L → ℕ) (begin : L �
           final = good.final;
           goes = λ going. goes_on F L view trips begin slots Hidden Fixed Named start Valid p origin answer means loops (between M) m good going some_p some_s;
           begins = subst (λ (d : Outcome). IsBeginning m.output (text_of d)) same (whole_begins L trips start m.output lost (begins_same m.output) M m.store m.input m.output (begins_same m.output));
-          serial = λ e. (so.0, M, so.1);
-          inside = λ l e. let a = B.loop in cc;
         }
     claims (within l ι past before xs M) good =
         let W : Within F L view trips begin Hidden Fixed start Valid p origin answer l ι past before xs M m = good.kept in
@@ -124,23 +99,6 @@ module _ (F L : Type 0) (view : F → View F L) (trips : L → ℕ) (begin : L �
               subst (λ (d : Outcome). IsBeginning m.output (text_of d)) same
               (then_begins m.output (seen (start l ι) before w) (λ τ t. whole L trips start lost M (put_cells τ xs) m.input t) first
               (λ τ t k. whole_begins L trips start m.output lost (begins_same m.output) M (put_cells τ xs) m.input t k)));
-          serial = λ e. let a = W.loop in cc;
-          inside = λ k e.
-              let a = W.loop in
-              let is : l ≡ k = cc in
-              subst (λ (j : L). InLoop origin j m) is (record {
-                steps = so.0;
-                xs = xs;
-                behind = M;
-                opened_on = ι;
-                before = before;
-                past = past;
-                comes = so.1;
-                frames = W.active;
-                own = stands (start l ι) (trips l) (Named l) (loops.plan l W.valid ι) ι s W.inv;
-                lowest = λ v h. lowest_reached F L view trips begin slots Hidden Fixed Named start Valid p origin answer means loops l ι past before xs M m good (after (start l ι m.retired) (past m.retired)) refl v (W.waits m.retired v h);
-                counts = λ e named. reached (start l ι) (trips l) (Named l) (loops.plan l W.valid ι) ι s W.inv e named;
-              });
         }
 
   -- every run of the machine

@@ -29,7 +29,7 @@ use Rattle.plan_check.specs.GoodPlan.{GoodPlan, Names, SameBody, made_bare, made
 use Rattle.plan_check.proofs.Members.{In}
 use Rattle.codegen.proofs.OnePlace.{one_place}
 use Rattle.codegen.proofs.LoopNumbers.{matches}
-use Rattle.codegen.proofs.OpenedProgram.{Facts, it_ends, it_is_bounded, it_is_carried, may, the_headline}
+use Rattle.codegen.proofs.OpenedProgram.{Facts, it_ends, it_is_as_alone, it_is_bounded, it_is_carried, may, the_headline}
 use Rattle.codegen.proofs.GivenPaths.{good_paths}
 use Rattle.codegen.proofs.RangeLayout.{entry, few_loops, few_records, ranges}
 use Rattle.codegen.proofs.GoodLoops.{GoodLoop}
@@ -39,6 +39,7 @@ use Rattle.codegen.proofs.RangeRoom.{plan_loops, plan_room}
 use Rattle.codegen.proofs.RangeSegments.{ArmsBare, Bare}
 use Rattle.codegen.proofs.Opening.{agrees, may_if}
 use Rattle.codegen.specs.Program.{IsCodeOf, Planned, range_places}
+use Rattle.codegen.specs.States.{AreAsAlone}
 
 -- What is known of a loop that is opened: its plan is good and is the loop's body; the loop is one of an
 -- accepted program.
@@ -184,11 +185,20 @@ module _ (t : ProgramTree) (xs : List Planned) (some : Planned) (code : Code) (w
   pub headline : Headline code t
   headline = the_headline t xs some code w named facts
 
-  pub ends : (input : List ℕ) → Ends code input
+  pub ends : Ends code
   ends input = it_ends t xs some code w named facts input
 
-  pub bounded : (input : List ℕ) → Bounded code t input
+  pub bounded : Bounded code t
   bounded input = it_is_bounded t xs some code w named facts input
 
-  pub carried : (input : List ℕ) → Carried code t input
+  pub carried : Carried code t
   carried input = it_is_carried t xs some code w named facts input
+
+  -- every state of every run is as those of the run alone
+  pub states : AreAsAlone code xs
+  states = it_is_as_alone t xs some code w named facts (λ l x e d at h. (d, subst (λ (y : Planned). Names y.plan e d) (sym (is_nth xs l.number x at)) h))
+    where
+      is_nth : (ys : List Planned) (n : ℕ) (x : Planned) → slice_get ys n ≡ Some x → get_or ys n some ≡ x
+      is_nth [] n x e = cc
+      is_nth (y ∷ ys) zero x e = cc
+      is_nth (y ∷ ys) (suc n) x e = is_nth ys n x e

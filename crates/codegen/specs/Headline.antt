@@ -29,9 +29,9 @@ Headline code program =
 
 -- ---- how long runs are
 
--- the run alone ends, and its steps are one number
-abbrev pub Ends : Code → List ℕ → Type 0
-Ends code input = (w : ℕ) × Solo code input w × ((v : ℕ) → Solo code input v → v ≡ w)
+-- for every input the run alone ends, and its steps are one number
+abbrev pub Ends : Code → Type 0
+Ends code = (input : List ℕ) → (w : ℕ) × Solo code input w × ((v : ℕ) → Solo code input v → v ≡ w)
 
 -- the sequential program comes to its end, without a fault or a STOP before it, or one iteration is open at
 -- a time: else iterations behind one that breaks off may go on for as long as they like
@@ -40,13 +40,13 @@ IsWhole program input s = ((seq program input).end ≡ Done) ⊎ (s ≡ 1)
 
 -- No run, ended or not, has more than three times the steps of one alone: an instruction costs at most a
 -- park, a pick and itself.
-abbrev pub Bounded : Code → ProgramTree → List ℕ → Type 0
-Bounded code program input =
-    (w : ℕ) → Solo code input w → (p s : ℕ) (qs : List ℕ) (m : Machine) → AreSizes p s → IsWhole program input s → CodeRun code s p (Init code input) qs m
+abbrev pub Bounded : Code → ProgramTree → Type 0
+Bounded code program =
+    (input : List ℕ) (w : ℕ) → Solo code input w → (p s : ℕ) (qs : List ℕ) (m : Machine) → AreSizes p s → IsWhole program input s → CodeRun code s p (Init code input) qs m
     → length qs ≤ 3 * w
 
 -- Any run can be carried to its end within that number.
-abbrev pub Carried : Code → ProgramTree → List ℕ → Type 0
-Carried code program input =
-    (w : ℕ) → Solo code input w → (p s : ℕ) (qs : List ℕ) (m : Machine) → AreSizes p s → IsWhole program input s → CodeRun code s p (Init code input) qs m
+abbrev pub Carried : Code → ProgramTree → Type 0
+Carried code program =
+    (input : List ℕ) (w : ℕ) → Solo code input w → (p s : ℕ) (qs : List ℕ) (m : Machine) → AreSizes p s → IsWhole program input s → CodeRun code s p (Init code input) qs m
     → (rs : List ℕ) × (n : Machine) × (e : End) × CodeRun code s p m rs n × (n.ended ≡ Some e) × (length qs + length rs ≤ 3 * w)

@@ -1,3 +1,5 @@
+pub mod Alone
+pub mod Awaited
 pub mod Blocks
 pub mod Emitted
 pub mod Headline
@@ -8,6 +10,8 @@ pub mod Plain
 pub mod PlanParts
 pub mod Process
 pub mod Program
+pub mod Promises
 pub mod Records
 pub mod Reports
 pub mod Room
+pub mod States

@@ -9,7 +9,8 @@ ghost use Rattle.codegen.specs.Headline.{Bounded, Carried, Ends, Headline};
 ghost use Rattle.codegen.specs.Made.{all_made, made_of, main_made};
 ghost use Rattle.codegen.specs.OpenedView.{opens_in};
 ghost use Rattle.codegen.specs.Program.{IsCodeOf, IsCompiled, Refuses, RefusesWith, most_symbols};
-ghost use Rattle.codegen.specs.Reports.{Reports, opened_of, planned_in};
+ghost use Rattle.codegen.specs.Promises.{AwaitsAreKept, IsOpened, StatesAreAlone};
+ghost use Rattle.codegen.specs.Reports.{Reports, planned_in};
 ghost use Rattle.expr_code.specs.Computes.{variables_for, variables_in};
 ghost use Rattle.loop_tree.specs.TreeView.{loops_seen};
 ghost use Rattle.machine.specs.CodeView.{code_of};
@@ -162,13 +163,15 @@ pub struct Compiled {
 /// 61 at line 0 where the code would have more than 1,048,576 instructions or want more room than 32
 /// bits count, or the program has more than 4,294,967,296 symbols; and want of memory.
 pub fn compile(alloc: Global, program: &Program) -> Result<Compiled, Refusal>
-    ensures code { IfOk result (λ compiled. IsCompiled (program_of program.now) (code_of compiled.code)) }
-    ensures opened { IfOk result (λ compiled. IsCodeOf (program_of program.now) (opened_of (program_of program.now) compiled.reports.items) (code_of compiled.code)) }
-    ensures headline { IfOk result (λ compiled. Headline (code_of compiled.code) (program_of program.now)) }
-    ensures ends { IfOk result (λ compiled. (input : List ℕ) → Ends (code_of compiled.code) input) }
-    ensures bounded { IfOk result (λ compiled. (input : List ℕ) → Bounded (code_of compiled.code) (program_of program.now) input) }
-    ensures carried { IfOk result (λ compiled. (input : List ℕ) → Carried (code_of compiled.code) (program_of program.now) input) }
-    ensures reports { IfOk result (λ compiled. Reports (program_of program.now) compiled.reports.items) }
+    ensures code { IfOk result (λ c. IsCompiled (program_of program.now) (code_of c.code)) }
+    ensures opened { IfOk result (λ c. IsOpened (program_of program.now) c) }
+    ensures headline { IfOk result (λ c. Headline (code_of c.code) (program_of program.now)) }
+    ensures ends { IfOk result (λ c. Ends (code_of c.code)) }
+    ensures bounded { IfOk result (λ c. Bounded (code_of c.code) (program_of program.now)) }
+    ensures carried { IfOk result (λ c. Carried (code_of c.code) (program_of program.now)) }
+    ensures states { IfOk result (λ c. StatesAreAlone (program_of program.now) c) }
+    ensures awaits { IfOk result (λ c. AwaitsAreKept (program_of program.now) c) }
+    ensures reports { IfOk result (λ c. Reports (program_of program.now) c.reports.items) }
     ensures refused { IfErr result (Refuses (program_of program.now)) }
 {
     let tree = loops(alloc, program)?;
