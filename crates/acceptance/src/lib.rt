@@ -5,7 +5,11 @@
 #[cfg(test)]
 mod cores;
 #[cfg(test)]
+mod endless;
+#[cfg(test)]
 mod explanations;
+#[cfg(test)]
+mod gates;
 #[cfg(test)]
 mod grammar;
 #[cfg(test)]
@@ -34,5 +38,7 @@ mod replaying;
 mod runs;
 #[cfg(test)]
 mod streams;
+#[cfg(test)]
+mod threads;
 #[cfg(test)]
 mod trees;

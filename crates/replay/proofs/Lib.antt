@@ -35,3 +35,4 @@ pub mod Weighing
 pub mod Picks
 pub mod Labour
 pub mod Beginning
+pub mod Leasts

@@ -83,7 +83,7 @@ numbered_is : (xs : List (Option Standing)) (s k : ℕ) → standing xs s k ≡ 
 unfolding standing
 numbered_is xs s k = refl
 
-due_there : (k at : ℕ) (z : Option Iteration) (b : Bool) (old : Activities) → AreActivities old → at ≡ k % old.slots → z ≡ get_or old.iterations.items at z → b ≡ is_due old.shared.kernel (wait_in (numbered k (option_map standing_of z))) → is_due old.shared.kernel (wait_in (standing (kept_in old).iterations old.slots k)) ≡ b
+pub due_there : (k at : ℕ) (z : Option Iteration) (b : Bool) (old : Activities) → AreActivities old → at ≡ k % old.slots → z ≡ get_or old.iterations.items at z → b ≡ is_due old.shared.kernel (wait_in (numbered k (option_map standing_of z))) → is_due old.shared.kernel (wait_in (standing (kept_in old).iterations old.slots k)) ≡ b
 due_there k at z b old a e f d =
     ap (λ (o : Option Standing). is_due old.shared.kernel (wait_in o)) (numbered_is (kept_in old).iterations old.slots k ∙ ap (numbered k) (sym (place_view k at z old a e f))) ∙ sym d
 

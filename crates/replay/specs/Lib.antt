@@ -2,6 +2,7 @@ pub mod Activities
 pub mod Core
 pub mod CoreView
 pub mod Kept
+pub mod Least
 pub mod MainTurns
 pub mod Making
 pub mod Parts

@@ -31,6 +31,18 @@ fn is_due(kernel: &Kernel, until: Option<Until>) -> bool
     }
 }
 
+/// Whether iteration `k` stands in this place and slot, and what it is parked on has been reached.
+fn stands_ready(kernel: &Kernel, place: &Option<Iteration>, slot: usize, k: u128) -> bool
+    requires zero { 0 < length kernel.now.counts }
+    requires stands { Stands kernel.now slot (wait_in (option_map standing_of place.now)) }
+    ensures { result ≡ is_due kernel.now (wait_in (numbered k (option_map standing_of place.now))) }
+{
+    match place {
+        Some(iteration) => iteration.number == k && is_due(kernel, iteration.wait),
+        None => false,
+    }
+}
+
 /// Iteration `k` is taken up where it stands in this place and slot, and what it is parked on has
 /// been reached.
 fn take_up(kernel: &mut Kernel, place: &mut Option<Iteration>, slot: usize, k: u128) -> bool
@@ -83,8 +95,10 @@ impl<'c> Activities<'c> {
     ghost use Rattle.ec_kernel.specs.View.{count_at};
     ghost use Rattle.machine.specs.State.{Choice as PlainChoice, take_iteration, take_main, take_ticket};
     ghost use Rattle.replay.specs.Activities.{AreActivities, Did, Stays, chosen, code_in, kept_in, point_in};
+    ghost use Rattle.replay.specs.Least.{IsLeast, IsLeastReady, IsReached, IsReady, has_ticket};
     ghost use Rattle.replay.specs.Parts.{held_of};
     ghost use Rattle.replay.specs.Replays.{ByRule, Picks, Point};
+    ghost use Rattle.std.specs.Bool.{Decides};
 
     /// Whether processor `q` holds nothing.
     fn is_free(&self, q: usize) -> bool
@@ -213,6 +227,75 @@ impl<'c> Activities<'c> {
             None => Choice::Ticket,
             Some(0) => Choice::Main,
             Some(slot) => Choice::Iteration(self.number_at(slot - 1)),
+        }
+    }
+
+    /// Whether the next iteration of the open loop, if one is open, may begin.
+    pub fn may_begin(&self) -> bool
+        requires stand { AreActivities self.now }
+        ensures { result ≡ has_ticket self.now.slots (point_in self.now).machine }
+    {
+        match self.shared.open {
+            Some(opened) => self.has_ticket(opened),
+            None => false,
+        }
+    }
+
+    /// How many iterations are open.
+    pub fn overlap(&self) -> u128
+        requires stand { AreActivities self.now }
+        ensures { result ≡ (point_in self.now).machine.ticket - (point_in self.now).machine.retired }
+    {
+        self.shared.kernel.next_ticket() - self.shared.kernel.read(0)
+    }
+
+    /// Whether iteration `k` is parked, and what it waits for has been reached.
+    fn is_ready(&self, k: u128) -> bool
+        requires stand { AreActivities self.now }
+        ensures { Decides result (IsReady (point_in self.now).machine k) }
+    {
+        let at = self.place_of(k);
+        stands_ready(&self.shared.kernel, &self.iterations[at], at + 1, k)
+    }
+
+    /// Whether main is parked, and what it waits for has been reached.
+    fn main_is_ready(&self) -> bool
+        requires stand { AreActivities self.now }
+        ensures { Decides result (IsReached (point_in self.now).machine (point_in self.now).machine.waiting) }
+    {
+        is_due(&self.shared.kernel, self.main.wait)
+    }
+
+    /// The least iteration that is ready. The walk is as long as iterations are open before it.
+    fn least_ready(&self) -> Option<u128>
+        requires stand { AreActivities self.now }
+        ensures { IsLeastReady (point_in self.now).machine result }
+    {
+        let mut k = self.shared.kernel.read(0);
+        while k < self.shared.kernel.next_ticket() {
+            if self.is_ready(k) {
+                return Some(k);
+            }
+            k += 1;
+        }
+        None
+    }
+
+    /// What a processor that holds nothing takes up so that iterations retire early: main where it is
+    /// ready, else the least iteration that is, and a ticket only where nothing is ready.
+    pub fn least(&self) -> Choice
+        requires stand { AreActivities self.now }
+        ensures { IsLeast (point_in self.now).machine (chosen result) }
+    {
+        if self.shared.kernel.first_ready().is_none() {
+            return Choice::Ticket;
+        }
+        if self.main_is_ready() {
+            return Choice::Main;
+        }
+        match self.least_ready() {
+            Some(k) => Choice::Iteration(k),
+            None => Choice::Ticket,
         }
     }
 }

@@ -12,7 +12,7 @@ use crate::recording;
 use crate::schedule::Schedule;
 use crate::stepped::{CoreRefusal, HandIn, Stepped, Tally};
 use ast::Answer;
-use machine::{Code, Done, Frame};
+use machine::{Code, Done, Frame, stands_local};
 use std::alloc::{AllocError, Global};
 use std::marker::Model;
 
@@ -58,14 +58,16 @@ impl<'c> Model for Core<'c> {
 
 impl<'c> Core<'c> {
     ghost use Rattle.std.specs.Bool.{Decides};
-    ghost use Rattle.std.specs.Prelude.{◌≡◌, ◌<◌, IfOk, IfErr, IfSome, OnOk, OnErr, Some, None, option_map};
+    ghost use Rattle.std.specs.Prelude.{◌≡◌, ◌<◌, ◌-◌, IfOk, IfErr, IfSome, OnOk, OnErr, Some, None, is_some, option_map};
+    ghost use Rattle.ec_kernel.specs.View.{first_of};
     ghost use Rattle.machine.specs.CodeView.{code_of};
     ghost use Rattle.machine.specs.FrameView.{frame_of};
     ghost use Rattle.replay.specs.Activities.{chosen, frame_at, who};
     ghost use Rattle.replay.specs.CoreView.{CoreView, IsNew, point_at};
+    ghost use Rattle.replay.specs.Least.{IsLeast, has_ticket};
     ghost use Rattle.replay.specs.Parts.{held_of};
     ghost use Rattle.replay.specs.Replayed.{IsAnswer};
-    ghost use Rattle.replay.specs.Replays.{Replays, beginning};
+    ghost use Rattle.replay.specs.Replays.{Replays, beginning, local_in};
     ghost use Rattle.replay.specs.Stepping.{CannotHandIn, HandsIn, IsFrom, IsGoing, KeepsGoing, NoCore, PicksUp, Steps, WentOrLocal};
     ghost use Rattle.replay.specs.Tallies.{Tallies};
     ghost use Rattle.replay.specs.declared.entry.Version.TheVariants.{Second};
@@ -133,14 +135,21 @@ impl<'c> Core<'c> {
         &self.schedule
     }
 
+    /// The frame of what processor `q` holds.
+    fn held_frame(&self, q: usize) -> Option<&Frame>
+        ensures { option_map (λ f. frame_of f.now) result ≡ frame_at q (point_at self.now) }
+    {
+        if q >= self.activities.held.len() {
+            return None;
+        }
+        self.activities.frame(q)
+    }
+
     /// A copy of the frame of what processor `q` holds.
     pub fn frame(&self, q: usize) -> Result<Option<Frame>, AllocError>
         ensures { IfOk result (λ o. option_map frame_of o ≡ frame_at q (point_at self.now)) }
     {
-        if q >= self.activities.held.len() {
-            return Ok(None);
-        }
-        match self.activities.frame(q) {
+        match self.held_frame(q) {
             Some(frame) => Ok(Some(frame.try_copy()?)),
             None => Ok(None),
         }
@@ -236,13 +245,44 @@ impl<'c> Core<'c> {
     fn is_from(&self, q: usize, done: &Done<'_>) -> bool
         ensures { Decides result (IsFrom self.now q (code_of done.now.code.now) (frame_of done.now.from)) }
     {
-        if q >= self.activities.held.len() {
-            return false;
-        }
-        match self.activities.frame(q) {
+        match self.held_frame(q) {
             Some(frame) => frame.is_same(done.from()) && self.activities.code.is_same(done.code()),
             None => false,
         }
+    }
+
+    /// Whether local work leads from the frame of what processor `q` holds.
+    fn is_at(&self, q: usize, done: &Done<'_>) -> bool
+        ensures { Decides result (frame_at q (point_at self.now) ≡ Some (frame_of done.now.from)) }
+    {
+        match self.held_frame(q) {
+            Some(frame) => frame.is_same(done.from()),
+            None => false,
+        }
+    }
+
+    /// What processor `q` holds gets the frame to which local work leads, in this code, from its own.
+    fn put(&mut self, q: usize, done: Done<'_>) -> Result<(), HandIn>
+        requires going { IsGoing self.old }
+        requires from { IsFrom self.old q (code_of done.code.now) (frame_of done.from) }
+        ensures ok { OnOk result (HandsIn self.old q (code_of done.entry.code.now) (frame_of done.entry.from) done.entry.made self.new) }
+        ensures frame { OnOk result (frame_at q (point_at self.new) ≡ Some (frame_of done.entry.to)) }
+        ensures refused { IfErr result (CannotHandIn self.old q (code_of done.entry.code.now) (frame_of done.entry.from)) }
+        ensures err { OnErr result (self.new ≡ self.old) }
+    {
+        let made = done.made();
+        let to = done.into_frame();
+        if let Err(error) = recording::put(
+            &mut self.activities,
+            &mut self.schedule,
+            &mut self.tally,
+            q,
+            to,
+            made,
+        ) {
+            return Err(error.into());
+        }
+        Ok(())
     }
 
     /// What processor `q` holds gets the frame to which local work leads from its own.
@@ -258,25 +298,88 @@ impl<'c> Core<'c> {
         ensures refused { IfErr result (CannotHandIn self.old q (code_of done.entry.code.now) (frame_of done.entry.from)) }
         ensures err { OnErr result (self.new ≡ self.old) }
     {
-        if self.activities.shared.ended.is_some() {
+        if self.has_ended() {
             return Err(HandIn::Ended);
         }
         if !self.is_from(q, &done) {
             return Err(HandIn::Stranger);
         }
-        let made = done.made();
-        let to = done.into_frame();
-        if let Err(error) = recording::put(
-            &mut self.activities,
-            &mut self.schedule,
-            &mut self.tally,
-            q,
-            to,
-            made,
-        ) {
-            return Err(error.into());
+        self.put(q, done)
+    }
+
+    /// As `hand_in`, of work of which the caller knows that it is of the core's own code: codes are not
+    /// compared, so that it takes no longer where the code is longer.
+    ///
+    /// # Errors
+    ///
+    /// Those of `hand_in`.
+    pub fn hand_in_own(&mut self, q: usize, done: Done<'_>) -> Result<(), HandIn>
+        requires own { code_of done.code.now ≡ self.old.code }
+        ensures ok { OnOk result (HandsIn self.old q (code_of done.entry.code.now) (frame_of done.entry.from) done.entry.made self.new) }
+        ensures frame { OnOk result (frame_at q (point_at self.new) ≡ Some (frame_of done.entry.to)) }
+        ensures refused { IfErr result (CannotHandIn self.old q (code_of done.entry.code.now) (frame_of done.entry.from)) }
+        ensures err { OnErr result (self.new ≡ self.old) }
+    {
+        if self.has_ended() {
+            Err(HandIn::Ended)
+        } else if self.is_at(q, &done) {
+            self.put(q, done)
+        } else {
+            Err(HandIn::Stranger)
         }
-        Ok(())
+    }
+
+    /// Whether processor `q` holds an activity.
+    pub fn holds(&self, q: usize) -> bool
+        ensures { result ≡ is_some (frame_at q (point_at self.now)) }
+    {
+        self.held_frame(q).is_some()
+    }
+
+    /// Whether a local instruction of what processor `q` holds stands next.
+    pub fn is_local(&self, q: usize) -> bool
+        ensures { result ≡ local_in self.now.code (frame_at q (point_at self.now)) }
+    {
+        match self.held_frame(q) {
+            Some(frame) => stands_local(self.activities.code, frame),
+            None => false,
+        }
+    }
+
+    /// Whether the run has ended.
+    pub fn has_ended(&self) -> bool
+        ensures { result ≡ is_some (point_at self.now).machine.ended }
+    {
+        self.activities.shared.ended.is_some()
+    }
+
+    /// Whether an activity is ready: parked, and what it waits for has been reached.
+    pub fn has_ready(&self) -> bool
+        ensures { result ≡ is_some (first_of (point_at self.now).order.ready) }
+    {
+        self.activities.shared.kernel.first_ready().is_some()
+    }
+
+    /// Whether the next iteration of an open loop may begin.
+    pub fn has_ticket(&self) -> bool
+        ensures { result ≡ has_ticket self.now.schedule.slots (point_at self.now).machine }
+    {
+        self.activities.may_begin()
+    }
+
+    /// How many iterations are open.
+    pub fn overlap(&self) -> u128
+        ensures { result ≡ (point_at self.now).machine.ticket - (point_at self.now).machine.retired }
+    {
+        self.activities.overlap()
+    }
+
+    /// What a processor that holds nothing takes up so that iterations retire early: main where it is
+    /// ready, else the least iteration that is, and a ticket only where nothing is ready.
+    pub fn least(&self) -> Choice
+        ensures { IsLeast (point_at self.now).machine (chosen result) }
+    {
+        self.activities.least()
     }
 
     /// How many steps were made, and how many of them parked an activity or took up a parked one.

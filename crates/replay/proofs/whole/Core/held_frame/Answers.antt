@@ -1,6 +1,6 @@
 use Rattle.std.proofs.Common.{sym, ◌∙◌}
 use Rattle.replay.proofs.Onwards.{not_there}
-use Rattle.replay.proofs.whole.Core.frame.Goals as goal
+use Rattle.replay.proofs.whole.Core.held_frame.Goals as goal
 
 pub returns-then-q-len : goal.returns-then-q-len
 returns-then-q-len c =

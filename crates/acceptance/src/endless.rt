@@ -1,0 +1,203 @@
+//! Runs in threads that end though iterations past the first fault or STOP turn without end, and runs
+//! of code made by hand that come to no end.
+
+use crate::threads::{FAULTS, compiled, refused, runs_to};
+use ast::{Answer, End, Fault, Refusal};
+use interpreter::run_seq;
+use machine::{Act as Does, Await, Code, Instr, Loop, Parts};
+use processors::{NoGate, Report, RunRefusal, run};
+use profile_check::program;
+use std::alloc::{AllocError, Global};
+use std::process::Abort;
+use std::sync::Wait;
+use std::test::Fail;
+use std::thread::Threads;
+
+/// From the fourth iteration on each turns for ages in an inner loop, without a load or a store; the
+/// third faults.
+const TURNS: &[u8] = b"      INTEGER A(0:9)
+      DO 20 I=1,9
+      A(I)=A(I-1)+1
+      N=1
+      IF (I.GT.3) N=9223372036854775806
+      M=0
+      DO 10 J=1,N
+   10 M=MOD(M+J,1000)
+   20 K=10/(3-I)
+      END
+";
+
+/// The same with loads and stores in the inner loop, and a STOP in the third iteration.
+const LOADS: &[u8] = b"      INTEGER A(0:9),B(9),C(9)
+      DO 20 I=1,9
+      A(I)=A(I-1)+1
+      N=1
+      IF (I.GT.3) N=9223372036854775806
+      DO 10 J=1,N
+   10 B(I)=MOD(B(I)+C(1)+1,1000)
+      PRINT *,A(I)
+      IF (I.EQ.3) STOP
+   20 CONTINUE
+      END
+";
+
+/// The same with records in the inner loop, and an element out of bounds.
+const PRINTS: &[u8] = b"      INTEGER A(0:9),B(9)
+      DO 20 I=1,9
+      A(I)=A(I-1)+1
+      N=1
+      IF (I.GT.3) N=9223372036854775806
+      DO 10 J=1,N
+   10 PRINT *,I
+   20 B(I+7*(I/3))=1
+      END
+";
+
+/// What the sequential program says of the three.
+const ENDS: [(&[u8], &[u8], End); 3] = [
+    (TURNS, b"", End::Fault(Fault::ZeroDivisor, 9)),
+    (LOADS, b" 1\n 2\n 3\n", End::Stopped(9)),
+    (PRINTS, b" 1\n 2\n 3\n", End::Fault(Fault::Index, 8)),
+];
+
+fn sequential(alloc: Global, source: &[u8]) -> Result<Answer, Refusal> {
+    Ok(run_seq(alloc, &program(alloc, source)?, b"")?)
+}
+
+/// The runs of a source, by one to four processors and by 64.
+fn all_end<R: Abort + AllocGlobal + Threads + Wait + Sync>(
+    rt: &R,
+    source: &[u8],
+    output: &[u8],
+    end: End,
+) -> Result<(), Fail> {
+    let code = compiled(rt.alloc(), source)?;
+    let answer = sequential(rt.alloc(), source)?;
+    assert_eq!(rt; answer.output.as_slice(), output);
+    assert_eq!(rt; answer.end, end);
+    for p in [1, 2, 3, 4, 64] {
+        for s in [1, 4, 256] {
+            runs_to(rt, &code, b"", p, s, &answer)?;
+        }
+    }
+    Ok(())
+}
+
+#[test]
+fn iterations_past_the_end(rt: HostRuntime) -> Result<(), Fail> {
+    for (source, output, end) in ENDS {
+        all_end(&rt, source, output, end)?;
+    }
+    Ok(())
+}
+
+/// Main waits for a loop that isn't open.
+const JOINS: [Does; 2] = [Does::Join, Does::Halt];
+
+/// Each of three iterations but the first waits for an event that none advances.
+const WAITS: [Does; 7] = [
+    Does::Constant(1),
+    Does::Constant(3),
+    Does::Open(0),
+    Does::Join,
+    Does::Halt,
+    Does::Await(0),
+    Does::Retire(0),
+];
+
+fn assembled(rt: &(impl Abort + AllocGlobal), acts: &[Does]) -> Result<Code, AllocError> {
+    let alloc = rt.alloc();
+    let mut instructions = Vec::new(alloc);
+    for act in acts {
+        instructions.push(Instr { line: 1, act: *act })?;
+    }
+    let one = Loop {
+        body: 5,
+        variable: 0,
+        step: 1,
+        privates: Vec::new(alloc),
+    };
+    let before = Await {
+        event: 1,
+        distance: 1,
+    };
+    let parts = Parts {
+        instructions,
+        records: Vec::new(alloc),
+        awaits: vec![in alloc; before]?,
+        variables: Vec::new(alloc),
+        loops: vec![in alloc; one]?,
+        operands: 2,
+        counters: 0,
+    };
+    match Code::new(parts) {
+        Some(code) => Ok(code),
+        None => panic!(*rt; "the code is laid"),
+    }
+}
+
+/// The runs of code from a state of which no step leads.
+fn none_ends<R: Abort + AllocGlobal + Threads + Wait + Sync>(
+    rt: &R,
+    acts: &[Does],
+) -> Result<(), Fail> {
+    let code = assembled(rt, acts)?;
+    for p in [1, 2, 3, 4, 64] {
+        for s in [1, 2, 256] {
+            let number = refused(run(rt, rt.alloc(), &code, b"", p, s, &NoGate))?;
+            assert_eq!(rt; number, 59, "p {p}, s {s}");
+        }
+    }
+    Ok(())
+}
+
+#[test]
+fn no_step_is_left(rt: HostRuntime) -> Result<(), Fail> {
+    none_ends(&rt, &JOINS)?;
+    none_ends(&rt, &WAITS)
+}
+
+/// Whether a run of the source whose second iteration faults gave its answer. Where there was no memory
+/// for it, what had gone out is a beginning of the sequential output.
+fn is_answered(rt: &impl Abort, came: Result<Report, RunRefusal>) -> bool {
+    match came {
+        Ok(report) => {
+            assert_eq!(*rt; report.answer.output.as_slice(), b" 1\n 2\n".as_slice());
+            assert_eq!(*rt; report.answer.end, End::Fault(Fault::ZeroDivisor, 5));
+            true
+        }
+        Err(RunRefusal::Memory { output }) => {
+            assert!(*rt; b" 1\n 2\n".starts_with(&output));
+            assert!(*rt; matches!(output.len(), 0 | 3 | 6));
+            false
+        }
+        Err(RunRefusal::Refused { number }) => {
+            assert_eq!(*rt; number, 58);
+            false
+        }
+    }
+}
+
+/// A run that finds no memory, or can't start a thread, gives up; the next one has its answer.
+fn refused_once<R: Abort + AllocGlobal + Threads + Wait + Sync>(
+    rt: &R,
+    p: u64,
+    s: u64,
+) -> Result<(), Fail> {
+    let code = compiled(rt.alloc(), FAULTS)?;
+    if is_answered(rt, run(rt, rt.alloc(), &code, b"", p, s, &NoGate)) {
+        return Ok(());
+    }
+    assert!(rt; is_answered(rt, run(rt, rt.alloc(), &code, b"", p, s, &NoGate)));
+    Err(AllocError.into())
+}
+
+#[test]
+fn want_of_memory_in_a_run(rt: HostRuntime) -> Result<(), Fail> {
+    refused_once(&rt, 1, 1)
+}
+
+#[test]
+fn want_of_memory_in_threads(rt: HostRuntime) -> Result<(), Fail> {
+    refused_once(&rt, 3, 4)
+}

@@ -1,0 +1,33 @@
+-- What belongs to a call of `run`.
+use Rattle.std.specs.Prelude.{◌≡◌, ℕ, List}
+use Rattle.ast.specs.declared.answer.Answer.{Answer}
+use Rattle.machine.specs.Code.{Code}
+use Rattle.machine.specs.State.{AreSizes}
+use Rattle.replay.specs.CoreView.{CoreView}
+use Rattle.replay.specs.Replayed.{IsReplay}
+use Rattle.replay.specs.Replays.{Point, Replays}
+use Rattle.replay.specs.Schedules.{Schedule}
+
+-- a core with this code and input, and so many processors and slots
+pub record IsCoreOf (code : Code) (input : List ℕ) (p s : ℕ) (x : CoreView) : Type 0 where
+  pub sizes : AreSizes p s
+  pub code_is : x.code ≡ code
+  pub input_is : x.input ≡ input
+  pub processors : x.schedule.processors ≡ p
+  pub slots : x.schedule.slots ≡ s
+
+-- The schedule, of so many processors and slots, leads to a state that has ended with this answer.
+pub record IsRunOf (code : Code) (input : List ℕ) (p s : ℕ) (answer : Answer) (x : Schedule) : Type 0 where
+  pub sizes : AreSizes p s
+  pub processors : x.processors ≡ p
+  pub slots : x.slots ≡ s
+  pub replay : IsReplay code input x answer
+
+-- A schedule of so many processors and slots leads to a state with this output.
+pub record IsOutputOf (code : Code) (input : List ℕ) (p s : ℕ) (output : List ℕ) : Type 0 where
+  pub schedule : Schedule
+  pub processors : schedule.processors ≡ p
+  pub slots : schedule.slots ≡ s
+  pub point : Point
+  pub replays : Replays code input schedule point
+  pub is : output ≡ point.machine.output

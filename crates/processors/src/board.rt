@@ -1,0 +1,303 @@
+//! What lies under the lock.
+
+ghost use Rattle.processors.specs.Calls.{IsCoreOf};
+
+use crate::call::Call;
+use crate::report::{Effort, Report, RunRefusal};
+use crate::work::Own;
+use ast::Answer;
+use machine::Frame;
+use replay::{Core, HandIn, Stepped};
+use std::alloc::{AllocError, Global};
+use std::marker::{Model, PhantomData};
+
+/// How many shared steps are made in one turn, at most.
+const MOST_STEPS: u32 = 32;
+
+/// So many iterations of a loop are begun before it is asked whether they are long.
+const FIRST_FEW: u64 = 64;
+
+/// Iterations are long where they do so many local instructions each. A processor that sleeps is
+/// woken for another iteration only where they are: to wake one takes longer than a short iteration.
+const LONG: u64 = 4096;
+
+/// How a run stands.
+#[derive(Clone, Copy, Debug, PartialEq, Eq)]
+pub enum Standing {
+    Going,
+    /// A processor has found no memory.
+    NoMemory,
+    /// A thread couldn't be started.
+    NotStarted,
+    /// It hasn't ended, and no step is possible.
+    Stuck,
+}
+
+/// What a processor does next.
+#[derive(Drop)]
+pub enum Next {
+    /// Its thread ends.
+    Leave,
+    /// It sleeps until it is told that something has changed.
+    Wait,
+    /// It takes its next turn.
+    Again,
+    /// It goes through the gate, with the iteration of that number, and takes its next turn.
+    Begin(u128),
+    /// It does the local work that stands next in this frame; where it has taken a ticket, it goes
+    /// through the gate first.
+    Work(Box<Frame>, Option<u128>),
+}
+
+/// The core of a run, and what its processors tell each other.
+#[derive(Drop)]
+pub struct Board<'c, C: Call> {
+    alloc: Global,
+    core: Core<'c>,
+    standing: Standing,
+    /// How many processors sleep, or have been woken and have not had their turn yet. Each of them
+    /// holds nothing.
+    asleep: usize,
+    /// How many iterations of the loop that was opened last have begun, and how many local
+    /// instructions were done since.
+    begun: u64,
+    worked: u64,
+    overlap: u128,
+    efforts: Vec<Effort>,
+    of: PhantomData<C>,
+}
+
+impl<'c, C: Call> Model for Board<'c, C> {
+    ghost use Rattle.replay.specs.CoreView.{CoreView};
+    ghost use Rattle.processors.specs.Calls.{IsCoreOf};
+
+    ghost Value = { CoreView };
+
+    ghost view = { λ b. b.core };
+
+    ghost invariant = { λ b. IsCoreOf C.code C.input C.processors C.slots b.core };
+}
+
+impl<'c, C: Call> Board<'c, C> {
+    ghost use Rattle.std.specs.Prelude.{◌≡◌, IfOk, IfErr};
+    ghost use Rattle.processors.specs.Calls.{IsCoreOf, IsRunOf};
+    ghost use Rattle.processors.specs.Refused.{IsGivenUp};
+    ghost use Rattle.replay.specs.CoreView.{point_at};
+    ghost use Rattle.replay.specs.Replayed.{IsAnswer};
+
+    /// A run in which nothing has happened.
+    pub fn new(alloc: Global, core: Core<'c>) -> Result<Board<'c, C>, AllocError>
+        requires { IsCoreOf C.code C.input C.processors C.slots core }
+    {
+        let efforts = vec![in alloc; Effort::default(); core.processors()]?;
+        Ok(Board {
+            alloc,
+            core,
+            standing: Standing::Going,
+            asleep: 0,
+            begun: 0,
+            worked: 0,
+            overlap: 0,
+            efforts,
+            of: PhantomData,
+        })
+    }
+
+    /// The run is given up for this reason. That a thread couldn't be started counts before all else.
+    pub fn give_up(&mut self, standing: Standing) {
+        if self.standing == Standing::Going || standing == Standing::NotStarted {
+            self.standing = standing;
+        }
+    }
+
+    pub fn standing(&self) -> Standing {
+        self.standing
+    }
+
+    /// Processor `q` falls asleep.
+    pub fn fall_asleep(&mut self, q: usize) {
+        self.asleep = self.asleep.wrapping_add(1);
+        if let Some(effort) = self.efforts.get_mut(q) {
+            effort.waits = effort.waits.wrapping_add(1);
+        }
+    }
+
+    /// One who slept has its turn.
+    pub fn wake_up(&mut self) {
+        self.asleep = self.asleep.wrapping_sub(1);
+    }
+
+    /// Whether all are to leave.
+    pub fn is_over(&self) -> bool {
+        self.standing != Standing::Going || self.core.has_ended()
+    }
+
+    /// Whether one who sleeps is worth waking: an activity is ready, or an iteration may begin and
+    /// iterations are long.
+    pub fn wants_another(&self) -> bool {
+        if self.asleep == 0 {
+            return false;
+        }
+        if self.core.has_ready() {
+            return true;
+        }
+        let long = self.begun < FIRST_FEW || self.worked / LONG >= self.begun;
+        long && self.core.has_ticket()
+    }
+
+    /// Processor `q` made so many steps.
+    fn count(&mut self, q: usize, steps: u32) {
+        if let Some(effort) = self.efforts.get_mut(q) {
+            effort.steps = effort.steps.wrapping_add(u64::from(steps));
+        }
+    }
+
+    fn hand_in(&mut self, q: usize, own: Own<'c, C>) -> Result<(), HandIn> {
+        let made = own.done.made();
+        self.core.hand_in_own(q, Box::into_inner(own.done))?;
+        self.worked = self.worked.wrapping_add(u64::from(made));
+        self.count(q, made);
+        Ok(())
+    }
+
+    /// A shared step of processor `q`. Where it holds nothing it picks: main or the least iteration
+    /// that is ready, and a ticket only where nothing is.
+    fn step(&mut self, q: usize) -> Result<Stepped, AllocError> {
+        if self.core.holds(q) {
+            return self.core.step(q);
+        }
+        self.core.pick(q, self.core.least())
+    }
+
+    fn no_memory(&mut self) -> Next {
+        self.give_up(Standing::NoMemory);
+        Next::Leave
+    }
+
+    /// Processor `q` works on from a copy of its frame.
+    fn work(&mut self, q: usize, begun: Option<u128>) -> Next {
+        match self.core.frame(q) {
+            Ok(Some(frame)) => match Box::new(self.alloc, frame) {
+                Ok(frame) => Next::Work(frame, begun),
+                Err(_) => self.no_memory(),
+            },
+            Ok(None) => Next::Again,
+            Err(_) => self.no_memory(),
+        }
+    }
+
+    /// Processor `q` has taken the ticket of iteration `k`.
+    fn begin(&mut self, q: usize, k: u128) -> Next {
+        if k == 0 {
+            self.begun = 0;
+            self.worked = 0;
+        }
+        self.begun = self.begun.wrapping_add(1);
+        self.overlap = self.overlap.max(self.core.overlap());
+        if self.core.is_local(q) {
+            return self.work(q, Some(k));
+        }
+        Next::Begin(k)
+    }
+
+    /// Processor `q` has no step. Where it holds something, or all others sleep, none will come.
+    fn idle(&mut self, q: usize) -> Next {
+        if self.core.holds(q) || self.asleep.saturating_add(1) >= self.core.processors() {
+            self.give_up(Standing::Stuck);
+            return Next::Leave;
+        }
+        Next::Wait
+    }
+
+    /// Processor `q` works on where a local instruction stands next, and else makes a shared step.
+    fn go_on(&mut self, q: usize) -> Next {
+        if self.core.is_local(q) {
+            return self.work(q, None);
+        }
+        match self.step(q) {
+            Ok(Stepped::Went(begun)) => {
+                self.count(q, 1);
+                match begun {
+                    Some(k) => self.begin(q, k),
+                    None => Next::Again,
+                }
+            }
+            Ok(Stepped::Idle) => self.idle(q),
+            Ok(Stepped::Ended) => Next::Leave,
+            Err(_) => self.no_memory(),
+        }
+    }
+
+    /// Processor `q` makes shared steps as long as one stands next, up to so many.
+    fn steps(&mut self, q: usize) -> Next {
+        let mut next = self.go_on(q);
+        for _ in 1..MOST_STEPS {
+            match next {
+                Next::Again => next = self.go_on(q),
+                _ => break,
+            }
+        }
+        next
+    }
+
+    /// A turn of processor `q`: it hands in local work, if it has done any, and makes shared steps.
+    /// Work that the core doesn't take is forgotten.
+    pub fn turn(&mut self, q: usize, own: Option<Own<'c, C>>) -> Next {
+        if self.standing != Standing::Going {
+            return Next::Leave;
+        }
+        match own {
+            None => self.steps(q),
+            Some(own) => match self.hand_in(q, own) {
+                Ok(()) | Err(HandIn::Stranger) => self.steps(q),
+                Err(HandIn::Ended) => Next::Leave,
+                Err(HandIn::Memory) => self.no_memory(),
+            },
+        }
+    }
+
+    /// What has come of a run that was given up for want of memory.
+    pub fn out_of_memory(self) -> RunRefusal
+        ensures { IsGivenUp C.code C.input C.processors C.slots result }
+    {
+        let Board { core, .. } = self;
+        let _ = core.schedule();
+        let (output, _) = core.into_parts();
+        RunRefusal::Memory { output }
+    }
+
+    /// What has come of a run that has ended with this answer.
+    fn report_of(self, answer: Answer) -> Report
+        requires { IsAnswer self.code (point_at self).machine answer }
+        ensures { IsRunOf C.code C.input C.processors C.slots result.answer result.schedule }
+    {
+        let Board {
+            core,
+            efforts,
+            overlap,
+            ..
+        } = self;
+        let tally = core.tally();
+        let _ = core.schedule();
+        let (_, schedule) = core.into_parts();
+        Report {
+            answer,
+            schedule,
+            tally,
+            efforts,
+            overlap,
+        }
+    }
+
+    /// What has come of a run that nobody gave up.
+    pub fn report(self) -> Result<Report, RunRefusal>
+        ensures ok { IfOk result (λ r. IsRunOf C.code C.input C.processors C.slots r.answer r.schedule) }
+        ensures err { IfErr result (IsGivenUp C.code C.input C.processors C.slots) }
+    {
+        match self.core.answer() {
+            Ok(Some(answer)) => Ok(self.report_of(answer)),
+            Ok(None) => Err(RunRefusal::Refused { number: 59 }),
+            Err(_) => Err(self.out_of_memory()),
+        }
+    }
+}

@@ -1,0 +1,63 @@
+//! The desk at which processors take their turns.
+
+use crate::board::{Board, Next, Standing};
+use crate::call::Call;
+use crate::work::Own;
+use std::sync::{Condvar, Mutex, Wait};
+
+/// A core under a lock, at which each processor takes its turns. One who finds nothing to do sleeps
+/// there.
+#[derive(Drop)]
+pub struct Desk<'c, C: Call> {
+    board: Mutex<Board<'c, C>>,
+    changed: Condvar,
+}
+
+impl<'c, C: Call> Desk<'c, C> {
+    pub fn new(board: Board<'c, C>) -> Desk<'c, C> {
+        Desk {
+            board: Mutex::new(board),
+            changed: Condvar::new(),
+        }
+    }
+
+    /// A turn of processor `q`, which hands in this local work. It sleeps until there is something to
+    /// do. Who leaves the desk wakes another where that one could do something, and all when the run
+    /// is over.
+    pub fn turn<R: Wait>(&self, rt: &R, q: usize, own: Option<Own<'c, C>>) -> Next {
+        let mut board = self.board.lock(rt);
+        let mut next = board.turn(q, own);
+        for _ in rt.forever() {
+            match next {
+                Next::Wait => {
+                    board.fall_asleep(q);
+                    board = self.changed.wait(rt, board);
+                    board.wake_up();
+                    next = board.turn(q, None);
+                }
+                _ => break,
+            }
+        }
+        let is_over = board.is_over();
+        let wants_another = board.wants_another();
+        drop(board);
+        if is_over {
+            self.changed.notify_all();
+        } else if wants_another {
+            self.changed.notify_one();
+        }
+        next
+    }
+
+    /// The run is given up for this reason, and all who sleep are woken to leave.
+    pub fn give_up<R: Wait>(&self, rt: &R, standing: Standing) {
+        self.board.lock(rt).give_up(standing);
+        self.changed.notify_all();
+    }
+
+    /// What lay under the lock.
+    pub fn into_board(self) -> Board<'c, C> {
+        let Desk { board, .. } = self;
+        board.into_inner()
+    }
+}

@@ -1,0 +1,162 @@
+//! Runs in threads.
+
+ghost use Rattle.std.specs.Prelude.{◌≡◌, ℕ, List, IfOk, IfErr};
+ghost use Rattle.machine.specs.Code.{Code as PlainCode};
+ghost use Rattle.machine.specs.CodeView.{code_of};
+ghost use Rattle.processors.specs.Calls.{IsCoreOf, IsRunOf};
+ghost use Rattle.processors.specs.Refused.{IsGivenUp, IsRefused};
+
+use crate::board::{Board, Next, Standing};
+use crate::call::Call;
+use crate::desk::Desk;
+use crate::gate::Gate;
+use crate::report::{Report, RunRefusal};
+use crate::work::{Coded, Own};
+use machine::{Code, Frame};
+use replay::{Core, CoreRefusal};
+use std::alloc::Global;
+use std::marker::Brand;
+use std::sync::Wait;
+use std::thread;
+use std::thread::Threads;
+
+/// Local work from a frame. Where there is no memory for it the run is given up.
+fn worked<'c, C: Call, R: Wait>(
+    rt: &R,
+    desk: &Desk<'c, C>,
+    coded: &Coded<'c, C>,
+    frame: Box<Frame>,
+) -> Option<Own<'c, C>> {
+    match coded.work(frame) {
+        Ok(own) => own,
+        Err(_) => {
+            desk.give_up(rt, Standing::NoMemory);
+            None
+        }
+    }
+}
+
+/// What processor `q` does from its first turn until it leaves.
+fn process<'c, C: Call, G: Gate, R: Wait>(
+    rt: &R,
+    desk: &Desk<'c, C>,
+    coded: &Coded<'c, C>,
+    q: usize,
+    gate: &G,
+) {
+    let mut own = None;
+    for _ in rt.forever() {
+        match desk.turn(rt, q, own) {
+            Next::Leave => return,
+            Next::Wait | Next::Again => own = None,
+            Next::Begin(k) => {
+                gate.before(q, k);
+                own = None;
+            }
+            Next::Work(frame, begun) => {
+                if let Some(k) = begun {
+                    gate.before(q, k);
+                }
+                own = worked(rt, desk, coded, frame);
+            }
+        }
+    }
+}
+
+/// Starts a thread for each processor but the first, which the caller is, and joins all of them.
+fn run_all<'c, C: Call + Send + Sync, G: Gate + Sync, R: Threads + Wait + Sync>(
+    rt: &R,
+    desk: &Desk<'c, C>,
+    coded: &Coded<'c, C>,
+    processors: usize,
+    gate: &G,
+) {
+    thread::scope(thread::scope_env(), rt, |scope| {
+        for q in 1..processors {
+            if scope
+                .spawn(move || process(rt, desk, coded, q, gate))
+                .is_err()
+            {
+                desk.give_up(rt, Standing::NotStarted);
+                break;
+            }
+        }
+        process(rt, desk, coded, 0, gate);
+    });
+}
+
+/// There was no memory to begin with.
+fn nothing(alloc: Global) -> RunRefusal
+    ensures { (code : PlainCode) (input : List ℕ) (p s : ℕ) → IsGivenUp code input p s result }
+{
+    RunRefusal::Memory {
+        output: Vec::new(alloc),
+    }
+}
+
+/// What has come of a run when all threads have left.
+fn reported<'c, C: Call>(board: Board<'c, C>) -> Result<Report, RunRefusal>
+    ensures ok { IfOk result (λ r. IsRunOf C.code C.input C.processors C.slots r.answer r.schedule) }
+    ensures err { IfErr result (IsGivenUp C.code C.input C.processors C.slots) }
+{
+    match board.standing() {
+        Standing::Going => board.report(),
+        Standing::NoMemory => Err(board.out_of_memory()),
+        Standing::NotStarted => Err(RunRefusal::Refused { number: 58 }),
+        Standing::Stuck => Err(RunRefusal::Refused { number: 59 }),
+    }
+}
+
+/// The run of a call.
+fn run_call<'c, C: Call + Send + Sync, G: Gate + Sync, R: Threads + Wait + Sync>(
+    rt: &R,
+    alloc: Global,
+    core: Core<'c>,
+    code: &'c Code,
+    gate: &G,
+) -> Result<Report, RunRefusal>
+    requires of { IsCoreOf C.code C.input C.processors C.slots core }
+    requires code { code_of code.now ≡ C.code }
+    ensures ok { IfOk result (λ r. IsRunOf C.code C.input C.processors C.slots r.answer r.schedule) }
+    ensures err { IfErr result (IsGivenUp C.code C.input C.processors C.slots) }
+{
+    let processors = core.processors();
+    let coded = Coded::<C>::new(alloc, code);
+    let board = match Board::<C>::new(alloc, core) {
+        Ok(board) => board,
+        Err(_) => return Err(nothing(alloc)),
+    };
+    let desk = Desk::new(board);
+    run_all(rt, &desk, &coded, processors, gate);
+    reported(desk.into_board())
+}
+
+/// Runs code on an input by `p` processors, 1 to 64, each a thread of which the caller's is the first,
+/// with at most `s` iterations open, 1 to 256. It returns when all threads have left. Iterations
+/// overlap where they are long enough, and which processor does what is another matter at each call;
+/// the schedule tells it.
+///
+/// # Errors
+///
+/// 57 where p or s is out of its range; 58 where a thread couldn't be started, whatever else was met;
+/// 59 where code, made by hand, has come to a state from which no step leads; and want of memory,
+/// with the output of the state in which it was met.
+pub fn run<G: Gate + Sync, R: Threads + Wait + Sync>(
+    rt: &R,
+    alloc: Global,
+    code: &Code,
+    input: &[u8],
+    p: u64,
+    s: u64,
+    gate: &G,
+) -> Result<Report, RunRefusal>
+    ensures ok { IfOk result (λ r. IsRunOf (code_of code.now) input.now p s r.answer r.schedule) }
+    ensures err { IfErr result (IsRefused (code_of code.now) input.now p s) }
+{
+    let core = match Core::new(alloc, code, input, p, s) {
+        Ok(core) => core,
+        Err(CoreRefusal::Refused { number }) => return Err(RunRefusal::Refused { number }),
+        Err(CoreRefusal::Memory) => return Err(nothing(alloc)),
+    };
+    run_call::<Brand, G, R>(rt, alloc, core, code, gate)
+}

@@ -1,0 +1,57 @@
+//! Local work, which is done outside the lock.
+
+ghost use Rattle.std.specs.Prelude.{◌≡◌};
+ghost use Rattle.std.proofs.Props.{props};
+ghost use Rattle.machine.specs.CodeView.{code_of};
+
+use crate::call::Call;
+use machine::{Code, Done, Frame, stands_local};
+use std::alloc::{AllocError, Global};
+use std::marker::PhantomData;
+
+/// How many local instructions are done at a time, at most: what one entry of a schedule holds.
+const BURST: u32 = 1024;
+
+/// The code of a call.
+#[derive(Drop)]
+pub struct Coded<'c, C: Call> {
+    alloc: Global,
+    code: &'c Code,
+    of: PhantomData<C>,
+    ghost is: { code_of code.now ≡ C.code } by { Prim.hlevel props },
+}
+
+/// Local work of a call's code.
+#[derive(Drop)]
+pub struct Own<'c, C: Call> {
+    pub done: Box<Done<'c>>,
+    of: PhantomData<C>,
+    ghost is: { code_of done.value.code.now ≡ C.code } by { Prim.hlevel props },
+}
+
+impl<'c, C: Call> Coded<'c, C> {
+    ghost use Rattle.std.specs.Prelude.{◌≡◌};
+    ghost use Rattle.machine.specs.CodeView.{code_of};
+
+    pub fn new(alloc: Global, code: &'c Code) -> Coded<'c, C>
+        requires { code_of code.now ≡ C.code }
+    {
+        Coded {
+            alloc,
+            code,
+            of: PhantomData,
+        }
+    }
+
+    /// The local instructions that stand next, at most 1,024, if any does.
+    pub fn work(&self, frame: Box<Frame>) -> Result<Option<Own<'c, C>>, AllocError> {
+        if !stands_local(self.code, &*frame) {
+            return Ok(None);
+        }
+        let done = Done::work(self.code, Box::into_inner(frame), BURST)?;
+        Ok(Some(Own {
+            done: Box::new(self.alloc, done)?,
+            of: PhantomData,
+        }))
+    }
+}
