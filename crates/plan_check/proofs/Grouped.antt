@@ -52,7 +52,7 @@ module _ (l : Loop) (events : List ℕ) (claim : ℕ → ℕ → Option Relation
       by false h = refl
 
   of_cell : (x : Entry) (ys : List Entry) (v : Verdict) → list_all (λ (y : Entry). is_told x.occurrence.ref y.occurrence.ref) ys ≡ true
-      → with_partners l events claim x (at_cell (cell_of x) ys) v ≡ with_partners l events claim x ys v
+      → with_partners l events claim x (at_cell true (cell_of x) ys) v ≡ with_partners l events claim x ys v
   of_cell x [] v h = refl
   of_cell x (y ∷ ys) v h = by (cell_of x == cell_of y) refl (λ w k. of_cell x ys w k)
     where
@@ -60,8 +60,8 @@ module _ (l : Loop) (events : List ℕ) (claim : ℕ → ℕ → Option Relation
       told = and_parts (is_told x.occurrence.ref y.occurrence.ref) (list_all (λ (y : Entry). is_told x.occurrence.ref y.occurrence.ref) ys) h
 
       by : (b : Bool) → (cell_of x == cell_of y) ≡ b
-          → ((w : Verdict) → list_all (λ (y : Entry). is_told x.occurrence.ref y.occurrence.ref) ys ≡ true → with_partners l events claim x (at_cell (cell_of x) ys) w ≡ with_partners l events claim x ys w)
-          → with_partners l events claim x (if b then y ∷ at_cell (cell_of x) ys else at_cell (cell_of x) ys) v ≡ with_partners l events claim x ys (with_pair l events claim x y v)
+          → ((w : Verdict) → list_all (λ (y : Entry). is_told x.occurrence.ref y.occurrence.ref) ys ≡ true → with_partners l events claim x (at_cell true (cell_of x) ys) w ≡ with_partners l events claim x ys w)
+          → with_partners l events claim x (if b then y ∷ at_cell true (cell_of x) ys else at_cell true (cell_of x) ys) v ≡ with_partners l events claim x ys (with_pair l events claim x y v)
       by true e rest = rest (with_pair l events claim x y v) told.1
       by false e rest = rest v told.1 ∙ ap (λ (w : Verdict). with_partners l events claim x ys w) (sym (no_pair x y v told.0 e))
 
@@ -74,15 +74,42 @@ module _ (l : Loop) (events : List ℕ) (claim : ℕ → ℕ → Option Relation
       by None h = h v
       by (Some y) h = h (with_pair l events claim x y v)
 
-  pub by_groups : (privates : List (List ℕ)) (rows : List (List ℕ)) (xs es : List Entry) (v : Verdict) → AreTold xs es → ((c : ℕ) → chosen es (row_at rows c) ≡ at_cell c es)
-      → with_groups l events claim privates rows es xs v ≡ with_all l events claim privates xs es v
-  by_groups privates rows [] es v t r = refl
-  by_groups privates rows (x ∷ xs) es v t r =
-      let q = and_parts (list_all (λ (y : Entry). is_told x.occurrence.ref y.occurrence.ref) es) (list_all (λ (x : Entry). list_all (λ (y : Entry). is_told x.occurrence.ref y.occurrence.ref) es) xs) t in
-      ap (λ (w : Verdict). with_groups l events claim privates rows es xs w) (same (is_own l privates x.occurrence) q.0)
-      ∙ by_groups privates rows xs es (with_entry l events claim privates x es v) q.1 r
+  -- two that only use their variables are no pair
+  no_value : (x y : Entry) (v : Verdict) → x.occurrence.defines ≡ false → y.occurrence.defines ≡ false → with_pair l events claim x y v ≡ v
+  no_value x y v e f =
+      ap (λ (a : Bool). if same_name x.occurrence.ref.name y.occurrence.ref.name && (a || y.occurrence.defines) then by_claim l events claim x y (claim x.occurrence.ref.id y.occurrence.ref.id) v else v) e
+      ∙ ap (λ (a : Bool). if same_name x.occurrence.ref.name y.occurrence.ref.name && a then by_claim l events claim x y (claim x.occurrence.ref.id y.occurrence.ref.id) v else v) f
+      ∙ by (same_name x.occurrence.ref.name y.occurrence.ref.name)
     where
-      same : (b : Bool) → list_all (λ (y : Entry). is_told x.occurrence.ref y.occurrence.ref) es ≡ true
-          → (if b then v else with_places l events claim x es (row_at rows (cell_of x)) v) ≡ (if b then v else with_partners l events claim x es v)
-      same true h = refl
-      same false h = of_places x es (row_at rows (cell_of x)) v ∙ ap (λ (zs : List Entry). with_partners l events claim x zs v) (r (cell_of x)) ∙ of_cell x es v h
+      by : (b : Bool) → (if b && false then by_claim l events claim x y (claim x.occurrence.ref.id y.occurrence.ref.id) v else v) ≡ v
+      by true = refl
+      by false = refl
+
+  of_defining : (x : Entry) (ys : List Entry) (v : Verdict) → x.occurrence.defines ≡ false → list_all (λ (y : Entry). is_told x.occurrence.ref y.occurrence.ref) ys ≡ true
+      → with_partners l events claim x (at_cell false (cell_of x) ys) v ≡ with_partners l events claim x ys v
+  of_defining x [] v e h = refl
+  of_defining x (y ∷ ys) v e h = by y.occurrence.defines (cell_of x == cell_of y) refl refl (λ w k. of_defining x ys w e k)
+    where
+      told : (is_told x.occurrence.ref y.occurrence.ref ≡ true) × (list_all (λ (y : Entry). is_told x.occurrence.ref y.occurrence.ref) ys ≡ true)
+      told = and_parts (is_told x.occurrence.ref y.occurrence.ref) (list_all (λ (y : Entry). is_told x.occurrence.ref y.occurrence.ref) ys) h
+
+      by : (d b : Bool) → y.occurrence.defines ≡ d → (cell_of x == cell_of y) ≡ b
+          → ((w : Verdict) → list_all (λ (y : Entry). is_told x.occurrence.ref y.occurrence.ref) ys ≡ true → with_partners l events claim x (at_cell false (cell_of x) ys) w ≡ with_partners l events claim x ys w)
+          → with_partners l events claim x (if d && b then y ∷ at_cell false (cell_of x) ys else at_cell false (cell_of x) ys) v ≡ with_partners l events claim x ys (with_pair l events claim x y v)
+      by true true f g rest = rest (with_pair l events claim x y v) told.1
+      by true false f g rest = rest v told.1 ∙ ap (λ (w : Verdict). with_partners l events claim x ys w) (sym (no_pair x y v told.0 g))
+      by false b f g rest = rest v told.1 ∙ ap (λ (w : Verdict). with_partners l events claim x ys w) (sym (no_value x y v e f))
+
+  pub by_groups : (privates : List (List ℕ)) (all defining : List (List ℕ)) (xs es : List Entry) (v : Verdict) → AreTold xs es → ((c : ℕ) → chosen es (row_at all c) ≡ at_cell true c es) → ((c : ℕ) → chosen es (row_at defining c) ≡ at_cell false c es)
+      → with_groups l events claim privates all defining es xs v ≡ with_all l events claim privates xs es v
+  by_groups privates all defining [] es v t r d = refl
+  by_groups privates all defining (x ∷ xs) es v t r d =
+      let q = and_parts (list_all (λ (y : Entry). is_told x.occurrence.ref y.occurrence.ref) es) (list_all (λ (x : Entry). list_all (λ (y : Entry). is_told x.occurrence.ref y.occurrence.ref) es) xs) t in
+      ap (λ (w : Verdict). with_groups l events claim privates all defining es xs w) (same (is_own l privates x.occurrence) x.occurrence.defines refl q.0)
+      ∙ by_groups privates all defining xs es (with_entry l events claim privates x es v) q.1 r d
+    where
+      same : (b f : Bool) → x.occurrence.defines ≡ f → list_all (λ (y : Entry). is_told x.occurrence.ref y.occurrence.ref) es ≡ true
+          → (if b then v else with_places l events claim x es (if f then row_at all (cell_of x) else row_at defining (cell_of x)) v) ≡ (if b then v else with_partners l events claim x es v)
+      same true f e h = refl
+      same false true e h = of_places x es (row_at all (cell_of x)) v ∙ ap (λ (zs : List Entry). with_partners l events claim x zs v) (r (cell_of x)) ∙ of_cell x es v h
+      same false false e h = of_places x es (row_at defining (cell_of x)) v ∙ ap (λ (zs : List Entry). with_partners l events claim x zs v) (d (cell_of x)) ∙ of_defining x es v e h

@@ -63,15 +63,15 @@ pub judged : (l : Loop) (p : PlanTree) (k : Known) (s : Seen) → IsWalked l p k
     → (events : List ℕ) (ns : List (ℕ × ℕ)) → ((test : ℕ → Bool) → list_any test events ≡ list_any (λ (n : ℕ × ℕ). test n.0) ns) → ns ≡ named p.body
     → (claim : ℕ → ℕ → Option Relation) → ((a b : ℕ) → claim a b ≡ claimed p.relations a b)
     → (es : List Entry) → es ≡ entries_by l l.references s.notes
-    → (rows : List (List ℕ)) → ((c : ℕ) → chosen es (row_at rows c) ≡ at_cell c es)
-    → (v : Verdict) → v ≡ with_groups l events claim p.privates rows es es best → IsJudged l p v
-judged l p k s w told events ns named_by e claim claims es is rows grouped v h =
+    → (all defining : List (List ℕ)) → ((c : ℕ) → chosen es (row_at all c) ≡ at_cell true c es) → ((c : ℕ) → chosen es (row_at defining c) ≡ at_cell false c es)
+    → (v : Verdict) → v ≡ with_groups l events claim p.privates all defining es es best → IsJudged l p v
+judged l p k s w told events ns named_by e claim claims es is every defining grouped chosen_so v h =
     let all : List checking.Entry = entries_of (cells_of l) l p in
     let same : es ≡ map (joined_entry l) all = is ∙ w.entries l.references in
     let by_events : (test : ℕ → Bool) → list_any test events ≡ list_any (λ (n : ℕ × ℕ). test n.0) (named p.body) = λ test. named_by test ∙ ap (λ ms. list_any (λ (n : ℕ × ℕ). test n.0) ms) e in
     let cells_tell = subst (λ (xs : List Entry). list_all (λ (x : Entry). list_all (λ (y : Entry). is_told x.occurrence.ref y.occurrence.ref) xs) xs ≡ true) (sym is) (entries_told l s.notes told) in
     let whole : v ≡ with_all l events claim p.privates (map (joined_entry l) all) (map (joined_entry l) all) best =
-    h ∙ by_groups l events claim p.privates rows es es best cells_tell grouped ∙ ap (λ (xs : List Entry). with_all l events claim p.privates xs xs best) same in
+    h ∙ by_groups l events claim p.privates every defining es es best cells_tell grouped chosen_so ∙ ap (λ (xs : List Entry). with_all l events claim p.privates xs xs best) same in
     record {
       ahead = ap (λ (z : Verdict). z.ahead) whole ∙ ahead_all l p events claim by_events claims all;
       held = ap (λ (z : Verdict). z.held) whole ∙ held_all l p events claim by_events claims all;

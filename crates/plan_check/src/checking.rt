@@ -22,7 +22,7 @@ use crate::events::events_of;
 use crate::fault::{Mistake, PlanFault};
 use crate::fits::fits;
 use crate::given::Given;
-use crate::groups::groups_of;
+use crate::groups::partners_of;
 use crate::judge::{Verdict, judge};
 use crate::shown::are_shown;
 use crate::start::{Walked, walk_over};
@@ -94,8 +94,8 @@ fn judge_all(
     let named = distinct(alloc, events)?;
     let claims = claims_of(alloc, plan.relations)?;
     let entries = entries_of(alloc, view, view.references(), &walked.seen.notes)?;
-    let groups = groups_of(alloc, &entries)?;
-    Ok(judge(view, &named, &claims, plan.privates, &entries, &groups))
+    let partners = partners_of(alloc, &entries)?;
+    Ok(judge(view, &named, &claims, plan.privates, &entries, &partners))
 }
 
 /// The fault of pairs, if there is one.

@@ -1,16 +1,18 @@
 //! References by their variables.
 
-ghost use Rattle.std.specs.Prelude.{◌≡◌, ◌<◌, ◌==◌, IfOk, OnOk, length, map, ℕ};
+ghost use Rattle.std.specs.Prelude.{◌≡◌, ◌<◌, ◌==◌, ◌&&◌, ◌||◌, IfOk, OnOk, false, length, map, true, ℕ};
+ghost use Rattle.loop_tree.specs.View.{occurrence as occurrence_of};
 ghost use Rattle.plan_check.specs.EntryView.{entry as entry_of};
 ghost use Rattle.plan_check.specs.Grouping.{at_cell, chosen, row_at, with_place};
 ghost use Rattle.plan_check.specs.GroupsView.{groups as rows_of};
 
 use crate::entry::Entry;
+use loop_tree::Occurrence;
 use std::alloc::{AllocError, Global};
 
 /// The places of references by the cells of their variables.
 #[derive(Drop)]
-pub struct Groups {
+struct Groups {
     rows: Vec<Vec<usize>>,
 }
 
@@ -34,29 +36,85 @@ fn add(groups: &mut Groups, cell: usize, place: usize) -> Result<(), AllocError>
     Ok(())
 }
 
-fn join(alloc: Global, groups: &mut Groups, cell: usize, place: usize) -> Result<(), AllocError>
-    ensures { OnOk result ((c : ℕ) → row_at (rows_of groups.new) c ≡ with_place (c == cell) place (row_at (rows_of groups.old) c)) }
+/// Adds the place of a reference, if it is wanted.
+fn join(
+    alloc: Global,
+    groups: &mut Groups,
+    wanted: bool,
+    cell: usize,
+    place: usize,
+) -> Result<(), AllocError>
+    ensures { OnOk result ((c : ℕ) → row_at (rows_of groups.new) c ≡ with_place (wanted && (c == cell)) place (row_at (rows_of groups.old) c)) }
 {
+    if !wanted {
+        return Ok(());
+    }
     lengthen(alloc, groups, cell)?;
     add(groups, cell, place)
 }
 
-/// The groups of references.
-pub fn groups_of(alloc: Global, entries: &[Entry<'_, '_>]) -> Result<Groups, AllocError>
-    ensures { IfOk result (λ groups. (c : ℕ) → chosen (map entry_of entries.now) (row_at (rows_of groups) c) ≡ at_cell c (map entry_of entries.now)) }
+/// Whether all references are wanted, or this one gives its variable a value.
+fn is_wanted(all: bool, occurrence: &Occurrence<'_>) -> bool
+    ensures { result ≡ all || (occurrence_of occurrence.now).defines }
+{
+    all || occurrence.defines
+}
+
+/// The groups of all references, or of those that give their variables values.
+fn groups_of(alloc: Global, entries: &[Entry<'_, '_>], all: bool) -> Result<Groups, AllocError>
+    ensures { IfOk result (λ groups. (c : ℕ) → chosen (map entry_of entries.now) (row_at (rows_of groups) c) ≡ at_cell all c (map entry_of entries.now)) }
 {
     let mut groups = Groups {
         rows: Vec::new(alloc),
     };
     for place in 0..entries.len() {
+        let occurrence = entries[place].occurrence;
         join(
             alloc,
             &mut groups,
-            entries[place].occurrence.reference.cell,
+            is_wanted(all, occurrence),
+            occurrence.reference.cell,
             place,
         )?;
     }
     Ok(groups)
+}
+
+/// The references that each is judged with.
+#[derive(Drop)]
+pub struct Partners {
+    all: Groups,
+    /// Of those that give their variables values.
+    defining: Groups,
+}
+
+/// The partners of references.
+pub fn partners_of(alloc: Global, entries: &[Entry<'_, '_>]) -> Result<Partners, AllocError>
+    ensures all { IfOk result (λ p. (c : ℕ) → chosen (map entry_of entries.now) (row_at (rows_of p.all) c) ≡ at_cell true c (map entry_of entries.now)) }
+    ensures defining { IfOk result (λ p. (c : ℕ) → chosen (map entry_of entries.now) (row_at (rows_of p.defining) c) ≡ at_cell false c (map entry_of entries.now)) }
+{
+    Ok(Partners {
+        all: groups_of(alloc, entries, true)?,
+        defining: groups_of(alloc, entries, false)?,
+    })
+}
+
+impl Partners {
+    ghost use Rattle.std.specs.Prelude.{◌≡◌};
+    ghost use Rattle.loop_tree.specs.View.{occurrence as occurrence_of};
+    ghost use Rattle.plan_check.specs.Grouping.{row_for};
+    ghost use Rattle.plan_check.specs.GroupsView.{groups as rows_of};
+
+    /// The places of those that a reference is judged with: two that only use a variable are no pair.
+    pub fn of(&self, first: &Occurrence<'_>) -> &[usize]
+        ensures { result.now ≡ row_for (rows_of self.now.all) (rows_of self.now.defining) (occurrence_of first.now) }
+    {
+        if first.defines {
+            self.all.row(first.reference.cell)
+        } else {
+            self.defining.row(first.reference.cell)
+        }
+    }
 }
 
 impl Groups {
@@ -65,7 +123,7 @@ impl Groups {
     ghost use Rattle.plan_check.specs.GroupsView.{groups as rows_of};
 
     /// Those of a cell.
-    pub fn row(&self, cell: usize) -> &[usize]
+    fn row(&self, cell: usize) -> &[usize]
         ensures { result.now ≡ row_at (rows_of self.now) cell }
     {
         if cell >= self.rows.len() {

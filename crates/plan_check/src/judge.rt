@@ -13,7 +13,7 @@ ghost use Rattle.plan_check.specs.Judging as spec;
 
 use crate::claims::Claims;
 use crate::entry::Entry;
-use crate::groups::Groups;
+use crate::groups::Partners;
 use crate::lists::{flag_at, has_awaited};
 use ast::Name;
 use dependence::{Relation, has_name, is_given};
@@ -184,16 +184,16 @@ fn judge_entry(
     }
 }
 
-/// Judges each reference with those of its variable.
+/// Judges each reference with its partners.
 pub fn judge(
     view: &LoopView<'_, '_>,
     events: &[usize],
     claims: &Claims,
     privates: &[Name],
     entries: &[Entry<'_, '_>],
-    groups: &Groups,
+    partners: &Partners,
 ) -> Verdict
-    ensures { verdict_of result ≡ with_groups (seen view.now) events.now (claim_in claims.now) (map letters privates.now) (groups_of groups.now) (map entry_of entries.now) (map entry_of entries.now) spec.best }
+    ensures { verdict_of result ≡ with_groups (seen view.now) events.now (claim_in claims.now) (map letters privates.now) (groups_of partners.now.all) (groups_of partners.now.defining) (map entry_of entries.now) (map entry_of entries.now) spec.best }
 {
     let mut verdict = Verdict {
         ahead: true,
@@ -209,7 +209,7 @@ pub fn judge(
             privates,
             first,
             entries,
-            groups.row(first.occurrence.reference.cell),
+            partners.of(first.occurrence),
         );
     }
     verdict

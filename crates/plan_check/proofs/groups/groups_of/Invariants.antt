@@ -7,4 +7,4 @@ use Rattle.plan_check.proofs.groups.groups_of.Given as goal
 
 abbrev pub invariant-loop-place : goal.invariant-loop-place
 invariant-loop-place l =
-    (c : ℕ) → chosen (map entry l.entries) (row_at (groups l.groups) c) ++ at_cell c (map entry (drop l.place l.entries)) ≡ at_cell c (map entry l.entries)
+    (c : ℕ) → chosen (map entry l.entries) (row_at (groups l.groups) c) ++ at_cell l.all c (map entry (drop l.place l.entries)) ≡ at_cell l.all c (map entry l.entries)

@@ -10,5 +10,5 @@ use Rattle.plan_check.proofs.judge.judge.Given as goal
 
 abbrev pub invariant-loop-first : goal.invariant-loop-first
 invariant-loop-first l =
-    with_groups (seen l.view) l.events (claim_in l.claims) (map letters l.privates) (groups l.groups) (map entry l.entries) (map entry (drop l.first-index l.entries)) (verdict l.verdict)
-    ≡ with_groups (seen l.view) l.events (claim_in l.claims) (map letters l.privates) (groups l.groups) (map entry l.entries) (map entry l.entries) best
+    with_groups (seen l.view) l.events (claim_in l.claims) (map letters l.privates) (groups l.partners.all) (groups l.partners.defining) (map entry l.entries) (map entry (drop l.first-index l.entries)) (verdict l.verdict)
+    ≡ with_groups (seen l.view) l.events (claim_in l.claims) (map letters l.privates) (groups l.partners.all) (groups l.partners.defining) (map entry l.entries) (map entry l.entries) best
