@@ -157,39 +157,56 @@ fn no_step_is_left(rt: HostRuntime) -> Result<(), Fail> {
     none_ends(&rt, &WAITS)
 }
 
-/// Whether a run of the source whose second iteration faults gave its answer. Where there was no memory
-/// for it, what had gone out is a beginning of the sequential output.
-fn is_answered(rt: &impl Abort, came: Result<Report, RunRefusal>) -> bool {
+/// What came of a run of the source whose second iteration faults.
+#[derive(Drop)]
+enum Came {
+    Answer,
+    /// There was no memory for it, or a thread couldn't be started.
+    Nothing,
+    /// There was no memory for it, and something had gone out.
+    Output(RunRefusal),
+}
+
+/// What came of such a run: its answer, or, where there was no memory for it, as much of the sequential
+/// output as had gone out.
+fn came_to(rt: &impl Abort, came: Result<Report, RunRefusal>) -> Came {
     match came {
         Ok(report) => {
             assert_eq!(*rt; report.answer.output.as_slice(), b" 1\n 2\n".as_slice());
             assert_eq!(*rt; report.answer.end, End::Fault(Fault::ZeroDivisor, 5));
-            true
+            Came::Answer
         }
         Err(RunRefusal::Memory { output }) => {
             assert!(*rt; b" 1\n 2\n".starts_with(&output));
             assert!(*rt; matches!(output.len(), 0 | 3 | 6));
-            false
+            if output.is_empty() {
+                return Came::Nothing;
+            }
+            Came::Output(RunRefusal::Memory { output })
         }
         Err(RunRefusal::Refused { number }) => {
             assert_eq!(*rt; number, 58);
-            false
+            Came::Nothing
         }
     }
 }
 
-/// A run that finds no memory, or can't start a thread, gives up; the next one has its answer.
+/// A run that finds no memory, or can't start a thread, gives up; the next one has its answer. Where
+/// something had gone out, the refusal has it.
 fn refused_once<R: Abort + AllocGlobal + Threads + Wait + Sync>(
     rt: &R,
     p: u64,
     s: u64,
 ) -> Result<(), Fail> {
     let code = compiled(rt.alloc(), FAULTS)?;
-    if is_answered(rt, run(rt, rt.alloc(), &code, b"", p, s, &NoGate)) {
-        return Ok(());
-    }
-    assert!(rt; is_answered(rt, run(rt, rt.alloc(), &code, b"", p, s, &NoGate)));
-    Err(AllocError.into())
+    let refusal = match came_to(rt, run(rt, rt.alloc(), &code, b"", p, s, &NoGate)) {
+        Came::Answer => return Ok(()),
+        Came::Nothing => AllocError.into(),
+        Came::Output(refusal) => refusal.into(),
+    };
+    let again = came_to(rt, run(rt, rt.alloc(), &code, b"", p, s, &NoGate));
+    assert!(rt; matches!(again, Came::Answer));
+    Err(refusal)
 }
 
 #[test]
