@@ -31,29 +31,20 @@ impl Driver {
     }
 }
 
-/// The local instructions that stand next of what processor `q` holds, at most so many, 1 to 1,024.
-pub fn work<'c>(core: &Core<'c>, q: usize, burst: u32) -> Result<Option<Done<'c>>, HandIn> {
-    let code = core.code();
-    match core.frame(q)? {
-        Some(frame) if stands_local(code, &frame) && 1 <= burst && burst <= 1_024 => {
-            Ok(Some(Done::work(code, frame, burst)?))
-        }
-        _ => Ok(None),
-    }
-}
-
-/// A turn of processor `q`: a shared step or, where local instructions stand next, so many at most.
+/// A turn of processor `q`: a shared step or, where local instructions stand next, so many at most, 1 to
+/// 1,024.
 pub fn turn(core: &mut Core<'_>, q: usize, burst: u32) -> Result<Stepped, HandIn> {
     let stepped = core.step(q)?;
     if stepped != Stepped::Idle {
         return Ok(stepped);
     }
-    match work(core, q, burst)? {
-        Some(done) => {
-            core.hand_in(q, done)?;
+    let code = core.code();
+    match core.frame(q)? {
+        Some(frame) if stands_local(code, &frame) && 1 <= burst && burst <= 1_024 => {
+            core.hand_in_own(q, Done::work(code, frame, burst)?)?;
             Ok(Stepped::Went(None))
         }
-        None => Ok(Stepped::Idle),
+        _ => Ok(Stepped::Idle),
     }
 }
 

@@ -2,9 +2,9 @@
 //! and iterations that overtake others wherever they may.
 
 use crate::driven::is_answered;
-use crate::drivers::{turn, work};
+use crate::drivers::turn;
 use crate::worked::{FAULTS, INDEX_ARRAY, compiled, sequential};
-use machine::{Act as Does, Code, Frame};
+use machine::{Act as Does, Code, Done, Frame, stands_local};
 use replay::{Choice, Core, HandIn, Stepped};
 use std::alloc::AllocError;
 use std::process::Abort;
@@ -138,6 +138,15 @@ fn until_local(core: &mut Core<'_>) -> Result<(), HandIn> {
     Ok(())
 }
 
+/// The local instructions that stand next of what processor 1 holds.
+fn work<'c>(core: &Core<'c>) -> Result<Option<Done<'c>>, AllocError> {
+    let code = core.code();
+    match core.frame(1)? {
+        Some(frame) if stands_local(code, &frame) => Ok(Some(Done::work(code, frame, 8)?)),
+        _ => Ok(None),
+    }
+}
+
 /// Work of iteration 2 that was done before iteration 1 faults, and is handed in behind the end.
 #[test]
 fn work_behind_the_end(rt: HostRuntime) -> Result<(), Fail> {
@@ -145,7 +154,7 @@ fn work_behind_the_end(rt: HostRuntime) -> Result<(), Fail> {
     let mut core = Core::new(rt.alloc(), &code, b"", 2, 2)?;
     two_begun(&rt, &mut core)?;
     until_local(&mut core)?;
-    let Some(late) = work(&core, 1, 8)? else {
+    let Some(late) = work(&core)? else {
         panic!(rt; "local work stands next");
     };
     for _ in 0..ROUNDS {
