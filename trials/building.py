@@ -26,3 +26,16 @@ def prepare(folder, name, below):
         file.writelines(f"{crate}:{lines[crate]}\n" for crate in lines if crate in wanted)
         file.write(f"{name}: {' '.join(below)}\n")
     return os.path.join(folder, "crates", name)
+
+
+def plant(folder, crate, name):
+    """Makes the edit of a file of must-fail in the copy of a crate."""
+    with open(os.path.join(ROOT, "crates", crate, "must-fail", name + ".edit")) as file:
+        lines = dict(line.rstrip("\n").split(": ", 1) for line in file if ": " in line)
+    path = os.path.join(folder, "crates", crate, lines["file"])
+    with open(path) as file:
+        text = file.read()
+    if text.count(lines["old"]) != 1:
+        sys.exit(f"{name}: what it replaces doesn't stand there once")
+    with open(path, "w") as file:
+        file.write(text.replace(lines["old"], lines["new"]))
