@@ -41,7 +41,7 @@ pub fn turn(core: &mut Core<'_>, q: usize, burst: u32) -> Result<Stepped, HandIn
     let code = core.code();
     match core.frame(q)? {
         Some(frame) if stands_local(code, &frame) && 1 <= burst && burst <= 1_024 => {
-            core.hand_in_own(q, Done::work(code, frame, burst)?)?;
+            core.hand_in(q, Done::work(code, frame, burst)?)?;
             Ok(Stepped::Went(None))
         }
         _ => Ok(Stepped::Idle),

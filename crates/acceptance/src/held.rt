@@ -1,9 +1,10 @@
 //! Runs whose processors choose what they take up: records that are held, work that comes too late,
 //! and iterations that overtake others wherever they may.
 
-use crate::driven::is_answered;
+use crate::driven::{SIZES, is_answered};
 use crate::drivers::turn;
 use crate::worked::{FAULTS, INDEX_ARRAY, compiled, sequential};
+use ast::Answer;
 use machine::{Act as Does, Code, Done, Frame, stands_local};
 use replay::{Choice, Core, HandIn, Stepped};
 use std::alloc::AllocError;
@@ -178,18 +179,30 @@ const HIGHEST_FIRST: [Choice; 8] = [
     Choice::Main,
 ];
 
-/// Turns of all processors, the last one first, until the end.
-fn highest_first(core: &mut Core<'_>, processors: usize) -> Result<(), HandIn> {
-    for _ in 0..ROUNDS {
-        for q in (0..processors).rev() {
-            if core.holds(q) {
-                turn(core, q, 1)?;
-            } else {
-                takes(core, q, &HIGHEST_FIRST)?;
-            }
+/// A turn of each processor, the last one first.
+fn highest_round(core: &mut Core<'_>) -> Result<(), HandIn> {
+    for q in (0..core.processors()).rev() {
+        if core.holds(q) {
+            turn(core, q, 1)?;
+        } else {
+            takes(core, q, &HIGHEST_FIRST)?;
         }
     }
     Ok(())
+}
+
+/// A run of so many processors and slots has this answer.
+fn highest_first(
+    rt: &(impl Abort + AllocGlobal),
+    code: &Code,
+    (processors, slots): (u64, u64),
+    answer: &Answer,
+) -> Result<(), Fail> {
+    let mut core = Core::new(rt.alloc(), code, b"", processors, slots)?;
+    for _ in 0..ROUNDS {
+        highest_round(&mut core)?;
+    }
+    is_answered(rt, &core, answer)
 }
 
 #[test]
@@ -197,12 +210,8 @@ fn highest_ready_iteration_first(rt: HostRuntime) -> Result<(), Fail> {
     let code = compiled(rt.alloc(), INDEX_ARRAY)?;
     let answer = sequential(rt.alloc(), INDEX_ARRAY, b"")?;
     assert_eq!(rt; answer.output.as_slice(), b" 2 4 0\n".as_slice());
-    for processors in 1..5 {
-        for slots in [1, 2, 3, 4, 6] {
-            let mut core = Core::new(rt.alloc(), &code, b"", processors as u64, slots)?;
-            highest_first(&mut core, processors)?;
-            is_answered(&rt, &core, &answer)?;
-        }
+    for size in SIZES {
+        highest_first(&rt, &code, size, &answer)?;
     }
     Ok(())
 }
