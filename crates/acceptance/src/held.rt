@@ -179,9 +179,9 @@ const HIGHEST_FIRST: [Choice; 8] = [
     Choice::Main,
 ];
 
-/// A turn of each processor, the last one first.
+/// A turn of each processor, the last one first. One that isn't there has none.
 fn highest_round(core: &mut Core<'_>) -> Result<(), HandIn> {
-    for q in (0..core.processors()).rev() {
+    for q in [3, 2, 1, 0] {
         if core.holds(q) {
             turn(core, q, 1)?;
         } else {
