@@ -1,7 +1,8 @@
 #!/usr/bin/env python3
-"""Compares `doac seq` with gfortran on random programs, and makes what differs small.
+"""Compares `doac seq`, or `doac run`, with gfortran on random programs, and makes what differs small.
 
-trials.py [--count N] [--seed S] [--doac PROGRAM] [--batch N] [--jobs N] [--keep FOLDER]
+trials.py [--count N] [--seed S] [--opening] [--threads P S] [--doac PROGRAM] [--batch N] [--jobs N]
+          [--keep FOLDER]
 """
 
 import argparse
@@ -13,6 +14,7 @@ import subprocess
 import sys
 import tempfile
 
+from opening import OpenMaker
 from programs import Maker, Writer, smaller
 
 FLAGS = ["-std=legacy", "-fdefault-integer-8", "-fcheck=all", "-ftrapv", "-ffixed-form",
@@ -50,7 +52,7 @@ def run_doac(doac, source, data, folder):
         file.write(source)
     with open(given, "w") as file:
         file.write(data)
-    run = subprocess.run([doac, "seq", path, given], capture_output=True, text=True, timeout=SECONDS)
+    run = subprocess.run([*doac, path, given], capture_output=True, text=True, timeout=SECONDS)
     records = records_of(run.stdout)
     if run.returncode == 0:
         if records and re.match(r"^STOPPEDLINE\d+$", records[-1]):
@@ -189,9 +191,9 @@ def shrunk(doac, program, folder):
     return program
 
 
-def try_batch(doac, seeds):
+def try_batch(doac, maker, seeds):
     """Tries the programs of the seeds: how many were compared, and those that differ."""
-    programs = [Maker(seed).program() for seed in seeds]
+    programs = [maker(seed).program() for seed in seeds]
     compared, different = 0, []
     with tempfile.TemporaryDirectory() as folder:
         binary, numbers = compile_batch(programs, folder)
@@ -233,16 +235,20 @@ def main():
     parser.add_argument("--batch", type=int, default=50, help="programs in one compilation (50)")
     parser.add_argument("--jobs", type=int, default=os.cpu_count(), help="batches at once")
     parser.add_argument("--keep", help="a folder for the programs that differ")
+    parser.add_argument("--opening", action="store_true", help="programs whose loops mostly open")
+    parser.add_argument("--threads", nargs=2, metavar=("P", "S"), help="run in P threads with S iterations open")
     options = parser.parse_args()
+    sizes = ["run", "-p", options.threads[0], "-s", options.threads[1]] if options.threads else ["seq"]
+    doac, maker = [options.doac, *sizes], OpenMaker if options.opening else Maker
     seeds = list(range(options.seed, options.seed + options.count))
     batches = [seeds[at:at + options.batch] for at in range(0, len(seeds), options.batch)]
     compared, different = 0, []
     with concurrent.futures.ThreadPoolExecutor(options.jobs) as pool:
-        for count, found in pool.map(lambda batch: try_batch(options.doac, batch), batches):
+        for count, found in pool.map(lambda batch: try_batch(doac, maker, batch), batches):
             compared += count
             different += found
     for program in different[:10]:
-        report(options.doac, program, options.keep)
+        report(doac, program, options.keep)
     print(f"{options.count} programs: {compared} compared, {options.count - compared} not, {len(different)} differ")
     return 1 if different else 0
 

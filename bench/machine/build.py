@@ -20,7 +20,7 @@ def needed(names, lines):
 
 def build(folder, name, *below):
     """The binary of the program in the folder of this name, built in a repository of its own that is
-    made in `folder`. Its modules that aren't in its own folder are those of `driven`."""
+    made in `folder`."""
     crates = os.path.join(folder, 'crates')
     with open(os.path.join(ROOT, 'crates.txt')) as file:
         lines = dict(line.rstrip('\n').split(':') for line in file)
@@ -30,11 +30,9 @@ def build(folder, name, *below):
                         symlinks=True, ignore=shutil.ignore_patterns('must-fail'))
     sources = os.path.join(crates, name, 'src')
     os.makedirs(sources)
-    for origin in ('driven', name):
-        for file in os.listdir(os.path.join(HERE, origin, 'src')):
-            if origin == name or file == 'driver.rt.source':
-                shutil.copy(os.path.join(HERE, origin, 'src', file),
-                            os.path.join(sources, file.removesuffix('.source')))
+    origin = os.path.join(HERE, name, 'src')
+    for file in os.listdir(origin):
+        shutil.copy(os.path.join(origin, file), os.path.join(sources, file.removesuffix('.source')))
     with open(os.path.join(folder, 'crates.txt'), 'w') as file:
         file.writelines(f'{crate}:{lines[crate]}\n' for crate in lines if crate in wanted)
         file.write(f'{name}: {" ".join(below)}\n')

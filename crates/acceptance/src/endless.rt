@@ -1,13 +1,12 @@
 //! Runs in threads that end though iterations past the first fault or STOP turn without end, and runs
 //! of code made by hand that come to no end.
 
-use crate::threads::{FAULTS, compiled, refused, runs_to};
-use ast::{Answer, End, Fault, Refusal};
-use interpreter::run_seq;
+use crate::threads::{refused, runs_to};
+use crate::worked::{FAULTS, compiled, sequential};
+use ast::{End, Fault};
 use machine::{Act as Does, Await, Code, Instr, Loop, Parts};
 use processors::{NoGate, Report, RunRefusal, run};
-use profile_check::program;
-use std::alloc::{AllocError, Global};
+use std::alloc::AllocError;
 use std::process::Abort;
 use std::sync::Wait;
 use std::test::Fail;
@@ -60,10 +59,6 @@ const ENDS: [(&[u8], &[u8], End); 3] = [
     (PRINTS, b" 1\n 2\n 3\n", End::Fault(Fault::Index, 8)),
 ];
 
-fn sequential(alloc: Global, source: &[u8]) -> Result<Answer, Refusal> {
-    Ok(run_seq(alloc, &program(alloc, source)?, b"")?)
-}
-
 /// The runs of a source, by one to four processors and by 64.
 fn all_end<R: Abort + AllocGlobal + Threads + Wait + Sync>(
     rt: &R,
@@ -72,7 +67,7 @@ fn all_end<R: Abort + AllocGlobal + Threads + Wait + Sync>(
     end: End,
 ) -> Result<(), Fail> {
     let code = compiled(rt.alloc(), source)?;
-    let answer = sequential(rt.alloc(), source)?;
+    let answer = sequential(rt.alloc(), source, b"")?;
     assert_eq!(rt; answer.output.as_slice(), output);
     assert_eq!(rt; answer.end, end);
     for p in [1, 2, 3, 4, 64] {

@@ -1,7 +1,7 @@
 //! Gates of runs in threads: that iterations are open at once, on the processors that the schedule
 //! names.
 
-use crate::threads::{SQUARES, compiled};
+use crate::worked::{SQUARES, compiled};
 use machine::{Code, Done};
 use processors::{Gate, run};
 use replay::{Act, Choice, Core, CoreRefusal, Entry, HandIn, Schedule, Stepped};

@@ -5,6 +5,10 @@
 #[cfg(test)]
 mod cores;
 #[cfg(test)]
+mod driven;
+#[cfg(test)]
+mod drivers;
+#[cfg(test)]
 mod endless;
 #[cfg(test)]
 mod explanations;
@@ -12,6 +16,8 @@ mod explanations;
 mod gates;
 #[cfg(test)]
 mod grammar;
+#[cfg(test)]
+mod held;
 #[cfg(test)]
 mod iterations;
 #[cfg(test)]
@@ -37,8 +43,12 @@ mod replaying;
 #[cfg(test)]
 mod runs;
 #[cfg(test)]
+mod sharing;
+#[cfg(test)]
 mod streams;
 #[cfg(test)]
 mod threads;
 #[cfg(test)]
 mod trees;
+#[cfg(test)]
+mod worked;

@@ -1,0 +1,81 @@
+//! Drivers of cores on one thread: which processor goes next, and how far.
+
+use machine::{Done, stands_local};
+use replay::{Core, HandIn, Stepped};
+use std::process::Abort;
+use std::test::Fail;
+
+/// How many turns each of these runs takes at most.
+const TURNS: usize = 20_000;
+
+/// Which processor goes next, of those that can.
+#[derive(Clone, Copy, Debug, PartialEq, Eq)]
+pub enum Driver {
+    Lowest,
+    Highest,
+    /// The first behind the one that went last.
+    RoundRobin,
+}
+
+impl Driver {
+    /// The processor that is asked after so many others of `count`, where `last` went last.
+    fn nth(self, asked: usize, count: usize, last: usize) -> usize {
+        match self {
+            Driver::Lowest => asked,
+            Driver::Highest => count.wrapping_sub(1).wrapping_sub(asked),
+            Driver::RoundRobin => {
+                let next = last.wrapping_add(1).wrapping_add(asked);
+                next.checked_rem(count).unwrap_or(0)
+            }
+        }
+    }
+}
+
+/// A turn of processor `q`: a shared step or, where local instructions stand next, so many at most, 1 to
+/// 1,024.
+pub fn turn(core: &mut Core<'_>, q: usize, burst: u32) -> Result<Stepped, HandIn> {
+    let stepped = core.step(q)?;
+    if stepped != Stepped::Idle {
+        return Ok(stepped);
+    }
+    let code = core.code();
+    match core.frame(q)? {
+        Some(frame) if stands_local(code, &frame) && 1 <= burst && burst <= 1_024 => {
+            core.hand_in(q, Done::work(code, frame, burst)?)?;
+            Ok(Stepped::Went(None))
+        }
+        _ => Ok(Stepped::Idle),
+    }
+}
+
+/// One processor goes: which; none where the run has ended.
+fn go(
+    rt: &impl Abort,
+    core: &mut Core<'_>,
+    driver: Driver,
+    burst: u32,
+    last: usize,
+) -> Result<Option<usize>, Fail> {
+    let count = core.processors();
+    for asked in 0..count {
+        let q = driver.nth(asked, count, last);
+        match turn(core, q, burst)? {
+            Stepped::Went(_) => return Ok(Some(q)),
+            Stepped::Idle => {}
+            Stepped::Ended => return Ok(None),
+        }
+    }
+    panic!(*rt; "a processor can go as long as the run hasn't ended")
+}
+
+/// Drives a core until its run has ended.
+pub fn drive(rt: &impl Abort, core: &mut Core<'_>, driver: Driver, burst: u32) -> Result<(), Fail> {
+    let mut last = 0;
+    for _ in 0..TURNS {
+        match go(rt, core, driver, burst, last)? {
+            Some(q) => last = q,
+            None => return Ok(()),
+        }
+    }
+    panic!(*rt; "the run ends")
+}

@@ -1,0 +1,44 @@
+//! A core under a lock, at which two threads take turns.
+
+use crate::driven::is_answered;
+use crate::drivers::turn;
+use crate::worked::{SQUARES, compiled, sequential};
+use replay::{Core, Stepped};
+use std::sync::{Mutex, Wait};
+use std::test::Fail;
+use std::thread::{join, yield_now};
+
+/// How many turns a thread takes at most.
+const TURNS: u32 = 1_000_000;
+
+/// Turns of processor `q` until the run has ended: whether it has.
+fn takes_turns<R: Wait>(rt: &R, core: &Mutex<Core<'_>>, q: usize) -> bool {
+    for _ in 0..TURNS {
+        let mut held = core.lock(rt);
+        match turn(&mut held, q, 8) {
+            Ok(Stepped::Ended) => return true,
+            Ok(_) => {}
+            Err(_) => return false,
+        }
+        drop(held);
+        yield_now();
+    }
+    false
+}
+
+#[test]
+fn core_under_a_lock(rt: HostRuntime) -> Result<(), Fail> {
+    let code = compiled(rt.alloc(), SQUARES)?;
+    let core = Mutex::new(Core::new(rt.alloc(), &code, b"", 2, 2)?);
+    let ended = join(
+        &rt,
+        || takes_turns(&rt, &core, 0),
+        || takes_turns(&rt, &core, 1),
+    );
+    assert_eq!(rt; ended, (true, true));
+    is_answered(
+        &rt,
+        &core.into_inner(),
+        &sequential(rt.alloc(), SQUARES, b"")?,
+    )
+}
