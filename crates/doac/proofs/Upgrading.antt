@@ -4,7 +4,7 @@ use Rattle.std.specs.Global.{Global}
 use Rattle.engines.specs.Engines.{IsWriting, status_of}
 use Rattle.engines.specs.Schedules.{Upgrading}
 use Rattle.engines.specs.declared.fault.EngineFault.{EngineFault}
-use Rattle.engines.specs.declared.fault.EngineFault.TheVariants.{Source, Input, Schedule, Writing, Memory}
+use Rattle.engines.specs.declared.fault.EngineFault.TheVariants.{Source, Input, Schedule, Writing, Memory, OutOfRange, NotStarted, Stuck}
 use Rattle.engines.specs.declared.outcome.Outcome.{Outcome}
 use Rattle.engines.specs.declared.page.Page.{Page}
 use Rattle.engines.specs.declared.replays.Upgraded.TheVariants.{Text, Shown}
@@ -29,6 +29,9 @@ of_page source input schedule page (Err (Source e)) status P Q allowed is same f
 of_page source input schedule page (Err (Input e)) status P Q allowed is same fails = absurd fails.0
 of_page source input schedule page (Err (Schedule e)) status P Q allowed is same fails = absurd fails.0
 of_page source input schedule page (Err Memory) status P Q allowed is same fails = absurd fails.0
+of_page source input schedule page (Err OutOfRange) status P Q allowed is same fails = absurd fails.0
+of_page source input schedule page (Err NotStarted) status P Q allowed is same fails = absurd fails.0
+of_page source input schedule page (Err Stuck) status P Q allowed is same fails = absurd fails.0
 
 -- ---- several files
 

@@ -6,7 +6,7 @@ use Rattle.machine.specs.State.{AreSizes}
 use Rattle.replay.specs.CoreView.{CoreView}
 use Rattle.replay.specs.Replayed.{IsReplay}
 use Rattle.replay.specs.Replays.{Point, Replays}
-use Rattle.replay.specs.Schedules.{Schedule}
+use Rattle.replay.specs.Schedules.{IsSchedule, Schedule}
 
 -- a core with this code and input, and so many processors and slots
 pub record IsCoreOf (code : Code) (input : List ℕ) (p s : ℕ) (x : CoreView) : Type 0 where
@@ -16,18 +16,21 @@ pub record IsCoreOf (code : Code) (input : List ℕ) (p s : ℕ) (x : CoreView) 
   pub processors : x.schedule.processors ≡ p
   pub slots : x.schedule.slots ≡ s
 
--- The schedule, of so many processors and slots, leads to a state that has ended with this answer.
+-- The schedule, of so many processors and slots, can be written, and leads to a state that has ended with
+-- this answer.
 pub record IsRunOf (code : Code) (input : List ℕ) (p s : ℕ) (answer : Answer) (x : Schedule) : Type 0 where
   pub sizes : AreSizes p s
   pub processors : x.processors ≡ p
   pub slots : x.slots ≡ s
+  pub kept : IsSchedule x
   pub replay : IsReplay code input x answer
 
--- A schedule of so many processors and slots leads to a state with this output.
+-- A schedule of so many processors and slots, which can be written, leads to a state with this output.
 pub record IsOutputOf (code : Code) (input : List ℕ) (p s : ℕ) (output : List ℕ) : Type 0 where
   pub schedule : Schedule
   pub processors : schedule.processors ≡ p
   pub slots : schedule.slots ≡ s
+  pub kept : IsSchedule schedule
   pub point : Point
   pub replays : Replays code input schedule point
   pub is : output ≡ point.machine.output

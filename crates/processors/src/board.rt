@@ -261,7 +261,7 @@ impl<'c, C: Call> Board<'c, C> {
         ensures { IsGivenUp C.code C.input C.processors C.slots result }
     {
         let Board { core, .. } = self;
-        let _ = core.schedule();
+        let _ = core.schedule().entries();
         let (output, _) = core.into_parts();
         RunRefusal::Memory { output }
     }
@@ -278,7 +278,7 @@ impl<'c, C: Call> Board<'c, C> {
             ..
         } = self;
         let tally = core.tally();
-        let _ = core.schedule();
+        let _ = core.schedule().entries();
         let (_, schedule) = core.into_parts();
         Report {
             answer,
