@@ -1,6 +1,7 @@
 pub mod Counts
 pub mod Listings
 pub mod Pages
+pub mod Ran
 pub mod Replayed
 pub mod StoreRows
 pub mod Subscripts

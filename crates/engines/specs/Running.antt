@@ -1,16 +1,21 @@
 -- What `run` may come to with a source text and an input, and what it writes of that.
 use Rattle.std.specs.Prelude.{◌≡◌, ◌⊎◌, ⊤, ℕ, Bool, true, false, List, [], Option, Some, None, Result, Ok, Err, Vec, option_map}
 use Rattle.std.specs.Global.{Global}
-use Rattle.std.specs.Io.KnownBytes.{Appends, Keeps}
+use Rattle.std.specs.Io.KnownBytes.{Appends}
 use Rattle.ast.specs.Meaning.{seq}
 use Rattle.ast.specs.Program.{ProgramTree}
+use Rattle.ast.specs.Symbols.{Symbol}
+use Rattle.ast.specs.View.{cells}
+use Rattle.ast.specs.declared.answer.Answer.{Answer}
 use Rattle.codegen.specs.Headline.{IsBeginning}
 use Rattle.machine.specs.Code.{Code}
 use Rattle.machine.specs.State.{AreSizes, Ended}
 use Rattle.replay.specs.Replays.{Point, Replays}
 use Rattle.replay.specs.Schedules.{SchedText, Schedule}
-use Rattle.engines.specs.Engines.{AppendsPart, OfText, ShowsRun, status_of}
+use Rattle.engines.specs.Engines.{AppendsPart, ShowsRun, outcome_of, status_of}
 use Rattle.engines.specs.Schedules.{IsNoCode, WithCode}
+use Rattle.engines.specs.Shown.{EndShown, Extends, refused}
+use Rattle.engines.specs.View.{rows_from}
 use Rattle.engines.specs.declared.fault.EngineFault.{EngineFault}
 use Rattle.engines.specs.declared.fault.EngineFault.TheVariants as faults
 use Rattle.engines.specs.declared.given.Wants.{Wants}
@@ -44,6 +49,25 @@ pub record IsWhole (tree : ProgramTree) (code : Code) (input : List ℕ) (w : Wa
   pub sizes : AreSizes w.processors w.slots
   pub shown : ShowsRun w.store tree input whole.page.outcome whole.page.text.items
   pub schedule : WhereWanted w.schedule whole.schedule (IsScheduleOf tree code input w.processors w.slots)
+
+-- What is shown of an answer, and of the schedule that leads to it; where there is no memory for that, the
+-- records alone.
+abbrev pub Shows : Wants → List Symbol → Answer → Schedule → Ran → Type 0
+Shows w symbols answer x (Refused page) = ⊥
+Shows w symbols answer x (Came whole) =
+    (whole.page.outcome ≡ outcome_of answer.end)
+    × Extends (EndShown w.store (rows_from (cells answer.store) 0 symbols) answer.end) answer.output.items whole.page.text.items
+    × WhereWanted w.schedule whole.schedule (SchedText x)
+Shows w symbols answer x (Memory output) = output.items ≡ answer.output.items
+Shows w symbols answer x OutOfRange = ⊥
+Shows w symbols answer x NotStarted = ⊥
+Shows w symbols answer x Stuck = ⊥
+
+-- a refusal is shown; or nothing, where there is no memory for that
+abbrev pub ShowsRefusal : (number line : ℕ) → Ran → Type 0
+ShowsRefusal number line (Refused page) = (page.outcome ≡ outcomes.Refused number line) × (page.text.items ≡ refused number line)
+ShowsRefusal number line (Memory output) = output.items ≡ []
+ShowsRefusal number line _ = ⊥
 
 -- the source is refused so, by its text or for its code
 abbrev pub IsNoCodeAs : List ℕ → Outcome → List ℕ → Type 0

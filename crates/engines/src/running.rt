@@ -1,16 +1,15 @@
 //! Runs in threads, and what comes of them.
 
-ghost use Rattle.std.specs.Prelude.{◌≡◌, ℕ, [], List, IfOk, IfErr, map};
+ghost use Rattle.std.specs.Prelude.{◌≡◌, ◌++◌, ℕ, [], Err, List, IfOk, IfErr, length, map};
 ghost use Rattle.ast.specs.ProgramView.{program as program_of};
 ghost use Rattle.ast.specs.View.{cells, symbol as symbol_of};
 ghost use Rattle.codegen.specs.Headline.{Headline};
 ghost use Rattle.codegen.specs.Program.{IsCompiled};
 ghost use Rattle.machine.specs.CodeView.{code_of};
-ghost use Rattle.processors.specs.Calls.{IsRunOf};
 ghost use Rattle.profile_check.specs.Reads.{Reads};
 ghost use Rattle.replay.specs.Schedules.{SchedText};
-ghost use Rattle.engines.specs.Engines.{LeavesReaders, OfText, outcome_of};
-ghost use Rattle.engines.specs.Running.{LeavesRun, Running, Runs, WhereWanted, WroteRan, WroteStatus};
+ghost use Rattle.engines.specs.Engines.{LeavesReaders, OfText};
+ghost use Rattle.engines.specs.Running.{LeavesRun, Running, Runs, Shows, ShowsRefusal, WhereWanted, WroteRan, WroteStatus};
 ghost use Rattle.engines.specs.Shown.{EndShown};
 ghost use Rattle.engines.specs.View.{rows_from};
 
@@ -45,7 +44,10 @@ fn last_lines(
     program: &Program,
     answer: &Answer,
     store: bool,
-) -> Result<Vec<u8>, AllocError> {
+) -> Result<Vec<u8>, AllocError>
+    requires { length (cells answer.now.store) ≡ length program.now.symbols.items }
+    ensures { IfOk result (λ last. EndShown store (rows_from (cells answer.now.store) 0 (map symbol_of program.now.symbols.items)) answer.now.end last.items) }
+{
     let mut last = Vec::new(alloc);
     let mut rows = rows(alloc, &program.symbols, &answer.store)?;
     append_end(&mut last, answer.end, &mut rows, store)?;
@@ -69,14 +71,21 @@ fn shown(
     program: &Program,
     report: &Report,
     wants: Wants,
-) -> Result<Shown, AllocError> {
+) -> Result<Shown, AllocError>
+    requires { length (cells report.now.answer.store) ≡ length program.now.symbols.items }
+    ensures last { IfOk result (λ shown. EndShown wants.store (rows_from (cells report.now.answer.store) 0 (map symbol_of program.now.symbols.items)) report.now.answer.end shown.last.items) }
+    ensures schedule { IfOk result (λ shown. WhereWanted wants.schedule shown.schedule (SchedText report.now.schedule)) }
+{
     let last = last_lines(alloc, program, &report.answer, wants.store)?;
     let schedule = wanted_text(&report.schedule, wants.schedule)?;
     Ok(Shown { last, schedule })
 }
 
 /// Records, and behind them what follows; the records alone where there is no memory for that.
-fn joined(output: Vec<u8>, last: &[u8]) -> Result<Vec<u8>, Vec<u8>> {
+fn joined(output: Vec<u8>, last: &[u8]) -> Result<Vec<u8>, Vec<u8>>
+    ensures ok { IfOk result (λ text. text.items ≡ output.items ++ last.now) }
+    ensures err { IfErr result (λ text. text.items ≡ output.items) }
+{
     let mut text = output;
     match text.extend_from_slice(last) {
         Ok(()) => Ok(text),
@@ -109,7 +118,10 @@ fn ended(
     report: Report,
     wants: Wants,
     alone: Option<u128>,
-) -> Ran {
+) -> Ran
+    requires { length (cells report.answer.store) ≡ length program.now.symbols.items }
+    ensures { Shows wants (map symbol_of program.now.symbols.items) report.answer report.schedule result }
+{
     let shown = shown(alloc, program, &report, wants);
     let Report {
         answer,
@@ -178,7 +190,9 @@ fn run_code<R: Threads + Wait + Sync>(
 }
 
 /// What comes of a source that is refused.
-fn not_run(alloc: Global, number: u8, line: Line) -> Ran {
+fn not_run(alloc: Global, number: u8, line: Line) -> Ran
+    ensures { ShowsRefusal number line result }
+{
     match refused(alloc, number, line) {
         Ok(page) => Ran::Refused(page),
         Err(_) => Ran::Memory(Vec::new(alloc)),
