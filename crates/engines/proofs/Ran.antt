@@ -46,7 +46,7 @@ pub begins : (tree : ProgramTree) (code : Code) (input : List ℕ) (p s : ℕ) (
 begins tree code input p s output headline o =
     let run = is_run code input o.schedule o.point o.kept o.replays in
     let agrees = headline input o.schedule.processors o.schedule.slots run.0 o.point.machine o.kept.0 run.1 in
-    subst (λ (xs : List ℕ). IsBeginning xs (seq tree input).output) (sym o.is) agrees.beginning
+    subst (λ (xs : List ℕ). IsBeginning xs (seq tree input).output) (sym o.holds) agrees.beginning
 
 -- ---- its store
 

@@ -1,8 +1,8 @@
 -- What belongs to a call of `run`.
-use Rattle.std.specs.Prelude.{◌≡◌, ℕ, List}
+use Rattle.std.specs.Prelude.{◌≡◌, ℕ, List, None}
 use Rattle.ast.specs.declared.answer.Answer.{Answer}
 use Rattle.machine.specs.Code.{Code}
-use Rattle.machine.specs.State.{AreSizes}
+use Rattle.machine.specs.State.{AreSizes, Machine}
 use Rattle.replay.specs.CoreView.{CoreView}
 use Rattle.replay.specs.Replayed.{IsReplay}
 use Rattle.replay.specs.Replays.{Point, Replays}
@@ -25,12 +25,20 @@ pub record IsRunOf (code : Code) (input : List ℕ) (p s : ℕ) (answer : Answer
   pub kept : IsSchedule x
   pub replay : IsReplay code input x answer
 
--- A schedule of so many processors and slots, which can be written, leads to a state with this output.
-pub record IsOutputOf (code : Code) (input : List ℕ) (p s : ℕ) (output : List ℕ) : Type 0 where
+-- A schedule of so many processors and slots, which can be written, leads to a state of which this holds.
+pub record IsStateOf (code : Code) (input : List ℕ) (p s : ℕ) (P : Machine → Type 0) : Type 0 where
   pub schedule : Schedule
   pub processors : schedule.processors ≡ p
   pub slots : schedule.slots ≡ s
   pub kept : IsSchedule schedule
   pub point : Point
   pub replays : Replays code input schedule point
-  pub is : output ≡ point.machine.output
+  pub holds : P point.machine
+
+-- to a state with this output
+abbrev pub IsOutputOf : Code → List ℕ → (p s : ℕ) → (output : List ℕ) → Type 0
+IsOutputOf code input p s output = IsStateOf code input p s (λ m. output ≡ m.output)
+
+-- to one that hasn't ended
+abbrev pub IsUnended : Code → List ℕ → (p s : ℕ) → Type 0
+IsUnended code input p s = IsStateOf code input p s (λ m. m.ended ≡ None)

@@ -101,10 +101,9 @@ fn reported<'c, C: Call>(board: Board<'c, C>) -> Result<Report, RunRefusal>
     ensures err { IfErr result (IsGivenUp C.code C.input C.processors C.slots) }
 {
     match board.standing() {
-        Standing::Going => board.report(),
+        Standing::Going | Standing::Stuck => board.report(),
         Standing::NoMemory => Err(board.out_of_memory()),
         Standing::NotStarted => Err(RunRefusal::Refused { number: 58 }),
-        Standing::Stuck => Err(RunRefusal::Refused { number: 59 }),
     }
 }
 
