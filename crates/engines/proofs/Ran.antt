@@ -22,7 +22,7 @@ use Rattle.replay.proofs.Running.{is_run}
 use Rattle.replay.specs.Replayed.{IsAnswer, stored}
 use Rattle.replay.specs.Schedules.{SchedText, Schedule}
 use Rattle.engines.specs.Engines.{ShowsRun, outcome_of}
-use Rattle.engines.specs.Running.{IsScheduleOf, IsWhole, Running, Runs, Shows, WhereWanted}
+use Rattle.engines.specs.Running.{IsScheduleOf, IsWhole, Running, ComesOf, Shows, WhereWanted}
 use Rattle.engines.specs.Shown.{EndShown, Extends, Row, row_of}
 use Rattle.engines.specs.View.{rows_from}
 use Rattle.engines.specs.declared.given.Wants.{Wants}
@@ -109,15 +109,15 @@ where_wanted false None P Q f h = h
 -- ---- what comes of the run
 
 pub comes_to : (tree : ProgramTree) (code : Code) (input : List ℕ) (w : Wants) (answer : Answer) (x : Schedule) (ran : Ran) → IsCompiled tree code → Headline code tree
-    → IsRunOf code input w.processors w.slots answer x → Shows w tree.symbols answer x ran → Runs tree code input w ran
+    → IsRunOf code input w.processors w.slots answer x → Shows w tree.symbols answer x ran → ComesOf tree code input w ran
 comes_to tree code input w answer x (Came whole) compiled headline r h =
     let ended = ended_so tree code input w.processors w.slots answer x headline r in
     record {
       sizes = r.sizes;
       shown = shown_so w.store tree code input r.replay.point.machine answer whole.page.outcome whole.page.text.items compiled ended r.replay.is h.0 h.1;
       schedule = where_wanted w.schedule whole.schedule (SchedText x) (IsScheduleOf tree code input w.processors w.slots)
-      (λ xs spelled. record { schedule = x; spelled = spelled; processors = r.processors; slots = r.slots; point = r.replay.point; replays = r.replay.replays; ended = ended })
-      h.2;
+          (λ xs spelled. record { schedule = x; spelled = spelled; processors = r.processors; slots = r.slots; point = r.replay.point; replays = r.replay.replays; ended = ended })
+          h.2;
     }
 comes_to tree code input w answer x (Memory output) compiled headline r h =
     let ended = ended_so tree code input w.processors w.slots answer x headline r in
@@ -129,7 +129,7 @@ comes_to tree code input w answer x NotStarted compiled headline r h = absurd h
 comes_to tree code input w answer x Stuck compiled headline r h = absurd h
 
 -- the same of a source that reads as the program
-pub of_source : (source : List ℕ) (tree : ProgramTree) (code : Code) (input : List ℕ) (w : Wants) (ran : Ran) → Reads source tree → IsCompiled tree code → Runs tree code input w ran → Running source input w ran
+pub of_source : (source : List ℕ) (tree : ProgramTree) (code : Code) (input : List ℕ) (w : Wants) (ran : Ran) → Reads source tree → IsCompiled tree code → ComesOf tree code input w ran → Running source input w ran
 of_source source tree code input w (Refused page) reads compiled h = absurd h
 of_source source tree code input w (Came whole) reads compiled h = record { tree = tree; code = code; reads = reads; compiled = compiled; holds = h }
 of_source source tree code input w (Memory output) reads compiled h = inr (record { tree = tree; code = code; reads = reads; compiled = compiled; holds = h })

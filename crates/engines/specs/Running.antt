@@ -75,22 +75,22 @@ IsNoCodeAs source (outcomes.Refused number line) text = IsNoCode source number l
 IsNoCodeAs source _ text = ⊥
 
 -- what a run of code may come to
-abbrev pub Runs : ProgramTree → Code → (input : List ℕ) → Wants → Ran → Type 0
-Runs tree code input w (Refused page) = ⊥
-Runs tree code input w (Came whole) = IsWhole tree code input w whole
-Runs tree code input w (Memory output) = IsBeginning output.items (seq tree input).output
-Runs tree code input w OutOfRange = AreSizes w.processors w.slots → ⊥
-Runs tree code input w NotStarted = AreSizes w.processors w.slots
-Runs tree code input w Stuck = AreSizes w.processors w.slots
+abbrev pub ComesOf : ProgramTree → Code → (input : List ℕ) → Wants → Ran → Type 0
+ComesOf tree code input w (Refused page) = ⊥
+ComesOf tree code input w (Came whole) = IsWhole tree code input w whole
+ComesOf tree code input w (Memory output) = IsBeginning output.items (seq tree input).output
+ComesOf tree code input w OutOfRange = AreSizes w.processors w.slots → ⊥
+ComesOf tree code input w NotStarted = AreSizes w.processors w.slots
+ComesOf tree code input w Stuck = AreSizes w.processors w.slots
 
 -- What `run` may come to with a source: where there is no memory for its code, nothing has gone out.
 abbrev pub Running : (source input : List ℕ) → Wants → Ran → Type 0
 Running source input w (Refused page) = IsNoCodeAs source page.outcome page.text.items
-Running source input w (Came whole) = WithCode source (λ tree code. Runs tree code input w (Came whole))
-Running source input w (Memory output) = (output.items ≡ []) ⊎ WithCode source (λ tree code. Runs tree code input w (Memory output))
-Running source input w OutOfRange = WithCode source (λ tree code. Runs tree code input w OutOfRange)
-Running source input w NotStarted = WithCode source (λ tree code. Runs tree code input w NotStarted)
-Running source input w Stuck = WithCode source (λ tree code. Runs tree code input w Stuck)
+Running source input w (Came whole) = WithCode source (λ tree code. ComesOf tree code input w (Came whole))
+Running source input w (Memory output) = (output.items ≡ []) ⊎ WithCode source (λ tree code. ComesOf tree code input w (Memory output))
+Running source input w OutOfRange = WithCode source (λ tree code. ComesOf tree code input w OutOfRange)
+Running source input w NotStarted = WithCode source (λ tree code. ComesOf tree code input w NotStarted)
+Running source input w Stuck = WithCode source (λ tree code. ComesOf tree code input w Stuck)
 
 -- ---- what is written: the schedule's writer has bytes from `before` to `after`, the other one's from
 -- `old` to `new`

@@ -9,7 +9,7 @@ ghost use Rattle.machine.specs.CodeView.{code_of};
 ghost use Rattle.profile_check.specs.Reads.{Reads};
 ghost use Rattle.replay.specs.Schedules.{SchedText};
 ghost use Rattle.engines.specs.Engines.{LeavesReaders, OfText};
-ghost use Rattle.engines.specs.Running.{LeavesRun, Running, Runs, Shows, ShowsRefusal, WhereWanted, WroteRan, WroteStatus};
+ghost use Rattle.engines.specs.Running.{LeavesRun, Running, ComesOf, Shows, ShowsRefusal, WhereWanted, WroteRan, WroteStatus};
 ghost use Rattle.engines.specs.Shown.{EndShown};
 ghost use Rattle.engines.specs.View.{rows_from};
 
@@ -32,7 +32,7 @@ use std::thread::Threads;
 
 /// What is shown beside the records of a run.
 #[derive(Drop)]
-struct Shown {
+struct Beside {
     /// What follows them.
     last: Vec<u8>,
     schedule: Option<Vec<u8>>,
@@ -66,19 +66,19 @@ fn wanted_text(schedule: &Schedule, wanted: bool) -> Result<Option<Vec<u8>>, All
 }
 
 /// What is shown beside the records of a report.
-fn shown(
+fn beside_records(
     alloc: Global,
     program: &Program,
     report: &Report,
     wants: Wants,
-) -> Result<Shown, AllocError>
+) -> Result<Beside, AllocError>
     requires { length (cells report.now.answer.store) ≡ length program.now.symbols.items }
-    ensures last { IfOk result (λ shown. EndShown wants.store (rows_from (cells report.now.answer.store) 0 (map symbol_of program.now.symbols.items)) report.now.answer.end shown.last.items) }
-    ensures schedule { IfOk result (λ shown. WhereWanted wants.schedule shown.schedule (SchedText report.now.schedule)) }
+    ensures last { IfOk result (λ b. EndShown wants.store (rows_from (cells report.now.answer.store) 0 (map symbol_of program.now.symbols.items)) report.now.answer.end b.last.items) }
+    ensures schedule { IfOk result (λ b. WhereWanted wants.schedule b.schedule (SchedText report.now.schedule)) }
 {
     let last = last_lines(alloc, program, &report.answer, wants.store)?;
     let schedule = wanted_text(&report.schedule, wants.schedule)?;
-    Ok(Shown { last, schedule })
+    Ok(Beside { last, schedule })
 }
 
 /// Records, and behind them what follows; the records alone where there is no memory for that.
@@ -112,17 +112,11 @@ fn alone<R: Threads + Wait + Sync>(
 }
 
 /// What came of a run that has ended: its records are there, also where there is no memory for the rest.
-fn ended(
-    alloc: Global,
-    program: &Program,
-    report: Report,
-    wants: Wants,
-    alone: Option<u128>,
-) -> Ran
+fn ended(alloc: Global, program: &Program, report: Report, wants: Wants, alone: Option<u128>) -> Ran
     requires { length (cells report.answer.store) ≡ length program.now.symbols.items }
     ensures { Shows wants (map symbol_of program.now.symbols.items) report.answer report.schedule result }
 {
-    let shown = shown(alloc, program, &report, wants);
+    let beside = beside_records(alloc, program, &report, wants);
     let Report {
         answer,
         efforts,
@@ -131,7 +125,7 @@ fn ended(
         ..
     } = report;
     let Answer { output, end, .. } = answer;
-    let Ok(Shown { last, schedule }) = shown else {
+    let Ok(Beside { last, schedule }) = beside else {
         return Ran::Memory(output);
     };
     match joined(output, &last) {
@@ -163,7 +157,7 @@ fn run_code<R: Threads + Wait + Sync>(
 ) -> Ran
     requires headline { Headline (code_of code.now) (program_of program.now) }
     requires compiled { IsCompiled (program_of program.now) (code_of code.now) }
-    ensures { Runs (program_of program.now) (code_of code.now) input.now wants result }
+    ensures { ComesOf (program_of program.now) (code_of code.now) input.now wants result }
 {
     match processors::run(
         rt,
