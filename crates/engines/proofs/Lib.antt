@@ -1,7 +1,7 @@
+pub mod Answered
 pub mod Counts
 pub mod Listings
 pub mod Pages
-pub mod Ran
 pub mod Replayed
 pub mod StoreRows
 pub mod Subscripts
