@@ -1,7 +1,9 @@
 -- What comes of a run of code is the sequential program's.
-use Rattle.std.proofs.Common.{◌≡◌, ◌∙◌, ◌⊎◌, ℕ, ℤ, zero, suc, ◌+◌, Bool, true, false, List, [], ◌∷◌, ◌++◌, length, map, Option, Some, None, Vec, inl, inr, ap, refl, subst, sym}
+use Rattle.std.proofs.Common.{◌≡◌, ◌∙◌, ◌⊎◌, ℕ, ℤ, zero, suc, ◌+◌, Bool, true, false, List, [], ◌∷◌, ◌++◌, length, map, Option, Some, None, Result, Ok, Err, Vec, append-nil, inl, inr, ap, refl, subst, sym}
 use Rattle.std.proofs.lemmas.List.{length-map}
+use Rattle.std.specs.Prelude.{⊤}
 use Rattle.std.specs.Global.{Global}
+use Rattle.std.specs.Io.KnownBytes.{IsAtEnd}
 use Rattle.ast.specs.Meaning.{seq}
 use Rattle.ast.specs.Program.{ProgramTree}
 use Rattle.ast.specs.Store.{StoreOf, values_from}
@@ -21,10 +23,13 @@ use Rattle.profile_check.specs.Reads.{Reads}
 use Rattle.replay.proofs.Running.{is_run}
 use Rattle.replay.specs.Replayed.{IsAnswer, stored}
 use Rattle.replay.specs.Schedules.{SchedText, Schedule}
-use Rattle.engines.specs.Engines.{ShowsRun, outcome_of}
-use Rattle.engines.specs.Running.{IsScheduleOf, IsWhole, Running, ComesOf, Shows, WhereWanted}
+use Rattle.engines.specs.Engines.{Gives, LeavesReaders, OfText, ShowsRun, outcome_of, status_of}
+use Rattle.engines.specs.Running.{ComesOf, IsScheduleOf, IsWhole, LeavesRun, Running, Shows, WhereWanted, WritesRan, WritesText, WritesWhole, WroteRan, WroteStatus}
 use Rattle.engines.specs.Shown.{EndShown, Extends, Row, row_of}
 use Rattle.engines.specs.View.{rows_from}
+use Rattle.engines.specs.declared.fault.EngineFault.{EngineFault}
+use Rattle.engines.specs.declared.fault.EngineFault.TheVariants as faults
+use Rattle.engines.specs.declared.given.Given.{Given}
 use Rattle.engines.specs.declared.given.Wants.{Wants}
 use Rattle.engines.specs.declared.outcome.Outcome.{Outcome}
 use Rattle.engines.specs.declared.ran.Ran.{Ran}
@@ -136,3 +141,91 @@ of_source source tree code input w (Memory output) reads compiled h = inr (recor
 of_source source tree code input w OutOfRange reads compiled h = record { tree = tree; code = code; reads = reads; compiled = compiled; holds = h }
 of_source source tree code input w NotStarted reads compiled h = record { tree = tree; code = code; reads = reads; compiled = compiled; holds = h }
 of_source source tree code input w Stuck reads compiled h = record { tree = tree; code = code; reads = reads; compiled = compiled; holds = h }
+
+-- ---- what is written
+
+abbrev IsReaders : EngineFault → Type 0
+IsReaders (faults.Source e) = ⊤
+IsReaders (faults.Input e) = ⊤
+IsReaders (faults.Schedule e) = ⊤
+IsReaders _ = ⊥
+
+-- no fault of a reader comes of writing
+no_text : (text : List ℕ) (o : Outcome) (old new : Option (List ℕ)) (f : EngineFault) → IsReaders f → WritesText text (Ok o) old new (Err f) → ⊥
+no_text text o old new (faults.Source e) is h = let w = h.0 in cc
+no_text text o old new (faults.Input e) is h = let w = h.0 in cc
+no_text text o old new (faults.Schedule e) is h = let w = h.0 in cc
+no_text text o old new (faults.Writing e) is h = is
+no_text text o old new faults.Memory is h = is
+no_text text o old new faults.OutOfRange is h = is
+no_text text o old new faults.NotStarted is h = is
+no_text text o old new faults.Stuck is h = is
+
+no_output : (text : List ℕ) (old new : Option (List ℕ)) (f : EngineFault) → IsReaders f → WritesText text (Err faults.Memory) old new (Err f) → ⊥
+no_output text old new (faults.Source e) is h = let w = h.0 in cc
+no_output text old new (faults.Input e) is h = let w = h.0 in cc
+no_output text old new (faults.Schedule e) is h = let w = h.0 in cc
+no_output text old new (faults.Writing e) is h = is
+no_output text old new faults.Memory is h = is
+no_output text old new faults.OutOfRange is h = is
+no_output text old new faults.NotStarted is h = is
+no_output text old new faults.Stuck is h = is
+
+no_whole : (x : Whole) (before after old new : Option (List ℕ)) (f : EngineFault) → IsReaders f → WritesWhole x before after old new (Err f) → ⊥
+no_whole x before after old new (faults.Source e) is h = h
+no_whole x before after old new (faults.Input e) is h = h
+no_whole x before after old new (faults.Schedule e) is h = h
+no_whole x before after old new (faults.Writing e) is h = is
+no_whole x before after old new faults.Memory is h = is
+no_whole x before after old new faults.OutOfRange is h = is
+no_whole x before after old new faults.NotStarted is h = is
+no_whole x before after old new faults.Stuck is h = is
+
+same_fault : (f g : EngineFault) → Err {A = Outcome} {B = EngineFault} f ≡ Err g → f ≡ g
+same_fault f g h = cc
+
+no_reading : (ran : Ran) (before after old new : Option (List ℕ)) (f : EngineFault) → IsReaders f → WritesRan ran before after old new (Err f) → ⊥
+no_reading (Refused page) before after old new f is h = no_text page.text.items page.outcome old new f is h.1
+no_reading (Came whole) before after old new f is h = no_whole whole before after old new f is h
+no_reading (Memory output) before after old new f is h = no_output output.items old new f is h.1
+no_reading OutOfRange before after old new f is h = subst IsReaders (same_fault f faults.OutOfRange h.0) is
+no_reading NotStarted before after old new f is h = subst IsReaders (same_fault f faults.NotStarted h.0) is
+no_reading Stuck before after old new f is h = subst IsReaders (same_fault f faults.Stuck h.0) is
+
+-- the same of texts that readers gave
+of_two : (source input : Option (List ℕ)) (given : Given) (x y : List ℕ) (P : List ℕ → List ℕ → Type 0) → x ≡ given.source.items → y ≡ given.input.items
+    → Gives source given.source.items × Gives input given.input.items → P x y → OfText source (λ text. OfText input (λ g. P text g))
+of_two source input given x y P first second are holds = (x, subst (Gives source) (sym first) are.0, (y, subst (Gives input) (sym second) are.1, holds))
+
+pub run_ok : (source input : Option (List ℕ)) (given : Given) (x y : List ℕ) (w : Wants) (ran : Ran) (before after old new : Option (List ℕ)) (outcome : Outcome) (status : ℕ) → x ≡ given.source.items → y ≡ given.input.items
+    → Gives source given.source.items × Gives input given.input.items → Running x y w ran → WritesRan ran before after old new (Ok outcome) → status ≡ status_of outcome
+    → OfText source (λ text. OfText input (λ g. WroteStatus (Running text g w) before after old new status))
+run_ok source input given x y w ran before after old new outcome status first second are allowed written is =
+    of_two source input given x y (λ text g. WroteStatus (Running text g w) before after old new status) first second are
+    (outcome, (is, record { ran = ran; allowed = allowed; written = written }))
+
+pub run_err : (source input : Option (List ℕ)) (given : Given) (x y : List ℕ) (w : Wants) (ran : Ran) (before after old new : Option (List ℕ)) (f : EngineFault) → x ≡ given.source.items → y ≡ given.input.items
+    → Gives source given.source.items × Gives input given.input.items → Running x y w ran → WritesRan ran before after old new (Err f)
+    → LeavesRun f before after old new (OfText source (λ text. OfText input (λ g. WroteRan (Running text g w) before after old new (Err f))))
+run_err source input given x y w ran before after old new f first second are allowed written = by_fault f (no_reading ran before after old new f) written
+  where
+    by_fault : (f : EngineFault) → (IsReaders f → WritesRan ran before after old new (Err f) → ⊥) → WritesRan ran before after old new (Err f)
+        → LeavesRun f before after old new (OfText source (λ text. OfText input (λ g. WroteRan (Running text g w) before after old new (Err f))))
+    by_fault (faults.Source e) no h = absurd (no tt h)
+    by_fault (faults.Input e) no h = absurd (no tt h)
+    by_fault (faults.Schedule e) no h = absurd (no tt h)
+    by_fault (faults.Writing e) no h = of_two source input given x y (λ text g. WroteRan (Running text g w) before after old new (Err (faults.Writing e))) first second are (record { ran = ran; allowed = allowed; written = h })
+    by_fault faults.Memory no h = inr (of_two source input given x y (λ text g. WroteRan (Running text g w) before after old new (Err faults.Memory)) first second are (record { ran = ran; allowed = allowed; written = h }))
+    by_fault faults.OutOfRange no h = of_two source input given x y (λ text g. WroteRan (Running text g w) before after old new (Err faults.OutOfRange)) first second are (record { ran = ran; allowed = allowed; written = h })
+    by_fault faults.NotStarted no h = of_two source input given x y (λ text g. WroteRan (Running text g w) before after old new (Err faults.NotStarted)) first second are (record { ran = ran; allowed = allowed; written = h })
+    by_fault faults.Stuck no h = of_two source input given x y (λ text g. WroteRan (Running text g w) before after old new (Err faults.Stuck)) first second are (record { ran = ran; allowed = allowed; written = h })
+
+pub run_readers : (ran : Ran) (before after old new source i j : Option (List ℕ)) (f : EngineFault) → WritesRan ran before after old new (Err f) → IsAtEnd source → IsAtEnd j → LeavesReaders f source i j
+run_readers ran before after old new source i j (faults.Source e) h s t = absurd (no_reading ran before after old new (faults.Source e) tt h)
+run_readers ran before after old new source i j (faults.Input e) h s t = s
+run_readers ran before after old new source i j (faults.Schedule e) h s t = absurd (no_reading ran before after old new (faults.Schedule e) tt h)
+run_readers ran before after old new source i j (faults.Writing e) h s t = (s, t)
+run_readers ran before after old new source i j faults.Memory h s t = tt
+run_readers ran before after old new source i j faults.OutOfRange h s t = (s, t)
+run_readers ran before after old new source i j faults.NotStarted h s t = (s, t)
+run_readers ran before after old new source i j faults.Stuck h s t = (s, t)
