@@ -106,6 +106,10 @@ room_law t m n r e f g h =
     let j = le-max_right (block_room (plain_block t.block)) (block_loops (plain_block t.block)) in
     (e ∙ short_is (block_room (plain_block t.block)) (omega (arith, i, k)), f ∙ short_is (block_loops (plain_block t.block)) (omega (arith, j, k)))
 
+-- which is then less than the greatest of them
+pub little_room : (t : ProgramTree) (r : ℕ) → r ≡ short (room_of t) → r < 2 ^ 32 - 1 → room_of t < most_room
+little_room t r e h = let k = short_below (room_of t) (omega (arith, e, h)) in let s = short_is (room_of t) k in omega (arith, e, h, s)
+
 -- and where they don't, there is more
 pub much_room : (t : ProgramTree) (r : ℕ) → r ≡ short (room_of t) → r ≡ 2 ^ 32 - 1 → most_room ≤ room_of t
 much_room t r e f = by (nat_lt (room_of t) (2 ^ 32)) refl (sym f ∙ e)
@@ -170,7 +174,7 @@ module _ (p : Program) (reports : List LoopReport) (code : Code) (is : IsMade p 
   pub carried_law : Carried code (program_of p)
   carried_law = carried (program_of p) (opened_of (program_of p) reports) none_such code w p.distinct p.sized p.placed p.numbered p.fitting (λ n h. (known n h).among) opens
 
-  pub states_law : AreAsAlone code (opened_of (program_of p) reports)
+  pub states_law : AreAsAlone (program_of p) code (opened_of (program_of p) reports)
   states_law = states (program_of p) (opened_of (program_of p) reports) none_such code w p.distinct p.sized p.placed p.numbered p.fitting (λ n h. (known n h).among) opens
 
   pub awaits_law : AreAwaitsKept (opened_of (program_of p) reports)

@@ -45,6 +45,7 @@ pub mod OpenedReports
 pub mod Opening
 pub mod Outcomes
 pub mod OwnBefore
+pub mod OwnFates
 pub mod OwnRun
 pub mod PlanPaths
 pub mod PlanPieces

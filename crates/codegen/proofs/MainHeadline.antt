@@ -1,5 +1,5 @@
 -- The headline, and how long runs are, for code that may open loops.
-use Rattle.std.proofs.Common.{◌≡◌, ◌∙◌, ◌*◌, ◌+◌, ◌≤◌, ◌<◌, ◌^◌, ◌⊎◌, inl, inr, ℕ, ℤ, pos, Bool, true, List, [], ◌++◌, Option, Some, None, refl, sym, ap, subst, arith, length-append}
+use Rattle.std.proofs.Common.{◌≡◌, ◌∙◌, ◌*◌, ◌+◌, ◌≤◌, ◌<◌, ◌^◌, ◌⊎◌, inl, inr, ⊎_elim, ℕ, ℤ, pos, Bool, true, List, [], ◌++◌, Option, Some, None, refl, sym, ap, subst, arith, length-append}
 use Rattle.std.specs.Prelude.{length, slice_get}
 use Rattle.std.specs.List.{IsDistinct}
 use Rattle.ast.specs.Input.{records_of}
@@ -15,15 +15,15 @@ use Rattle.dependence.specs.Plan.{PlanBlock}
 use Rattle.machine.specs.Code.{Code, Cell}
 use Rattle.machine.specs.Frame.{Frame}
 use Rattle.machine.specs.Solo.{Solo}
-use Rattle.machine.specs.State.{Machine, AreSizes, CodeRun, Init}
-use Rattle.machine.specs.View.{Input, begin, main_frame, trips_of, view}
+use Rattle.machine.specs.State.{Machine, AreSizes, CodeRun, Init, end_of}
+use Rattle.machine.specs.View.{Cause, Input, begin, main_frame, stop_at, failure, trips_of, view}
 use Rattle.machine.specs.declared.code.Open.{Open as Opened}
 use Rattle.machine.specs.declared.instr.Act.TheVariants as acts
 use Rattle.expr_code.specs.Emitted.{instr}
 use Rattle.expr_code.specs.Places.{Places}
 use Rattle.expr_code.proofs.Standing.{HasAt, at, seen}
 use Rattle.codegen.specs.Emitted.{block_awaits, block_code, block_records}
-use Rattle.codegen.specs.Alone.{Before}
+use Rattle.codegen.specs.Alone.{AllRetire, Before, BreaksOff}
 use Rattle.codegen.specs.Headline.{Headline, IsBeginning}
 use Rattle.codegen.specs.Plain.{plain_block}
 use Rattle.codegen.specs.Process.{block_into}
@@ -36,12 +36,13 @@ use Rattle.codegen.proofs.Blocks.{BlockReaches, HasList, block_runs}
 use Rattle.codegen.proofs.MainStanding.{Goes, Opens, main_does}
 use Rattle.codegen.proofs.MainSteps.{Valid, main_acts, main_doing, meant}
 use Rattle.codegen.proofs.Meaning.{going_told, then_told}
-use Rattle.codegen.proofs.Outcomes.{Outcome, done, text_of, told, told_by}
+use Rattle.codegen.proofs.Outcomes.{Outcome, done, failed, text_of, told, told_by}
 use Rattle.codegen.proofs.ProgramBound.{alone_takes, bounded as most_steps, carried as to_end, exactly, weighed}
 use Rattle.codegen.proofs.ProgramClaims.{Claims, claimed}
 use Rattle.codegen.proofs.IterationSteps.{Process, after}
 use Rattle.codegen.proofs.LoopRuns.{reached}
 use Rattle.codegen.proofs.OwnBefore.{stands_alone}
+use Rattle.codegen.proofs.OwnFates.{fails_so, fates as fates_of}
 use Rattle.codegen.proofs.ProgramGoes.{lowest_reached}
 use Rattle.codegen.proofs.ProgramStanding.{Between, Final, Ghost, Good, Loops, Within, between, inner, within}
 use Rattle.codegen.proofs.ProgramSteps.{Here, Main, halt, whole}
@@ -68,6 +69,11 @@ module _ (m : Machine) (run : Run) where
       let t : l ≡ j = cc in
       let o : run.output ≡ m.output = cc in
       (ap (λ (x : Fault). Faulted x j) (sym s) ∙ ap (λ (x : ℕ). Faulted k x) (sym t) ∙ sym h, sym o, λ z. cc)
+
+  fails_by : (d : End) (b : Cause) (o : List ℕ) → told_by d run ≡ failed b o → d ≡ end_of b
+  fails_by Done b o h = cc
+  fails_by (Stopped l) b o h = let s : stop_at l ≡ b = cc in ap end_of s
+  fails_by (Faulted k l) b o h = let s : failure k l ≡ b = cc in ap end_of s
 
   text_by : (d : End) → text_of (told_by d run) ≡ run.output
   text_by Done = refl
@@ -217,7 +223,17 @@ module _ (code : Code) (may : ℕ → ℤ → ℤ → Bool) (places : ℕ → Pl
         let k : SameMain Frame Opened (view code) trips_of (begin code) m b.other = b.like in
         record { other = b.other; alone = b.comes; loop = k.loop; main = k.main; store = λ name place. ap (λ (σ : StoreOf). σ name place) k.store; unread = k.unread; output = k.output; ended = k.ended }
 
-    inside_so : (l : Opened) (ι : StoreOf) (past : ℕ → List ℤ) (before : List ℕ) (ys : List (Cell × ℤ)) (M : Main Opened) → G (within l ι past before ys M) m → B (within l ι past before ys M) m → IsWithin code xs input l m
+    -- of the first iterations of an open loop all retire, or one breaks off, as the program does
+    fates_so : (l : Opened) (ι : StoreOf) (past : ℕ → List ℤ) (before : List ℕ) (ys : List (Cell × ℤ)) (M : Main Opened) → G (within l ι past before ys M) m → (n : ℕ) → n ≤ l.trips
+        → AllRetire Frame Opened (view code) (begin code) l n ι ⊎ ((b : Cause) × BreaksOff Frame Opened (view code) (begin code) l n ι b × ((seq program input).end ≡ end_of b))
+    fates_so l ι past before ys M good n le =
+        ⊎_elim (λ h. inl h)
+        (λ h.
+        let o = fails_so Frame Opened (view code) trips_of (begin code) Hidden Fixed Named (starts code may places bodies fixed) (Valid code may) p loops at_first (told (seq program input)) l ι past before ys M m good means_so h.2 h.0 h.3 in
+        inr (h.0, h.1, fails_by m (seq program input) (seq program input).end h.0 o.0 o.1))
+        (fates_of Frame Opened (view code) trips_of (begin code) Hidden Fixed Named (starts code may places bodies fixed) (Valid code may) p loops at_first (told (seq program input)) l ι past before ys M m good n le)
+
+    inside_so : (l : Opened) (ι : StoreOf) (past : ℕ → List ℤ) (before : List ℕ) (ys : List (Cell × ℤ)) (M : Main Opened) → G (within l ι past before ys M) m → B (within l ι past before ys M) m → IsWithin program code xs input l m
     inside_so l ι past before ys M good b =
         let W : Within Frame Opened (view code) trips_of (begin code) Hidden Fixed (starts code may places bodies fixed) (Valid code may) p at_first (told (seq program input)) l ι past before ys M m = good.kept in
         let k : AtOpening Frame Opened (view code) trips_of (begin code) Hidden Fixed Named (starts code may places bodies fixed) (Valid code may) loops at_first (told (seq program input)) means_so l ι before m b.other = b.like in
@@ -229,6 +245,7 @@ module _ (code : Code) (may : ℕ → ℤ → ℤ → Bool) (places : ℕ → Pl
           first = k.first;
           main = k.main;
           unread = k.unread;
+          fates = λ n le. subst (λ (τ : StoreOf). AllRetire Frame Opened (view code) (begin code) l n τ ⊎ ((b : Cause) × BreaksOff Frame Opened (view code) (begin code) l n τ b × ((seq program input).end ≡ end_of b))) (sym k.store) (fates_so l ι past before ys M good n le);
           iterations = λ i a σ open_so h.
               let st = stands_alone Frame Opened (view code) trips_of (begin code) Hidden Fixed Named (starts code may places bodies fixed) (Valid code may) p loops at_first (told (seq program input)) l ι past before ys M m good i a σ open_so (subst (λ (τ : StoreOf). Before Frame Opened (view code) (begin code) l i 0 τ σ) k.store h) in
               record { steps = st.steps; own = st.own; is = st.is; frame = st.frame; out = st.out; loads = st.loads };
@@ -236,7 +253,7 @@ module _ (code : Code) (may : ℕ → ℤ → ℤ → Bool) (places : ℕ → Pl
           counts = λ x e d at named. reached (starts code may places bodies fixed l ι) l.trips (Named l) (loops.plan l W.valid ι) ι (inner m past) W.inv e (names l x e d at named);
         }
 
-    all_so : (g : Ghost Opened) → G g m → B g m → AsAlone code xs input m
+    all_so : (g : Ghost Opened) → G g m → B g m → AsAlone program code xs input m
     all_so (between M) good b =
         let W : Between Frame Opened (view code) trips_of (begin code) Hidden Fixed (starts code may places bodies fixed) (Valid code may) p at_first (told (seq program input)) M m = good.kept in
         record { outside = λ e. outside_so M good b; inside = λ l e. let a : None ≡ Some l = sym W.loop ∙ e in absurd cc }
@@ -244,10 +261,10 @@ module _ (code : Code) (may : ℕ → ℤ → ℤ → Bool) (places : ℕ → Pl
         let W : Within Frame Opened (view code) trips_of (begin code) Hidden Fixed (starts code may places bodies fixed) (Valid code may) p at_first (told (seq program input)) l ι past before ys M m = good.kept in
         record {
           outside = λ e. let a : None ≡ Some l = sym e ∙ W.loop in absurd cc;
-          inside = λ k e. let a : Some l ≡ Some k = sym W.loop ∙ e in let is : l ≡ k = cc in subst (λ (j : Opened). IsWithin code xs input j m) is (inside_so l ι past before ys M good b);
+          inside = λ k e. let a : Some l ≡ Some k = sym W.loop ∙ e in let is : l ≡ k = cc in subst (λ (j : Opened). IsWithin program code xs input j m) is (inside_so l ι past before ys M good b);
         }
 
-  pub as_alone : (xs : List Planned) → ((l : Opened) (x : Planned) (e d : ℕ) → slice_get xs l.number ≡ Some x → Names x.plan e d → Named l e) → AreAsAlone code xs
+  pub as_alone : (xs : List Planned) → ((l : Opened) (x : Planned) (e d : ℕ) → slice_get xs l.number ≡ Some x → Names x.plan e d → Named l e) → AreAsAlone program code xs
   as_alone xs names input p s qs m sizes run =
       let b =
       beside Frame Opened (view code) trips_of (begin code) Hidden Fixed Named (starts code may places bodies fixed) (Valid code may) loops (main code may places bodies fixed opens Hidden Fixed Named loops program compiled input) (main_frame code) input (told (seq program input))

@@ -322,5 +322,5 @@ module _ (t : ProgramTree) (xs : List Planned) (some : Planned) (code : Code) (w
     it_is_carried input w solo p s qs m sizes fine run = carried code may places bodies fixed (opened_by xs) (HiddenIn code source places bodies fixed named Stands (held_by t.symbols) (Valid code may)) (FixedIn code source places bodies fixed named Stands (held_by t.symbols) (Valid code may)) (NamedIn code source places bodies fixed named Stands (held_by t.symbols) (Valid code may)) loops t compiled input w solo p s qs m sizes fine run
 
     -- every state of every run is as those of the run alone
-    pub it_is_as_alone : ((l : Opened) (x : Planned) (e d : ℕ) → slice_get xs l.number ≡ Some x → Names x.plan e d → named l.number e) → AreAsAlone code xs
+    pub it_is_as_alone : ((l : Opened) (x : Planned) (e d : ℕ) → slice_get xs l.number ≡ Some x → Names x.plan e d → named l.number e) → AreAsAlone t code xs
     it_is_as_alone names = as_alone code may places bodies fixed (opened_by xs) (HiddenIn code source places bodies fixed named Stands (held_by t.symbols) (Valid code may)) (FixedIn code source places bodies fixed named Stands (held_by t.symbols) (Valid code may)) (NamedIn code source places bodies fixed named Stands (held_by t.symbols) (Valid code may)) loops t compiled xs names

@@ -20,7 +20,7 @@ module _ (F L : Type 0) (view : F → View F L) where
   stays (suc n) x e = ap (own_after F L view n) e ∙ stays n x e
 
   module _ (Hidden Fixed : Cell → Type 0) (opened : StoreOf) where
-    abbrev St : Process → F → Type 0
+    abbrev pub St : Process → F → Type 0
     St P f = Stands F L view Hidden Fixed opened P f
 
     -- what is known of an iteration's process, whatever is read
@@ -30,10 +30,10 @@ module _ (F L : Type 0) (view : F → View F L) where
       pub left : (ws : List ℤ) (xs : List (Cell × ℤ)) → after P ws ≡ leave xs → (c : Cell) → IsKey c xs → Fixed c → ⊥
       pub lasts : (ws : List ℤ) → after P ws ≡ gone → HasLeft (acts P ws)
 
-    abbrev Agrees : StoreOf → Type 0
+    abbrev pub Agrees : StoreOf → Type 0
     Agrees σ = (c : Cell) → Fixed c → cell_value σ c ≡ cell_value opened c
 
-    abbrev from : F → StoreOf → List ℕ → Own F
+    abbrev pub from : F → StoreOf → List ℕ → Own F
     from f σ o = record { frame = f; store = σ; out = o }
 
     -- it retires, and leaves this store
@@ -42,10 +42,10 @@ module _ (F L : Type 0) (view : F → View F L) where
       pub end : (run P σ).end ≡ τ
       pub agrees : Agrees τ
 
-    next : (n : ℕ) (f : F) (σ : StoreOf) (o : List ℕ) (V : View F L) → view f ≡ V → own_after F L view (suc n) (from f σ o) ≡ own_after F L view n (own_by F L view V (from f σ o))
+    pub next : (n : ℕ) (f : F) (σ : StoreOf) (o : List ℕ) (V : View F L) → view f ≡ V → own_after F L view (suc n) (from f σ o) ≡ own_after F L view n (own_by F L view V (from f σ o))
     next n f σ o V e = ap (λ (U : View F L). own_after F L view n (own_by F L view U (from f σ o))) e
 
-    abbrev Ends : Own F → List (Cell × ℤ) → Type 0
+    abbrev pub Ends : Own F → List (Cell × ℤ) → Type 0
     Ends x xs = view x.frame ≡ leaving xs
 
     -- the same of an own run that is another
@@ -125,10 +125,10 @@ module _ (F L : Type 0) (view : F → View F L) where
 module _ (F L : Type 0) (view : F → View F L) (trips : L → ℕ) (begin : L → ℕ → F) (Hidden Fixed : L → Cell → Type 0) (Named : L → ℕ → Type 0) (start : L → StoreOf → ℕ → Process) (Valid : L → Type 0) (p : ℕ)
     (loops : Loops F L view trips begin Hidden Fixed Named start Valid) (origin : Here L) (answer : Outcome) (l : L) (ι : StoreOf) (past : ℕ → List ℤ) (before : List ℕ) (xs : List (Cell × ℤ)) (M : Main L) (m : State F L)
     (good : Good F L view trips begin Hidden Fixed start Valid p origin answer (within l ι past before xs M) m) where
-  abbrev W : Within F L view trips begin Hidden Fixed start Valid p origin answer l ι past before xs M m
+  abbrev pub W : Within F L view trips begin Hidden Fixed start Valid p origin answer l ι past before xs M m
   W = good.kept
 
-  safe : (j : ℕ) → Safe F L view (Hidden l) (Fixed l) ι (start l ι j)
+  pub safe : (j : ℕ) → Safe F L view (Hidden l) (Fixed l) ι (start l ι j)
   safe j = record {
     never = λ ws c ld h. loops.never l W.valid ι j ws c ld h;
     free = λ ws c sd h. loops.free_store l W.valid ι j ws c sd h;
@@ -136,7 +136,7 @@ module _ (F L : Type 0) (view : F → View F L) (trips : L → ℕ) (begin : L �
     lasts = λ ws e. (loops.plan l W.valid ι).lasts j ws e;
   }
 
-  abbrev Keeps : StoreOf → Type 0
+  abbrev pub Keeps : StoreOf → Type 0
   Keeps σ = (c : Cell) → Fixed l c → cell_value σ c ≡ cell_value ι c
 
   goes_on : (bad : Option Cause) (vs : List ℤ) (υ : StoreOf) (next : StoreOf → Whole) (ρ τ : StoreOf) → bad ≡ None → υ ≡ ρ → (ls : List (List ℤ)) × (next ρ ≡ went ls τ) → (ls : List (List ℤ)) × (going bad vs υ next ≡ went ls τ)

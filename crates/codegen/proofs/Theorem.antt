@@ -195,7 +195,7 @@ module _ (t : ProgramTree) (xs : List Planned) (some : Planned) (code : Code) (w
   carried input = it_is_carried t xs some code w named facts input
 
   -- every state of every run is as those of the run alone
-  pub states : AreAsAlone code xs
+  pub states : AreAsAlone t code xs
   states = it_is_as_alone t xs some code w named facts (λ l x e d at h. (d, subst (λ (y : Planned). Names y.plan e d) (sym (is_nth xs l.number x at)) h))
     where
       is_nth : (ys : List Planned) (n : ℕ) (x : Planned) → slice_get ys n ≡ Some x → get_or ys n some ≡ x

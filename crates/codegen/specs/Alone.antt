@@ -1,10 +1,10 @@
 -- What goes alone: the run with one processor and one open iteration, and, within a loop, an iteration on
 -- the store that those before it have left. States of other runs are compared with these.
-use Rattle.std.specs.Prelude.{◌≡◌, ℕ, zero, suc, ℤ, List, [], ◌++◌}
+use Rattle.std.specs.Prelude.{◌≡◌, ◌<◌, ℕ, zero, suc, ℤ, List, [], ◌++◌}
 use Rattle.ast.specs.Store.{StoreOf}
 use Rattle.machine.specs.Code.{Code, Cell}
 use Rattle.machine.specs.State.{Machine, CodeRun, Init, put_cell, put_cells}
-use Rattle.machine.specs.View.{View, doing, loading, storing, printing, awaiting, advancing, leaving}
+use Rattle.machine.specs.View.{Cause, View, doing, loading, storing, printing, awaiting, advancing, leaving, breaking}
 
 -- the run alone comes to this state
 abbrev pub Alone : Code → List ℕ → Machine → Type 0
@@ -44,3 +44,13 @@ module _ (F L : Type 0) (view : F → View F L) where
     Before (suc n) j σ τ =
         (i : ℕ) × (xs : List (Cell × ℤ)) × (view (own_after i (begun j σ)).frame ≡ leaving xs)
         × Before n (suc j) (put_cells (own_after i (begun j σ)).store xs) τ
+
+    -- all of the first n do, from this store on
+    abbrev pub AllRetire : ℕ → StoreOf → Type 0
+    AllRetire n σ = (τ : StoreOf) × Before n 0 σ τ
+
+    -- One of the first n faults or stops, for this cause, once those before it have retired.
+    abbrev pub BreaksOff : ℕ → StoreOf → Cause → Type 0
+    BreaksOff n σ b =
+        (j : ℕ) × (j < n) × (τ : StoreOf) × Before j 0 σ τ
+        × (i : ℕ) × (view (own_after i (begun j τ)).frame ≡ breaking b)

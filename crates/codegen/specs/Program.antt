@@ -175,6 +175,7 @@ pub record IsCodeOf (t : ProgramTree) (xs : List Planned) (code : Code) : Type 0
   pub counters : code.counters ≡ block_loops (plain_block t.block)
   pub few : length (all_code t xs) ≤ most_instructions
   pub few_symbols : length t.symbols ≤ most_symbols
+  pub few_room : room_of t < most_room
 
 -- the code of a program, with the loops opened that may be
 abbrev pub IsCompiled : ProgramTree → Code → Type 0

@@ -13,7 +13,7 @@ IsOpened t c = IsCodeOf t (opened_of t c.reports.items) (code_of c.code)
 
 -- every state of every run stands where the run alone stands
 abbrev pub StatesAreAlone : ProgramTree → Compiled → Type 0
-StatesAreAlone t c = AreAsAlone (code_of c.code) (opened_of t c.reports.items)
+StatesAreAlone t c = AreAsAlone t (code_of c.code) (opened_of t c.reports.items)
 
 -- its awaits are order awaits, and those of what is kept
 abbrev pub AwaitsAreKept : ProgramTree → Compiled → Type 0

@@ -14,7 +14,7 @@ use Rattle.codegen.specs.Program.{IsCodeOf, most_instructions, most_symbols, ope
 use Rattle.codegen.specs.Records.{records_of}
 use Rattle.codegen.specs.Reports.{planned_in}
 use Rattle.codegen.specs.Room.{block_loops, block_room}
-use Rattle.codegen.proofs.Compiling.{distinct_law, much_room, none_refused, not_full, room_law}
+use Rattle.codegen.proofs.Compiling.{distinct_law, little_room, much_room, none_refused, not_full, room_law}
 use Rattle.codegen.proofs.RangesMade.{made_with}
 use Rattle.codegen.proofs.programs.whole.Goals.{then-len-gt-MOST_INSTRUCTIONS-via-then-len-gt-MOST_INSTRUCTIONS, then-len-gt-MOST_INSTRUCTIONS-via-else-len-gt-MOST_INSTRUCTIONS+then-len-gt-MOST_SYMBOLS, then-len-gt-MOST_INSTRUCTIONS-via-else-len-gt-MOST_INSTRUCTIONS+else-len-gt-MOST_SYMBOLS+then-room}
 use Rattle.codegen.proofs.programs.whole.Goals as goal
@@ -81,6 +81,7 @@ returns-in-Some-clause-code c =
       counters = rooms.1;
       few = subst (λ is. length is ≤ most_instructions) instructions short_enough;
       few_symbols = few_symbols;
+      few_room = little_room t c.greater-room.result room less;
     })
 
 pub returns-in-None-clause-refused : goal.returns-in-None-clause-refused
