@@ -1,5 +1,5 @@
 -- What comes of a run of code is the sequential program's.
-use Rattle.std.proofs.Common.{◌≡◌, ◌∙◌, ◌⊎◌, ℕ, ℤ, zero, suc, ◌+◌, Bool, true, false, List, [], ◌∷◌, ◌++◌, length, map, Option, Some, None, Result, Ok, Err, Vec, append-nil, inl, inr, ap, refl, subst, sym}
+use Rattle.std.proofs.Common.{◌≡◌, ◌∙◌, ◌⊎◌, ℕ, ℤ, zero, suc, ◌+◌, Bool, true, false, List, [], ◌∷◌, ◌++◌, length, map, Option, Some, None, Result, Ok, Err, Vec, append-nil, arith, inl, inr, ap, refl, subst, sym}
 use Rattle.std.proofs.lemmas.List.{length-map}
 use Rattle.std.specs.Prelude.{⊤}
 use Rattle.std.specs.Global.{Global}
@@ -19,6 +19,8 @@ use Rattle.machine.specs.Code.{Code}
 use Rattle.machine.specs.State.{AreSizes, Ended, Machine}
 use Rattle.machine.specs.declared.code.Variable.{Variable}
 use Rattle.processors.specs.Calls.{IsOutputOf, IsRunOf}
+use Rattle.processors.specs.Refused.{IsRefused}
+use Rattle.processors.specs.declared.report.RunRefusal.TheVariants as runs
 use Rattle.profile_check.specs.Reads.{Reads}
 use Rattle.replay.proofs.Running.{is_run}
 use Rattle.replay.specs.Replayed.{IsAnswer, stored}
@@ -229,3 +231,18 @@ run_readers ran before after old new source i j faults.Memory h s t = tt
 run_readers ran before after old new source i j faults.OutOfRange h s t = (s, t)
 run_readers ran before after old new source i j faults.NotStarted h s t = (s, t)
 run_readers ran before after old new source i j faults.Stuck h s t = (s, t)
+
+-- ---- why there is no report
+
+pub out_of_range : (code : Code) (input : List ℕ) (p s : ℕ) → IsRefused code input p s (runs.Refused 57) → AreSizes p s → ⊥
+out_of_range code input p s (inl h) sizes = h.1 sizes
+out_of_range code input p s (inr (in_range, inl h)) sizes = omega arith
+out_of_range code input p s (inr (in_range, inr h)) sizes = let bad : 57 ≡ 59 = h.0 in omega arith
+
+pub in_range : (code : Code) (input : List ℕ) (p s n : ℕ) → (n ≡ 57 → ⊥) → IsRefused code input p s (runs.Refused n) → AreSizes p s
+in_range code input p s n other (inl h) = absurd (other h.0)
+in_range code input p s n other (inr h) = h.0
+
+pub gone_out : (tree : ProgramTree) (code : Code) (input : List ℕ) (p s : ℕ) (output : Vec ℕ Global) → Headline code tree → IsRefused code input p s (runs.Memory output) → IsBeginning output.items (seq tree input).output
+gone_out tree code input p s output headline (inl h) = absurd h
+gone_out tree code input p s output headline (inr h) = begins tree code input p s output.items headline h.1

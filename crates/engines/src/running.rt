@@ -98,13 +98,17 @@ fn weighed(tally: Tally) -> u128 {
     tally.made.saturating_sub(tally.again)
 }
 
-/// How many steps code takes with one processor and one open iteration.
+/// How many steps code takes with one processor and one open iteration, where that is wanted.
 fn alone<R: Threads + Wait + Sync>(
     rt: &R,
     alloc: Global,
     code: &Code,
     input: &[u8],
+    wanted: bool,
 ) -> Option<u128> {
+    if !wanted {
+        return None;
+    }
     match processors::run(rt, alloc, code, input, 1, 1, &NoGate) {
         Ok(report) => Some(weighed(report.tally)),
         Err(_) => None,
@@ -169,11 +173,7 @@ fn run_code<R: Threads + Wait + Sync>(
         &NoGate,
     ) {
         Ok(report) => {
-            let alone = if wants.tally {
-                alone(rt, alloc, code, input)
-            } else {
-                None
-            };
+            let alone = alone(rt, alloc, code, input, wants.tally);
             ended(alloc, program, report, wants, alone)
         }
         Err(RunRefusal::Memory { output }) => Ran::Memory(output),
