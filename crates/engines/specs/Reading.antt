@@ -38,7 +38,7 @@ IsReading Memory = ⊤
 IsReading _ = ⊥
 
 -- what comes after the read of a text: where that failed its fault, and otherwise what is made of its bytes
-abbrev pub AfterText : Result (Vec ℕ Global) ReadFault → (ReadFault → EngineFault) → Result Texts EngineFault → (List ℕ → Type 0) → Type 0
+abbrev pub AfterText : {X : Type 0} → Result (Vec ℕ Global) ReadFault → (ReadFault → EngineFault) → Result X EngineFault → (List ℕ → Type 0) → Type 0
 AfterText (Err fault) comes_to result made = result ≡ Err (comes_to fault)
 AfterText (Ok bytes) comes_to result made = made bytes.items
 

@@ -1,9 +1,9 @@
 //! What came of a run, and how it is written.
 
-ghost use Rattle.std.specs.Prelude.{◌≡◌, ◌++◌, IfOk, IfErr, OnOk, OnErr};
-ghost use Rattle.std.specs.Io.KnownBytes.{Appends};
-ghost use Rattle.engines.specs.Engines.{AppendsPart, IsWriting};
-ghost use Rattle.engines.specs.Running.{Grows, GrowsPart, text_of};
+ghost use Rattle.std.specs.Prelude.{◌≡◌, Err, IfErr, OnOk};
+ghost use Rattle.engines.specs.Engines.{IsWriting};
+ghost use Rattle.engines.specs.Running.{Grows, GrowsPart, WritesText, text_of};
+ghost use Rattle.engines.specs.declared.fault.EngineFault.TheVariants as faults;
 
 use crate::fault::EngineFault;
 use crate::figures::Figures;
@@ -53,7 +53,9 @@ fn write_schedule<S: Write>(schedule: &mut S, text: &Option<Vec<u8>>) -> Result<
 }
 
 /// Writes the records of a run that was given up.
-fn write_output<W: Write>(out: &mut W, output: &[u8]) -> Result<Outcome, EngineFault> {
+fn write_output<W: Write>(out: &mut W, output: &[u8]) -> Result<Outcome, EngineFault>
+    ensures { WritesText output.now (Err faults.Memory) (W.contents out.old) (W.contents out.new) result }
+{
     match write_all(out, output) {
         Ok(()) => Err(EngineFault::Memory),
         Err(error) => Err(EngineFault::Writing(error)),
