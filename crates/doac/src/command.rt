@@ -148,7 +148,7 @@ fn named<'a>(name: &str, given: &ArgMatches<'a>) -> Result<Command<'a>, LineFaul
         "check" => checking(given),
         "list" => listing(given),
         "seq" => running(given),
-        "run" => threaded(given),
+        "run" => threading(given),
         "replay" => replaying(given),
         "upgrade" => upgrading(given),
         "explain" => explaining(given),
@@ -216,7 +216,7 @@ fn size(given: Option<&str>, default: u64) -> Result<u64, LineFault>
     }
 }
 
-fn threaded<'a>(given: &ArgMatches<'a>) -> Result<Command<'a>, LineFault>
+fn threading<'a>(given: &ArgMatches<'a>) -> Result<Command<'a>, LineFault>
     ensures found { IfOk result (Holds (codes "run") (rows_of (found_of given.now))) }
     ensures refused { IfErr result (HoldsNone (codes "run") (rows_of (found_of given.now))) }
 {
