@@ -45,6 +45,10 @@ EndsAs status allowed = (status ≡ 4) ⊎ ((status ≡ 5) ⊎ allowed)
 abbrev pub OfPrint : ℕ → Type 0
 OfPrint status = (status ≡ 0) ⊎ (status ≡ 4)
 
+-- the status of a text that a file was given: 0, that of writing, or that of memory
+abbrev pub OfWrite : ℕ → Type 0
+OfWrite status = (status ≡ 0) ⊎ ((status ≡ 4) ⊎ (status ≡ 5))
+
 -- it is help, or the version, which is printed
 abbrev pub IsPrinted : LineFault → Type 0
 IsPrinted (Help text) = ⊤

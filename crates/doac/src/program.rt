@@ -6,7 +6,7 @@ ghost use Rattle.engines.specs.Lists.{Lists};
 ghost use Rattle.engines.specs.Schedules.{Replaying};
 ghost use Rattle.engines.specs.declared.texts.Texts.{Texts};
 ghost use Rattle.doac.specs.Commands.{Follows, Obeys};
-ghost use Rattle.doac.specs.Statuses.{AfterFile, AfterFiles, EndsAs, EndsLine, HasStatus, OfGiven, OfPrint, UpgradeEnds, exit_of, file_status};
+ghost use Rattle.doac.specs.Statuses.{AfterFile, AfterFiles, EndsAs, EndsLine, HasStatus, OfGiven, OfPrint, OfWrite, UpgradeEnds, exit_of, file_status};
 
 use crate::command::{Command, LineFault};
 use crate::command_line::command;
@@ -361,15 +361,19 @@ fn upgrade_read<R: Files + Print + Eprint + AllocGlobal>(
     }
 }
 
+/// The exit status of giving a file its text: 4, or 5 where there was no memory for that.
 pub fn status_of_write<R: Eprint>(rt: &R, name: &str, written: io::Result<()>) -> u8
-    ensures { OfPrint result }
+    ensures { OfWrite result }
 {
     match written {
         Ok(()) => 0,
         Err(error) => {
             let file = name;
             let _ = eprintln!(rt; "{}writing failed: {error}", Place { file, line: 0 });
-            4
+            match error.kind() {
+                io::ErrorKind::OutOfMemory => 5,
+                _ => 4,
+            }
         }
     }
 }

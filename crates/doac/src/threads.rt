@@ -1,7 +1,7 @@
 //! `run`: programs in threads, their files, and what is said of them on standard error.
 
 ghost use Rattle.std.specs.Prelude.{◌≡◌, ℕ, List, option_map};
-ghost use Rattle.doac.specs.Statuses.{AfterFile, EndsAs, EndsRun, OfGiven, OfPrint, RunEnds, run_status, wants_of};
+ghost use Rattle.doac.specs.Statuses.{AfterFile, EndsAs, EndsRun, OfGiven, OfWrite, RunEnds, run_status, wants_of};
 
 use crate::command::Threaded;
 use crate::files::{FileFault, read_file, replace_file};
@@ -76,7 +76,7 @@ fn run_source<R: Files + Print + Eprint + AllocGlobal + Threads + Wait + Sync>(
 
 /// Writes the schedule to its file, if it is wanted, and gives the exit status of that.
 fn write_schedule<R: Files + Eprint + AllocGlobal>(rt: &R, out: Option<&str>, ran: &Ran) -> u8
-    ensures { OfPrint result }
+    ensures { OfWrite result }
 {
     let Some(out) = out else {
         return 0;
