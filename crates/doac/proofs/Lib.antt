@@ -1,3 +1,4 @@
 pub mod CommandLines
+pub mod Running
 pub mod Statuses
 pub mod Upgrading

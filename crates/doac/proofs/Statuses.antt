@@ -5,7 +5,7 @@ use Rattle.std.specs.Global.{Global}
 use Rattle.engines.specs.Engines.{Checks, IsRefused, IsVerdict, Tells, Works}
 use Rattle.doac.specs.Statuses.{AfterFile, EndsAs, HasStatus, exit_of}
 use Rattle.engines.specs.declared.fault.EngineFault.{EngineFault}
-use Rattle.engines.specs.declared.fault.EngineFault.TheVariants.{Source, Input, Schedule, Writing, Memory}
+use Rattle.engines.specs.declared.fault.EngineFault.TheVariants.{Source, Input, Schedule, Writing, Memory, OutOfRange, NotStarted, Stuck}
 use Rattle.doac.specs.declared.files.FileFault.{FileFault}
 use Rattle.doac.specs.declared.files.FileFault.TheVariants as files
 use Rattle.doac.specs.declared.files.FileFault.TheVariants.{Opening, Reading}
@@ -23,6 +23,9 @@ of_works allows old new (Err (Input e)) status is wrote = inl is
 of_works allows old new (Err (Schedule e)) status is wrote = inl is
 of_works allows old new (Err (Writing e)) status is wrote = inl is
 of_works allows old new (Err Memory) status is wrote = inr (inl is)
+of_works allows old new (Err OutOfRange) status is wrote = absurd wrote
+of_works allows old new (Err NotStarted) status is wrote = absurd wrote
+of_works allows old new (Err Stuck) status is wrote = absurd wrote
 
 -- what is told of a source's verdict is what `check` may write of the source
 allowed_by : (source : List ℕ) (v : Verdict) (outcome : Outcome) (text : List ℕ) → IsVerdict source v → Tells v outcome text → Checks source outcome text
@@ -47,6 +50,9 @@ of_verdict source v old new (Err (Schedule e)) judged wrote = wrote
 of_verdict source v old new (Err (Writing e)) judged wrote =
     record { outcome = wrote.outcome; text = wrote.text; allowed = allowed_by source v wrote.outcome wrote.text judged wrote.allowed; grown = wrote.grown }
 of_verdict source v old new (Err Memory) judged wrote = wrote
+of_verdict source v old new (Err OutOfRange) judged wrote = wrote
+of_verdict source v old new (Err NotStarted) judged wrote = wrote
+of_verdict source v old new (Err Stuck) judged wrote = wrote
 
 -- the status after a file was read, of some bytes
 told_of : (status : ℕ) (P : List ℕ → Type 0) (text : List ℕ) → EndsAs status (P text) → EndsAs status ((t : List ℕ) × P t)

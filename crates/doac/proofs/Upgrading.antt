@@ -4,21 +4,22 @@ use Rattle.std.specs.Global.{Global}
 use Rattle.engines.specs.Engines.{IsWriting, status_of}
 use Rattle.engines.specs.Schedules.{Upgrading}
 use Rattle.engines.specs.declared.fault.EngineFault.{EngineFault}
-use Rattle.engines.specs.declared.fault.EngineFault.TheVariants.{Source, Input, Schedule, Writing, Memory}
+use Rattle.engines.specs.declared.fault.EngineFault.TheVariants.{Source, Input, Schedule, Writing, Memory, OutOfRange, NotStarted, Stuck}
 use Rattle.engines.specs.declared.outcome.Outcome.{Outcome}
 use Rattle.engines.specs.declared.page.Page.{Page}
 use Rattle.engines.specs.declared.replays.Upgraded.TheVariants.{Text, Shown}
 use Rattle.engines.specs.declared.texts.Texts.{Texts}
-use Rattle.doac.specs.Statuses.{AfterFiles, EndsAs, OfPrint, UpgradeEnds, exit_of, file_status}
+use Rattle.doac.specs.Statuses.{AfterFiles, EndsAs, OfWrite, UpgradeEnds, exit_of, file_status}
 use Rattle.doac.specs.declared.files.FileFault.{FileFault}
 use Rattle.doac.specs.declared.files.FileFault.TheVariants as files
 use Rattle.doac.specs.declared.files.FileFault.TheVariants.{Opening, Reading}
 use Rattle.doac.specs.declared.files.Unread.{Unread}
 
 -- a schedule's text was written to a file, or writing failed
-pub of_text : (source input schedule : List ℕ) (text : Vec ℕ Global) (status : ℕ) → Upgrading source input schedule (Text text) → OfPrint status → EndsAs status (UpgradeEnds source input schedule status)
+pub of_text : (source input schedule : List ℕ) (text : Vec ℕ Global) (status : ℕ) → Upgrading source input schedule (Text text) → OfWrite status → EndsAs status (UpgradeEnds source input schedule status)
 of_text source input schedule text status allowed (inl z) = inr (inr (record { upgraded = Text text; allowed = allowed; is = z }))
-of_text source input schedule text status allowed (inr f) = inl f
+of_text source input schedule text status allowed (inr (inl f)) = inl f
+of_text source input schedule text status allowed (inr (inr m)) = inr (inl m)
 
 -- a page was written
 pub of_page : (source input schedule : List ℕ) (page : Page) (r : Result Outcome EngineFault) (status : ℕ) (P : Outcome → Type 0) (Q : EngineFault → Type 0) → Upgrading source input schedule (Shown page) → status ≡ exit_of r
@@ -29,6 +30,9 @@ of_page source input schedule page (Err (Source e)) status P Q allowed is same f
 of_page source input schedule page (Err (Input e)) status P Q allowed is same fails = absurd fails.0
 of_page source input schedule page (Err (Schedule e)) status P Q allowed is same fails = absurd fails.0
 of_page source input schedule page (Err Memory) status P Q allowed is same fails = absurd fails.0
+of_page source input schedule page (Err OutOfRange) status P Q allowed is same fails = absurd fails.0
+of_page source input schedule page (Err NotStarted) status P Q allowed is same fails = absurd fails.0
+of_page source input schedule page (Err Stuck) status P Q allowed is same fails = absurd fails.0
 
 -- ---- several files
 

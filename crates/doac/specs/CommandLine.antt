@@ -1,5 +1,5 @@
 -- The command lines of the program, as clap reads them.
-use Rattle.std.specs.Prelude.{◌≡◌, ◌≢◌, ⊤, ◌⊎◌, ℕ, Bool, true, false, codes, List, [], ◌∷◌, Option, Some, None, option_map}
+use Rattle.std.specs.Prelude.{◌≡◌, ◌≢◌, ◌<◌, ◌^◌, ⊤, ◌⊎◌, ℕ, Bool, true, false, codes, List, [], ◌∷◌, Option, Some, None, option_map}
 use Rattle.std.specs.Str.Parse.{IsNumeral, digits_value, without_leading_plus}
 use Rattle.clap.specs.Words.{App, IsAmong, Row, Rule, Text, fault_of, first_of, kind_of, new_app, new_rule, one_of, subcommand_of, with_rule, with_subcommand}
 use Rattle.clap.specs.declared.error.Error.{Error}
@@ -7,9 +7,10 @@ use Rattle.clap.specs.declared.error.kind.ErrorKind.TheVariants.{DisplayHelp, Di
 use Rattle.clap.specs.declared.builder.action.ArgAction.TheVariants.{Set, SetTrue}
 use Rattle.engines.specs.Explained.{is_explained, is_within}
 use Rattle.doac.specs.declared.command.Command.{Command}
-use Rattle.doac.specs.declared.command.Command.TheVariants.{Check, ListLoops, Seq, Replay, Upgrade, Explain, ExplainSerial}
+use Rattle.doac.specs.declared.command.Command.TheVariants.{Check, ListLoops, Seq, Run, Replay, Upgrade, Explain, ExplainSerial}
 use Rattle.doac.specs.declared.command.LineFault.{LineFault}
-use Rattle.doac.specs.declared.command.LineFault.TheVariants.{Help, Mistake, NoCommand, NoSuchNumber, Memory}
+use Rattle.doac.specs.declared.command.LineFault.TheVariants.{Help, Mistake, NoCommand, NoSuchNumber, NoSize, Memory}
+use Rattle.doac.specs.declared.command.Threaded.{Threaded}
 
 -- F, the file of the source
 abbrev pub source : Rule
@@ -35,6 +36,21 @@ out = record (new_rule (codes "OUT")) { required = true; action = Some Set }
 abbrev pub store : Rule
 store = record (new_rule (codes "store")) { long = Some (codes "store"); action = Some SetTrue }
 
+-- -p and -s, numbers of processors and of open iterations
+abbrev pub processors : Rule
+processors = record (new_rule (codes "p")) { short = Some 112; action = Some Set }
+
+abbrev pub slots : Rule
+slots = record (new_rule (codes "s")) { short = Some 115; action = Some Set }
+
+-- --schedule, the file that gets a schedule
+abbrev pub schedule_out : Rule
+schedule_out = record (new_rule (codes "schedule")) { long = Some (codes "schedule"); action = Some Set }
+
+-- --tally
+abbrev pub tally : Rule
+tally = record (new_rule (codes "tally")) { long = Some (codes "tally"); action = Some SetTrue }
+
 -- N, the number of a refusal or a fault
 abbrev pub number : Rule
 number = record (new_rule (codes "N")) { action = Some Set }
@@ -52,6 +68,10 @@ list = with_rule (new_app (codes "list")) source
 abbrev pub seq : App
 seq = with_rule (with_rule (with_rule (new_app (codes "seq")) source) input) store
 
+abbrev pub run : App
+run =
+    with_rule (with_rule (with_rule (with_rule (with_rule (with_rule (with_rule (new_app (codes "run")) source) input) processors) slots) schedule_out) store) tally
+
 abbrev pub replay : App
 replay = with_rule (with_rule (with_rule (new_app (codes "replay")) source) whole_input) schedule
 
@@ -67,7 +87,9 @@ wants_subcommand a = record a { top = record a.top { subcommand_required = true;
 
 abbrev pub doac : App
 doac =
-    with_subcommand (with_subcommand (with_subcommand (with_subcommand (with_subcommand (with_subcommand (wants_subcommand (new_app (codes "doac"))) check.top) list.top) seq.top) replay.top) upgrade.top) explain.top
+    with_subcommand
+    (with_subcommand (with_subcommand (with_subcommand (with_subcommand (with_subcommand (with_subcommand (wants_subcommand (new_app (codes "doac"))) check.top) list.top) seq.top) run.top) replay.top) upgrade.top)
+    explain.top
 
 -- what clap makes of a flag
 abbrev pub IsFlag : Bool → Option Text → Type 0
@@ -83,6 +105,31 @@ abbrev pub IsReason : ℕ → Text → Type 0
 IsReason n text =
     IsNumeral 10 (without_leading_plus text) × (digits_value 10 (without_leading_plus text) ≡ n) × (is_within 1 6 n ≡ true)
 
+-- a text writes a number that 64 bits hold, where a plus sign may stand first
+abbrev pub IsSize : ℕ → Text → Type 0
+IsSize n text =
+    IsNumeral 10 (without_leading_plus text) × (digits_value 10 (without_leading_plus text) ≡ n) × (n < 2 ^ 64)
+
+-- the number of an option, or another one where it isn't given
+abbrev pub IsSizeOf : Option Text → (default n : ℕ) → Type 0
+IsSizeOf None default n = n ≡ default
+IsSizeOf (Some text) default n = IsSize n text
+
+-- an option is given, and its text writes no such number
+abbrev pub HasNoSize : Option Text → Type 0
+HasNoSize None = ⊥
+HasNoSize (Some text) = (n : ℕ) → IsSize n text → ⊥
+
+-- the values of the arguments are those of a run in threads
+pub record HoldsRun (values : List Row) (t : Threaded) : Type 0 where
+  pub source : first_of (codes "F") values ≡ Some t.source.now
+  pub input : first_of (codes "INPUT") values ≡ option_map (λ i. i.now) t.input
+  pub processors : IsSizeOf (first_of (codes "p") values) 2 t.processors
+  pub slots : IsSizeOf (first_of (codes "s") values) 4 t.slots
+  pub schedule : first_of (codes "schedule") values ≡ option_map (λ o. o.now) t.schedule
+  pub store : IsFlag t.store (one_of (codes "store") values)
+  pub tally : IsFlag t.tally (one_of (codes "tally") values)
+
 -- the subcommand's name and the values of its arguments are a command's
 abbrev pub Holds : Text → List Row → Command → Type 0
 Holds name values (Check source) = (name ≡ codes "check") × (first_of (codes "F") values ≡ Some source.now)
@@ -90,6 +137,7 @@ Holds name values (ListLoops source) = (name ≡ codes "list") × (first_of (cod
 Holds name values (Seq source input store) =
     (name ≡ codes "seq") × (first_of (codes "F") values ≡ Some source.now)
     × (first_of (codes "INPUT") values ≡ option_map (λ i. i.now) input) × IsFlag store (one_of (codes "store") values)
+Holds name values (Run t) = (name ≡ codes "run") × HoldsRun values t
 Holds name values (Replay source input schedule) =
     (name ≡ codes "replay") × (first_of (codes "F") values ≡ Some source.now)
     × (first_of (codes "INPUT") values ≡ Some input.now) × (first_of (codes "SCHEDULE") values ≡ Some schedule.now)
@@ -121,7 +169,7 @@ LacksOne (x ∷ xs) values = (first_of x values ≡ None) ⊎ LacksOne xs values
 -- the subcommand is none of the program's, or lacks a file that it can't do without
 abbrev pub Lacks : Text → List Row → Type 0
 Lacks name values =
-    (((name ≡ codes "check") ⊎ ((name ≡ codes "list") ⊎ (name ≡ codes "seq"))) → first_of (codes "F") values ≡ None)
+    (((name ≡ codes "check") ⊎ ((name ≡ codes "list") ⊎ ((name ≡ codes "seq") ⊎ (name ≡ codes "run")))) → first_of (codes "F") values ≡ None)
     × (name ≡ codes "replay" → LacksOne (codes "F" ∷ codes "INPUT" ∷ codes "SCHEDULE" ∷ []) values)
     × (name ≡ codes "upgrade" → LacksOne (codes "F" ∷ codes "INPUT" ∷ codes "SCHEDULE" ∷ codes "OUT" ∷ []) values)
     × (name ≡ codes "explain" → ⊥)
@@ -137,12 +185,17 @@ AsksInVain name values =
     (name ≡ codes "explain")
     × ((word : Text) × (first_of (codes "N") values ≡ Some word) × NamesNothing word (first_of (codes "REASON") values))
 
+-- the subcommand is to run in threads, and one of its numbers is none
+abbrev pub HasNoNumber : Text → List Row → Type 0
+HasNoNumber name values = (name ≡ codes "run") × (HasNoSize (first_of (codes "p") values) ⊎ HasNoSize (first_of (codes "s") values))
+
 -- why what clap found is no command
 abbrev pub HoldsNone : Text → List Row → LineFault → Type 0
 HoldsNone name values (Help e) = ⊥
 HoldsNone name values (Mistake e) = ⊥
 HoldsNone name values NoCommand = Lacks name values
 HoldsNone name values NoSuchNumber = AsksInVain name values
+HoldsNone name values NoSize = HasNoNumber name values
 HoldsNone name values Memory = ⊥
 
 abbrev pub HeldInNone : Option (Text × List Row) → LineFault → Type 0
@@ -159,6 +212,7 @@ MadeOf error (Help e) = (e ≡ error) × IsHelp error
 MadeOf error (Mistake e) = (e ≡ error) × (IsHelp error → ⊥) × (kind_of error ≢ OutOfMemory)
 MadeOf error NoCommand = ⊥
 MadeOf error NoSuchNumber = ⊥
+MadeOf error NoSize = ⊥
 MadeOf error Memory = kind_of error ≡ OutOfMemory
 
 -- why words name no command; want of memory is always allowed
@@ -167,6 +221,7 @@ NamesNone words (Help e) = IsHelp e × IsAmong (kind_of e) (fault_of doac words)
 NamesNone words (Mistake e) = (IsHelp e → ⊥) × IsAmong (kind_of e) (fault_of doac words)
 NamesNone words NoCommand = (fault_of doac words ≡ []) × HeldInNone (subcommand_of doac words) NoCommand
 NamesNone words NoSuchNumber = (fault_of doac words ≡ []) × HeldInNone (subcommand_of doac words) NoSuchNumber
+NamesNone words NoSize = (fault_of doac words ≡ []) × HeldInNone (subcommand_of doac words) NoSize
 NamesNone words Memory = ⊤
 
 -- the exit status of words that name no command
@@ -175,4 +230,5 @@ line_status (Help e) = 0
 line_status (Mistake e) = 3
 line_status NoCommand = 3
 line_status NoSuchNumber = 3
+line_status NoSize = 3
 line_status Memory = 5

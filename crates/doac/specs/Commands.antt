@@ -4,9 +4,9 @@ use Rattle.clap.specs.Words.{Text}
 use Rattle.engines.specs.Engines.{Checks, Runs}
 use Rattle.engines.specs.Lists.{Lists}
 use Rattle.doac.specs.CommandLine.{Names, NamesNone}
-use Rattle.doac.specs.Statuses.{EndsAs, EndsLine, EndsReplay, EndsUpgrade, HasStatus, OfGiven, OfPrint}
+use Rattle.doac.specs.Statuses.{EndsAs, EndsLine, EndsReplay, EndsRun, EndsUpgrade, HasStatus, OfGiven, OfPrint}
 use Rattle.doac.specs.declared.command.Command.{Command}
-use Rattle.doac.specs.declared.command.Command.TheVariants.{Check, ListLoops, Seq, Replay, Upgrade, Explain, ExplainSerial}
+use Rattle.doac.specs.declared.command.Command.TheVariants.{Check, ListLoops, Seq, Run, Replay, Upgrade, Explain, ExplainSerial}
 use Rattle.doac.specs.declared.command.LineFault.{LineFault}
 
 abbrev pub Obeys : Command → ℕ → Type 0
@@ -14,6 +14,7 @@ Obeys (Check file) status = EndsAs status ((text : List ℕ) × HasStatus (Check
 Obeys (ListLoops file) status = EndsAs status ((text : List ℕ) × HasStatus (Lists text) status)
 Obeys (Seq file input store) status =
     EndsAs status ((text : List ℕ) × OfGiven (option_map (λ i. i.now) input) (λ given. HasStatus (Runs store text given) status))
+Obeys (Run t) status = EndsRun t status
 Obeys (Replay source input schedule) status = EndsReplay status
 Obeys (Upgrade source input schedule out) status = EndsUpgrade status
 Obeys (Explain number) status = OfPrint status

@@ -1,13 +1,18 @@
 -- Exit statuses of commands, by the texts that their files hold or may hold.
-use Rattle.std.specs.Prelude.{◌≡◌, ◌⊎◌, ⊤, ℕ, List, [], Option, Some, None, Result, Ok, Err, Vec}
+use Rattle.std.specs.Prelude.{◌≡◌, ◌⊎◌, ⊤, ℕ, List, [], Option, Some, None, Result, Ok, Err, Vec, is_some, option_map}
 use Rattle.std.specs.Global.{Global}
 use Rattle.engines.specs.Engines.{fault_status, status_of}
+use Rattle.engines.specs.Running.{Running}
 use Rattle.engines.specs.Schedules.{Replaying, Upgrading, upgrade_status}
 use Rattle.engines.specs.declared.fault.EngineFault.{EngineFault}
+use Rattle.engines.specs.declared.given.Wants.{Wants}
 use Rattle.engines.specs.declared.outcome.Outcome.{Outcome}
+use Rattle.engines.specs.declared.ran.Ran.{Ran}
+use Rattle.engines.specs.declared.ran.Ran.TheVariants as ran
 use Rattle.engines.specs.declared.replays.Upgraded.{Upgraded}
 use Rattle.engines.specs.declared.texts.Texts.{Texts}
 use Rattle.doac.specs.CommandLine.{line_status}
+use Rattle.doac.specs.declared.command.Threaded.{Threaded}
 use Rattle.doac.specs.declared.command.LineFault.{LineFault}
 use Rattle.doac.specs.declared.command.LineFault.TheVariants.{Help}
 use Rattle.doac.specs.declared.files.FileFault.{FileFault}
@@ -39,6 +44,10 @@ EndsAs status allowed = (status ≡ 4) ⊎ ((status ≡ 5) ⊎ allowed)
 -- the status of a text that was printed: 0, or that of writing
 abbrev pub OfPrint : ℕ → Type 0
 OfPrint status = (status ≡ 0) ⊎ (status ≡ 4)
+
+-- the status of a text that a file was given: 0, that of writing, or that of memory
+abbrev pub OfWrite : ℕ → Type 0
+OfWrite status = (status ≡ 0) ⊎ ((status ≡ 4) ⊎ (status ≡ 5))
 
 -- it is help, or the version, which is printed
 abbrev pub IsPrinted : LineFault → Type 0
@@ -75,3 +84,25 @@ EndsReplay status = EndsAs status ((texts : Texts) × HasStatus (Replaying texts
 
 abbrev pub EndsUpgrade : ℕ → Type 0
 EndsUpgrade status = EndsAs status ((texts : Texts) × UpgradeEnds texts.source.items texts.input.items texts.schedule.items status)
+
+-- what is wanted of a run
+abbrev pub wants_of : Threaded → Wants
+wants_of t = record { processors = t.processors; slots = t.slots; store = t.store; schedule = is_some t.schedule; tally = t.tally }
+
+-- the exit status of what came of a run
+abbrev pub run_status : Ran → ℕ
+run_status (ran.Refused page) = status_of page.outcome
+run_status (ran.Whole whole) = status_of whole.page.outcome
+run_status (ran.Memory output) = 5
+run_status ran.OutOfRange = 3
+run_status ran.NotStarted = 5
+run_status ran.Stuck = 5
+
+-- the status is that of what may come of a run
+pub record RunEnds (source input : List ℕ) (w : Wants) (status : ℕ) : Type 0 where
+  pub came : Ran
+  pub allowed : Running source input w came
+  pub is : status ≡ run_status came
+
+abbrev pub EndsRun : Threaded → ℕ → Type 0
+EndsRun t status = EndsAs status ((text : List ℕ) × OfGiven (option_map (λ i. i.now) t.input) (λ given. RunEnds text given (wants_of t) status))

@@ -2,14 +2,33 @@
 
 ghost use Rattle.std.specs.Prelude.{◌≡◌, IfErr, IfOk, codes, option_map, ℕ};
 ghost use Rattle.clap.specs.Words.{first_of, found_of, one_of, rows_of, subcommand_rows_of};
-ghost use Rattle.doac.specs.CommandLine.{HeldIn, HeldInNone, HoldsNone, Holds, IsFlag, IsNumber, IsReason, MadeOf};
-ghost use Rattle.doac.specs.declared.command.LineFault.TheVariants.{Memory, NoSuchNumber};
+ghost use Rattle.doac.specs.CommandLine.{HasNoSize, HeldIn, HeldInNone, HoldsNone, Holds, IsFlag, IsNumber, IsReason, IsSizeOf, MadeOf};
+ghost use Rattle.doac.specs.declared.command.LineFault.TheVariants.{Memory, NoSize, NoSuchNumber};
 
 use clap::ArgMatches;
 use clap::error::ErrorKind;
 use engines::explain::{is_explained, is_reason};
 use std::alloc::AllocError;
 use thiserror::Error;
+
+/// What the command line asks for of a run in threads.
+#[derive(Clone, Copy, Debug, PartialEq, Eq)]
+pub struct Threaded<'a> {
+    /// The file of the source.
+    pub source: &'a str,
+    /// The file of the input, if there is one.
+    pub input: Option<&'a str>,
+    /// How many processors there are to be, 2 where none are named.
+    pub processors: u64,
+    /// How many iterations may be open, 4 where none are named.
+    pub slots: u64,
+    /// The file that gets the schedule, if it is wanted.
+    pub schedule: Option<&'a str>,
+    /// Whether the store is wanted.
+    pub store: bool,
+    /// Whether it is wanted how the run went.
+    pub tally: bool,
+}
 
 /// What the command line asks for.
 #[derive(Clone, Copy, Debug, PartialEq, Eq)]
@@ -25,6 +44,9 @@ pub enum Command<'a> {
         input: Option<&'a str>,
         store: bool,
     },
+    /// `run F [INPUT] [-p N] [-s N] [--schedule OUT] [--store] [--tally]`: the run of the code of a
+    /// source in threads.
+    Run(Threaded<'a>),
     /// `replay F INPUT SCHEDULE`: the run of the code of a source that a schedule describes.
     Replay {
         source: &'a str,
@@ -59,6 +81,9 @@ pub enum LineFault {
     /// They ask to explain a number that is no refusal's and no fault's, or, of a serial loop, no reason's.
     #[error("error: nothing has this number\n\nUsage: doac explain [N]\n       doac explain serial <REASON>\n\nFor more information, try '--help'.\n")]
     NoSuchNumber,
+    /// They name no whole number of 64 bits where one is wanted.
+    #[error("error: no whole number that 64 bits hold\n\nUsage: doac run [-p <N>] [-s <N>] <F> [INPUT]\n\nFor more information, try '--help'.\n")]
+    NoSize,
     /// Memory was refused.
     #[error("out of memory\n")]
     Memory,
@@ -77,6 +102,7 @@ impl LineFault {
             LineFault::Mistake(_) => 3,
             LineFault::NoCommand => 3,
             LineFault::NoSuchNumber => 3,
+            LineFault::NoSize => 3,
             LineFault::Memory => 5,
         }
     }
@@ -122,6 +148,7 @@ fn named<'a>(name: &str, given: &ArgMatches<'a>) -> Result<Command<'a>, LineFaul
         "check" => checking(given),
         "list" => listing(given),
         "seq" => running(given),
+        "run" => threading(given),
         "replay" => replaying(given),
         "upgrade" => upgrading(given),
         "explain" => explaining(given),
@@ -173,6 +200,40 @@ fn running<'a>(given: &ArgMatches<'a>) -> Result<Command<'a>, LineFault>
         }),
         None => Err(LineFault::NoCommand),
     }
+}
+
+/// The number of an option, or another one where the option isn't given.
+fn size(given: Option<&str>, default: u64) -> Result<u64, LineFault>
+    ensures found { IfOk result (IsSizeOf (option_map (λ s. s.now) given.entry) default) }
+    ensures refused { IfErr result (λ fault. (fault ≡ NoSize) × HasNoSize (option_map (λ s. s.now) given.entry)) }
+{
+    let Some(text) = given else {
+        return Ok(default);
+    };
+    match text.parse::<u64>() {
+        Ok(number) => Ok(number),
+        Err(_) => Err(LineFault::NoSize),
+    }
+}
+
+fn threading<'a>(given: &ArgMatches<'a>) -> Result<Command<'a>, LineFault>
+    ensures found { IfOk result (Holds (codes "run") (rows_of (found_of given.now))) }
+    ensures refused { IfErr result (HoldsNone (codes "run") (rows_of (found_of given.now))) }
+{
+    let Some(source) = text(given, "F") else {
+        return Err(LineFault::NoCommand);
+    };
+    let processors = size(text(given, "p"), 2)?;
+    let slots = size(text(given, "s"), 4)?;
+    Ok(Command::Run(Threaded {
+        source,
+        input: text(given, "INPUT"),
+        processors,
+        slots,
+        schedule: text(given, "schedule"),
+        store: flag(given, "store"),
+        tally: flag(given, "tally"),
+    }))
 }
 
 fn replaying<'a>(given: &ArgMatches<'a>) -> Result<Command<'a>, LineFault>

@@ -2,7 +2,7 @@
 
 ghost use Rattle.std.specs.Prelude.{◌≡◌, IfErr, IfOk, false, map};
 ghost use Rattle.clap.specs.Words.{app_of, rule_of};
-ghost use Rattle.doac.specs.CommandLine.{Names, NamesNone, doac, input, number, out, reason, schedule, source, store, whole_input};
+ghost use Rattle.doac.specs.CommandLine.{Names, NamesNone, doac, input, number, out, processors, reason, schedule, schedule_out, slots, source, store, tally, whole_input};
 
 use crate::command::{LineFault, held};
 use clap::{Arg, ArgAction};
@@ -68,6 +68,46 @@ fn store<'a>(alloc: Global) -> Arg<'a>
         .help("Writes each variable's value after a run that comes to END")
 }
 
+fn processors<'a>(alloc: Global) -> Arg<'a>
+    ensures rule { rule_of result ≡ processors }
+    ensures local { result.global ≡ false }
+{
+    Arg::new(alloc, "p")
+        .short('p')
+        .action(ArgAction::Set)
+        .help("How many processors, 1 to 64; without it 2")
+}
+
+fn slots<'a>(alloc: Global) -> Arg<'a>
+    ensures rule { rule_of result ≡ slots }
+    ensures local { result.global ≡ false }
+{
+    Arg::new(alloc, "s")
+        .short('s')
+        .action(ArgAction::Set)
+        .help("How many iterations may be open, 1 to 256; without it 4")
+}
+
+fn schedule_out<'a>(alloc: Global) -> Arg<'a>
+    ensures rule { rule_of result ≡ schedule_out }
+    ensures local { result.global ≡ false }
+{
+    Arg::new(alloc, "schedule")
+        .long("schedule")
+        .action(ArgAction::Set)
+        .help("The file that gets the schedule, by which replay repeats the run")
+}
+
+fn tally<'a>(alloc: Global) -> Arg<'a>
+    ensures rule { rule_of result ≡ tally }
+    ensures local { result.global ≡ false }
+{
+    Arg::new(alloc, "tally")
+        .long("tally")
+        .action(ArgAction::SetTrue)
+        .help("Says on standard error how the run went, processor by processor")
+}
+
 fn number<'a>(alloc: Global) -> Arg<'a>
     ensures rule { rule_of result ≡ number }
     ensures local { result.global ≡ false }
@@ -101,6 +141,15 @@ fn parser<'a>(alloc: Global) -> Result<clap::Command<'a>, AllocError>
         .arg(source(alloc))?
         .arg(input(alloc))?
         .arg(store(alloc))?;
+    let run = clap::Command::new(alloc, "run")
+        .about("Runs a source in threads, iterations overlapping where they may")
+        .arg(source(alloc))?
+        .arg(input(alloc))?
+        .arg(processors(alloc))?
+        .arg(slots(alloc))?
+        .arg(schedule_out(alloc))?
+        .arg(store(alloc))?
+        .arg(tally(alloc))?;
     let replay = clap::Command::new(alloc, "replay")
         .about("Repeats a run of the machine turn by turn, and writes what it prints")
         .arg(source(alloc))?
@@ -123,6 +172,7 @@ fn parser<'a>(alloc: Global) -> Result<clap::Command<'a>, AllocError>
         .subcommand(check)?
         .subcommand(list)?
         .subcommand(seq)?
+        .subcommand(run)?
         .subcommand(replay)?
         .subcommand(upgrade)?
         .subcommand(explain)

@@ -1,6 +1,8 @@
-//! The files that the program reads.
+//! The files that the program reads and writes.
 
 use engines::{ReadFault, Texts, read_all};
+use std::fs::{File, OpenFile};
+use std::io::Write;
 use std::rt::Files;
 use std::{fs, io};
 use thiserror::Error;
@@ -46,6 +48,39 @@ pub fn read_file<R: Files + AllocGlobal>(rt: &R, name: &str) -> Result<Vec<u8>, 
         Err(ReadFault::Reader(error)) => Err(FileFault::Reading(error)),
         Err(ReadFault::Memory) => Err(FileFault::Memory),
     }
+}
+
+/// Whether this is the name of a plain file, or of nothing yet.
+fn is_plain<R: Files>(rt: &R, name: &str) -> bool {
+    match fs::symlink_metadata(rt, name) {
+        Ok(found) => found.is_file(),
+        Err(error) => error.kind() == io::ErrorKind::NotFound,
+    }
+}
+
+/// Writes a file and sees that its bytes are on the disk.
+fn write_file<R: Files>(rt: &R, name: &str, bytes: &[u8]) -> io::Result<()> {
+    let mut file = File::create(rt, name)?;
+    file.write_all(bytes)?;
+    file.sync_all()
+}
+
+/// Gives the file of this name these bytes. A plain file has all of them or what it had: they are
+/// written to a file beside it, of its name and `.part`, which then takes its place. To anything else, as
+/// a device or a pipe, they are written as they are.
+pub fn replace_file<R: Files + AllocGlobal>(rt: &R, name: &str, bytes: &[u8]) -> io::Result<()> {
+    if !is_plain(rt, name) {
+        return fs::write(rt, name, bytes);
+    }
+    let beside = format!(in rt.alloc(); "{name}.part")?;
+    let mut put = write_file(rt, &beside, bytes);
+    if put.is_ok() {
+        put = fs::rename(rt, beside.as_str(), name);
+    }
+    if put.is_err() {
+        let _ = fs::remove_file(rt, beside.as_str());
+    }
+    put
 }
 
 /// The names of the files that a replay takes.

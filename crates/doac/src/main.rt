@@ -1,10 +1,11 @@
-//! `doac`: checks and runs FORTRAN 77 programs, and repeats runs of the machine.
+//! `doac`: checks and runs FORTRAN 77 programs, also in threads, and repeats runs of the machine.
 #![tactic(auto)]
 
 mod command;
 mod command_line;
 mod files;
 mod program;
+mod threads;
 
 use std::process::ExitCode;
 

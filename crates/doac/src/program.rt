@@ -6,11 +6,12 @@ ghost use Rattle.engines.specs.Lists.{Lists};
 ghost use Rattle.engines.specs.Schedules.{Replaying};
 ghost use Rattle.engines.specs.declared.texts.Texts.{Texts};
 ghost use Rattle.doac.specs.Commands.{Follows, Obeys};
-ghost use Rattle.doac.specs.Statuses.{AfterFile, AfterFiles, EndsAs, EndsLine, HasStatus, OfGiven, OfPrint, UpgradeEnds, exit_of, file_status};
+ghost use Rattle.doac.specs.Statuses.{AfterFile, AfterFiles, EndsAs, EndsLine, HasStatus, OfGiven, OfPrint, OfWrite, UpgradeEnds, exit_of, file_status};
 
 use crate::command::{Command, LineFault};
 use crate::command_line::command;
-use crate::files::{FileFault, Names, Unread, read_file, read_texts};
+use crate::files::{FileFault, Names, Unread, read_file, read_texts, replace_file};
+use crate::threads::run_files;
 use engines::{
     EngineFault, Message, Outcome, Place, Survey, Texts, Upgraded, Verdict, explain, judged,
     replay_texts, say_why_serial, seq_texts, surveyed, tell_survey, tell_verdict, upgrade_texts,
@@ -18,10 +19,12 @@ use engines::{
 };
 use std::convert::AsStr;
 use std::rt::{Env, Files};
-use std::{env, fs, io};
+use std::sync::Wait;
+use std::thread::Threads;
+use std::{env, io};
 
 /// Does what the words of the command line ask for, and gives the exit status.
-pub fn run<R: Env + Files + Print + Eprint + AllocGlobal>(rt: &R) -> u8 {
+pub fn run<R: Env + Files + Print + Eprint + AllocGlobal + Threads + Wait + Sync>(rt: &R) -> u8 {
     match words(rt) {
         Ok(words) => follow(rt, words.as_slice()),
         Err(error) => refuse_words(rt, &error),
@@ -29,7 +32,10 @@ pub fn run<R: Env + Files + Print + Eprint + AllocGlobal>(rt: &R) -> u8 {
 }
 
 /// Does what these words ask for, of which the first is the program's name.
-fn follow<S: AsStr, R: Files + Print + Eprint + AllocGlobal>(rt: &R, words: &[S]) -> u8
+fn follow<S: AsStr, R: Files + Print + Eprint + AllocGlobal + Threads + Wait + Sync>(
+    rt: &R,
+    words: &[S],
+) -> u8
     ensures { Follows (map S.text words.now) result }
 {
     match command(rt.alloc(), words) {
@@ -77,7 +83,7 @@ fn refuse_line<R: Print + Eprint>(rt: &R, fault: &LineFault) -> u8
         _ => {
             let _ = rt.eprint(fault);
             let _ = eprintln!(rt;
-                "The commands are check, list, seq, replay, upgrade and explain."
+                "The commands are check, list, seq, run, replay, upgrade and explain."
             );
             fault.status()
         }
@@ -96,7 +102,10 @@ fn status_of_print<R: Eprint>(rt: &R, printed: io::Result<()>) -> u8
     }
 }
 
-fn obey<R: Files + Print + Eprint + AllocGlobal>(rt: &R, command: Command<'_>) -> u8
+fn obey<R: Files + Print + Eprint + AllocGlobal + Threads + Wait + Sync>(
+    rt: &R,
+    command: Command<'_>,
+) -> u8
     ensures { Obeys command.entry result }
 {
     match command {
@@ -107,6 +116,7 @@ fn obey<R: Files + Print + Eprint + AllocGlobal>(rt: &R, command: Command<'_>) -
             input,
             store,
         } => seq_files(rt, source, input, store),
+        Command::Run(asked) => run_files(rt, asked),
         Command::Replay {
             source,
             input,
@@ -342,7 +352,7 @@ fn upgrade_read<R: Files + Print + Eprint + AllocGlobal>(
     ensures { EndsAs result (UpgradeEnds texts.now.source.items texts.now.input.items texts.now.schedule.items result) }
 {
     match upgrade_texts(rt.alloc(), &texts.source, &texts.input, &texts.schedule) {
-        Ok(Upgraded::Text(text)) => status_of_write(rt, out, fs::write(rt, out, text.as_slice())),
+        Ok(Upgraded::Text(text)) => status_of_write(rt, out, replace_file(rt, out, &text)),
         Ok(Upgraded::Shown(page)) => {
             let outcome = page.write(&mut io::writer(rt));
             tell_of(rt, names, texts, outcome)
@@ -351,15 +361,19 @@ fn upgrade_read<R: Files + Print + Eprint + AllocGlobal>(
     }
 }
 
-fn status_of_write<R: Eprint>(rt: &R, name: &str, written: io::Result<()>) -> u8
-    ensures { OfPrint result }
+/// The exit status of giving a file its text: 4, or 5 where there was no memory for that.
+pub fn status_of_write<R: Eprint>(rt: &R, name: &str, written: io::Result<()>) -> u8
+    ensures { OfWrite result }
 {
     match written {
         Ok(()) => 0,
         Err(error) => {
             let file = name;
             let _ = eprintln!(rt; "{}writing failed: {error}", Place { file, line: 0 });
-            4
+            match error.kind() {
+                io::ErrorKind::OutOfMemory => 5,
+                _ => 4,
+            }
         }
     }
 }
@@ -383,7 +397,7 @@ fn tell_of<R: Eprint>(
 }
 
 /// Says on standard error why a file's bytes can't be had, and gives the exit status.
-fn refuse_file<R: Eprint>(rt: &R, name: &str, fault: &FileFault) -> u8
+pub fn refuse_file<R: Eprint>(rt: &R, name: &str, fault: &FileFault) -> u8
     ensures { result ≡ file_status fault.now }
 {
     let file = name;
@@ -393,7 +407,7 @@ fn refuse_file<R: Eprint>(rt: &R, name: &str, fault: &FileFault) -> u8
 
 /// Says on standard error what is wrong with a file's text, or what failed, and gives the exit
 /// status.
-fn tell<R: Eprint>(rt: &R, name: &str, text: &[u8], outcome: Result<Outcome, EngineFault>) -> u8
+pub fn tell<R: Eprint>(rt: &R, name: &str, text: &[u8], outcome: Result<Outcome, EngineFault>) -> u8
     ensures { result ≡ exit_of outcome }
 {
     match outcome {

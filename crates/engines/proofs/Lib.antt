@@ -1,3 +1,4 @@
+pub mod Answered
 pub mod Counts
 pub mod Listings
 pub mod Pages

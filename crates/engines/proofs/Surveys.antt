@@ -7,7 +7,7 @@ use Rattle.engines.specs.Lists.{HasLongCode, IsSurvey, Lists, TellsLoops}
 use Rattle.engines.specs.Schedules.{IsNoCode}
 use Rattle.engines.specs.Shown.{refused}
 use Rattle.engines.specs.declared.fault.EngineFault.{EngineFault}
-use Rattle.engines.specs.declared.fault.EngineFault.TheVariants.{Source, Input, Schedule, Writing, Memory}
+use Rattle.engines.specs.declared.fault.EngineFault.TheVariants.{Source, Input, Schedule, Writing, Memory, OutOfRange, NotStarted, Stuck}
 use Rattle.engines.specs.declared.outcome.Outcome.{Outcome}
 use Rattle.engines.specs.declared.outcome.Outcome.TheVariants.{Completed, Refused, Faulted, NoSchedule}
 use Rattle.engines.specs.declared.survey.Survey.{Survey}
@@ -40,3 +40,6 @@ of_survey source s old new (Err (Schedule e)) is wrote = wrote
 of_survey source s old new (Err (Writing e)) is wrote =
     record { outcome = wrote.outcome; text = wrote.text; allowed = listed_by source s wrote.outcome wrote.text is wrote.allowed; grown = wrote.grown }
 of_survey source s old new (Err Memory) is wrote = wrote
+of_survey source s old new (Err OutOfRange) is wrote = wrote
+of_survey source s old new (Err NotStarted) is wrote = wrote
+of_survey source s old new (Err Stuck) is wrote = wrote

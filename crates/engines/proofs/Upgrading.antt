@@ -4,7 +4,7 @@ use Rattle.engines.specs.Engines.{Gives, IsWriting}
 use Rattle.engines.specs.Reading.{AreGiven, OfTexts}
 use Rattle.engines.specs.Schedules.{LeavesBoth, UpgradeWorks, Upgrading, WritesPart, WritesUpgraded, WroteUpgraded, WroteUpgradedPart, upgrade_status}
 use Rattle.engines.specs.declared.fault.EngineFault.{EngineFault}
-use Rattle.engines.specs.declared.fault.EngineFault.TheVariants.{Source, Input, Schedule, Writing, Memory}
+use Rattle.engines.specs.declared.fault.EngineFault.TheVariants.{Source, Input, Schedule, Writing, Memory, OutOfRange, NotStarted, Stuck}
 use Rattle.engines.specs.declared.replays.Upgraded.{Upgraded}
 use Rattle.engines.specs.declared.texts.Texts.{Texts}
 
@@ -17,6 +17,9 @@ of_written allows made old new before after (Err (Source e)) allowed ok err = ab
 of_written allows made old new before after (Err (Input e)) allowed ok err = absurd err.0
 of_written allows made old new before after (Err (Schedule e)) allowed ok err = absurd err.0
 of_written allows made old new before after (Err Memory) allowed ok err = absurd err.0
+of_written allows made old new before after (Err OutOfRange) allowed ok err = absurd err.0
+of_written allows made old new before after (Err NotStarted) allowed ok err = absurd err.0
+of_written allows made old new before after (Err Stuck) allowed ok err = absurd err.0
 
 -- the same of texts that readers gave
 of_three : (source input schedule : Option (List ℕ)) (texts : Texts) (x y z : List ℕ) (P : List ℕ → List ℕ → List ℕ → Type 0) → x ≡ texts.source.items → y ≡ texts.input.items → z ≡ texts.schedule.items
@@ -41,3 +44,6 @@ given_err source input schedule texts x y z first second third old new before af
 given_err source input schedule texts x y z first second third old new before after (Err (Source e)) given works = absurd works
 given_err source input schedule texts x y z first second third old new before after (Err (Input e)) given works = absurd works
 given_err source input schedule texts x y z first second third old new before after (Err (Schedule e)) given works = absurd works
+given_err source input schedule texts x y z first second third old new before after (Err OutOfRange) given works = absurd works
+given_err source input schedule texts x y z first second third old new before after (Err NotStarted) given works = absurd works
+given_err source input schedule texts x y z first second third old new before after (Err Stuck) given works = absurd works

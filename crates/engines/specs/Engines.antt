@@ -11,7 +11,7 @@ use Rattle.profile_check.specs.Causes.{Refuses}
 use Rattle.profile_check.specs.Reads.{Reads}
 use Rattle.engines.specs.Shown.{accepted, refused, Shown}
 use Rattle.engines.specs.declared.fault.EngineFault.{EngineFault}
-use Rattle.engines.specs.declared.fault.EngineFault.TheVariants.{Source, Input, Schedule, Writing, Memory}
+use Rattle.engines.specs.declared.fault.EngineFault.TheVariants.{Source, Input, Schedule, Writing, Memory, OutOfRange, NotStarted, Stuck}
 use Rattle.engines.specs.declared.fault.ReadFault.{ReadFault}
 use Rattle.engines.specs.declared.fault.ReadFault.TheVariants as reading
 use Rattle.engines.specs.declared.outcome.Outcome.{Outcome}
@@ -33,6 +33,9 @@ fault_status (Input e) = 4
 fault_status (Schedule e) = 4
 fault_status (Writing e) = 4
 fault_status Memory = 5
+fault_status OutOfRange = 3
+fault_status NotStarted = 5
+fault_status Stuck = 5
 
 -- the source reads as a program, and this is its line
 pub record IsAccepted (source text : List ℕ) : Type 0 where
@@ -135,6 +138,9 @@ Leaves (Input e) old new part = Keeps old new
 Leaves (Schedule e) old new part = Keeps old new
 Leaves (Writing e) old new part = part
 Leaves Memory old new part = Keeps old new
+Leaves OutOfRange old new part = ⊥
+Leaves NotStarted old new part = ⊥
+Leaves Stuck old new part = ⊥
 
 -- the same of an engine that reads a source alone
 abbrev pub LeavesOfSource : EngineFault → Option (List ℕ) → Option (List ℕ) → Type 0 → Type 0
@@ -143,6 +149,9 @@ LeavesOfSource (Input e) old new part = ⊥
 LeavesOfSource (Schedule e) old new part = ⊥
 LeavesOfSource (Writing e) old new part = part
 LeavesOfSource Memory old new part = Keeps old new
+LeavesOfSource OutOfRange old new part = ⊥
+LeavesOfSource NotStarted old new part = ⊥
+LeavesOfSource Stuck old new part = ⊥
 
 -- where a fault leaves the readers of a source and an input: that of the source has left the input
 -- alone, and any other but want of memory comes when the readers before it have given all
@@ -152,6 +161,9 @@ LeavesReaders (Input e) source old new = IsAtEnd source
 LeavesReaders (Schedule e) source old new = ⊥
 LeavesReaders (Writing e) source old new = IsAtEnd source × IsAtEnd new
 LeavesReaders Memory source old new = ⊤
+LeavesReaders OutOfRange source old new = IsAtEnd source × IsAtEnd new
+LeavesReaders NotStarted source old new = IsAtEnd source × IsAtEnd new
+LeavesReaders Stuck source old new = IsAtEnd source × IsAtEnd new
 
 -- the same of an engine that reads a source alone
 abbrev pub LeavesReader : EngineFault → Option (List ℕ) → Type 0
@@ -174,6 +186,9 @@ WorksWith input allows old new (Err (Input e)) = Keeps old new
 WorksWith input allows old new (Err (Schedule e)) = ⊥
 WorksWith input allows old new (Err (Writing e)) = OfText input (λ given. WrotePart (allows given) old new)
 WorksWith input allows old new (Err Memory) = Keeps old new
+WorksWith input allows old new (Err OutOfRange) = ⊥
+WorksWith input allows old new (Err NotStarted) = ⊥
+WorksWith input allows old new (Err Stuck) = ⊥
 
 -- what comes after a read: where it failed its fault, with nothing written; otherwise what is made
 -- of its bytes

@@ -4,6 +4,7 @@ pub mod Explained
 pub mod Listing
 pub mod Lists
 pub mod Reading
+pub mod Running
 pub mod Schedules
 pub mod Shown
 pub mod View

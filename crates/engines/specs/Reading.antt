@@ -4,8 +4,9 @@ use Rattle.std.specs.Global.{Global}
 use Rattle.std.specs.Io.KnownBytes.{IsAtEnd}
 use Rattle.engines.specs.Engines.{Gives, OfText}
 use Rattle.engines.specs.declared.fault.EngineFault.{EngineFault}
-use Rattle.engines.specs.declared.fault.EngineFault.TheVariants.{Source, Input, Schedule, Writing, Memory}
+use Rattle.engines.specs.declared.fault.EngineFault.TheVariants.{Source, Input, Schedule, Writing, Memory, OutOfRange, NotStarted, Stuck}
 use Rattle.engines.specs.declared.fault.ReadFault.{ReadFault}
+use Rattle.engines.specs.declared.given.Given.{Given}
 use Rattle.engines.specs.declared.texts.Texts.{Texts}
 
 -- this holds of some texts that three readers give
@@ -24,14 +25,20 @@ LeavesThree (Input e) source i j s t = IsAtEnd source × (t ≡ s)
 LeavesThree (Schedule e) source i j s t = IsAtEnd source × IsAtEnd j
 LeavesThree (Writing e) source i j s t = IsAtEnd source × IsAtEnd j × IsAtEnd t
 LeavesThree Memory source i j s t = ⊤
+LeavesThree OutOfRange source i j s t = ⊥
+LeavesThree NotStarted source i j s t = ⊥
+LeavesThree Stuck source i j s t = ⊥
 
 -- a fault of a reader, or want of memory
 abbrev pub IsReading : EngineFault → Type 0
-IsReading (Writing e) = ⊥
-IsReading fault = ⊤
+IsReading (Source e) = ⊤
+IsReading (Input e) = ⊤
+IsReading (Schedule e) = ⊤
+IsReading Memory = ⊤
+IsReading _ = ⊥
 
 -- what comes after the read of a text: where that failed its fault, and otherwise what is made of its bytes
-abbrev pub AfterText : Result (Vec ℕ Global) ReadFault → (ReadFault → EngineFault) → Result Texts EngineFault → (List ℕ → Type 0) → Type 0
+abbrev pub AfterText : {X : Type 0} → Result (Vec ℕ Global) ReadFault → (ReadFault → EngineFault) → Result X EngineFault → (List ℕ → Type 0) → Type 0
 AfterText (Err fault) comes_to result made = result ≡ Err (comes_to fault)
 AfterText (Ok bytes) comes_to result made = made bytes.items
 
@@ -49,3 +56,10 @@ AfterSource source i j s t (Err (Input e)) = t ≡ s
 AfterSource source i j s t (Err (Schedule e)) = IsAtEnd j
 AfterSource source i j s t (Err Memory) = ⊤
 AfterSource source i j s t (Err _) = ⊥
+
+-- what reading an input comes to after a source: no fault is its
+abbrev pub AfterGiven : (source : List ℕ) (old new : Option (List ℕ)) → Result Given EngineFault → Type 0
+AfterGiven source old new (Ok given) = (given.source.items ≡ source) × Gives old given.input.items × IsAtEnd new
+AfterGiven source old new (Err (Input e)) = ⊤
+AfterGiven source old new (Err Memory) = ⊤
+AfterGiven source old new (Err _) = ⊥

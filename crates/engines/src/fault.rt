@@ -22,6 +22,15 @@ pub enum EngineFault {
     /// Memory was refused.
     #[error("out of memory")]
     Memory,
+    /// 57: there aren't 1 to 64 processors and 1 to 256 open iterations.
+    #[error("a run has 1 to 64 processors (-p) and 1 to 256 open iterations (-s)")]
+    OutOfRange,
+    /// 58: a thread couldn't be started.
+    #[error("a thread couldn't be started")]
+    NotStarted,
+    /// 59: a run can't go on, and hasn't ended.
+    #[error("the run can't go on")]
+    Stuck,
 }
 
 /// Why the bytes of a reader weren't all read.
@@ -78,7 +87,8 @@ impl EngineFault {
         }
     }
 
-    /// The exit status: 4 for a reader or a writer, 5 for memory.
+    /// The exit status: 4 for a reader or a writer, 5 for memory and threads, 3 for numbers that are out
+    /// of range.
     pub fn status(&self) -> u8
         ensures { result ≡ fault_status self.now }
     {
@@ -88,6 +98,9 @@ impl EngineFault {
             EngineFault::Schedule(_) => 4,
             EngineFault::Writing(_) => 4,
             EngineFault::Memory => 5,
+            EngineFault::OutOfRange => 3,
+            EngineFault::NotStarted => 5,
+            EngineFault::Stuck => 5,
         }
     }
 }

@@ -1,18 +1,18 @@
 -- A core stays that of its call, and what it gives is of that call.
-use Rattle.std.proofs.Common.{◌≡◌, ◌∙◌, inl, inr, ℕ, List, [], sym, ap, subst, refl}
+use Rattle.std.proofs.Common.{◌≡◌, ◌∙◌, inl, inr, ℕ, List, [], None, sym, ap, subst, refl}
 use Rattle.machine.specs.Code.{Code}
 use Rattle.machine.specs.Frame.{Frame}
-use Rattle.machine.specs.State.{Choice}
+use Rattle.machine.specs.State.{AreSizes, Choice, Machine}
 use Rattle.ast.specs.declared.answer.Answer.{Answer}
 use Rattle.replay.specs.CoreView.{CoreView, IsAfter, IsNew, point_at}
 use Rattle.replay.specs.Replayed.{IsAnswer}
 use Rattle.replay.specs.Replays.{Point, Replays, beginning}
-use Rattle.replay.specs.Schedules.{Entry, Schedule}
-use Rattle.replay.specs.Stepping.{HandsIn, PicksUp, Steps}
+use Rattle.replay.specs.Schedules.{Entry, IsSchedule, Schedule}
+use Rattle.replay.specs.Stepping.{HandsIn, IsGoing, PicksUp, Steps}
 use Rattle.replay.specs.declared.stepped.Stepped.{Stepped}
 use Rattle.replay.specs.declared.stepped.Stepped.TheVariants.{Went, Idle, Ended}
 use Rattle.replay.specs.declared.entry.Version.TheVariants.{Second}
-use Rattle.processors.specs.Calls.{IsCoreOf, IsOutputOf, IsRunOf}
+use Rattle.processors.specs.Calls.{IsCoreOf, IsOutputOf, IsRunOf, IsStateOf, IsUnended}
 
 after : (code : Code) (input : List ℕ) (p s : ℕ) (x y : CoreView) (e : Entry) → IsCoreOf code input p s x → IsAfter x e y → IsCoreOf code input p s y
 after code input p s x y e o a = record {
@@ -50,34 +50,45 @@ new_is_of code input p s x n = record {
 }
 
 -- nothing has gone out where nothing has been done
-pub first_output : (code : Code) (input : List ℕ) (p s : ℕ) → IsOutputOf code input p s []
-first_output code input p s = record {
+pub first_output : (code : Code) (input : List ℕ) (p s : ℕ) → AreSizes p s → IsOutputOf code input p s []
+first_output code input p s sizes = record {
   schedule = record { version = Second; processors = p; slots = s; entries = [] };
   processors = refl;
   slots = refl;
+  kept = (sizes, tt);
   point = beginning code input s;
   replays = record { leads = refl };
-  is = refl;
+  holds = refl;
 }
 
 replays_of : (code : Code) (input : List ℕ) (p s : ℕ) (x : CoreView) (y : Schedule) (b : Point) → IsCoreOf code input p s x → Replays x.code x.input y b → Replays code input y b
 replays_of code input p s x y b o r = subst (λ (i : List ℕ). Replays code i y b) o.input_is (subst (λ (k : Code). Replays k x.input y b) o.code_is r)
 
-pub output_of : (code : Code) (input : List ℕ) (p s : ℕ) (x : CoreView) (xs : List ℕ) → IsCoreOf code input p s x → Replays x.code x.input x.schedule (point_at x) → xs ≡ (point_at x).machine.output → IsOutputOf code input p s xs
-output_of code input p s x xs o r e = record {
+state_of : (code : Code) (input : List ℕ) (p s : ℕ) (x : CoreView) (P : Machine → Type 0) → IsCoreOf code input p s x → Replays x.code x.input x.schedule (point_at x) → IsSchedule x.schedule → P (point_at x).machine
+    → IsStateOf code input p s P
+state_of code input p s x P o r k h = record {
   schedule = x.schedule;
   processors = o.processors;
   slots = o.slots;
+  kept = k;
   point = point_at x;
   replays = replays_of code input p s x x.schedule (point_at x) o r;
-  is = e;
+  holds = h;
 }
 
-own_run : (code : Code) (input : List ℕ) (p s : ℕ) (x : CoreView) (answer : Answer) → IsCoreOf code input p s x → Replays x.code x.input x.schedule (point_at x) → IsAnswer x.code (point_at x).machine answer → IsRunOf code input p s answer x.schedule
-own_run code input p s x answer o r a = record {
+pub output_of : (code : Code) (input : List ℕ) (p s : ℕ) (x : CoreView) (xs : List ℕ) → IsCoreOf code input p s x → Replays x.code x.input x.schedule (point_at x) → IsSchedule x.schedule → xs ≡ (point_at x).machine.output
+    → IsOutputOf code input p s xs
+output_of code input p s x xs = state_of code input p s x (λ m. xs ≡ m.output)
+
+pub unended_of : (code : Code) (input : List ℕ) (p s : ℕ) (x : CoreView) → IsCoreOf code input p s x → Replays x.code x.input x.schedule (point_at x) → IsSchedule x.schedule → IsGoing x → IsUnended code input p s
+unended_of code input p s x = state_of code input p s x (λ m. m.ended ≡ None)
+
+own_run : (code : Code) (input : List ℕ) (p s : ℕ) (x : CoreView) (answer : Answer) → IsCoreOf code input p s x → Replays x.code x.input x.schedule (point_at x) → IsAnswer x.code (point_at x).machine answer → IsSchedule x.schedule → IsRunOf code input p s answer x.schedule
+own_run code input p s x answer o r a k = record {
   sizes = o.sizes;
   processors = o.processors;
   slots = o.slots;
+  kept = k;
   replay = record {
     point = point_at x;
     replays = replays_of code input p s x x.schedule (point_at x) o r;
@@ -85,5 +96,6 @@ own_run code input p s x answer o r a = record {
   };
 }
 
-pub run_of : (code : Code) (input : List ℕ) (p s : ℕ) (x : CoreView) (answer : Answer) (y : Schedule) → IsCoreOf code input p s x → Replays x.code x.input x.schedule (point_at x) → IsAnswer x.code (point_at x).machine answer → y ≡ x.schedule → IsRunOf code input p s answer y
-run_of code input p s x answer y o r a e = subst (λ (z : Schedule). IsRunOf code input p s answer z) (sym e) (own_run code input p s x answer o r a)
+pub run_of : (code : Code) (input : List ℕ) (p s : ℕ) (x : CoreView) (answer : Answer) (y : Schedule) → IsCoreOf code input p s x → Replays x.code x.input x.schedule (point_at x) → IsAnswer x.code (point_at x).machine answer → IsSchedule x.schedule → y ≡ x.schedule
+    → IsRunOf code input p s answer y
+run_of code input p s x answer y o r a k e = subst (λ (z : Schedule). IsRunOf code input p s answer z) (sym e) (own_run code input p s x answer o r a k)

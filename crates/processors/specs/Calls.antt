@@ -1,12 +1,12 @@
 -- What belongs to a call of `run`.
-use Rattle.std.specs.Prelude.{◌≡◌, ℕ, List}
+use Rattle.std.specs.Prelude.{◌≡◌, ℕ, List, None}
 use Rattle.ast.specs.declared.answer.Answer.{Answer}
 use Rattle.machine.specs.Code.{Code}
-use Rattle.machine.specs.State.{AreSizes}
+use Rattle.machine.specs.State.{AreSizes, Machine}
 use Rattle.replay.specs.CoreView.{CoreView}
 use Rattle.replay.specs.Replayed.{IsReplay}
 use Rattle.replay.specs.Replays.{Point, Replays}
-use Rattle.replay.specs.Schedules.{Schedule}
+use Rattle.replay.specs.Schedules.{IsSchedule, Schedule}
 
 -- a core with this code and input, and so many processors and slots
 pub record IsCoreOf (code : Code) (input : List ℕ) (p s : ℕ) (x : CoreView) : Type 0 where
@@ -16,18 +16,29 @@ pub record IsCoreOf (code : Code) (input : List ℕ) (p s : ℕ) (x : CoreView) 
   pub processors : x.schedule.processors ≡ p
   pub slots : x.schedule.slots ≡ s
 
--- The schedule, of so many processors and slots, leads to a state that has ended with this answer.
+-- The schedule, of so many processors and slots, can be written, and leads to a state that has ended with
+-- this answer.
 pub record IsRunOf (code : Code) (input : List ℕ) (p s : ℕ) (answer : Answer) (x : Schedule) : Type 0 where
   pub sizes : AreSizes p s
   pub processors : x.processors ≡ p
   pub slots : x.slots ≡ s
+  pub kept : IsSchedule x
   pub replay : IsReplay code input x answer
 
--- A schedule of so many processors and slots leads to a state with this output.
-pub record IsOutputOf (code : Code) (input : List ℕ) (p s : ℕ) (output : List ℕ) : Type 0 where
+-- A schedule of so many processors and slots, which can be written, leads to a state of which this holds.
+pub record IsStateOf (code : Code) (input : List ℕ) (p s : ℕ) (P : Machine → Type 0) : Type 0 where
   pub schedule : Schedule
   pub processors : schedule.processors ≡ p
   pub slots : schedule.slots ≡ s
+  pub kept : IsSchedule schedule
   pub point : Point
   pub replays : Replays code input schedule point
-  pub is : output ≡ point.machine.output
+  pub holds : P point.machine
+
+-- to a state with this output
+abbrev pub IsOutputOf : Code → List ℕ → (p s : ℕ) → (output : List ℕ) → Type 0
+IsOutputOf code input p s output = IsStateOf code input p s (λ m. output ≡ m.output)
+
+-- to one that hasn't ended
+abbrev pub IsUnended : Code → List ℕ → (p s : ℕ) → Type 0
+IsUnended code input p s = IsStateOf code input p s (λ m. m.ended ≡ None)

@@ -84,6 +84,7 @@ impl<'c, C: Call> Board<'c, C> {
     ghost use Rattle.processors.specs.Refused.{IsGivenUp};
     ghost use Rattle.replay.specs.CoreView.{point_at};
     ghost use Rattle.replay.specs.Replayed.{IsAnswer};
+    ghost use Rattle.replay.specs.Stepping.{IsGoing};
 
     /// A run in which nothing has happened.
     pub fn new(alloc: Global, core: Core<'c>) -> Result<Board<'c, C>, AllocError>
@@ -261,9 +262,18 @@ impl<'c, C: Call> Board<'c, C> {
         ensures { IsGivenUp C.code C.input C.processors C.slots result }
     {
         let Board { core, .. } = self;
-        let _ = core.schedule();
+        let _ = core.schedule().entries();
         let (output, _) = core.into_parts();
         RunRefusal::Memory { output }
+    }
+
+    /// What has come of a run that can't go on and hasn't ended.
+    fn not_ended(self) -> RunRefusal
+        requires { IsGoing self }
+        ensures { IsGivenUp C.code C.input C.processors C.slots result }
+    {
+        let _ = self.core.schedule().entries();
+        RunRefusal::Refused { number: 59 }
     }
 
     /// What has come of a run that has ended with this answer.
@@ -278,7 +288,7 @@ impl<'c, C: Call> Board<'c, C> {
             ..
         } = self;
         let tally = core.tally();
-        let _ = core.schedule();
+        let _ = core.schedule().entries();
         let (_, schedule) = core.into_parts();
         Report {
             answer,
@@ -289,14 +299,14 @@ impl<'c, C: Call> Board<'c, C> {
         }
     }
 
-    /// What has come of a run that nobody gave up.
+    /// What has come of a run that nobody gave up, or that can't go on.
     pub fn report(self) -> Result<Report, RunRefusal>
         ensures ok { IfOk result (λ r. IsRunOf C.code C.input C.processors C.slots r.answer r.schedule) }
         ensures err { IfErr result (IsGivenUp C.code C.input C.processors C.slots) }
     {
         match self.core.answer() {
             Ok(Some(answer)) => Ok(self.report_of(answer)),
-            Ok(None) => Err(RunRefusal::Refused { number: 59 }),
+            Ok(None) => Err(self.not_ended()),
             Err(_) => Err(self.out_of_memory()),
         }
     }

@@ -3,6 +3,7 @@
 ghost use Rattle.std.specs.Prelude.{◌≡◌, ℕ, List, IfOk, IfErr};
 ghost use Rattle.machine.specs.Code.{Code as PlainCode};
 ghost use Rattle.machine.specs.CodeView.{code_of};
+ghost use Rattle.machine.specs.State.{AreSizes};
 ghost use Rattle.processors.specs.Calls.{IsCoreOf, IsRunOf};
 ghost use Rattle.processors.specs.Refused.{IsGivenUp, IsRefused};
 
@@ -87,7 +88,7 @@ fn run_all<'c, C: Call + Send + Sync, G: Gate + Sync, R: Threads + Wait + Sync>(
 
 /// There was no memory to begin with.
 fn nothing(alloc: Global) -> RunRefusal
-    ensures { (code : PlainCode) (input : List ℕ) (p s : ℕ) → IsGivenUp code input p s result }
+    ensures { (code : PlainCode) (input : List ℕ) (p s : ℕ) → AreSizes p s → IsGivenUp code input p s result }
 {
     RunRefusal::Memory {
         output: Vec::new(alloc),
@@ -100,10 +101,9 @@ fn reported<'c, C: Call>(board: Board<'c, C>) -> Result<Report, RunRefusal>
     ensures err { IfErr result (IsGivenUp C.code C.input C.processors C.slots) }
 {
     match board.standing() {
-        Standing::Going => board.report(),
+        Standing::Going | Standing::Stuck => board.report(),
         Standing::NoMemory => Err(board.out_of_memory()),
         Standing::NotStarted => Err(RunRefusal::Refused { number: 58 }),
-        Standing::Stuck => Err(RunRefusal::Refused { number: 59 }),
     }
 }
 

@@ -1,0 +1,248 @@
+-- What comes of a run of code is the sequential program's.
+use Rattle.std.proofs.Common.{◌≡◌, ◌∙◌, ◌⊎◌, ℕ, ℤ, zero, suc, ◌+◌, Bool, true, false, List, [], ◌∷◌, ◌++◌, length, map, Option, Some, None, Result, Ok, Err, Vec, append-nil, arith, inl, inr, ap, refl, subst, sym}
+use Rattle.std.proofs.lemmas.List.{length-map}
+use Rattle.std.specs.Prelude.{⊤}
+use Rattle.std.specs.Global.{Global}
+use Rattle.std.specs.Io.KnownBytes.{IsAtEnd}
+use Rattle.ast.specs.Meaning.{seq}
+use Rattle.ast.specs.Program.{ProgramTree}
+use Rattle.ast.specs.Store.{StoreOf, values_from}
+use Rattle.ast.specs.Symbols.{Symbol, cells_of, size}
+use Rattle.ast.specs.View.{cells}
+use Rattle.ast.specs.declared.answer.Answer.{Answer}
+use Rattle.ast.specs.declared.fault.End.{End}
+use Rattle.ast.specs.declared.fault.End.TheVariants.{Done, Stopped, Fault as FaultedAt}
+use Rattle.codegen.specs.Headline.{Headline, IsBeginning}
+use Rattle.codegen.specs.Program.{IsCompiled}
+use Rattle.expr_code.specs.Computes.{variables_for, variables_in}
+use Rattle.machine.specs.Code.{Code}
+use Rattle.machine.specs.State.{AreSizes, Ended, Machine}
+use Rattle.machine.specs.declared.code.Variable.{Variable}
+use Rattle.processors.specs.Calls.{IsOutputOf, IsRunOf}
+use Rattle.processors.specs.Refused.{IsRefused}
+use Rattle.processors.specs.declared.report.RunRefusal.TheVariants as runs
+use Rattle.profile_check.specs.Reads.{Reads}
+use Rattle.replay.proofs.Running.{is_run}
+use Rattle.replay.specs.Replayed.{IsAnswer, stored}
+use Rattle.replay.specs.Schedules.{SchedText, Schedule}
+use Rattle.engines.specs.Engines.{Gives, LeavesReaders, OfText, ShowsRun, outcome_of, status_of}
+use Rattle.engines.specs.Running.{ComesOf, IsScheduleOf, IsWhole, LeavesRun, Running, Shows, WhereWanted, WritesRan, WritesText, WritesWhole, WroteRan, WroteStatus}
+use Rattle.engines.specs.Shown.{EndShown, Extends, Row, row_of}
+use Rattle.engines.specs.View.{rows_from}
+use Rattle.engines.specs.declared.fault.EngineFault.{EngineFault}
+use Rattle.engines.specs.declared.fault.EngineFault.TheVariants as faults
+use Rattle.engines.specs.declared.given.Given.{Given}
+use Rattle.engines.specs.declared.given.Wants.{Wants}
+use Rattle.engines.specs.declared.outcome.Outcome.{Outcome}
+use Rattle.engines.specs.declared.ran.Ran.{Ran}
+use Rattle.engines.specs.declared.ran.Ran.TheVariants.{Refused, Whole as Came, Memory, OutOfRange, NotStarted, Stuck}
+use Rattle.engines.specs.declared.ran.Whole.{Whole}
+use Rattle.engines.proofs.StoreRows.{rows_whole}
+
+-- ---- the state at the end
+
+ended_so : (tree : ProgramTree) (code : Code) (input : List ℕ) (p s : ℕ) (answer : Answer) (x : Schedule) → Headline code tree → (r : IsRunOf code input p s answer x)
+    → Ended r.replay.point.machine (seq tree input).output (seq tree input).end (seq tree input).store
+ended_so tree code input p s answer x headline r =
+    let run = is_run code input x r.replay.point r.kept r.replay.replays in
+    let agrees = headline input x.processors x.slots run.0 r.replay.point.machine r.kept.0 run.1 in
+    agrees.answer answer.end r.replay.is.end
+
+-- the output of a state is a beginning of what the sequential program prints
+pub begins : (tree : ProgramTree) (code : Code) (input : List ℕ) (p s : ℕ) (output : List ℕ) → Headline code tree → IsOutputOf code input p s output → IsBeginning output (seq tree input).output
+begins tree code input p s output headline o =
+    let run = is_run code input o.schedule o.point o.kept o.replays in
+    let agrees = headline input o.schedule.processors o.schedule.slots run.0 o.point.machine o.kept.0 run.1 in
+    subst (λ (xs : List ℕ). IsBeginning xs (seq tree input).output) (sym o.holds) agrees.beginning
+
+-- ---- its store
+
+same_values : (f g : ℕ → ℤ) → ((i : ℕ) → f i ≡ g i) → (n count : ℕ) → values_from f n count ≡ values_from g n count
+same_values f g same n zero = refl
+same_values f g same n (suc count) = rw (same n, same_values f g same (n + 1) count) refl
+
+-- variables that are a program's symbols have in equal stores what the symbols have
+stored_as : (xs : List Variable) (ss : List Symbol) (a b : StoreOf) → ((name : List ℕ) (place : ℕ) → a name place ≡ b name place) → variables_in xs ≡ variables_for ss → stored xs a ≡ cells_of ss b
+stored_as [] [] a b same are = refl
+stored_as [] (s ∷ ss) a b same are = absurd cc
+stored_as (x ∷ xs) [] a b same are = absurd cc
+stored_as (x ∷ xs) (s ∷ ss) a b same are =
+    let name : x.name.letters ≡ s.name = cc in
+    let many : x.size ≡ size s.sort = cc in
+    let rest : variables_in xs ≡ variables_for ss = cc in
+    rw (name, many, same_values (a s.name) (b s.name) (same s.name) 0 (size s.sort), stored_as xs ss a b same rest) refl
+
+pub many_cells : (tree : ProgramTree) (code : Code) (m : Machine) (answer : Answer) → IsCompiled tree code → IsAnswer code m answer → length (cells answer.store) ≡ length tree.symbols
+many_cells tree code m answer compiled is =
+    ap length is.store ∙ length-map code.variables (λ x. (x.name.letters, values_from (m.store x.name.letters) 0 x.size))
+    ∙ sym (length-map code.variables (λ x. (x.name.letters, x.size))) ∙ ap length compiled.2.variables ∙ length-map tree.symbols (λ s. (s.name, size s.sort))
+
+-- ---- what is shown of the answer
+
+-- the rows count at END alone
+by_rows : (wanted : Bool) (e : End) (old new : List Row) (text : List ℕ) → (e ≡ Done → old ≡ new) → EndShown wanted old e text → EndShown wanted new e text
+by_rows wanted Done old new text same h = subst (λ (rows : List Row). EndShown wanted rows Done text) (same refl) h
+by_rows wanted (Stopped line) old new text same h = h
+by_rows wanted (FaultedAt fault line) old new text same h = h
+
+same_some : (a b : End) → Some a ≡ Some b → a ≡ b
+same_some a b h = cc
+
+shown_so : (wanted : Bool) (tree : ProgramTree) (code : Code) (input : List ℕ) (m : Machine) (answer : Answer) (outcome : Outcome) (text : List ℕ) → IsCompiled tree code
+    → Ended m (seq tree input).output (seq tree input).end (seq tree input).store → IsAnswer code m answer → outcome ≡ outcome_of answer.end
+    → Extends (EndShown wanted (rows_from (cells answer.store) 0 tree.symbols) answer.end) answer.output.items text → ShowsRun wanted tree input outcome text
+shown_so wanted tree code input m answer outcome text compiled ended is out more =
+    let store = (seq tree input).store in
+    let same : answer.end ≡ (seq tree input).end = same_some answer.end (seq tree input).end (sym is.end ∙ ended.is) in
+    let rows : answer.end ≡ Done → rows_from (cells answer.store) 0 tree.symbols ≡ map (row_of store) tree.symbols =
+    λ done. ap (λ cs. rows_from cs 0 tree.symbols) (is.store ∙ stored_as code.variables tree.symbols m.store store (ended.stored (sym same ∙ done)) compiled.2.variables) ∙ rows_whole store tree.symbols in
+    record {
+      ended = out ∙ ap outcome_of same;
+      shown = record {
+        last = more.last;
+        ends = subst (λ (e : End). EndShown wanted (map (row_of store) tree.symbols) e more.last) same (by_rows wanted answer.end _ _ more.last rows more.fits);
+        whole = more.grown ∙ ap (λ out. out ++ more.last) (is.output ∙ ended.printed);
+      };
+    }
+
+-- ---- the schedule
+
+where_wanted : (wanted : Bool) (text : Option (Vec ℕ Global)) (P Q : List ℕ → Type 0) → ((xs : List ℕ) → P xs → Q xs) → WhereWanted wanted text P → WhereWanted wanted text Q
+where_wanted true (Some text) P Q f h = f text.items h
+where_wanted true None P Q f h = h
+where_wanted false (Some text) P Q f h = h
+where_wanted false None P Q f h = h
+
+-- ---- what comes of the run
+
+pub comes_to : (tree : ProgramTree) (code : Code) (input : List ℕ) (w : Wants) (answer : Answer) (x : Schedule) (ran : Ran) → IsCompiled tree code → Headline code tree
+    → IsRunOf code input w.processors w.slots answer x → Shows w tree.symbols answer x ran → ComesOf tree code input w ran
+comes_to tree code input w answer x (Came whole) compiled headline r h =
+    let ended = ended_so tree code input w.processors w.slots answer x headline r in
+    record {
+      sizes = r.sizes;
+      shown = shown_so w.store tree code input r.replay.point.machine answer whole.page.outcome whole.page.text.items compiled ended r.replay.is h.0 h.1;
+      schedule = where_wanted w.schedule whole.schedule (SchedText x) (IsScheduleOf tree code input w.processors w.slots)
+          (λ xs spelled. record { schedule = x; spelled = spelled; processors = r.processors; slots = r.slots; point = r.replay.point; replays = r.replay.replays; ended = ended })
+          h.2;
+    }
+comes_to tree code input w answer x (Memory output) compiled headline r h =
+    let ended = ended_so tree code input w.processors w.slots answer x headline r in
+    let all : (seq tree input).output ≡ output.items ++ [] = sym ended.printed ∙ sym r.replay.is.output ∙ sym h ∙ sym (append-nil output.items) in
+    ([], all)
+comes_to tree code input w answer x (Refused page) compiled headline r h = absurd h
+comes_to tree code input w answer x OutOfRange compiled headline r h = absurd h
+comes_to tree code input w answer x NotStarted compiled headline r h = absurd h
+comes_to tree code input w answer x Stuck compiled headline r h = absurd h
+
+-- the same of a source that reads as the program
+pub of_source : (source : List ℕ) (tree : ProgramTree) (code : Code) (input : List ℕ) (w : Wants) (ran : Ran) → Reads source tree → IsCompiled tree code → ComesOf tree code input w ran → Running source input w ran
+of_source source tree code input w (Refused page) reads compiled h = absurd h
+of_source source tree code input w (Came whole) reads compiled h = record { tree = tree; code = code; reads = reads; compiled = compiled; holds = h }
+of_source source tree code input w (Memory output) reads compiled h = inr (record { tree = tree; code = code; reads = reads; compiled = compiled; holds = h })
+of_source source tree code input w OutOfRange reads compiled h = record { tree = tree; code = code; reads = reads; compiled = compiled; holds = h }
+of_source source tree code input w NotStarted reads compiled h = record { tree = tree; code = code; reads = reads; compiled = compiled; holds = h }
+of_source source tree code input w Stuck reads compiled h = record { tree = tree; code = code; reads = reads; compiled = compiled; holds = h }
+
+-- ---- what is written
+
+abbrev IsReaders : EngineFault → Type 0
+IsReaders (faults.Source e) = ⊤
+IsReaders (faults.Input e) = ⊤
+IsReaders (faults.Schedule e) = ⊤
+IsReaders _ = ⊥
+
+-- no fault of a reader comes of writing
+no_text : (text : List ℕ) (o : Outcome) (old new : Option (List ℕ)) (f : EngineFault) → IsReaders f → WritesText text (Ok o) old new (Err f) → ⊥
+no_text text o old new (faults.Source e) is h = let w = h.0 in cc
+no_text text o old new (faults.Input e) is h = let w = h.0 in cc
+no_text text o old new (faults.Schedule e) is h = let w = h.0 in cc
+no_text text o old new (faults.Writing e) is h = is
+no_text text o old new faults.Memory is h = is
+no_text text o old new faults.OutOfRange is h = is
+no_text text o old new faults.NotStarted is h = is
+no_text text o old new faults.Stuck is h = is
+
+no_output : (text : List ℕ) (old new : Option (List ℕ)) (f : EngineFault) → IsReaders f → WritesText text (Err faults.Memory) old new (Err f) → ⊥
+no_output text old new (faults.Source e) is h = let w = h.0 in cc
+no_output text old new (faults.Input e) is h = let w = h.0 in cc
+no_output text old new (faults.Schedule e) is h = let w = h.0 in cc
+no_output text old new (faults.Writing e) is h = is
+no_output text old new faults.Memory is h = is
+no_output text old new faults.OutOfRange is h = is
+no_output text old new faults.NotStarted is h = is
+no_output text old new faults.Stuck is h = is
+
+no_whole : (x : Whole) (before after old new : Option (List ℕ)) (f : EngineFault) → IsReaders f → WritesWhole x before after old new (Err f) → ⊥
+no_whole x before after old new (faults.Source e) is h = h
+no_whole x before after old new (faults.Input e) is h = h
+no_whole x before after old new (faults.Schedule e) is h = h
+no_whole x before after old new (faults.Writing e) is h = is
+no_whole x before after old new faults.Memory is h = is
+no_whole x before after old new faults.OutOfRange is h = is
+no_whole x before after old new faults.NotStarted is h = is
+no_whole x before after old new faults.Stuck is h = is
+
+same_fault : (f g : EngineFault) → Err {A = Outcome} {B = EngineFault} f ≡ Err g → f ≡ g
+same_fault f g h = cc
+
+no_reading : (ran : Ran) (before after old new : Option (List ℕ)) (f : EngineFault) → IsReaders f → WritesRan ran before after old new (Err f) → ⊥
+no_reading (Refused page) before after old new f is h = no_text page.text.items page.outcome old new f is h.1
+no_reading (Came whole) before after old new f is h = no_whole whole before after old new f is h
+no_reading (Memory output) before after old new f is h = no_output output.items old new f is h.1
+no_reading OutOfRange before after old new f is h = subst IsReaders (same_fault f faults.OutOfRange h.0) is
+no_reading NotStarted before after old new f is h = subst IsReaders (same_fault f faults.NotStarted h.0) is
+no_reading Stuck before after old new f is h = subst IsReaders (same_fault f faults.Stuck h.0) is
+
+-- the same of texts that readers gave
+of_two : (source input : Option (List ℕ)) (given : Given) (x y : List ℕ) (P : List ℕ → List ℕ → Type 0) → x ≡ given.source.items → y ≡ given.input.items
+    → Gives source given.source.items × Gives input given.input.items → P x y → OfText source (λ text. OfText input (λ g. P text g))
+of_two source input given x y P first second are holds = (x, subst (Gives source) (sym first) are.0, (y, subst (Gives input) (sym second) are.1, holds))
+
+pub run_ok : (source input : Option (List ℕ)) (given : Given) (x y : List ℕ) (w : Wants) (ran : Ran) (before after old new : Option (List ℕ)) (outcome : Outcome) (status : ℕ) → x ≡ given.source.items → y ≡ given.input.items
+    → Gives source given.source.items × Gives input given.input.items → Running x y w ran → WritesRan ran before after old new (Ok outcome) → status ≡ status_of outcome
+    → OfText source (λ text. OfText input (λ g. WroteStatus (Running text g w) before after old new status))
+run_ok source input given x y w ran before after old new outcome status first second are allowed written is =
+    of_two source input given x y (λ text g. WroteStatus (Running text g w) before after old new status) first second are
+    (outcome, (is, record { ran = ran; allowed = allowed; written = written }))
+
+pub run_err : (source input : Option (List ℕ)) (given : Given) (x y : List ℕ) (w : Wants) (ran : Ran) (before after old new : Option (List ℕ)) (f : EngineFault) → x ≡ given.source.items → y ≡ given.input.items
+    → Gives source given.source.items × Gives input given.input.items → Running x y w ran → WritesRan ran before after old new (Err f)
+    → LeavesRun f before after old new (OfText source (λ text. OfText input (λ g. WroteRan (Running text g w) before after old new (Err f))))
+run_err source input given x y w ran before after old new f first second are allowed written = by_fault f (no_reading ran before after old new f) written
+  where
+    by_fault : (f : EngineFault) → (IsReaders f → WritesRan ran before after old new (Err f) → ⊥) → WritesRan ran before after old new (Err f)
+        → LeavesRun f before after old new (OfText source (λ text. OfText input (λ g. WroteRan (Running text g w) before after old new (Err f))))
+    by_fault (faults.Source e) no h = absurd (no tt h)
+    by_fault (faults.Input e) no h = absurd (no tt h)
+    by_fault (faults.Schedule e) no h = absurd (no tt h)
+    by_fault (faults.Writing e) no h = of_two source input given x y (λ text g. WroteRan (Running text g w) before after old new (Err (faults.Writing e))) first second are (record { ran = ran; allowed = allowed; written = h })
+    by_fault faults.Memory no h = inr (of_two source input given x y (λ text g. WroteRan (Running text g w) before after old new (Err faults.Memory)) first second are (record { ran = ran; allowed = allowed; written = h }))
+    by_fault faults.OutOfRange no h = of_two source input given x y (λ text g. WroteRan (Running text g w) before after old new (Err faults.OutOfRange)) first second are (record { ran = ran; allowed = allowed; written = h })
+    by_fault faults.NotStarted no h = of_two source input given x y (λ text g. WroteRan (Running text g w) before after old new (Err faults.NotStarted)) first second are (record { ran = ran; allowed = allowed; written = h })
+    by_fault faults.Stuck no h = of_two source input given x y (λ text g. WroteRan (Running text g w) before after old new (Err faults.Stuck)) first second are (record { ran = ran; allowed = allowed; written = h })
+
+pub run_readers : (ran : Ran) (before after old new source i j : Option (List ℕ)) (f : EngineFault) → WritesRan ran before after old new (Err f) → IsAtEnd source → IsAtEnd j → LeavesReaders f source i j
+run_readers ran before after old new source i j (faults.Source e) h s t = absurd (no_reading ran before after old new (faults.Source e) tt h)
+run_readers ran before after old new source i j (faults.Input e) h s t = s
+run_readers ran before after old new source i j (faults.Schedule e) h s t = absurd (no_reading ran before after old new (faults.Schedule e) tt h)
+run_readers ran before after old new source i j (faults.Writing e) h s t = (s, t)
+run_readers ran before after old new source i j faults.Memory h s t = tt
+run_readers ran before after old new source i j faults.OutOfRange h s t = (s, t)
+run_readers ran before after old new source i j faults.NotStarted h s t = (s, t)
+run_readers ran before after old new source i j faults.Stuck h s t = (s, t)
+
+-- ---- why there is no report
+
+pub out_of_range : (code : Code) (input : List ℕ) (p s : ℕ) → IsRefused code input p s (runs.Refused 57) → AreSizes p s → ⊥
+out_of_range code input p s (inl h) sizes = h.1 sizes
+out_of_range code input p s (inr (in_range, inl h)) sizes = omega arith
+out_of_range code input p s (inr (in_range, inr h)) sizes = let bad : 57 ≡ 59 = h.0 in omega arith
+
+pub in_range : (code : Code) (input : List ℕ) (p s n : ℕ) → (n ≡ 57 → ⊥) → IsRefused code input p s (runs.Refused n) → AreSizes p s
+in_range code input p s n other (inl h) = absurd (other h.0)
+in_range code input p s n other (inr h) = h.0
+
+pub gone_out : (tree : ProgramTree) (code : Code) (input : List ℕ) (p s : ℕ) (output : Vec ℕ Global) → Headline code tree → IsRefused code input p s (runs.Memory output) → IsBeginning output.items (seq tree input).output
+gone_out tree code input p s output headline (inl h) = absurd h
+gone_out tree code input p s output headline (inr h) = begins tree code input p s output.items headline h.1
