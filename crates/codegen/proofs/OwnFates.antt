@@ -125,17 +125,17 @@ module _ (F L : Type 0) (view : F → View F L) (trips : L → ℕ) (begin : L �
     where
       by : ((ρ : StoreOf) → Kept ρ → All n (suc j) ρ ⊎ Off n (suc j) ρ) → Fate F L view (Hidden l) (Fixed l) ι (start l ι j) (begin l j) σ [] → All (suc n) j σ ⊎ Off (suc n) j σ
       by more (i, inr t) = inr (record {
-          i = 0;
-          few = omega arith;
-          q = j;
-          is = omega arith;
-          store = σ;
-          earlier = refl;
-          steps = i;
-          cause = t.0;
-          breaks = t.1;
-          listed = ((run (start l ι j) σ).values ∷ [], ap (λ (x : Option Cause). going x (run (start l ι j) σ).values (run (start l ι j) σ).end (finish (start l ι) (λ k. []) n (suc j))) t.2);
-        })
+        i = 0;
+        few = omega arith;
+        q = j;
+        is = omega arith;
+        store = σ;
+        earlier = refl;
+        steps = i;
+        cause = t.0;
+        breaks = t.1;
+        listed = ((run (start l ι j) σ).values ∷ [], ap (λ (x : Option Cause). going x (run (start l ι j) σ).values (run (start l ι j) σ).end (finish (start l ι) (λ k. []) n (suc j))) t.2);
+      })
       by more (i, inl t) = on (more ρ r.agrees)
         where
           ρ : StoreOf
