@@ -4,7 +4,7 @@ use Rattle.std.proofs.Common.{◌≡◌, ◌∙◌, ◌+◌, ◌≤◌, ◌<◌,
 use Rattle.ast.specs.Store.{StoreOf}
 use Rattle.machine.specs.Code.{Cell}
 use Rattle.machine.specs.State.{State, put_cell, put_cells}
-use Rattle.machine.specs.View.{Cause, View, doing, loading, storing, printing, awaiting, advancing, leaving, breaking}
+use Rattle.machine.specs.View.{Cause, View, doing, loading, storing, printing, awaiting, advancing, breaking}
 use Rattle.codegen.proofs.IterationLaws.{cell_other}
 use Rattle.codegen.proofs.IterationSteps.{Process, load, store, print, await, advance, tick, fault, leave, gone, Whole, add, cell_value, finish, going, run, stopped, went}
 use Rattle.codegen.proofs.LoopRuns.{shown}
