@@ -1,7 +1,7 @@
 -- In a plan that is placed each advance has its order await, and before each statement stand the awaits of
 -- what is kept and has it as its sink.
 use Rattle.std.proofs.Common.{◌≡◌, ◌∙◌, ◌+◌, ◌<◌, ◌≤◌, inl, inr, ℕ, Bool, true, false, List, [], ◌∷◌, ◌++◌, refl, ap, sym, subst, ⊎_elim, Option, Some, None, arith, if◌then◌else◌}
-use Rattle.std.specs.Prelude.{◌==◌}
+use Rattle.std.specs.Prelude.{◌==◌, ◌&&◌, ◌||◌}
 use Rattle.std.specs.List.{Contains}
 use Rattle.std.proofs.lemmas.Bool.{and_from, cases_lt, eq-eqb}
 use Rattle.ast.specs.Tree as tree
@@ -10,7 +10,7 @@ use Rattle.dependence.specs.Kept.{Kept}
 use Rattle.dependence.specs.Plan.{PlanNode, awaits, advances, plain, loop, choose, PlanBlock, no_nodes, then_node, PlanArms}
 use Rattle.loop_tree.specs.Loops.{Loop}
 use Rattle.loop_tree.specs.Occurrences.{Occurrence}
-use Rattle.placement.specs.Awaiting.{AreKept, are_ordered, are_ordered_arms, awaited_in, awaited_in_arms, is_order_await}
+use Rattle.placement.specs.Awaiting.{AreKept, are_before, are_before_arms, are_ordered, are_ordered_arms, awaited_in, awaited_in_arms, is_order_await, leads_to_statement}
 use Rattle.placement.specs.Placement.{IsEvent, is_ascending}
 use Rattle.placement.specs.Placing.{anchored, arms_size, block_size, events, inner_arms, inner_block, made_for, node_size, placed_arms, placed_block, with_advances, with_awaits}
 use Rattle.placement.proofs.Few.{above, tail_ascending}
@@ -71,6 +71,24 @@ ordered_advances (e ∷ es) b h = and_from (e == e) (are_ordered None (with_adva
 ordered_awaits : (last : Option ℕ) (xs : List (ℕ × ℕ)) (b : PlanBlock) → ((x : Option ℕ) → are_ordered x b ≡ true) → are_ordered last (with_awaits xs b) ≡ true
 ordered_awaits last [] b h = h last
 ordered_awaits last (a ∷ xs) b h = ordered_awaits (if a.1 == 1 then Some a.0 else None) xs b h
+
+leads : (xs : List (ℕ × ℕ)) (N : PlanNode) (rest : PlanBlock) → IsStatement N → leads_to_statement (with_awaits xs (then_node N rest)) ≡ true
+leads [] (awaits x y) rest h = absurd h
+leads [] (advances x) rest h = absurd h
+leads [] (plain s) rest h = refl
+leads [] (loop l s c) rest h = refl
+leads [] (choose a) rest h = refl
+leads (a ∷ xs) N rest h = leads xs N rest h
+
+before_advances : (es : List ℕ) (b : PlanBlock) → are_before b ≡ true → are_before (with_advances es b) ≡ true
+before_advances [] b h = h
+before_advances (e ∷ es) b h = and_from ((e == e) && (1 == 1)) (are_before (with_advances es b)) (and_from (e == e) (1 == 1) (eq-eqb e e refl) refl) (before_advances es b h)
+
+before_awaits : (xs : List (ℕ × ℕ)) (N : PlanNode) (rest : PlanBlock) → IsStatement N → are_before (then_node N rest) ≡ true → are_before (with_awaits xs (then_node N rest)) ≡ true
+before_awaits [] N rest h k = k
+before_awaits (a ∷ xs) N rest h k =
+    let b = with_awaits xs (then_node N rest) in
+    and_from (leads_to_statement b || is_order_await a.0 a.1 b) (are_before b) (ap (λ (c : Bool). c || is_order_await a.0 a.1 b) (leads xs N rest h)) (before_awaits xs N rest h k)
 
 -- ---- over the range
 
@@ -275,6 +293,67 @@ module _ (sources : List ℕ) (before : ℕ → List (ℕ × ℕ)) where
         let y = with_advances (events sources before low o) x in
         and_from (are_ordered None y) (are_ordered_arms (placed_arms sources before low high m more)) (ordered_advances (events sources before low o) x (ordered_advances (events sources before m high) (placed_block sources before o b) (placed_ordered o b))) (arms_ordered low high m more)
 
+  -- ---- awaits before statements
+
+  mutual
+    inner_before : (o : ℕ) (b : Block) → are_before (inner_block sources before o b) ≡ true
+    inner_before o tree.no_nodes = refl
+    inner_before o (tree.then_node (tree.plain x) b) =
+        let m = o + node_size (tree.plain x) in
+        before_awaits (before o) (plain x) (inner_block sources before m b) tt (inner_before m b)
+    inner_before o (tree.then_node (tree.loop l h c) b) =
+        let m = o + node_size (tree.loop l h c) in
+        let x = inner_block sources before (o + 1) c in
+        let rest = inner_block sources before m b in
+        before_awaits (before o) (loop l h x) rest tt (and_from (are_before x) (are_before rest) (inner_before (o + 1) c) (inner_before m b))
+    inner_before o (tree.then_node (tree.choose a) b) =
+        let m = o + node_size (tree.choose a) in
+        let x = inner_arms sources before (o + 1) a in
+        let rest = inner_block sources before m b in
+        before_awaits (before o) (choose x) rest tt (and_from (are_before_arms x) (are_before rest) (inner_arms_before (o + 1) a) (inner_before m b))
+
+    inner_arms_before : (o : ℕ) (a : Arms) → are_before_arms (inner_arms sources before o a) ≡ true
+    inner_arms_before o tree.no_arms = refl
+    inner_arms_before o (tree.then_arm l c b more) = and_from (are_before (inner_block sources before o b)) (are_before_arms (inner_arms sources before (o + block_size b) more)) (inner_before o b) (inner_arms_before (o + block_size b) more)
+
+  made_before : (es : List ℕ) → are_before_arms (made_for es) ≡ true
+  made_before [] = refl
+  made_before (e ∷ es) = before_advances (e ∷ es) no_nodes refl
+
+  mutual
+    placed_before : (o : ℕ) (b : Block) → are_before (placed_block sources before o b) ≡ true
+    placed_before o tree.no_nodes = refl
+    placed_before o (tree.then_node (tree.plain x) b) =
+        let m = o + node_size (tree.plain x) in
+        let es = anchored sources before o (tree.plain x) in
+        let rest = placed_block sources before m b in
+        before_awaits (before o) (plain x) (with_advances es rest) tt (before_advances es rest (placed_before m b))
+    placed_before o (tree.then_node (tree.loop l h c) b) =
+        let m = o + node_size (tree.loop l h c) in
+        let es = anchored sources before o (tree.loop l h c) in
+        let x = inner_block sources before (o + 1) c in
+        let rest = placed_block sources before m b in
+        before_awaits (before o) (loop l h x) (with_advances es rest) tt (and_from (are_before x) (are_before (with_advances es rest)) (inner_before (o + 1) c) (before_advances es rest (placed_before m b)))
+    placed_before o (tree.then_node (tree.choose a) b) =
+        let m = o + node_size (tree.choose a) in
+        let es = anchored sources before o (tree.choose a) in
+        let x = placed_arms sources before (o + 1) (o + 1 + arms_size a) (o + 1) a in
+        let rest = placed_block sources before m b in
+        before_awaits (before o) (choose x) (with_advances es rest) tt (and_from (are_before_arms x) (are_before (with_advances es rest)) (arms_before (o + 1) (o + 1 + arms_size a) (o + 1) a) (before_advances es rest (placed_before m b)))
+
+    arms_before : (low high o : ℕ) (a : Arms) → are_before_arms (placed_arms sources before low high o a) ≡ true
+    arms_before low high o tree.no_arms = made_before (events sources before low high)
+    arms_before low high o (tree.then_arm l None b more) =
+        let m = o + block_size b in
+        let x = with_advances (events sources before m high) (placed_block sources before o b) in
+        let y = with_advances (events sources before low o) x in
+        and_from (are_before y) (are_before_arms (inner_arms sources before m more)) (before_advances (events sources before low o) x (before_advances (events sources before m high) (placed_block sources before o b) (placed_before o b))) (inner_arms_before m more)
+    arms_before low high o (tree.then_arm l (Some c) b more) =
+        let m = o + block_size b in
+        let x = with_advances (events sources before m high) (placed_block sources before o b) in
+        let y = with_advances (events sources before low o) x in
+        and_from (are_before y) (are_before_arms (placed_arms sources before low high m more)) (before_advances (events sources before low o) x (before_advances (events sources before m high) (placed_block sources before o b) (placed_before o b))) (arms_before low high m more)
+
 -- ---- sources and events
 
 event_in : (k : ℕ) (ss : List ℕ) (e s : ℕ) → IsEvent k ss e s → In s ss
@@ -292,6 +371,7 @@ one_event k (x ∷ ss) e d s a (inr h) (inr g) = one_event (k + 1) ss e d s (tai
 pub are_kept : AreKept
 are_kept l p whole placed = record {
   ordered = subst (λ (b : PlanBlock). are_ordered None b ≡ true) (sym placed.body) (placed_ordered placed.sources placed.before (l.statement + 1) l.body);
+  before = subst (λ (b : PlanBlock). are_before b ≡ true) (sym placed.body) (placed_before placed.sources placed.before (l.statement + 1) l.body);
   kept = λ e d t. (only e d t, all e d t);
 }
   where

@@ -1,5 +1,5 @@
 -- What is awaited in a plan, and before which statements.
-use Rattle.std.specs.Prelude.{◌≡◌, ◌↔◌, ◌==◌, ◌+◌, ℕ, Bool, true, false, ◌&&◌, List, [], ◌∷◌, ◌++◌, Option, Some, None, if◌then◌else◌}
+use Rattle.std.specs.Prelude.{◌≡◌, ◌↔◌, ◌==◌, ◌+◌, ℕ, Bool, true, false, ◌&&◌, ◌||◌, List, [], ◌∷◌, ◌++◌, Option, Some, None, if◌then◌else◌}
 use Rattle.std.specs.List.{Contains}
 use Rattle.dependence.specs.Kept.{Kept}
 use Rattle.dependence.specs.Plan.{awaits, advances, plain, loop, choose, PlanBlock, no_nodes, then_node, PlanArms, no_arms, made_else, then_arm, PlanTree}
@@ -49,10 +49,33 @@ abbrev mutual
   are_ordered_arms (made_else b) = are_ordered None b
   are_ordered_arms (then_arm l c b more) = are_ordered None b && are_ordered_arms more
 
+-- a statement comes next, but for awaits
+abbrev pub leads_to_statement : PlanBlock → Bool
+leads_to_statement no_nodes = false
+leads_to_statement (then_node (awaits e d) b) = leads_to_statement b
+leads_to_statement (then_node (advances e) b) = false
+leads_to_statement (then_node n b) = true
+
+-- Each await is an order await, or stands directly before a statement, with others perhaps.
+abbrev mutual
+  pub are_before : PlanBlock → Bool
+  are_before no_nodes = true
+  are_before (then_node (awaits e d) b) = (leads_to_statement b || is_order_await e d b) && are_before b
+  are_before (then_node (advances e) b) = are_before b
+  are_before (then_node (plain s) b) = are_before b
+  are_before (then_node (loop l h c) b) = are_before c && are_before b
+  are_before (then_node (choose a) b) = are_before_arms a && are_before b
+
+  pub are_before_arms : PlanArms → Bool
+  are_before_arms no_arms = true
+  are_before_arms (made_else b) = are_before b
+  are_before_arms (then_arm l c b more) = are_before b && are_before_arms more
+
 -- The awaits of a plan: order awaits, one of each advance, and before each statement those of what is kept
 -- and has it as its sink.
 pub record AwaitsKept (l : Loop) (p : PlanTree) (sources : List ℕ) : Type 0 where
   pub ordered : are_ordered None p.body ≡ true
+  pub before : are_before p.body ≡ true
   pub kept : (e d t : ℕ) → Contains (awaited_in (l.statement + 1) p.body) (e, d, t) ↔ ((s : ℕ) × IsEvent 1 sources e s × Kept l s t d)
 
 abbrev pub AreKept : Type 0

@@ -29,6 +29,14 @@ returns-clause-code c =
     let is = made c.args.program.now (loops_seen c.in_ok-tree.tree) (lines_seen c.in_ok-tree.tree) c.in_ok-reports.reports.items c.deref.result.now (code_of c.in_ok-code.code) c.in_ok-tree.ensures.all c.in_ok-tree.ensures.lines c.in_ok-reports.ensures c.deref.ensures.value c.in_ok-code.ensures.code in
     (opened_of (program_of p) reports, opened_law p reports code is, is.code_is)
 
+pub returns-clause-opened : goal.returns-clause-opened
+returns-clause-opened c =
+    let p = c.args.program.now in
+    let reports = c.in_ok-reports.reports.items in
+    let code = code_of c.in_ok-code.code in
+    let is = made c.args.program.now (loops_seen c.in_ok-tree.tree) (lines_seen c.in_ok-tree.tree) c.in_ok-reports.reports.items c.deref.result.now (code_of c.in_ok-code.code) c.in_ok-tree.ensures.all c.in_ok-tree.ensures.lines c.in_ok-reports.ensures c.deref.ensures.value c.in_ok-code.ensures.code in
+    (opened_law p reports code is, is.code_is)
+
 pub returns-in_err-code-clause-refused : goal.returns-in_err-code-clause-refused
 returns-in_err-code-clause-refused c =
     let p = c.args.program.now in
