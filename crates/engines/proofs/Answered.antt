@@ -26,8 +26,9 @@ use Rattle.replay.proofs.Running.{is_run}
 use Rattle.replay.specs.Replayed.{IsAnswer, stored}
 use Rattle.replay.specs.Schedules.{SchedText, Schedule}
 use Rattle.engines.specs.Engines.{Gives, LeavesReaders, OfText, ShowsRun, outcome_of, status_of}
-use Rattle.engines.specs.Running.{ComesOf, IsScheduleOf, IsWhole, LeavesRun, Running, Shows, WhereWanted, WritesRan, WritesText, WritesWhole, WroteRan, WroteStatus}
-use Rattle.engines.specs.Shown.{EndShown, Extends, Row, row_of}
+use Rattle.engines.specs.Running.{ComesOf, IsNoCodeAs, IsScheduleOf, IsWhole, LeavesRun, Running, Shows, ShowsRefusal, WhereWanted, WritesRan, WritesText, WritesWhole, WroteRan, WroteStatus}
+use Rattle.engines.specs.Schedules.{IsNoCode}
+use Rattle.engines.specs.Shown.{EndShown, Extends, Row, refused, row_of}
 use Rattle.engines.specs.View.{rows_from}
 use Rattle.engines.specs.declared.fault.EngineFault.{EngineFault}
 use Rattle.engines.specs.declared.fault.EngineFault.TheVariants as faults
@@ -246,3 +247,12 @@ in_range code input p s n other (inr h) = h.0
 pub gone_out : (tree : ProgramTree) (code : Code) (input : List ℕ) (p s : ℕ) (output : Vec ℕ Global) → Headline code tree → IsRefused code input p s (runs.Memory output) → IsBeginning output.items (seq tree input).output
 gone_out tree code input p s output headline (inl h) = absurd h
 gone_out tree code input p s output headline (inr h) = begins tree code input p s output.items headline h.1
+
+-- a source is refused, by its text or for its code
+pub of_refusal : (source : List ℕ) (number line : ℕ) (input : List ℕ) (w : Wants) (ran : Ran) → ((text : List ℕ) → text ≡ refused number line → IsNoCode source number line text) → ShowsRefusal number line ran → Running source input w ran
+of_refusal source number line input w (Refused page) no h = subst (λ (o : Outcome). IsNoCodeAs source o page.text.items) (sym h.0) (no page.text.items h.1)
+of_refusal source number line input w (Memory output) no h = inl h
+of_refusal source number line input w (Came whole) no h = absurd h
+of_refusal source number line input w OutOfRange no h = absurd h
+of_refusal source number line input w NotStarted no h = absurd h
+of_refusal source number line input w Stuck no h = absurd h
