@@ -1,4 +1,4 @@
-use Rattle.std.proofs.Common.{List, ℕ, Vec, subst}
+use Rattle.std.proofs.Common.{List, ℕ, Vec, subst, sym}
 use Rattle.std.specs.Global.{Global}
 use Rattle.ast.specs.Meaning.{seq}
 use Rattle.ast.specs.ProgramView.{program as program_of}
@@ -18,5 +18,5 @@ pub returns-in-Err-Memory : goal.returns-in-Err-Memory
 returns-in-Err-Memory g c =
     let why =
     subst (λ (f : RunRefusal). IsRefused (code_of c.args.code.now) c.args.input.now c.args.wants.processors c.args.wants.slots f) c.in-Err-Memory.field-0-is c.in-Err-Memory.ensures.err in
-    subst (λ (v : Vec ℕ Global). IsBeginning v.items (seq (program_of c.args.program.now) c.args.input.now).output) c.in-Err-Memory.output-is
+    subst (λ (v : Vec ℕ Global). IsBeginning v.items (seq (program_of c.args.program.now) c.args.input.now).output) (sym c.in-Err-Memory.output-is)
     (gone_out (program_of c.args.program.now) (code_of c.args.code.now) c.args.input.now c.args.wants.processors c.args.wants.slots c.in-Err-Memory.output c.requires.headline why)
