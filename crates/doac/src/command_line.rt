@@ -1,8 +1,8 @@
 //! The command line, read by clap.
 
 ghost use Rattle.std.specs.Prelude.{◌≡◌, IfErr, IfOk, false, map};
-ghost use Rattle.clap.specs.Words.{app_of, rule_of};
-ghost use Rattle.doac.specs.CommandLine.{Names, NamesNone, doac, input, number, out, processors, reason, schedule, schedule_out, slots, source, store, tally, whole_input};
+ghost use Rattle.clap.specs.Words.{app_of, fields_of, rule_of};
+ghost use Rattle.doac.specs.CommandLine.{Names, NamesNone, doac, input, number, out, processors, reason, run, schedule, schedule_out, slots, source, store, tally, upgrade, whole_input};
 
 use crate::command::{LineFault, held};
 use clap::{Arg, ArgAction};
@@ -126,6 +126,35 @@ fn reason<'a>(alloc: Global) -> Arg<'a>
         .help("Behind the word serial, the number behind SERIAL")
 }
 
+/// The command line of `run`.
+fn run_command<'a>(alloc: Global) -> Result<clap::Command<'a>, AllocError>
+    ensures shape { IfOk result (λ c. app_of c ≡ run) }
+    ensures local { IfOk result (λ c. (fields_of c).has_globals ≡ false) }
+{
+    clap::Command::new(alloc, "run")
+        .about("Runs a source in threads, iterations overlapping where they may")
+        .arg(source(alloc))?
+        .arg(input(alloc))?
+        .arg(processors(alloc))?
+        .arg(slots(alloc))?
+        .arg(schedule_out(alloc))?
+        .arg(store(alloc))?
+        .arg(tally(alloc))
+}
+
+/// The command line of `upgrade`.
+fn upgrade_command<'a>(alloc: Global) -> Result<clap::Command<'a>, AllocError>
+    ensures shape { IfOk result (λ c. app_of c ≡ upgrade) }
+    ensures local { IfOk result (λ c. (fields_of c).has_globals ≡ false) }
+{
+    clap::Command::new(alloc, "upgrade")
+        .about("Writes a schedule in the form that names what is picked")
+        .arg(source(alloc))?
+        .arg(whole_input(alloc))?
+        .arg(schedule(alloc))?
+        .arg(out(alloc))
+}
+
 /// The program's command lines.
 fn parser<'a>(alloc: Global) -> Result<clap::Command<'a>, AllocError>
     ensures { IfOk result (λ c. app_of c ≡ doac) }
@@ -141,26 +170,13 @@ fn parser<'a>(alloc: Global) -> Result<clap::Command<'a>, AllocError>
         .arg(source(alloc))?
         .arg(input(alloc))?
         .arg(store(alloc))?;
-    let run = clap::Command::new(alloc, "run")
-        .about("Runs a source in threads, iterations overlapping where they may")
-        .arg(source(alloc))?
-        .arg(input(alloc))?
-        .arg(processors(alloc))?
-        .arg(slots(alloc))?
-        .arg(schedule_out(alloc))?
-        .arg(store(alloc))?
-        .arg(tally(alloc))?;
+    let run = run_command(alloc)?;
     let replay = clap::Command::new(alloc, "replay")
         .about("Repeats a run of the machine turn by turn, and writes what it prints")
         .arg(source(alloc))?
         .arg(whole_input(alloc))?
         .arg(schedule(alloc))?;
-    let upgrade = clap::Command::new(alloc, "upgrade")
-        .about("Writes a schedule in the form that names what is picked")
-        .arg(source(alloc))?
-        .arg(whole_input(alloc))?
-        .arg(schedule(alloc))?
-        .arg(out(alloc))?;
+    let upgrade = upgrade_command(alloc)?;
     let explain = clap::Command::new(alloc, "explain")
         .about("Explains a refusal, a fault or a serial loop by its number")
         .arg(number(alloc))?

@@ -1,7 +1,7 @@
 use Rattle.std.proofs.Common.{◌≡◌, ◌∙◌, ap, ap₂, codes, rules}
 use Rattle.std.proofs.lemmas.Result.{IfOk-weaker}
 use Rattle.clap.specs.Words.{App, app_of, new_app, with_rule, with_subcommand}
-use Rattle.doac.specs.CommandLine.{check, list, seq, run, replay, upgrade, explain, input, number, processors, whole_input, schedule, schedule_out, slots, source, store, wants_subcommand}
+use Rattle.doac.specs.CommandLine.{check, list, seq, replay, explain, input, number, whole_input, schedule, source, wants_subcommand}
 use Rattle.doac.proofs.command_line.parser.Goals as goal
 
 pub returns : goal.returns
@@ -9,10 +9,8 @@ returns c =
     let check_new : app_of c.about.result ≡ new_app (codes "check") = search (rules, c.about.ensures, c.new.ensures.app) in
     let list_new : app_of c.about-2.result ≡ new_app (codes "list") = search (rules, c.about-2.ensures, c.new-2.ensures.app) in
     let seq_new : app_of c.about-3.result ≡ new_app (codes "seq") = search (rules, c.about-3.ensures, c.new-3.ensures.app) in
-    let run_new : app_of c.about-4.result ≡ new_app (codes "run") = search (rules, c.about-4.ensures, c.new-4.ensures.app) in
-    let replay_new : app_of c.about-5.result ≡ new_app (codes "replay") = search (rules, c.about-5.ensures, c.new-5.ensures.app) in
-    let upgrade_new : app_of c.about-6.result ≡ new_app (codes "upgrade") = search (rules, c.about-6.ensures, c.new-6.ensures.app) in
-    let explain_new : app_of c.about-7.result ≡ new_app (codes "explain") = search (rules, c.about-7.ensures, c.new-7.ensures.app) in
+    let replay_new : app_of c.about-4.result ≡ new_app (codes "replay") = search (rules, c.about-4.ensures, c.new-4.ensures.app) in
+    let explain_new : app_of c.about-5.result ≡ new_app (codes "explain") = search (rules, c.about-5.ensures, c.new-5.ensures.app) in
     let doac_new : app_of c.version.result ≡ wants_subcommand (new_app (codes "doac")) = search rules in
     let check_is : app_of c.in_ok-check.check ≡ check =
     c.in_ok-check.ensures.shape c.source.ensures.local ∙ ap₂ with_rule check_new c.source.ensures.rule in
@@ -24,44 +22,22 @@ returns c =
     c.in_ok-arg-2.ensures.shape c.input.ensures.local ∙ ap₂ with_rule seq_source c.input.ensures.rule in
     let seq_is : app_of c.in_ok-seq.seq ≡ seq =
     c.in_ok-seq.ensures.shape c.store.ensures.local ∙ ap₂ with_rule seq_input c.store.ensures.rule in
-    let run_source : app_of c.in_ok-arg-3.field-0 ≡ with_rule (new_app (codes "run")) source =
-    c.in_ok-arg-3.ensures.shape c.source-4.ensures.local ∙ ap₂ with_rule run_new c.source-4.ensures.rule in
-    let run_input : app_of c.in_ok-arg-4.field-0 ≡ with_rule (with_rule (new_app (codes "run")) source) input =
-    c.in_ok-arg-4.ensures.shape c.input-2.ensures.local ∙ ap₂ with_rule run_source c.input-2.ensures.rule in
-    let run_processors : app_of c.in_ok-arg-5.field-0 ≡ with_rule (with_rule (with_rule (new_app (codes "run")) source) input) processors =
-    c.in_ok-arg-5.ensures.shape c.processors.ensures.local ∙ ap₂ with_rule run_input c.processors.ensures.rule in
-    let run_slots : app_of c.in_ok-arg-6.field-0 ≡ with_rule (with_rule (with_rule (with_rule (new_app (codes "run")) source) input) processors) slots =
-    c.in_ok-arg-6.ensures.shape c.slots.ensures.local ∙ ap₂ with_rule run_processors c.slots.ensures.rule in
-    let run_schedule_out : app_of c.in_ok-arg-7.field-0 ≡ with_rule (with_rule (with_rule (with_rule (with_rule (new_app (codes "run")) source) input) processors) slots) schedule_out =
-    c.in_ok-arg-7.ensures.shape c.schedule_out.ensures.local ∙ ap₂ with_rule run_slots c.schedule_out.ensures.rule in
-    let run_store : app_of c.in_ok-arg-8.field-0 ≡ with_rule (with_rule (with_rule (with_rule (with_rule (with_rule (new_app (codes "run")) source) input) processors) slots) schedule_out) store =
-    c.in_ok-arg-8.ensures.shape c.store-2.ensures.local ∙ ap₂ with_rule run_schedule_out c.store-2.ensures.rule in
-    let run_is : app_of c.in_ok-run.run ≡ run =
-    c.in_ok-run.ensures.shape c.tally.ensures.local ∙ ap₂ with_rule run_store c.tally.ensures.rule in
-    let replay_source : app_of c.in_ok-arg-9.field-0 ≡ with_rule (new_app (codes "replay")) source =
-    c.in_ok-arg-9.ensures.shape c.source-5.ensures.local ∙ ap₂ with_rule replay_new c.source-5.ensures.rule in
-    let replay_whole_input : app_of c.in_ok-arg-10.field-0 ≡ with_rule (with_rule (new_app (codes "replay")) source) whole_input =
-    c.in_ok-arg-10.ensures.shape c.whole_input.ensures.local ∙ ap₂ with_rule replay_source c.whole_input.ensures.rule in
+    let replay_source : app_of c.in_ok-arg-3.field-0 ≡ with_rule (new_app (codes "replay")) source =
+    c.in_ok-arg-3.ensures.shape c.source-4.ensures.local ∙ ap₂ with_rule replay_new c.source-4.ensures.rule in
+    let replay_whole_input : app_of c.in_ok-arg-4.field-0 ≡ with_rule (with_rule (new_app (codes "replay")) source) whole_input =
+    c.in_ok-arg-4.ensures.shape c.whole_input.ensures.local ∙ ap₂ with_rule replay_source c.whole_input.ensures.rule in
     let replay_is : app_of c.in_ok-replay.replay ≡ replay =
     c.in_ok-replay.ensures.shape c.schedule.ensures.local ∙ ap₂ with_rule replay_whole_input c.schedule.ensures.rule in
-    let upgrade_source : app_of c.in_ok-arg-11.field-0 ≡ with_rule (new_app (codes "upgrade")) source =
-    c.in_ok-arg-11.ensures.shape c.source-6.ensures.local ∙ ap₂ with_rule upgrade_new c.source-6.ensures.rule in
-    let upgrade_whole_input : app_of c.in_ok-arg-12.field-0 ≡ with_rule (with_rule (new_app (codes "upgrade")) source) whole_input =
-    c.in_ok-arg-12.ensures.shape c.whole_input-2.ensures.local ∙ ap₂ with_rule upgrade_source c.whole_input-2.ensures.rule in
-    let upgrade_schedule : app_of c.in_ok-arg-13.field-0 ≡ with_rule (with_rule (with_rule (new_app (codes "upgrade")) source) whole_input) schedule =
-    c.in_ok-arg-13.ensures.shape c.schedule-2.ensures.local ∙ ap₂ with_rule upgrade_whole_input c.schedule-2.ensures.rule in
-    let upgrade_is : app_of c.in_ok-upgrade.upgrade ≡ upgrade =
-    c.in_ok-upgrade.ensures.shape c.out.ensures.local ∙ ap₂ with_rule upgrade_schedule c.out.ensures.rule in
-    let explain_number : app_of c.in_ok-arg-14.field-0 ≡ with_rule (new_app (codes "explain")) number =
-    c.in_ok-arg-14.ensures.shape c.number.ensures.local ∙ ap₂ with_rule explain_new c.number.ensures.rule in
+    let explain_number : app_of c.in_ok-arg-5.field-0 ≡ with_rule (new_app (codes "explain")) number =
+    c.in_ok-arg-5.ensures.shape c.number.ensures.local ∙ ap₂ with_rule explain_new c.number.ensures.rule in
     let explain_is : app_of c.in_ok-explain.explain ≡ explain =
     c.in_ok-explain.ensures.shape c.reason.ensures.local ∙ ap₂ with_rule explain_number c.reason.ensures.rule in
     let with_check = c.in_ok-subcommand.ensures.shape (search (rules, c.in_ok-check.ensures.globals, c.about.ensures, c.new.ensures.local, c.source.ensures.local)) ∙ ap₂ with_subcommand doac_new (ap (λ (a : App). a.top) check_is) in
     let with_list = c.in_ok-subcommand-2.ensures.shape (search (rules, c.in_ok-list.ensures.globals, c.about-2.ensures, c.new-2.ensures.local, c.source-2.ensures.local)) ∙ ap₂ with_subcommand with_check (ap (λ (a : App). a.top) list_is) in
     let with_seq = c.in_ok-subcommand-3.ensures.shape (search (rules, c.in_ok-seq.ensures.globals, c.in_ok-arg-2.ensures.globals, c.in_ok-arg.ensures.globals, c.about-3.ensures, c.new-3.ensures.local, c.source-3.ensures.local, c.input.ensures.local, c.store.ensures.local)) ∙ ap₂ with_subcommand with_list (ap (λ (a : App). a.top) seq_is) in
-    let with_run = c.in_ok-subcommand-4.ensures.shape (search (rules, c.in_ok-run.ensures.globals, c.in_ok-arg-8.ensures.globals, c.in_ok-arg-7.ensures.globals, c.in_ok-arg-6.ensures.globals, c.in_ok-arg-5.ensures.globals, c.in_ok-arg-4.ensures.globals, c.in_ok-arg-3.ensures.globals, c.about-4.ensures, c.new-4.ensures.local, c.source-4.ensures.local, c.input-2.ensures.local, c.processors.ensures.local, c.slots.ensures.local, c.schedule_out.ensures.local, c.store-2.ensures.local, c.tally.ensures.local)) ∙ ap₂ with_subcommand with_seq (ap (λ (a : App). a.top) run_is) in
-    let with_replay = c.in_ok-subcommand-5.ensures.shape (search (rules, c.in_ok-replay.ensures.globals, c.in_ok-arg-10.ensures.globals, c.in_ok-arg-9.ensures.globals, c.about-5.ensures, c.new-5.ensures.local, c.source-5.ensures.local, c.whole_input.ensures.local, c.schedule.ensures.local)) ∙ ap₂ with_subcommand with_run (ap (λ (a : App). a.top) replay_is) in
-    let with_upgrade = c.in_ok-subcommand-6.ensures.shape (search (rules, c.in_ok-upgrade.ensures.globals, c.in_ok-arg-13.ensures.globals, c.in_ok-arg-12.ensures.globals, c.in_ok-arg-11.ensures.globals, c.about-6.ensures, c.new-6.ensures.local, c.source-6.ensures.local, c.whole_input-2.ensures.local, c.schedule-2.ensures.local, c.out.ensures.local)) ∙ ap₂ with_subcommand with_replay (ap (λ (a : App). a.top) upgrade_is) in
+    let with_run = c.in_ok-subcommand-4.ensures.shape c.in_ok-run.ensures.local ∙ ap₂ with_subcommand with_seq (ap (λ (a : App). a.top) c.in_ok-run.ensures.shape) in
+    let with_replay = c.in_ok-subcommand-5.ensures.shape (search (rules, c.in_ok-replay.ensures.globals, c.in_ok-arg-4.ensures.globals, c.in_ok-arg-3.ensures.globals, c.about-4.ensures, c.new-4.ensures.local, c.source-4.ensures.local, c.whole_input.ensures.local, c.schedule.ensures.local)) ∙ ap₂ with_subcommand with_run (ap (λ (a : App). a.top) replay_is) in
+    let with_upgrade = c.in_ok-subcommand-6.ensures.shape c.in_ok-upgrade.ensures.local ∙ ap₂ with_subcommand with_replay (ap (λ (a : App). a.top) c.in_ok-upgrade.ensures.shape) in
     IfOk-weaker c.subcommand-7.result _ _
-    (λ made adds. adds.shape (search (rules, c.in_ok-explain.ensures.globals, c.in_ok-arg-14.ensures.globals, c.about-7.ensures, c.new-7.ensures.local, c.number.ensures.local, c.reason.ensures.local)) ∙ ap₂ with_subcommand with_upgrade (ap (λ (a : App). a.top) explain_is))
+    (λ made adds. adds.shape (search (rules, c.in_ok-explain.ensures.globals, c.in_ok-arg-5.ensures.globals, c.about-5.ensures, c.new-5.ensures.local, c.number.ensures.local, c.reason.ensures.local)) ∙ ap₂ with_subcommand with_upgrade (ap (λ (a : App). a.top) explain_is))
     c.subcommand-7.ensures
