@@ -1,7 +1,7 @@
 //! What the engine of `run` writes, and how it ends where readers, writers or memory fail.
 
 use crate::streams::{Interrupted, Narrow, Unreadable, status_of, with_room};
-use crate::threads::{FAULTS, SQUARES};
+use crate::worked::{FAULTS, SQUARES};
 use engines::{EngineFault, Wants, replay, run};
 use std::alloc::{AllocError, Global};
 use std::process::Abort;
