@@ -1,7 +1,7 @@
 //! The command line, read by clap.
 
 ghost use Rattle.std.specs.Prelude.{◌≡◌, IfErr, IfOk, false, map};
-ghost use Rattle.clap.specs.Words.{app_of, fields_of, rule_of};
+ghost use Rattle.clap.specs.Words.{app_of, rule_of, with_subcommand};
 ghost use Rattle.doac.specs.CommandLine.{Names, NamesNone, doac, input, number, out, processors, reason, run, schedule, schedule_out, slots, source, store, tally, upgrade, whole_input};
 
 use crate::command::{LineFault, held};
@@ -126,12 +126,11 @@ fn reason<'a>(alloc: Global) -> Arg<'a>
         .help("Behind the word serial, the number behind SERIAL")
 }
 
-/// The command line of `run`.
-fn run_command<'a>(alloc: Global) -> Result<clap::Command<'a>, AllocError>
-    ensures shape { IfOk result (λ c. app_of c ≡ run) }
-    ensures local { IfOk result (λ c. (fields_of c).has_globals ≡ false) }
+/// A command with the command line of `run` too.
+fn with_run<'a>(alloc: Global, app: clap::Command<'a>) -> Result<clap::Command<'a>, AllocError>
+    ensures { IfOk result (λ c. app_of c ≡ with_subcommand (app_of app.entry) run.top) }
 {
-    clap::Command::new(alloc, "run")
+    let run = clap::Command::new(alloc, "run")
         .about("Runs a source in threads, iterations overlapping where they may")
         .arg(source(alloc))?
         .arg(input(alloc))?
@@ -139,20 +138,21 @@ fn run_command<'a>(alloc: Global) -> Result<clap::Command<'a>, AllocError>
         .arg(slots(alloc))?
         .arg(schedule_out(alloc))?
         .arg(store(alloc))?
-        .arg(tally(alloc))
+        .arg(tally(alloc))?;
+    app.subcommand(run)
 }
 
-/// The command line of `upgrade`.
-fn upgrade_command<'a>(alloc: Global) -> Result<clap::Command<'a>, AllocError>
-    ensures shape { IfOk result (λ c. app_of c ≡ upgrade) }
-    ensures local { IfOk result (λ c. (fields_of c).has_globals ≡ false) }
+/// A command with the command line of `upgrade` too.
+fn with_upgrade<'a>(alloc: Global, app: clap::Command<'a>) -> Result<clap::Command<'a>, AllocError>
+    ensures { IfOk result (λ c. app_of c ≡ with_subcommand (app_of app.entry) upgrade.top) }
 {
-    clap::Command::new(alloc, "upgrade")
+    let upgrade = clap::Command::new(alloc, "upgrade")
         .about("Writes a schedule in the form that names what is picked")
         .arg(source(alloc))?
         .arg(whole_input(alloc))?
         .arg(schedule(alloc))?
-        .arg(out(alloc))
+        .arg(out(alloc))?;
+    app.subcommand(upgrade)
 }
 
 /// The program's command lines.
@@ -170,28 +170,24 @@ fn parser<'a>(alloc: Global) -> Result<clap::Command<'a>, AllocError>
         .arg(source(alloc))?
         .arg(input(alloc))?
         .arg(store(alloc))?;
-    let run = run_command(alloc)?;
     let replay = clap::Command::new(alloc, "replay")
         .about("Repeats a run of the machine turn by turn, and writes what it prints")
         .arg(source(alloc))?
         .arg(whole_input(alloc))?
         .arg(schedule(alloc))?;
-    let upgrade = upgrade_command(alloc)?;
     let explain = clap::Command::new(alloc, "explain")
         .about("Explains a refusal, a fault or a serial loop by its number")
         .arg(number(alloc))?
         .arg(reason(alloc))?;
-    clap::Command::new(alloc, "doac")
+    let app = clap::Command::new(alloc, "doac")
         .about("Checks and runs FORTRAN 77 programs")
         .subcommand_required(true)
         .version("0.1.0")
         .subcommand(check)?
         .subcommand(list)?
-        .subcommand(seq)?
-        .subcommand(run)?
-        .subcommand(replay)?
-        .subcommand(upgrade)?
-        .subcommand(explain)
+        .subcommand(seq)?;
+    let app = with_run(alloc, app)?.subcommand(replay)?;
+    with_upgrade(alloc, app)?.subcommand(explain)
 }
 
 /// Reads a command line, of which the first word is the program's name.

@@ -1,9 +1,7 @@
 -- What comes of a run of code is the sequential program's.
-use Rattle.std.proofs.Common.{◌≡◌, ◌∙◌, ◌⊎◌, ℕ, ℤ, zero, suc, ◌+◌, Bool, true, false, List, [], ◌∷◌, ◌++◌, length, map, Option, Some, None, Result, Ok, Err, Vec, append-nil, arith, inl, inr, ap, refl, subst, sym}
+use Rattle.std.proofs.Common.{◌≡◌, ◌∙◌, ℕ, ℤ, zero, suc, ◌+◌, Bool, true, false, List, [], ◌∷◌, ◌++◌, length, map, Option, Some, None, Vec, append-nil, inl, inr, ap, refl, subst, sym}
 use Rattle.std.proofs.lemmas.List.{length-map}
-use Rattle.std.specs.Prelude.{⊤}
 use Rattle.std.specs.Global.{Global}
-use Rattle.std.specs.Io.KnownBytes.{IsAtEnd}
 use Rattle.ast.specs.Meaning.{seq}
 use Rattle.ast.specs.Program.{ProgramTree}
 use Rattle.ast.specs.Store.{StoreOf, values_from}
@@ -15,28 +13,22 @@ use Rattle.ast.specs.declared.fault.End.TheVariants.{Done, Stopped, Fault as Fau
 use Rattle.codegen.specs.Headline.{Headline, IsBeginning}
 use Rattle.codegen.specs.Program.{IsCompiled}
 use Rattle.machine.specs.Code.{Code}
-use Rattle.machine.specs.State.{AreSizes, Ended, Machine}
+use Rattle.machine.specs.State.{Ended, Machine}
 use Rattle.machine.specs.declared.code.Variable.{Variable}
 use Rattle.processors.specs.Calls.{IsOutputOf, IsRunOf}
 use Rattle.processors.specs.Refused.{IsRefused}
 use Rattle.processors.specs.declared.report.RunRefusal.TheVariants as runs
-use Rattle.profile_check.specs.Reads.{Reads}
 use Rattle.replay.proofs.Running.{is_run}
 use Rattle.replay.specs.Replayed.{IsAnswer, stored}
 use Rattle.replay.specs.Schedules.{SchedText, Schedule}
-use Rattle.engines.specs.Engines.{Gives, LeavesReaders, OfText, ShowsRun, outcome_of, status_of}
-use Rattle.engines.specs.Running.{ComesOf, IsNoCodeAs, IsScheduleOf, IsWhole, LeavesRun, Running, Shows, ShowsRefusal, WhereWanted, WritesRan, WritesText, WritesWhole, WroteRan, WroteStatus}
-use Rattle.engines.specs.Schedules.{IsNoCode}
-use Rattle.engines.specs.Shown.{EndShown, Extends, Row, refused, row_of}
+use Rattle.engines.specs.Engines.{ShowsRun, outcome_of}
+use Rattle.engines.specs.Running.{ComesOf, IsScheduleOf, Shows, WhereWanted}
+use Rattle.engines.specs.Shown.{EndShown, Extends, Row, row_of}
 use Rattle.engines.specs.View.{rows_from}
-use Rattle.engines.specs.declared.fault.EngineFault.{EngineFault}
-use Rattle.engines.specs.declared.fault.EngineFault.TheVariants as faults
-use Rattle.engines.specs.declared.given.Given.{Given}
 use Rattle.engines.specs.declared.given.Wants.{Wants}
 use Rattle.engines.specs.declared.outcome.Outcome.{Outcome}
 use Rattle.engines.specs.declared.ran.Ran.{Ran}
 use Rattle.engines.specs.declared.ran.Ran.TheVariants.{Refused, Whole as Came, Memory, OutOfRange, NotStarted, Stuck}
-use Rattle.engines.specs.declared.ran.Whole.{Whole}
 use Rattle.engines.proofs.StoreRows.{rows_whole}
 
 -- ---- the state at the end

@@ -1,7 +1,7 @@
 use Rattle.std.proofs.Common.{◌≡◌, ◌∙◌, ap, ap₂, codes, rules}
 use Rattle.std.proofs.lemmas.Result.{IfOk-weaker}
 use Rattle.clap.specs.Words.{App, app_of, new_app, with_rule, with_subcommand}
-use Rattle.doac.specs.CommandLine.{check, list, seq, replay, explain, input, number, whole_input, schedule, source, wants_subcommand}
+use Rattle.doac.specs.CommandLine.{check, list, seq, run, replay, upgrade, explain, input, number, whole_input, schedule, source, wants_subcommand}
 use Rattle.doac.proofs.command_line.parser.Goals as goal
 
 pub returns : goal.returns
@@ -34,10 +34,10 @@ returns c =
     c.in_ok-explain.ensures.shape c.reason.ensures.local ∙ ap₂ with_rule explain_number c.reason.ensures.rule in
     let with_check = c.in_ok-subcommand.ensures.shape (search (rules, c.in_ok-check.ensures.globals, c.about.ensures, c.new.ensures.local, c.source.ensures.local)) ∙ ap₂ with_subcommand doac_new (ap (λ (a : App). a.top) check_is) in
     let with_list = c.in_ok-subcommand-2.ensures.shape (search (rules, c.in_ok-list.ensures.globals, c.about-2.ensures, c.new-2.ensures.local, c.source-2.ensures.local)) ∙ ap₂ with_subcommand with_check (ap (λ (a : App). a.top) list_is) in
-    let with_seq = c.in_ok-subcommand-3.ensures.shape (search (rules, c.in_ok-seq.ensures.globals, c.in_ok-arg-2.ensures.globals, c.in_ok-arg.ensures.globals, c.about-3.ensures, c.new-3.ensures.local, c.source-3.ensures.local, c.input.ensures.local, c.store.ensures.local)) ∙ ap₂ with_subcommand with_list (ap (λ (a : App). a.top) seq_is) in
-    let with_run = c.in_ok-subcommand-4.ensures.shape c.in_ok-run.ensures.local ∙ ap₂ with_subcommand with_seq (ap (λ (a : App). a.top) c.in_ok-run.ensures.shape) in
-    let with_replay = c.in_ok-subcommand-5.ensures.shape (search (rules, c.in_ok-replay.ensures.globals, c.in_ok-arg-4.ensures.globals, c.in_ok-arg-3.ensures.globals, c.about-4.ensures, c.new-4.ensures.local, c.source-4.ensures.local, c.whole_input.ensures.local, c.schedule.ensures.local)) ∙ ap₂ with_subcommand with_run (ap (λ (a : App). a.top) replay_is) in
-    let with_upgrade = c.in_ok-subcommand-6.ensures.shape c.in_ok-upgrade.ensures.local ∙ ap₂ with_subcommand with_replay (ap (λ (a : App). a.top) c.in_ok-upgrade.ensures.shape) in
-    IfOk-weaker c.subcommand-7.result _ _
+    let with_seq = c.in_ok-app.ensures.shape (search (rules, c.in_ok-seq.ensures.globals, c.in_ok-arg-2.ensures.globals, c.in_ok-arg.ensures.globals, c.about-3.ensures, c.new-3.ensures.local, c.source-3.ensures.local, c.input.ensures.local, c.store.ensures.local)) ∙ ap₂ with_subcommand with_list (ap (λ (a : App). a.top) seq_is) in
+    let with_run = c.in_ok-with_run.ensures ∙ ap (λ (a : App). with_subcommand a run.top) with_seq in
+    let with_replay = c.in_ok-app-2.ensures.shape (search (rules, c.in_ok-replay.ensures.globals, c.in_ok-arg-4.ensures.globals, c.in_ok-arg-3.ensures.globals, c.about-4.ensures, c.new-4.ensures.local, c.source-4.ensures.local, c.whole_input.ensures.local, c.schedule.ensures.local)) ∙ ap₂ with_subcommand with_run (ap (λ (a : App). a.top) replay_is) in
+    let with_upgrade = c.in_ok-with_upgrade.ensures ∙ ap (λ (a : App). with_subcommand a upgrade.top) with_replay in
+    IfOk-weaker c.subcommand-5.result _ _
     (λ made adds. adds.shape (search (rules, c.in_ok-explain.ensures.globals, c.in_ok-arg-5.ensures.globals, c.about-5.ensures, c.new-5.ensures.local, c.number.ensures.local, c.reason.ensures.local)) ∙ ap₂ with_subcommand with_upgrade (ap (λ (a : App). a.top) explain_is))
-    c.subcommand-7.ensures
+    c.subcommand-5.ensures

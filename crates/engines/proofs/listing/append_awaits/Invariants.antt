@@ -1,4 +1,4 @@
-use Rattle.std.proofs.Common.{◌≡◌, ◌+◌, drop}
+use Rattle.std.proofs.Common.{◌≡◌, drop}
 use Rattle.std.specs.Prelude.{◌++◌}
 use Rattle.engines.specs.Listing.{await_lines}
 use Rattle.engines.proofs.listing.append_awaits.Given as goal

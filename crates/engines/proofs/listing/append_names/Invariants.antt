@@ -1,4 +1,4 @@
-use Rattle.std.proofs.Common.{◌≡◌, ◌+◌, drop, map}
+use Rattle.std.proofs.Common.{◌≡◌, drop, map}
 use Rattle.std.specs.Prelude.{◌++◌}
 use Rattle.ast.specs.View.{letters}
 use Rattle.engines.specs.Listing.{name_words}

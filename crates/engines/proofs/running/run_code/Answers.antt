@@ -1,4 +1,4 @@
-use Rattle.std.proofs.Common.{List, ℕ, Vec, subst, sym}
+use Rattle.std.proofs.Common.{ℕ, Vec, subst, sym}
 use Rattle.std.specs.Global.{Global}
 use Rattle.ast.specs.Meaning.{seq}
 use Rattle.ast.specs.ProgramView.{program as program_of}

@@ -1,11 +1,11 @@
-use Rattle.std.proofs.Common.{◌≡◌, ◌∙◌, ap₂, codes, rules}
+use Rattle.std.proofs.Common.{◌≡◌, ◌∙◌, ap, ap₂, codes, rules}
 use Rattle.std.proofs.lemmas.Result.{IfOk-weaker}
-use Rattle.clap.specs.Words.{app_of, new_app, with_rule}
-use Rattle.doac.specs.CommandLine.{source, input, processors, slots, schedule_out, store}
-use Rattle.doac.proofs.command_line.run_command.Goals as goal
+use Rattle.clap.specs.Words.{App, app_of, new_app, with_rule, with_subcommand}
+use Rattle.doac.specs.CommandLine.{run, source, input, processors, slots, schedule_out, store}
+use Rattle.doac.proofs.command_line.with_run.Goals as goal
 
-pub returns-clause-shape : goal.returns-clause-shape
-returns-clause-shape c =
+pub returns : goal.returns
+returns c =
     let run_new : app_of c.about.result ≡ new_app (codes "run") = search (rules, c.about.ensures, c.new.ensures.app) in
     let with_source : app_of c.in_ok-arg.field-0 ≡ with_rule (new_app (codes "run")) source =
     c.in_ok-arg.ensures.shape c.source.ensures.local ∙ ap₂ with_rule run_new c.source.ensures.rule in
@@ -19,8 +19,8 @@ returns-clause-shape c =
     c.in_ok-arg-5.ensures.shape c.schedule_out.ensures.local ∙ ap₂ with_rule with_slots c.schedule_out.ensures.rule in
     let with_store : app_of c.in_ok-arg-6.field-0 ≡ with_rule (with_rule (with_rule (with_rule (with_rule (with_rule (new_app (codes "run")) source) input) processors) slots) schedule_out) store =
     c.in_ok-arg-6.ensures.shape c.store.ensures.local ∙ ap₂ with_rule with_schedule_out c.store.ensures.rule in
-    IfOk-weaker c.arg-7.result _ _ (λ made adds. adds.shape c.tally.ensures.local ∙ ap₂ with_rule with_store c.tally.ensures.rule) c.arg-7.ensures
-
-pub returns-clause-local : goal.returns-clause-local
-returns-clause-local c =
-    IfOk-weaker c.arg-7.result _ _ (λ made adds. search (rules, adds.globals, c.in_ok-arg-6.ensures.globals, c.in_ok-arg-5.ensures.globals, c.in_ok-arg-4.ensures.globals, c.in_ok-arg-3.ensures.globals, c.in_ok-arg-2.ensures.globals, c.in_ok-arg.ensures.globals, c.about.ensures, c.new.ensures.local, c.source.ensures.local, c.input.ensures.local, c.processors.ensures.local, c.slots.ensures.local, c.schedule_out.ensures.local, c.store.ensures.local, c.tally.ensures.local)) c.arg-7.ensures
+    let run_is : app_of c.in_ok-run.run ≡ run =
+    c.in_ok-run.ensures.shape c.tally.ensures.local ∙ ap₂ with_rule with_store c.tally.ensures.rule in
+    IfOk-weaker c.subcommand.result _ _
+    (λ made adds. adds.shape (search (rules, c.in_ok-run.ensures.globals, c.in_ok-arg-6.ensures.globals, c.in_ok-arg-5.ensures.globals, c.in_ok-arg-4.ensures.globals, c.in_ok-arg-3.ensures.globals, c.in_ok-arg-2.ensures.globals, c.in_ok-arg.ensures.globals, c.about.ensures, c.new.ensures.local, c.source.ensures.local, c.input.ensures.local, c.processors.ensures.local, c.slots.ensures.local, c.schedule_out.ensures.local, c.store.ensures.local, c.tally.ensures.local)) ∙ ap (λ (a : App). with_subcommand (app_of c.args.app) a.top) run_is)
+    c.subcommand.ensures
