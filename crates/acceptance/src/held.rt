@@ -148,22 +148,39 @@ fn work<'c>(core: &Core<'c>) -> Result<Option<Done<'c>>, AllocError> {
     }
 }
 
+/// Local work of iteration 2, which stands next while iteration 1 hasn't faulted.
+fn late_work<'c>(rt: &impl Abort, core: &mut Core<'c>) -> Result<Done<'c>, Fail> {
+    two_begun(rt, core)?;
+    until_local(core)?;
+    match work(core)? {
+        Some(late) => Ok(late),
+        None => panic!(*rt; "local work stands next"),
+    }
+}
+
+/// Turns of processor 0 until the end.
+fn first_alone(core: &mut Core<'_>) -> Result<(), HandIn> {
+    for _ in 0..ROUNDS {
+        turn(core, 0, 1)?;
+    }
+    Ok(())
+}
+
+/// Work that comes behind the end isn't taken, and the schedule stays as it was.
+fn is_too_late(rt: &impl Abort, core: &mut Core<'_>, late: Done<'_>) {
+    let entries = core.schedule().len();
+    assert_eq!(*rt; core.hand_in(1, late), Err(HandIn::Ended));
+    assert_eq!(*rt; core.schedule().len(), entries);
+}
+
 /// Work of iteration 2 that was done before iteration 1 faults, and is handed in behind the end.
 #[test]
 fn work_behind_the_end(rt: HostRuntime) -> Result<(), Fail> {
     let code = compiled(rt.alloc(), FAULTS)?;
     let mut core = Core::new(rt.alloc(), &code, b"", 2, 2)?;
-    two_begun(&rt, &mut core)?;
-    until_local(&mut core)?;
-    let Some(late) = work(&core)? else {
-        panic!(rt; "local work stands next");
-    };
-    for _ in 0..ROUNDS {
-        turn(&mut core, 0, 1)?;
-    }
-    let entries = core.schedule().len();
-    assert_eq!(rt; core.hand_in(1, late), Err(HandIn::Ended));
-    assert_eq!(rt; core.schedule().len(), entries);
+    let late = late_work(&rt, &mut core)?;
+    first_alone(&mut core)?;
+    is_too_late(&rt, &mut core, late);
     is_answered(&rt, &core, &sequential(rt.alloc(), FAULTS, b"")?)
 }
 
