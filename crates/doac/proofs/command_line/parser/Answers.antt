@@ -1,7 +1,7 @@
 use Rattle.std.proofs.Common.{◌≡◌, ◌∙◌, ap, ap₂, codes, rules}
 use Rattle.std.proofs.lemmas.Result.{IfOk-weaker}
 use Rattle.clap.specs.Words.{App, app_of, new_app, with_rule, with_subcommand}
-use Rattle.doac.specs.CommandLine.{check, list, seq, run, replay, upgrade, explain, input, number, whole_input, schedule, source, wants_subcommand}
+use Rattle.doac.specs.CommandLine.{check, list, seq, run, replay, upgrade, explain, input, number, whole_input, source, wants_subcommand}
 use Rattle.doac.proofs.command_line.parser.Goals as goal
 
 pub returns : goal.returns

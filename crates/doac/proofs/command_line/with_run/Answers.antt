@@ -19,7 +19,7 @@ returns c =
     c.in_ok-arg-5.ensures.shape c.schedule_out.ensures.local ∙ ap₂ with_rule with_slots c.schedule_out.ensures.rule in
     let with_store : app_of c.in_ok-arg-6.field-0 ≡ with_rule (with_rule (with_rule (with_rule (with_rule (with_rule (new_app (codes "run")) source) input) processors) slots) schedule_out) store =
     c.in_ok-arg-6.ensures.shape c.store.ensures.local ∙ ap₂ with_rule with_schedule_out c.store.ensures.rule in
-    let run_is : app_of c.in_ok-run.run ≡ run =
+    let run_is : app_of c.in_ok-run.run' ≡ run =
     c.in_ok-run.ensures.shape c.tally.ensures.local ∙ ap₂ with_rule with_store c.tally.ensures.rule in
     IfOk-weaker c.subcommand.result _ _
     (λ made adds. adds.shape (search (rules, c.in_ok-run.ensures.globals, c.in_ok-arg-6.ensures.globals, c.in_ok-arg-5.ensures.globals, c.in_ok-arg-4.ensures.globals, c.in_ok-arg-3.ensures.globals, c.in_ok-arg-2.ensures.globals, c.in_ok-arg.ensures.globals, c.about.ensures, c.new.ensures.local, c.source.ensures.local, c.input.ensures.local, c.processors.ensures.local, c.slots.ensures.local, c.schedule_out.ensures.local, c.store.ensures.local, c.tally.ensures.local)) ∙ ap (λ (a : App). with_subcommand (app_of c.args.app) a.top) run_is)
