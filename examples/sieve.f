@@ -1,4 +1,4 @@
-C     The primes up to 50: a composite number is marked once for each of its divisors.
+C     The primes up to 50: each marks its multiples, from its square on.
       PROGRAM PRIMES
       PARAMETER (N=50)
       INTEGER MARK(2:N),COUNT

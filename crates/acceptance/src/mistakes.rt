@@ -12,7 +12,7 @@ fn mistake(
 ) -> Result<(u8, String), Fail> {
     let mut out = Vec::new(rt.alloc());
     let outcome = check_text(rt.alloc(), source, &mut out)?;
-    match (outcome, Message::of(file, source, outcome)) {
+    match (outcome, Message::of(rt.alloc(), file, source, outcome)) {
         (Outcome::Refused { number, .. }, Some(message)) => {
             Ok((number, format!(in rt.alloc(); "{message}")?))
         }

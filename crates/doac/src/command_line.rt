@@ -180,7 +180,7 @@ fn parser<'a>(alloc: Global) -> Result<clap::Command<'a>, AllocError>
         .arg(number(alloc))?
         .arg(reason(alloc))?;
     let app = clap::Command::new(alloc, "doac")
-        .about("Checks and runs FORTRAN 77 programs")
+        .about("Checks and runs FORTRAN 77 programs of INTEGER variables")
         .subcommand_required(true)
         .version("0.1.0")
         .subcommand(check)?

@@ -1,8 +1,9 @@
 //! The files that the program reads and writes.
 
 use engines::{ReadFault, Texts, read_all};
+use std::alloc::Global;
 use std::fs::{File, OpenFile};
-use std::io::Write;
+use std::io::{Read, Write};
 use std::rt::Files;
 use std::{fs, io};
 use thiserror::Error;
@@ -37,17 +38,40 @@ impl FileFault {
     }
 }
 
-/// All bytes of a file.
-pub fn read_file<R: Files + AllocGlobal>(rt: &R, name: &str) -> Result<Vec<u8>, FileFault> {
-    let mut file = match fs::open(rt, name) {
-        Ok(file) => file,
-        Err(error) => return Err(FileFault::Opening(error)),
-    };
-    match read_all(rt.alloc(), &mut file) {
+/// The name that stands for standard input.
+const STANDARD_INPUT: &str = "-";
+
+/// All bytes of a file, or of standard input where that is named.
+pub fn read_file<R: Files + Input + AllocGlobal>(rt: &R, name: &str) -> Result<Vec<u8>, FileFault> {
+    if name == STANDARD_INPUT {
+        return read_from(rt.alloc(), &mut rt.reader());
+    }
+    match fs::open(rt, name) {
+        Ok(mut file) => read_from(rt.alloc(), &mut file),
+        Err(error) => Err(FileFault::Opening(error)),
+    }
+}
+
+/// All bytes that a reader has left.
+fn read_from<R: Read>(alloc: Global, reader: &mut R) -> Result<Vec<u8>, FileFault> {
+    match read_all(alloc, reader) {
         Ok(bytes) => Ok(bytes),
         Err(ReadFault::Reader(error)) => Err(FileFault::Reading(error)),
         Err(ReadFault::Memory) => Err(FileFault::Memory),
     }
+}
+
+/// Whether two names are of one plain file. Where that can't be told they aren't.
+fn is_same<R: Files + AllocGlobal>(rt: &R, name: &str, other: &str) -> bool {
+    match (fs::canonicalize(rt, name), fs::canonicalize(rt, other)) {
+        (Ok(path), Ok(found)) => path == found && path.is_file(rt),
+        _ => false,
+    }
+}
+
+/// Whether a name is that of one of these files, if that is a plain file.
+pub fn is_one_of<R: Files + AllocGlobal>(rt: &R, name: &str, others: &[&str]) -> bool {
+    others.iter().any(|other| is_same(rt, name, other))
 }
 
 /// Whether this is the name of a plain file, or of nothing yet.
@@ -99,7 +123,10 @@ pub struct Unread<'a> {
 }
 
 /// All bytes of a file of this name.
-fn read_named<'a, R: Files + AllocGlobal>(rt: &R, name: &'a str) -> Result<Vec<u8>, Unread<'a>> {
+fn read_named<'a, R: Files + Input + AllocGlobal>(
+    rt: &R,
+    name: &'a str,
+) -> Result<Vec<u8>, Unread<'a>> {
     match read_file(rt, name) {
         Ok(bytes) => Ok(bytes),
         Err(fault) => Err(Unread { name, fault }),
@@ -107,7 +134,7 @@ fn read_named<'a, R: Files + AllocGlobal>(rt: &R, name: &'a str) -> Result<Vec<u
 }
 
 /// All bytes of the files that a replay takes, read in this order.
-pub fn read_texts<'a, R: Files + AllocGlobal>(
+pub fn read_texts<'a, R: Files + Input + AllocGlobal>(
     rt: &R,
     names: Names<'a>,
 ) -> Result<Texts, Unread<'a>> {

@@ -10,12 +10,12 @@ ghost use Rattle.doac.specs.Statuses.{AfterFile, AfterFiles, EndsAs, EndsLine, H
 
 use crate::command::{Command, LineFault};
 use crate::command_line::command;
-use crate::files::{FileFault, Names, Unread, read_file, read_texts, replace_file};
+use crate::files::{FileFault, Names, Unread, is_one_of, read_file, read_texts, replace_file};
 use crate::threads::run_files;
 use engines::{
-    EngineFault, Message, Outcome, Place, Survey, Texts, Upgraded, Verdict, explain, judged,
-    replay_texts, say_why_serial, seq_texts, surveyed, tell_survey, tell_verdict, upgrade_texts,
-    warn,
+    EngineFault, Message, Outcome, Place, Survey, Texts, Upgraded, Verdict, VisibleLines, explain,
+    judged, replay_texts, say_why_serial, seq_texts, surveyed, tell_further, tell_survey,
+    tell_verdict, upgrade_texts, warn, warn_of_columns,
 };
 use std::convert::AsStr;
 use std::rt::{Env, Files};
@@ -24,7 +24,9 @@ use std::thread::Threads;
 use std::{env, io};
 
 /// Does what the words of the command line ask for, and gives the exit status.
-pub fn run<R: Env + Files + Print + Eprint + AllocGlobal + Threads + Wait + Sync>(rt: &R) -> u8 {
+pub fn run<R: Env + Files + Input + Print + Eprint + AllocGlobal + Threads + Wait + Sync>(
+    rt: &R,
+) -> u8 {
     match words(rt) {
         Ok(words) => follow(rt, words.as_slice()),
         Err(error) => refuse_words(rt, &error),
@@ -32,7 +34,7 @@ pub fn run<R: Env + Files + Print + Eprint + AllocGlobal + Threads + Wait + Sync
 }
 
 /// Does what these words ask for, of which the first is the program's name.
-fn follow<S: AsStr, R: Files + Print + Eprint + AllocGlobal + Threads + Wait + Sync>(
+fn follow<S: AsStr, R: Files + Input + Print + Eprint + AllocGlobal + Threads + Wait + Sync>(
     rt: &R,
     words: &[S],
 ) -> u8
@@ -71,7 +73,7 @@ fn refuse_words<R: Eprint>(rt: &R, error: &io::Error) -> u8
     }
 }
 
-fn refuse_line<R: Print + Eprint>(rt: &R, fault: &LineFault) -> u8
+fn refuse_line<R: Print + Eprint + AllocGlobal>(rt: &R, fault: &LineFault) -> u8
     ensures { EndsLine fault.now result }
 {
     match fault {
@@ -81,11 +83,28 @@ fn refuse_line<R: Print + Eprint>(rt: &R, fault: &LineFault) -> u8
             fault.status()
         }
         _ => {
-            let _ = rt.eprint(fault);
+            say_line(rt, fault);
             let _ = eprintln!(rt;
                 "The commands are check, list, seq, run, replay, upgrade and explain."
             );
             fault.status()
+        }
+    }
+}
+
+/// Says what is wrong with a command line, whose words may hold any characters.
+fn say_line<R: Eprint + AllocGlobal>(rt: &R, fault: &LineFault) {
+    if let Ok(text) = format!(in rt.alloc(); "{fault}") {
+        let _ = rt.eprint(VisibleLines::new(text.as_str()));
+    }
+}
+
+/// Says that writing failed; where nobody reads any more nobody needs to know.
+fn say_unwritten<R: Eprint>(rt: &R, error: &io::Error) {
+    match error.kind() {
+        io::ErrorKind::BrokenPipe => {}
+        _ => {
+            let _ = eprintln!(rt; "doac: writing failed: {error}");
         }
     }
 }
@@ -96,13 +115,13 @@ fn status_of_print<R: Eprint>(rt: &R, printed: io::Result<()>) -> u8
     match printed {
         Ok(()) => 0,
         Err(error) => {
-            let _ = eprintln!(rt; "doac: writing failed: {error}");
+            say_unwritten(rt, &error);
             4
         }
     }
 }
 
-fn obey<R: Files + Print + Eprint + AllocGlobal + Threads + Wait + Sync>(
+fn obey<R: Files + Input + Print + Eprint + AllocGlobal + Threads + Wait + Sync>(
     rt: &R,
     command: Command<'_>,
 ) -> u8
@@ -149,7 +168,7 @@ fn obey<R: Files + Print + Eprint + AllocGlobal + Threads + Wait + Sync>(
     }
 }
 
-fn check_file<R: Files + Print + Eprint + AllocGlobal>(rt: &R, name: &str) -> u8
+fn check_file<R: Files + Input + Print + Eprint + AllocGlobal>(rt: &R, name: &str) -> u8
     ensures { EndsAs result ((text : List ℕ) × HasStatus (Checks text) result) }
 {
     let text = read_file(rt, name);
@@ -180,13 +199,15 @@ fn check_source<R: Print + Eprint + AllocGlobal>(rt: &R, name: &str, text: &[u8]
             if let Verdict::Accepted(program) = &verdict {
                 warn(rt, name, text, program);
             }
-            tell(rt, name, text, outcome)
+            let status = tell(rt, name, text, outcome);
+            tell_further(rt, name, text, &verdict);
+            status
         }
         Err(_) => tell(rt, name, text, Err(EngineFault::Memory)),
     }
 }
 
-fn list_file<R: Files + Print + Eprint + AllocGlobal>(rt: &R, name: &str) -> u8
+fn list_file<R: Files + Input + Print + Eprint + AllocGlobal>(rt: &R, name: &str) -> u8
     ensures { EndsAs result ((text : List ℕ) × HasStatus (Lists text) result) }
 {
     let text = read_file(rt, name);
@@ -223,7 +244,7 @@ fn list_source<R: Print + Eprint + AllocGlobal>(rt: &R, name: &str, text: &[u8])
     }
 }
 
-fn seq_files<R: Files + Print + Eprint + AllocGlobal>(
+fn seq_files<R: Files + Input + Print + Eprint + AllocGlobal>(
     rt: &R,
     name: &str,
     input: Option<&str>,
@@ -236,7 +257,7 @@ fn seq_files<R: Files + Print + Eprint + AllocGlobal>(
 }
 
 /// What `seq` makes of the bytes of its source's file: only where they were had is an input read.
-fn seq_given<R: Files + Print + Eprint + AllocGlobal>(
+fn seq_given<R: Files + Input + Print + Eprint + AllocGlobal>(
     rt: &R,
     name: &str,
     text: Result<Vec<u8>, FileFault>,
@@ -252,7 +273,7 @@ fn seq_given<R: Files + Print + Eprint + AllocGlobal>(
 }
 
 /// Runs the text of a file on the input that a file holds, or on an empty one where none is named.
-fn seq_file<R: Files + Print + Eprint + AllocGlobal>(
+fn seq_file<R: Files + Input + Print + Eprint + AllocGlobal>(
     rt: &R,
     name: &str,
     text: &[u8],
@@ -281,10 +302,11 @@ fn seq_source<R: Print + Eprint + AllocGlobal>(
     ensures { EndsAs result (HasStatus (Runs store text.now input.now) result) }
 {
     let outcome = seq_texts(rt.alloc(), text, input, store, &mut io::writer(rt));
+    warn_of_run(rt, name, text, &outcome);
     tell(rt, name, text, outcome)
 }
 
-fn replay_files<R: Files + Print + Eprint + AllocGlobal>(rt: &R, names: Names<'_>) -> u8
+fn replay_files<R: Files + Input + Print + Eprint + AllocGlobal>(rt: &R, names: Names<'_>) -> u8
     ensures { EndsAs result ((texts : Texts) × HasStatus (Replaying texts.source.items texts.input.items texts.schedule.items) result) }
 {
     let texts = read_texts(rt, names);
@@ -316,18 +338,26 @@ fn replay_read<R: Print + Eprint + AllocGlobal>(rt: &R, names: Names<'_>, texts:
         &texts.schedule,
         &mut io::writer(rt),
     );
+    warn_of_run(rt, names.source, &texts.source, &outcome);
     tell_of(rt, names, texts, outcome)
 }
 
-fn upgrade_files<R: Files + Print + Eprint + AllocGlobal>(rt: &R, names: Names<'_>, out: &str) -> u8
+fn upgrade_files<R: Files + Input + Print + Eprint + AllocGlobal>(
+    rt: &R,
+    names: Names<'_>,
+    out: &str,
+) -> u8
     ensures { EndsAs result ((texts : Texts) × UpgradeEnds texts.source.items texts.input.items texts.schedule.items result) }
 {
+    if is_one_of(rt, out, &[names.source, names.input, names.schedule]) {
+        return refuse_out(rt, out);
+    }
     let texts = read_texts(rt, names);
     upgrade_given(rt, names, out, texts)
 }
 
 /// What `upgrade` makes of the bytes of its files.
-fn upgrade_given<R: Files + Print + Eprint + AllocGlobal>(
+fn upgrade_given<R: Files + Input + Print + Eprint + AllocGlobal>(
     rt: &R,
     names: Names<'_>,
     out: &str,
@@ -343,7 +373,7 @@ fn upgrade_given<R: Files + Print + Eprint + AllocGlobal>(
 
 /// Writes the schedule of a file with its picks named to another one, which is made where there is
 /// something to write; standard error has its message.
-fn upgrade_read<R: Files + Print + Eprint + AllocGlobal>(
+fn upgrade_read<R: Files + Input + Print + Eprint + AllocGlobal>(
     rt: &R,
     names: Names<'_>,
     out: &str,
@@ -378,8 +408,21 @@ pub fn status_of_write<R: Eprint>(rt: &R, name: &str, written: io::Result<()>) -
     }
 }
 
+/// Warns of lines of which not all was read, where their source was run.
+pub fn warn_of_run<R: Eprint>(
+    rt: &R,
+    name: &str,
+    text: &[u8],
+    outcome: &Result<Outcome, EngineFault>,
+) {
+    match outcome {
+        Ok(Outcome::Completed) | Ok(Outcome::Faulted { .. }) => warn_of_columns(rt, name, text),
+        _ => {}
+    }
+}
+
 /// Says on standard error what is wrong with a schedule's text, or with its source's.
-fn tell_of<R: Eprint>(
+fn tell_of<R: Eprint + AllocGlobal>(
     rt: &R,
     names: Names<'_>,
     texts: &Texts,
@@ -396,6 +439,28 @@ fn tell_of<R: Eprint>(
     }
 }
 
+/// Says on standard error why there is no outcome.
+fn say_fault<R: Eprint>(rt: &R, fault: &EngineFault) {
+    match fault {
+        EngineFault::Writing(error) => say_unwritten(rt, error),
+        _ => {
+            let _ = eprintln!(rt; "doac: {fault}");
+        }
+    }
+}
+
+/// Says on standard error that a file can't be written, as it is read too, and gives the exit status.
+pub fn refuse_out<R: Eprint>(rt: &R, name: &str) -> u8
+    ensures { result ≡ 4 }
+{
+    let file = name;
+    let _ = eprintln!(rt;
+        "{}this file is read too, so it isn't written",
+        Place { file, line: 0 }
+    );
+    4
+}
+
 /// Says on standard error why a file's bytes can't be had, and gives the exit status.
 pub fn refuse_file<R: Eprint>(rt: &R, name: &str, fault: &FileFault) -> u8
     ensures { result ≡ file_status fault.now }
@@ -407,18 +472,23 @@ pub fn refuse_file<R: Eprint>(rt: &R, name: &str, fault: &FileFault) -> u8
 
 /// Says on standard error what is wrong with a file's text, or what failed, and gives the exit
 /// status.
-pub fn tell<R: Eprint>(rt: &R, name: &str, text: &[u8], outcome: Result<Outcome, EngineFault>) -> u8
+pub fn tell<R: Eprint + AllocGlobal>(
+    rt: &R,
+    name: &str,
+    text: &[u8],
+    outcome: Result<Outcome, EngineFault>,
+) -> u8
     ensures { result ≡ exit_of outcome }
 {
     match outcome {
         Ok(outcome) => {
-            if let Some(message) = Message::of(name, text, outcome) {
+            if let Some(message) = Message::of(rt.alloc(), name, text, outcome) {
                 let _ = rt.eprint(message);
             }
             outcome.status()
         }
         Err(fault) => {
-            let _ = eprintln!(rt; "doac: {fault}");
+            say_fault(rt, &fault);
             fault.status()
         }
     }

@@ -4,8 +4,8 @@ ghost use Rattle.std.specs.Prelude.{◌≡◌, ℕ, List, option_map};
 ghost use Rattle.doac.specs.Statuses.{AfterFile, EndsAs, EndsRun, OfGiven, OfWrite, RunEnds, run_status, wants_of};
 
 use crate::command::Threaded;
-use crate::files::{FileFault, read_file, replace_file};
-use crate::program::{refuse_file, status_of_write, tell};
+use crate::files::{FileFault, is_one_of, read_file, replace_file};
+use crate::program::{refuse_file, refuse_out, status_of_write, tell, warn_of_run};
 use engines::{Ran, Wants, Whole, run_texts, say_figures};
 use std::io;
 use std::rt::Files;
@@ -13,18 +13,27 @@ use std::sync::Wait;
 use std::thread::Threads;
 
 /// Runs the source of a file in threads.
-pub fn run_files<R: Files + Print + Eprint + AllocGlobal + Threads + Wait + Sync>(
+pub fn run_files<R: Files + Input + Print + Eprint + AllocGlobal + Threads + Wait + Sync>(
     rt: &R,
     asked: Threaded<'_>,
 ) -> u8
     ensures { EndsRun asked.entry result }
 {
+    if let Some(out) = asked.schedule {
+        if is_one_of(
+            rt,
+            out,
+            &[asked.source, asked.input.unwrap_or(asked.source)],
+        ) {
+            return refuse_out(rt, out);
+        }
+    }
     let text = read_file(rt, asked.source);
     run_given(rt, asked, text)
 }
 
 /// What `run` makes of the bytes of its source's file: only where they were had is an input read.
-fn run_given<R: Files + Print + Eprint + AllocGlobal + Threads + Wait + Sync>(
+fn run_given<R: Files + Input + Print + Eprint + AllocGlobal + Threads + Wait + Sync>(
     rt: &R,
     asked: Threaded<'_>,
     text: Result<Vec<u8>, FileFault>,
@@ -38,7 +47,7 @@ fn run_given<R: Files + Print + Eprint + AllocGlobal + Threads + Wait + Sync>(
 }
 
 /// Runs the text of a file on the input that a file holds, or on an empty one where none is named.
-fn run_file<R: Files + Print + Eprint + AllocGlobal + Threads + Wait + Sync>(
+fn run_file<R: Files + Input + Print + Eprint + AllocGlobal + Threads + Wait + Sync>(
     rt: &R,
     asked: Threaded<'_>,
     text: &[u8],
@@ -55,7 +64,7 @@ fn run_file<R: Files + Print + Eprint + AllocGlobal + Threads + Wait + Sync>(
 }
 
 /// Runs the text of a file on an input.
-fn run_source<R: Files + Print + Eprint + AllocGlobal + Threads + Wait + Sync>(
+fn run_source<R: Files + Input + Print + Eprint + AllocGlobal + Threads + Wait + Sync>(
     rt: &R,
     asked: Threaded<'_>,
     text: &[u8],
@@ -93,7 +102,7 @@ fn write_schedule<R: Files + Eprint + AllocGlobal>(rt: &R, out: Option<&str>, ra
 }
 
 /// Writes the schedule and then what is shown; standard error has the message, and how the run went.
-fn write_run<R: Files + Print + Eprint + AllocGlobal>(
+fn write_run<R: Files + Input + Print + Eprint + AllocGlobal>(
     rt: &R,
     asked: Threaded<'_>,
     text: &[u8],
@@ -115,5 +124,6 @@ fn write_run<R: Files + Print + Eprint + AllocGlobal>(
     {
         say_figures(rt, figures);
     }
+    warn_of_run(rt, asked.source, text, &outcome);
     tell(rt, asked.source, text, outcome)
 }

@@ -2,15 +2,18 @@
 //! is said of them beside it.
 #![tactic(auto)]
 
+mod causes;
 mod columns;
 mod commands;
 pub mod explain;
 mod fault;
 mod figures;
+mod further;
 mod given;
 mod hints;
 mod listing;
 mod loops;
+mod mentions;
 mod message;
 mod outcome;
 mod page;
@@ -22,6 +25,7 @@ mod running;
 mod serial;
 mod shown;
 mod spots;
+mod squeezed;
 mod store;
 mod streams;
 mod survey;
@@ -37,6 +41,7 @@ pub use commands::{
 };
 pub use fault::{EngineFault, ReadFault};
 pub use figures::{Figures, say_figures};
+pub use further::tell_further;
 pub use given::{Given, Wants};
 pub use message::{Message, Place};
 pub use outcome::Outcome;
@@ -49,4 +54,5 @@ pub use streams::read_all;
 pub use survey::{Survey, surveyed};
 pub use texts::Texts;
 pub use verdict::{Verdict, judged};
-pub use warnings::warn;
+pub use visible::VisibleLines;
+pub use warnings::{warn, warn_of_columns};

@@ -1,12 +1,15 @@
 //! What standard error says of a refusal or a fault.
 
+use crate::causes::{Cause, cause_of};
 use crate::explain::{Explanation, Origin, fault, refusal};
-use crate::hints::hint;
+use crate::hints::{hint, hint_of_schedule};
 use crate::outcome::Outcome;
 use crate::shown::fault_number;
+use crate::squeezed::Squeezed;
 use crate::visible::Visible;
 use ast::Line;
 use bstr::ByteSlice;
+use std::alloc::Global;
 use std::fmt::{Display, Formatter, Result as FmtResult, Write};
 
 /// The message of a refusal or a fault: the file and the line, what is wrong, the line itself, a hint
@@ -14,15 +17,19 @@ use std::fmt::{Display, Formatter, Result as FmtResult, Write};
 #[derive(Drop)]
 pub struct Message<'a> {
     file: &'a str,
-    source: &'a [u8],
     line: Line,
+    text: Option<&'a [u8]>,
     explanation: Explanation,
+    cause: Option<Cause>,
+    hint: Option<&'static str>,
+    /// Whether another message of the source stands before it.
+    is_further: bool,
 }
 
 impl<'a> Message<'a> {
     /// The message of an outcome, if it has one; the file is the source's, or the schedule's where that is
-    /// refused.
-    pub fn of(file: &'a str, source: &'a [u8], outcome: Outcome) -> Option<Self> {
+    /// refused. It has no hint where memory is refused.
+    pub fn of(alloc: Global, file: &'a str, source: &'a [u8], outcome: Outcome) -> Option<Self> {
         let (explanation, line) = match outcome {
             Outcome::Completed => return None,
             Outcome::Refused { number, line } => (refusal(number)?, line),
@@ -31,12 +38,32 @@ impl<'a> Message<'a> {
                 (refusal(number)?, Line::try_from(line).unwrap_or(Line::MAX))
             }
         };
+        let hint = match explanation.origin {
+            Origin::Refusal => hint_of_source(alloc, source, explanation.number, line),
+            Origin::Schedule => hint_of_line(source, explanation.number, line),
+            Origin::Fault(_) => None,
+        };
+        let cause = match explanation.origin {
+            Origin::Refusal => cause_of(alloc, source, explanation.number, line).unwrap_or(None),
+            _ => None,
+        };
         Some(Message {
             file,
-            source,
             line,
+            text: text_of_line(source, line),
             explanation,
+            cause,
+            hint,
+            is_further: false,
         })
+    }
+
+    /// The message as one behind the first of its source.
+    pub fn as_further(self) -> Self {
+        Message {
+            is_further: true,
+            ..self
+        }
     }
 }
 
@@ -61,12 +88,22 @@ impl<'a> Display for Message<'a> {
                 line: self.line
             }
         )?;
-        writeln!(f, "{verdict}: {sentence}")?;
-        if let Some(text) = text_of_line(self.source, self.line) {
+        if self.is_further {
+            writeln!(f, "also {verdict}, by {number}: {sentence}")?;
+        } else {
+            writeln!(f, "{verdict}: {sentence}")?;
+        }
+        if let Some(text) = self.text {
             writeln!(f, "{}", Visible::new(text))?;
-            if let (Origin::Refusal, Some(hint)) = (origin, hint(*number, text)) {
-                writeln!(f, "hint: {hint}")?;
-            }
+        }
+        if let Some(cause) = &self.cause {
+            writeln!(f, "{cause}")?;
+        }
+        if let Some(hint) = self.hint {
+            writeln!(f, "hint: {hint}")?;
+        }
+        if self.is_further {
+            return Ok(());
         }
         writeln!(f, "For what this means, try 'doac explain {number}'.")
     }
@@ -89,10 +126,35 @@ impl<'a> Display for Place<'a> {
     }
 }
 
+fn hint_of_source(alloc: Global, source: &[u8], number: u8, line: Line) -> Option<&'static str> {
+    let text = text_of_line(source, line)?;
+    let statement = Squeezed::of(alloc, source, line).ok()?;
+    hint(number, text, &statement)
+}
+
+fn hint_of_line(source: &[u8], number: u8, line: Line) -> Option<&'static str> {
+    match number {
+        51 | 52 => hint_of_schedule(whole_line(source, line)?),
+        _ => None,
+    }
+}
+
 /// The text of a line, counted from 1.
 fn text_of_line(source: &[u8], line: Line) -> Option<&[u8]> {
     let mut number: Line = 0;
     for text in source.lines() {
+        number = number.saturating_add(1);
+        if number == line {
+            return Some(text);
+        }
+    }
+    None
+}
+
+/// A line with its end, counted from 1.
+fn whole_line(source: &[u8], line: Line) -> Option<&[u8]> {
+    let mut number: Line = 0;
+    for text in source.lines_with_terminator() {
         number = number.saturating_add(1);
         if number == line {
             return Some(text);

@@ -20,6 +20,8 @@ pub struct Seen {
     pub first_read: Option<Line>,
     /// Whether it is given a value anywhere.
     pub is_given: bool,
+    /// The line where it is first assigned to; a DO and a READ are no assignments.
+    pub first_assigned: Option<Line>,
 }
 
 /// How a program uses its names and labels.
@@ -68,6 +70,7 @@ impl Usage {
             usage.symbols.push(Seen {
                 first_read: None,
                 is_given: false,
+                first_assigned: None,
             })?;
             if let SymbolKind::Constant(_) = symbol.kind {
                 usage.constants.push(Constant {
@@ -136,6 +139,7 @@ impl Usage {
             Kind::Assign(target, value) => {
                 self.see(line, value);
                 self.see_target(line, target);
+                self.assign(target.reference.cell, line);
             }
             Kind::Do(head) => self.see_head(line, head),
             Kind::If(condition) => self.see(line, condition),
@@ -224,6 +228,14 @@ impl Usage {
         if let Some(seen) = self.symbols.get_mut(symbol) {
             if seen.first_read.is_none() {
                 seen.first_read = Some(line);
+            }
+        }
+    }
+
+    fn assign(&mut self, symbol: usize, line: Line) {
+        if let Some(seen) = self.symbols.get_mut(symbol) {
+            if seen.first_assigned.is_none() {
+                seen.first_assigned = Some(line);
             }
         }
     }

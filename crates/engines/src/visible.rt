@@ -25,12 +25,50 @@ impl<'a> Display for Visible<'a> {
             None => (self.text, ""),
         };
         for character in front.chars() {
-            if character.is_control() {
-                write!(f, "{}", character.escape_default())?;
-            } else {
-                f.write_char(character)?;
-            }
+            write_visible(f, character)?;
         }
         f.write_str(mark)
     }
+}
+
+/// A text of several lines, to be shown whole.
+#[derive(Drop)]
+pub struct VisibleLines<'a> {
+    text: &'a str,
+}
+
+impl<'a> VisibleLines<'a> {
+    pub fn new(text: &'a str) -> Self {
+        VisibleLines { text }
+    }
+}
+
+impl<'a> Display for VisibleLines<'a> {
+    fn fmt<W: Write>(&self, f: &mut Formatter<W>) -> FmtResult {
+        for character in self.text.chars() {
+            if character == '\n' {
+                f.write_char(character)?;
+            } else {
+                write_visible(f, character)?;
+            }
+        }
+        Ok(())
+    }
+}
+
+/// Writes a character, or its name where a terminal would obey it.
+fn write_visible<W: Write>(f: &mut Formatter<W>, character: char) -> FmtResult {
+    if character.is_control() || is_directional(character) {
+        write!(f, "{}", character.escape_default())
+    } else {
+        f.write_char(character)
+    }
+}
+
+/// Whether a character changes the direction of the text behind it.
+fn is_directional(character: char) -> bool {
+    matches!(
+        character,
+        '\u{61C}' | '\u{200E}' | '\u{200F}' | '\u{202A}'..='\u{202E}' | '\u{2066}'..='\u{2069}'
+    )
 }

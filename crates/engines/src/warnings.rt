@@ -1,19 +1,23 @@
-//! What `check` warns of on standard error. No warning changes its answer.
+//! What is warned of on standard error. No warning changes an answer.
 
-use crate::columns::unread;
+use crate::columns::{is_comment, label_of, unread};
 use crate::message::Place;
 use crate::usage::Usage;
 use crate::visible::Visible;
-use ast::{Kind, Label, Line, Name, Node, Program, SymbolKind};
+use ast::{Kind, Line, Name, Node, Program, SymbolKind};
 use bstr::ByteSlice;
 
-/// How many columns a label may stand in; the next one tells a continuation line.
-const LABEL_COLUMNS: usize = 5;
+/// How many lines are warned of for one thing.
+const MOST: u32 = 20;
 
-/// Warns of what stands past the last column that is read, of names that have no value or no use,
-/// and of labels that no DO names.
+/// How many letters a name has at most.
+const LONGEST_NAME: u32 = 6;
+
+/// Warns of what stands past the last column that is read, of comments that look like statements, of
+/// names that have no value or no use, and of labels that no DO names.
 pub fn warn<R: Eprint + AllocGlobal>(rt: &R, file: &str, source: &[u8], program: &Program) {
     warn_of_columns(rt, file, source);
+    warn_of_comments(rt, file, source);
     if let Ok(usage) = Usage::of(rt.alloc(), program) {
         warn_of_names(rt, file, program, &usage);
         warn_of_constants(rt, file, program, &usage);
@@ -21,20 +25,58 @@ pub fn warn<R: Eprint + AllocGlobal>(rt: &R, file: &str, source: &[u8], program:
     }
 }
 
-fn warn_of_columns<R: Eprint>(rt: &R, file: &str, source: &[u8]) {
+/// Warns of each line with something past the last column that is read, of the first 20.
+pub fn warn_of_columns<R: Eprint>(rt: &R, file: &str, source: &[u8]) {
+    let mut left = MOST;
     let mut line: Line = 0;
     for text in source.lines() {
         line = line.saturating_add(1);
-        if !is_comment(text) && unread(text).iter().any(is_telling) {
-            let place = Place { file, line };
-            let _ = eprintln!(rt; "{place}warning: what stands past column 72 is not read");
+        let cut = unread(text);
+        if is_comment(text) || !cut.iter().any(is_telling) {
+            continue;
+        }
+        if left == 0 {
             return;
+        }
+        left -= 1;
+        let place = Place { file, line };
+        let cut = Visible::new(cut.trim());
+        let _ = eprintln!(rt; "{place}warning: what stands past column 72 is not read: {cut}");
+    }
+}
+
+/// Warns of comments that look like assignments to a name that begins with C, or like a CONTINUE.
+fn warn_of_comments<R: Eprint>(rt: &R, file: &str, source: &[u8]) {
+    let mut left = MOST;
+    let mut line: Line = 0;
+    for text in source.lines() {
+        line = line.saturating_add(1);
+        if left > 0 && looks_like_statement(text) {
+            left -= 1;
+            let place = Place { file, line };
+            let _ = eprintln!(rt; "{place}warning: with a C in column 1 this is a comment");
         }
     }
 }
 
-fn is_comment(line: &[u8]) -> bool {
-    matches!(line.first(), Some(b'C' | b'c' | b'*'))
+/// Whether a name that begins in column 1 with a C stands before an equals sign, or is CONTINUE.
+fn looks_like_statement(line: &[u8]) -> bool {
+    if !matches!(line, [b'C' | b'c', second, ..] if second.is_ascii_alphanumeric()) {
+        return false;
+    }
+    if line.trim().eq_ignore_ascii_case(b"CONTINUE") {
+        return true;
+    }
+    let mut letters: u32 = 0;
+    for byte in line {
+        match byte {
+            b' ' => {}
+            b'=' => return letters <= LONGEST_NAME,
+            _ if byte.is_ascii_alphanumeric() => letters = letters.saturating_add(1),
+            _ => return false,
+        }
+    }
+    false
 }
 
 /// Whether a character past the last column is none of a card's number.
@@ -58,7 +100,13 @@ fn warn_of_names<R: Eprint>(rt: &R, file: &str, program: &Program, usage: &Usage
                 let place = Place { file, line };
                 let _ = eprintln!(rt; "{place}warning: {name} never gets a value, so it is 0");
             }
-            (_, true) => {}
+            (None, true) => {
+                if let Some(line) = seen.first_assigned {
+                    let place = Place { file, line };
+                    let _ = eprintln!(rt; "{place}warning: {name} is assigned and never read");
+                }
+            }
+            (Some(_), true) => {}
         }
     }
 }
@@ -85,30 +133,6 @@ fn warn_of_labels<R: Eprint>(rt: &R, file: &str, source: &[u8], usage: &Usage) {
             }
         }
     }
-}
-
-/// The label of a line, if it has one.
-fn label_of(line: &[u8]) -> Option<Label> {
-    match line.get(LABEL_COLUMNS) {
-        None | Some(b' ' | b'0') => {}
-        Some(_) => return None,
-    }
-    let mut label: Option<Label> = None;
-    for byte in line.iter().take(LABEL_COLUMNS) {
-        match *byte {
-            digit @ b'0'..=b'9' => {
-                let front = label.unwrap_or(0);
-                label = Some(
-                    front
-                        .saturating_mul(10)
-                        .saturating_add(Label::from(digit - b'0')),
-                );
-            }
-            b' ' => {}
-            _ => return None,
-        }
-    }
-    label
 }
 
 /// The line where a name is declared, 0 where it isn't.

@@ -15,6 +15,7 @@ pub mod Leading
 pub mod Nesting
 pub mod Offsets
 pub mod Placing
+pub mod Reaching
 pub mod Seats
 pub mod Storing
 pub mod Straight

@@ -1,5 +1,5 @@
 -- A core stays that of its call, and what it gives is of that call.
-use Rattle.std.proofs.Common.{◌≡◌, ◌∙◌, inl, inr, ℕ, List, [], None, sym, ap, subst, refl}
+use Rattle.std.proofs.Common.{◌≡◌, ◌∙◌, inl, inr, ℕ, List, [], sym, ap, subst, refl}
 use Rattle.machine.specs.Code.{Code}
 use Rattle.machine.specs.Frame.{Frame}
 use Rattle.machine.specs.State.{AreSizes, Choice, Machine}
@@ -8,11 +8,11 @@ use Rattle.replay.specs.CoreView.{CoreView, IsAfter, IsNew, point_at}
 use Rattle.replay.specs.Replayed.{IsAnswer}
 use Rattle.replay.specs.Replays.{Point, Replays, beginning}
 use Rattle.replay.specs.Schedules.{Entry, IsSchedule, Schedule}
-use Rattle.replay.specs.Stepping.{HandsIn, IsGoing, PicksUp, Steps}
+use Rattle.replay.specs.Stepping.{HandsIn, PicksUp, Steps}
 use Rattle.replay.specs.declared.stepped.Stepped.{Stepped}
 use Rattle.replay.specs.declared.stepped.Stepped.TheVariants.{Went, Idle, Ended}
 use Rattle.replay.specs.declared.entry.Version.TheVariants.{Second}
-use Rattle.processors.specs.Calls.{IsCoreOf, IsOutputOf, IsRunOf, IsStateOf, IsUnended}
+use Rattle.processors.specs.Calls.{IsCoreOf, IsOutputOf, IsRunOf, IsStateOf}
 
 after : (code : Code) (input : List ℕ) (p s : ℕ) (x y : CoreView) (e : Entry) → IsCoreOf code input p s x → IsAfter x e y → IsCoreOf code input p s y
 after code input p s x y e o a = record {
@@ -79,9 +79,6 @@ state_of code input p s x P o r k h = record {
 pub output_of : (code : Code) (input : List ℕ) (p s : ℕ) (x : CoreView) (xs : List ℕ) → IsCoreOf code input p s x → Replays x.code x.input x.schedule (point_at x) → IsSchedule x.schedule → xs ≡ (point_at x).machine.output
     → IsOutputOf code input p s xs
 output_of code input p s x xs = state_of code input p s x (λ m. xs ≡ m.output)
-
-pub unended_of : (code : Code) (input : List ℕ) (p s : ℕ) (x : CoreView) → IsCoreOf code input p s x → Replays x.code x.input x.schedule (point_at x) → IsSchedule x.schedule → IsGoing x → IsUnended code input p s
-unended_of code input p s x = state_of code input p s x (λ m. m.ended ≡ None)
 
 own_run : (code : Code) (input : List ℕ) (p s : ℕ) (x : CoreView) (answer : Answer) → IsCoreOf code input p s x → Replays x.code x.input x.schedule (point_at x) → IsAnswer x.code (point_at x).machine answer → IsSchedule x.schedule → IsRunOf code input p s answer x.schedule
 own_run code input p s x answer o r a k = record {

@@ -1,5 +1,5 @@
 -- What belongs to a call of `run`.
-use Rattle.std.specs.Prelude.{◌≡◌, ℕ, List, None}
+use Rattle.std.specs.Prelude.{◌≡◌, ℕ, List}
 use Rattle.ast.specs.declared.answer.Answer.{Answer}
 use Rattle.machine.specs.Code.{Code}
 use Rattle.machine.specs.State.{AreSizes, Machine}
@@ -38,7 +38,3 @@ pub record IsStateOf (code : Code) (input : List ℕ) (p s : ℕ) (P : Machine �
 -- to a state with this output
 abbrev pub IsOutputOf : Code → List ℕ → (p s : ℕ) → (output : List ℕ) → Type 0
 IsOutputOf code input p s output = IsStateOf code input p s (λ m. output ≡ m.output)
-
--- to one that hasn't ended
-abbrev pub IsUnended : Code → List ℕ → (p s : ℕ) → Type 0
-IsUnended code input p s = IsStateOf code input p s (λ m. m.ended ≡ None)

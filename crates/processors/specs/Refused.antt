@@ -2,14 +2,14 @@
 use Rattle.std.specs.Prelude.{◌≡◌, ◌⊎◌, ℕ, List}
 use Rattle.machine.specs.Code.{Code}
 use Rattle.machine.specs.State.{AreSizes}
-use Rattle.processors.specs.Calls.{IsOutputOf, IsUnended}
+use Rattle.processors.specs.Calls.{IsOutputOf}
 use Rattle.processors.specs.declared.report.RunRefusal.{RunRefusal}
 use Rattle.processors.specs.declared.report.RunRefusal.TheVariants.{Memory, Refused}
 
--- a run that was begun was given up, or can't go on and hasn't ended
+-- A run that was begun was given up: for want of memory, a thread, or a step to go on with.
 abbrev pub IsGivenUp : Code → List ℕ → ℕ → ℕ → RunRefusal → Type 0
 IsGivenUp code input p s (Memory output) = IsOutputOf code input p s output.items
-IsGivenUp code input p s (Refused number) = (number ≡ 58) ⊎ ((number ≡ 59) × IsUnended code input p s)
+IsGivenUp code input p s (Refused number) = (number ≡ 58) ⊎ (number ≡ 59)
 
 abbrev pub IsOutOfRange : ℕ → ℕ → RunRefusal → Type 0
 IsOutOfRange p s (Memory output) = ⊥

@@ -84,7 +84,6 @@ impl<'c, C: Call> Board<'c, C> {
     ghost use Rattle.processors.specs.Refused.{IsGivenUp};
     ghost use Rattle.replay.specs.CoreView.{point_at};
     ghost use Rattle.replay.specs.Replayed.{IsAnswer};
-    ghost use Rattle.replay.specs.Stepping.{IsGoing};
 
     /// A run in which nothing has happened.
     pub fn new(alloc: Global, core: Core<'c>) -> Result<Board<'c, C>, AllocError>
@@ -267,15 +266,6 @@ impl<'c, C: Call> Board<'c, C> {
         RunRefusal::Memory { output }
     }
 
-    /// What has come of a run that can't go on and hasn't ended.
-    fn not_ended(self) -> RunRefusal
-        requires { IsGoing self }
-        ensures { IsGivenUp C.code C.input C.processors C.slots result }
-    {
-        let _ = self.core.schedule().entries();
-        RunRefusal::Refused { number: 59 }
-    }
-
     /// What has come of a run that has ended with this answer.
     fn report_of(self, answer: Answer) -> Report
         requires { IsAnswer self.code (point_at self).machine answer }
@@ -306,7 +296,7 @@ impl<'c, C: Call> Board<'c, C> {
     {
         match self.core.answer() {
             Ok(Some(answer)) => Ok(self.report_of(answer)),
-            Ok(None) => Err(self.not_ended()),
+            Ok(None) => Err(RunRefusal::Refused { number: 59 }),
             Err(_) => Err(self.out_of_memory()),
         }
     }

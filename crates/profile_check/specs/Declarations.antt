@@ -10,6 +10,7 @@ use Rattle.ast.specs.Tree.{Term, Bounds, Declarator, Definition, Kind, Statement
 use Rattle.ast.specs.declared.fault.Fault.{Fault}
 use Rattle.ast.specs.declared.fault.Fault.TheVariants.{Index}
 use Rattle.profile_check.specs.Erasure.{erased}
+use Rattle.profile_check.specs.Kinds.{integral, is_of}
 use Rattle.profile_check.specs.Uses.{typed_by, bounded_by, defined_by, declarator_names, definition_names, names_mentioned, program_named_by}
 
 -- the constants that PARAMETER statements have defined
@@ -34,10 +35,14 @@ constants_look cs r (x ∷ xs) = Err Index
 abbrev pub constant_value : Constants → Term → Option ℤ
 constant_value cs e = result_ok (value (constants_look cs) (erased e))
 
--- the values of bounds, if they have values; an absent lower bound is 1
+-- the value of a bound, if it has one: a logical bound has none
+abbrev pub bound_value : Constants → Term → Option ℤ
+bound_value cs e = if is_of integral e then constant_value cs e else None
+
+-- an absent lower bound is 1
 abbrev pub lower_value : Constants → Option Term → Option ℤ
 lower_value cs None = Some (pos 1)
-lower_value cs (Some e) = constant_value cs e
+lower_value cs (Some e) = bound_value cs e
 
 abbrev pub extent_by : Option ℤ → Option ℤ → Option Extent
 extent_by (Some l) (Some u) = Some (record { lower = l; upper = u })
@@ -45,7 +50,7 @@ extent_by (Some l) None = None
 extent_by None u = None
 
 abbrev pub extent_of : Constants → Bounds → Option Extent
-extent_of cs b = extent_by (lower_value cs b.lower) (constant_value cs b.upper)
+extent_of cs b = extent_by (lower_value cs b.lower) (bound_value cs b.upper)
 
 -- all values, or none where one is absent
 abbrev pub all_or_none : {X : Type 0} → List (Option X) → Option (List X)

@@ -127,10 +127,13 @@ abbrev pub is_too_large : Context → Statement → Bool
 is_too_large c s =
     is_larger c.statements c.opened s.kind (insert_all same_name c.declared.names (names_mentioned s.kind)) (c.elements + total_elements (arrays_by c.declared.constants (bounded_by s.kind)))
 
--- ---- 42: a constant expression without a value
+-- ---- 42: a constant expression without a value; a logical one, as such, is 43
+
+abbrev pub lacks_either : Constants → Bounds → Bool
+lacks_either cs b = is_some_and (λ e. is_none (constant_value cs e)) b.lower || is_none (constant_value cs b.upper)
 
 abbrev pub lacks_bound : Constants → Declarator → Bool
-lacks_bound cs d = list_any (λ b. is_none (extent_of cs b)) d.bounds
+lacks_bound cs d = list_any (lacks_either cs) d.bounds
 
 abbrev pub lacks_constant : Constants → List Definition → Bool
 lacks_constant cs [] = false

@@ -13,6 +13,7 @@ ghost use Rattle.profile_check.specs.Rules as rules;
 ghost use Rattle.profile_check.specs.Uses.{has_bounds};
 
 use crate::constants::{Constants, constant_value};
+use crate::kinds::is_integral;
 use ast::{Bounds, Declarator, Dimension, Expr, Name};
 use indexmap::IndexMap;
 use std::alloc::{AllocError, Global};
@@ -23,12 +24,23 @@ pub type Arrays = IndexMap<Name, Vec<Dimension>>;
 /// The most dimensions of an array.
 const MOST_DIMENSIONS: usize = 7;
 
+/// The value of a bound, if it has one: a logical bound has none.
+fn bound_value(constants: &Constants, bound: &Expr) -> Option<i64>
+    ensures { result ≡ spec.bound_value (constants_of constants.now.entries) (view.term bound.now) }
+{
+    if is_integral(bound) {
+        constant_value(constants, bound)
+    } else {
+        None
+    }
+}
+
 /// The value of a lower bound, 1 where it is absent.
 fn lower_value(constants: &Constants, lower: &Option<Expr>) -> Option<i64>
     ensures { result ≡ spec.lower_value (constants_of constants.now.entries) (view.optional_term lower.now) }
 {
     match lower {
-        Some(expression) => constant_value(constants, expression),
+        Some(expression) => bound_value(constants, expression),
         None => Some(1),
     }
 }
@@ -38,7 +50,7 @@ fn dimension_of(constants: &Constants, bounds: &Bounds) -> Option<Dimension>
     ensures { option_map view.extent result ≡ spec.extent_of (constants_of constants.now.entries) (view.bounds bounds.now) }
 {
     let lower = lower_value(constants, &bounds.lower)?;
-    let upper = constant_value(constants, &bounds.upper)?;
+    let upper = bound_value(constants, &bounds.upper)?;
     Some(Dimension { lower, upper })
 }
 
@@ -63,21 +75,28 @@ fn are_crossed(constants: &Constants, bounds: &[Bounds]) -> bool
     false
 }
 
-/// Whether bounds have no value.
-fn lack_value(constants: &Constants, bounds: &Bounds) -> bool
-    ensures { result ≡ is_none (spec.extent_of (constants_of constants.now.entries) (view.bounds bounds.now)) }
+/// Whether a lower bound is a constant expression without a value.
+fn lacks_lower(constants: &Constants, lower: &Option<Expr>) -> bool
+    ensures { result ≡ rules.is_some_and (λ e. is_none (spec.constant_value (constants_of constants.now.entries) e)) (view.optional_term lower.now) }
 {
-    match dimension_of(constants, bounds) {
-        Some(_) => false,
-        None => true,
+    match lower {
+        Some(expression) => constant_value(constants, expression).is_none(),
+        None => false,
     }
 }
 
+/// Whether one of two bounds is a constant expression without a value.
+fn lacks_either(constants: &Constants, bounds: &Bounds) -> bool
+    ensures { result ≡ rules.lacks_either (constants_of constants.now.entries) (view.bounds bounds.now) }
+{
+    lacks_lower(constants, &bounds.lower) || constant_value(constants, &bounds.upper).is_none()
+}
+
 fn lacks_bound(constants: &Constants, bounds: &[Bounds]) -> bool
-    ensures { result ≡ list_any (λ b. is_none (spec.extent_of (constants_of constants.now.entries) b)) (map view.bounds bounds.now) }
+    ensures { result ≡ list_any (rules.lacks_either (constants_of constants.now.entries)) (map view.bounds bounds.now) }
 {
     for dimension in bounds {
-        if lack_value(constants, dimension) {
+        if lacks_either(constants, dimension) {
             return true;
         }
     }

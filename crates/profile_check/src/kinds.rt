@@ -116,7 +116,8 @@ fn is_of(kind: ValueKind, expression: &Expr) -> bool
     }
 }
 
-fn is_integral(expression: &Expr) -> bool
+/// Whether an expression is integer.
+pub fn is_integral(expression: &Expr) -> bool
     ensures { result ≡ spec.is_of spec.integral (view.term expression.now) }
 {
     is_of(ValueKind::Integral, expression)

@@ -23,6 +23,10 @@ HasEnded x = (e : End) × ((point_at x).machine.ended ≡ Some e)
 abbrev pub IsGoing : CoreView → Type 0
 IsGoing x = (point_at x).machine.ended ≡ None
 
+-- the run goes on, and there is a processor q: what memory may be wanted for
+abbrev pub MayTry : CoreView → ℕ → Type 0
+MayTry x q = IsGoing x × (q < x.schedule.processors)
+
 -- the iteration that begins
 abbrev pub begun_by : Choice → ℕ → Option ℕ
 begun_by take_ticket k = Some k

@@ -58,7 +58,7 @@ impl<'c> Model for Core<'c> {
 
 impl<'c> Core<'c> {
     ghost use Rattle.std.specs.Bool.{Decides};
-    ghost use Rattle.std.specs.Prelude.{◌≡◌, ◌<◌, ◌-◌, IfOk, IfErr, IfSome, OnOk, OnErr, Some, None, is_some, option_map};
+    ghost use Rattle.std.specs.Prelude.{◌≡◌, ◌<◌, ◌-◌, true, IfOk, IfErr, IfSome, OnOk, OnErr, Some, None, is_some, option_map};
     ghost use Rattle.ec_kernel.specs.View.{first_of};
     ghost use Rattle.machine.specs.CodeView.{code_of};
     ghost use Rattle.machine.specs.FrameView.{frame_of};
@@ -68,7 +68,7 @@ impl<'c> Core<'c> {
     ghost use Rattle.replay.specs.Parts.{held_of};
     ghost use Rattle.replay.specs.Replayed.{IsAnswer};
     ghost use Rattle.replay.specs.Replays.{Replays, beginning, local_in};
-    ghost use Rattle.replay.specs.Stepping.{CannotHandIn, HandsIn, IsFrom, IsGoing, KeepsGoing, NoCore, PicksUp, Steps, WentOrLocal};
+    ghost use Rattle.replay.specs.Stepping.{CannotHandIn, HandsIn, IsFrom, IsGoing, HasEnded, KeepsGoing, MayTry, NoCore, PicksUp, Steps, WentOrLocal};
     ghost use Rattle.replay.specs.Tallies.{Tallies};
     ghost use Rattle.replay.specs.declared.entry.Version.TheVariants.{Second};
 
@@ -147,7 +147,8 @@ impl<'c> Core<'c> {
 
     /// A copy of the frame of what processor `q` holds.
     pub fn frame(&self, q: usize) -> Result<Option<Frame>, AllocError>
-        ensures { IfOk result (λ o. option_map frame_of o ≡ frame_at q (point_at self.now)) }
+        ensures ok { IfOk result (λ o. option_map frame_of o ≡ frame_at q (point_at self.now)) }
+        ensures memory { OnErr result (is_some (frame_at q (point_at self.now)) ≡ true) }
     {
         match self.held_frame(q) {
             Some(frame) => Ok(Some(frame.try_copy()?)),
@@ -210,6 +211,7 @@ impl<'c> Core<'c> {
         ensures goes_on { KeepsGoing self.old }
         ensures went { IfOk result (WentOrLocal self.old q) }
         ensures err { OnErr result (self.new ≡ self.old) }
+        ensures memory { OnErr result (MayTry self.old q) }
     {
         if self.activities.shared.ended.is_some() {
             return Ok(Stepped::Ended);
@@ -231,6 +233,7 @@ impl<'c> Core<'c> {
     pub fn pick(&mut self, q: usize, choice: Choice) -> Result<Stepped, AllocError>
         ensures ok { IfOk result (λ stepped. PicksUp self.old q (chosen choice) stepped self.new) }
         ensures err { OnErr result (self.new ≡ self.old) }
+        ensures memory { OnErr result (MayTry self.old q) }
     {
         if self.activities.shared.ended.is_some() {
             return Ok(Stepped::Ended);
@@ -393,6 +396,7 @@ impl<'c> Core<'c> {
     pub fn answer(&self) -> Result<Option<Answer>, AllocError>
         ensures some { IfOk result (λ o. IfSome o (IsAnswer self.now.code (point_at self.now).machine)) }
         ensures none { IfOk result (λ o. o ≡ None → IsGoing self.now) }
+        ensures memory { OnErr result (HasEnded self.now) }
     {
         let shared = &self.activities.shared;
         let Some(end) = shared.ended else {

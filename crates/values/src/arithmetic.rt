@@ -10,21 +10,36 @@ use ast::{Fault, Operator, Prefix};
 pub fn add(a: i64, b: i64) -> Result<i64, Fault>
     ensures { result ≡ value_of Add a b }
 {
-    a.checked_add(b).ok_or(Fault::Overflow)
+    let sum = a.wrapping_add(b);
+    if (sum < 0) != (a < 0) && (sum < 0) != (b < 0) {
+        Err(Fault::Overflow)
+    } else {
+        Ok(sum)
+    }
 }
 
 /// The difference; `Overflow` where it is no 64-bit integer.
 pub fn sub(a: i64, b: i64) -> Result<i64, Fault>
     ensures { result ≡ value_of Subtract a b }
 {
-    a.checked_sub(b).ok_or(Fault::Overflow)
+    let difference = a.wrapping_sub(b);
+    if (difference < 0) != (a < 0) && (a < 0) != (b < 0) {
+        Err(Fault::Overflow)
+    } else {
+        Ok(difference)
+    }
 }
 
 /// The product; `Overflow` where it is no 64-bit integer.
 pub fn mul(a: i64, b: i64) -> Result<i64, Fault>
     ensures { result ≡ value_of Multiply a b }
 {
-    a.checked_mul(b).ok_or(Fault::Overflow)
+    let product = i128::from(a) * i128::from(b);
+    if product < i128::from(i64::MIN) || product > i128::from(i64::MAX) {
+        Err(Fault::Overflow)
+    } else {
+        Ok(product as i64)
+    }
 }
 
 /// The quotient, truncated toward zero; `ZeroDivisor` where `b` is 0, and `Overflow` where the

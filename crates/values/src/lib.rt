@@ -2,9 +2,11 @@
 #![tactic(auto)]
 
 mod arithmetic;
+mod modulus;
 mod scanner;
 
 pub use arithmetic::{
     abs, add, apply_operator, apply_prefix, div, modulo, mul, neg, sub, trips, truth,
 };
+pub use modulus::Modulus;
 pub use scanner::scan;

@@ -229,7 +229,8 @@ const BEHIND_END: Explanation = Explanation {
 ",
         input: "",
     },
-    advice: "move the line before END, or take it out. A file holds one main program:
+    advice: "move the line before END, or take it out. A file holds one main program, and no
+subroutines or functions:
 ",
     cure: Trial {
         source: "      PRINT *,1

@@ -1,0 +1,351 @@
+//! Which name a refusal is of, and which open DO or IF.
+
+use crate::mentions::{Mention, mentions};
+use crate::squeezed::Squeezed;
+use crate::visible::Visible;
+use ast::{Label, Line, Name};
+use std::alloc::{AllocError, Global};
+use std::fmt::{Display, Formatter, Result as FmtResult, Write};
+
+/// What a refusal is of.
+#[derive(Clone, Copy, Debug, PartialEq, Eq)]
+pub enum Cause {
+    /// A name that isn't an integer.
+    Real(Name),
+    /// A name with subscripts or arguments in another number.
+    Misfit {
+        name: Name,
+        rank: usize,
+        count: usize,
+    },
+    /// The variable of an open DO.
+    Active {
+        name: Name,
+        line: Line,
+    },
+    /// A label that stands in a line before.
+    Label {
+        label: Label,
+        line: Line,
+    },
+    /// A DO that is open.
+    Loop {
+        label: Label,
+        line: Line,
+    },
+    /// An IF that is open.
+    Block(Line),
+}
+
+/// How many arguments an intrinsic function takes.
+#[derive(Clone, Copy, Debug, PartialEq, Eq)]
+enum Arguments {
+    One,
+    Two,
+    TwoOrMore,
+}
+
+/// A DO or an IF that is open.
+#[derive(Clone, Copy, Debug, PartialEq, Eq)]
+enum Open {
+    Range {
+        label: Label,
+        line: Line,
+        variable: Option<Name>,
+    },
+    Block(Line),
+}
+
+/// What stands before a line of a source.
+#[derive(Drop)]
+struct Before {
+    opened: Vec<Open>,
+    /// The names that INTEGER and DIMENSION statements have, with their bounds.
+    declared: Vec<Mention>,
+    labels: Vec<(Label, Line)>,
+}
+
+/// What the refusal of a source by this number, at this line, is of, as far as that can be told.
+pub fn cause_of(
+    alloc: Global,
+    source: &[u8],
+    number: u8,
+    line: Line,
+) -> Result<Option<Cause>, AllocError> {
+    if !matches!(number, 31 | 33 | 34 | 36 | 37 | 41) {
+        return Ok(None);
+    }
+    let statements = Squeezed::all(alloc, source)?;
+    let before = Before::of(alloc, &statements, line)?;
+    let Some(statement) = statements.iter().find(|statement| statement.line == line) else {
+        return Ok(None);
+    };
+    let names = mentions(alloc, statement)?;
+    match number {
+        31 => real(alloc, &statements, &names),
+        33 => Ok(before.misfit(&names)),
+        37 => Ok(before.active(statement, &names)),
+        41 => Ok(before.labelled(statement)),
+        _ => Ok(before.open()),
+    }
+}
+
+/// The first name that isn't an integer.
+fn real(
+    alloc: Global,
+    statements: &[Squeezed],
+    names: &[Mention],
+) -> Result<Option<Cause>, AllocError> {
+    let typed = typed(alloc, statements)?;
+    for mention in names {
+        let is_call = mention.count > 0 && arguments_of(mention.name).is_some();
+        let is_integer = matches!(mention.name.letters[0], b'I'..=b'N');
+        if !is_call && !is_integer && !typed.contains(&mention.name) {
+            return Ok(Some(Cause::Real(mention.name)));
+        }
+    }
+    Ok(None)
+}
+
+/// The names that INTEGER statements give a type.
+fn typed(alloc: Global, statements: &[Squeezed]) -> Result<Vec<Name>, AllocError> {
+    let mut names = Vec::new(alloc);
+    for statement in statements {
+        if statement.text.starts_with(b"INTEGER") {
+            append_outer(&mut names, &mentions(alloc, statement)?)?;
+        }
+    }
+    Ok(names)
+}
+
+fn append_outer(names: &mut Vec<Name>, found: &[Mention]) -> Result<(), AllocError> {
+    for mention in found {
+        if mention.depth == 0 {
+            names.push(mention.name)?;
+        }
+    }
+    Ok(())
+}
+
+/// How many arguments a name takes, if it is an intrinsic function's.
+fn arguments_of(name: Name) -> Option<Arguments> {
+    match name.trimmed() {
+        b"MOD" => Some(Arguments::Two),
+        b"ABS" | b"IABS" => Some(Arguments::One),
+        b"MAX" | b"MAX0" | b"MIN" | b"MIN0" => Some(Arguments::TwoOrMore),
+        _ => None,
+    }
+}
+
+fn takes(arguments: Arguments, count: usize) -> bool {
+    match arguments {
+        Arguments::One => count == 1,
+        Arguments::Two => count == 2,
+        Arguments::TwoOrMore => count >= 2,
+    }
+}
+
+impl Before {
+    fn of(alloc: Global, statements: &[Squeezed], line: Line) -> Result<Self, AllocError> {
+        let mut before = Before {
+            opened: Vec::new(alloc),
+            declared: Vec::new(alloc),
+            labels: Vec::new(alloc),
+        };
+        for statement in statements {
+            if statement.line >= line {
+                break;
+            }
+            before.take(statement, &mentions(alloc, statement)?)?;
+        }
+        Ok(before)
+    }
+
+    /// Takes a statement in.
+    fn take(&mut self, statement: &Squeezed, names: &[Mention]) -> Result<(), AllocError> {
+        let line = statement.line;
+        if let Some(label) = statement.label {
+            self.labels.push((label, line))?;
+        }
+        if statement.is_declaration() {
+            self.declare(names)?;
+        }
+        if statement.is_loop() {
+            let label = statement.terminal();
+            let variable = names.first().map(|mention| mention.name);
+            self.opened.push(Open::Range {
+                label,
+                line,
+                variable,
+            })?;
+        } else if statement.is_block() {
+            self.opened.push(Open::Block(line))?;
+        } else if statement.text.as_slice() == b"ENDIF".as_slice() {
+            let _ = self.opened.pop();
+        } else if let Some(label) = statement.label {
+            self.end_ranges(label);
+        }
+        Ok(())
+    }
+
+    fn declare(&mut self, names: &[Mention]) -> Result<(), AllocError> {
+        for mention in names {
+            if mention.depth == 0 && mention.count > 0 {
+                self.declared.push(*mention)?;
+            }
+        }
+        Ok(())
+    }
+
+    /// Ends the innermost ranges of a label.
+    fn end_ranges(&mut self, label: Label) {
+        let mut left = self.opened.len();
+        for open in self.opened.iter().rev() {
+            match open {
+                Open::Range {
+                    label: terminal,
+                    ..
+                } if *terminal == label => {
+                    left = left.saturating_sub(1);
+                }
+                _ => break,
+            }
+        }
+        self.opened.truncate(left);
+    }
+
+    fn rank(&self, name: Name) -> usize {
+        for mention in &self.declared {
+            if mention.name == name {
+                return mention.count;
+            }
+        }
+        0
+    }
+
+    /// The first name whose subscripts or arguments don't fit.
+    fn misfit(&self, names: &[Mention]) -> Option<Cause> {
+        for mention in names {
+            let rank = self.rank(mention.name);
+            let fits = match arguments_of(mention.name) {
+                Some(arguments) => takes(arguments, mention.count),
+                None => mention.count == rank,
+            };
+            if !fits {
+                return Some(Cause::Misfit {
+                    name: mention.name,
+                    rank,
+                    count: mention.count,
+                });
+            }
+        }
+        None
+    }
+
+    /// The innermost DO or IF that is open.
+    fn open(&self) -> Option<Cause> {
+        match self.opened.last()? {
+            Open::Range { label, line, .. } => Some(Cause::Loop {
+                label: *label,
+                line: *line,
+            }),
+            Open::Block(line) => Some(Cause::Block(*line)),
+        }
+    }
+
+    /// The variable of an open DO that a statement gives a value.
+    fn active(&self, statement: &Squeezed, names: &[Mention]) -> Option<Cause> {
+        for mention in names {
+            if mention.depth == 0 {
+                if let Some(line) = self.line_of(mention.name) {
+                    return Some(Cause::Active {
+                        name: mention.name,
+                        line,
+                    });
+                }
+            }
+            if !statement.text.starts_with(b"READ") {
+                return None;
+            }
+        }
+        None
+    }
+
+    /// The line of the open DO with this variable.
+    fn line_of(&self, name: Name) -> Option<Line> {
+        for open in &self.opened {
+            match open {
+                Open::Range {
+                    variable: Some(variable),
+                    line,
+                    ..
+                } if *variable == name => return Some(*line),
+                _ => {}
+            }
+        }
+        None
+    }
+
+    /// Where the label of a statement stood before.
+    fn labelled(&self, statement: &Squeezed) -> Option<Cause> {
+        let label = statement.label?;
+        for (other, line) in &self.labels {
+            if *other == label {
+                return Some(Cause::Label { label, line: *line });
+            }
+        }
+        None
+    }
+}
+
+impl Display for Cause {
+    fn fmt<W: Write>(&self, f: &mut Formatter<W>) -> FmtResult {
+        match self {
+            Cause::Real(name) => {
+                let name = Visible::new(name.trimmed());
+                write!(
+                    f,
+                    "{name} doesn't begin with I to N, and no INTEGER statement names it"
+                )
+            }
+            Cause::Misfit { name, rank, count } => write_misfit(f, *name, *rank, *count),
+            Cause::Active { name, line } => {
+                let name = Visible::new(name.trimmed());
+                write!(
+                    f,
+                    "{name} is the variable of the DO in line {line}, which is open"
+                )
+            }
+            Cause::Label { label, line } => write!(
+                f,
+                "the label {label} stands in line {line} too"
+            ),
+            Cause::Loop { label, line } => {
+                write!(
+                    f,
+                    "the DO in line {line} is open, which ends at the label {label}"
+                )
+            }
+            Cause::Block(line) => write!(f, "the IF in line {line} is open"),
+        }
+    }
+}
+
+fn write_misfit<W: Write>(
+    f: &mut Formatter<W>,
+    name: Name,
+    rank: usize,
+    count: usize,
+) -> FmtResult {
+    let visible = Visible::new(name.trimmed());
+    match (arguments_of(name), rank, count) {
+        (Some(Arguments::One), _, _) => write!(f, "{visible} takes one argument, not {count}"),
+        (Some(Arguments::Two), _, _) => write!(f, "{visible} takes two arguments, not {count}"),
+        (Some(Arguments::TwoOrMore), _, _) => {
+            write!(f, "{visible} takes two arguments or more, not {count}")
+        }
+        (None, 0, _) => write!(f, "{visible} is no array, and no function of the language"),
+        (None, _, 0) => write!(f, "{visible} is an array, and stands with its subscripts"),
+        (None, _, _) => write!(f, "{visible} has {rank} subscripts, not {count}"),
+    }
+}

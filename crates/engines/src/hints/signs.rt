@@ -1,0 +1,349 @@
+//! The signs that hints go by: what a statement begins with and holds, without blanks and in
+//! capitals, and what to say of it.
+
+/// A beginning and a part of a statement, either may be empty, that tell what was meant.
+pub struct Sign {
+    pub begins: &'static [u8],
+    pub holds: &'static [u8],
+    pub hint: &'static str,
+}
+
+/// What stands in a line that is refused by rule 1.
+pub const CHARACTERS: [Sign; 6] = [
+    Sign {
+        begins: b"",
+        holds: b"\t",
+        hint: "a tab stands in the line; put blanks in its place",
+    },
+    Sign {
+        begins: b"",
+        holds: b"\xEF\xBB\xBF",
+        hint: "the file begins with a byte-order mark; save it without one",
+    },
+    Sign {
+        begins: b"",
+        holds: b"\xE2\x88\x92",
+        hint: "the minus is not the one of the keyboard",
+    },
+    Sign {
+        begins: b"",
+        holds: b"\xE2\x80",
+        hint: "a dash or a quotation mark is not one of the keyboard",
+    },
+    Sign {
+        begins: b"",
+        holds: b"\xC2\xA0",
+        hint: "a no-break space stands in the line; put a blank in its place",
+    },
+    Sign {
+        begins: b"",
+        holds: b"\r",
+        hint: "a CR stands in the line; a line ends in LF or in CR LF",
+    },
+];
+
+/// Signs of other languages, in a statement that is none or is not well formed.
+pub const FOREIGN: [Sign; 19] = [
+    Sign {
+        begins: b"",
+        holds: b"**",
+        hint: "there is no power; write a product",
+    },
+    Sign {
+        begins: b"",
+        holds: b"!=",
+        hint: "write .NE. in the place of '!='",
+    },
+    Sign {
+        begins: b"",
+        holds: b"/=",
+        hint: "write .NE. in the place of '/='",
+    },
+    Sign {
+        begins: b"",
+        holds: b"!",
+        hint: "'!' begins no comment; a comment is a line with a C in column 1",
+    },
+    Sign {
+        begins: b"",
+        holds: b"\"",
+        hint: "a text stands between apostrophes",
+    },
+    Sign {
+        begins: b"",
+        holds: b"::",
+        hint: "a declaration has no '::', as in INTEGER K",
+    },
+    Sign {
+        begins: b"",
+        holds: b";",
+        hint: "a line holds one statement",
+    },
+    Sign {
+        begins: b"",
+        holds: b"_",
+        hint: "a name has letters and digits alone",
+    },
+    Sign {
+        begins: b"",
+        holds: b"==",
+        hint: "write .EQ. in the place of '=='",
+    },
+    Sign {
+        begins: b"",
+        holds: b"<",
+        hint: "write .LT. or .LE. in the place of '<' or '<='",
+    },
+    Sign {
+        begins: b"",
+        holds: b">",
+        hint: "write .GT. or .GE. in the place of '>' or '>='",
+    },
+    Sign {
+        begins: b"",
+        holds: b"[",
+        hint: "subscripts stand in parentheses",
+    },
+    Sign {
+        begins: b"",
+        holds: b"^",
+        hint: "there is no power; write a product",
+    },
+    Sign {
+        begins: b"",
+        holds: b"%",
+        hint: "the remainder is MOD, as in MOD(5,2)",
+    },
+    Sign {
+        begins: b"",
+        holds: b"++",
+        hint: "write K=K+1",
+    },
+    Sign {
+        begins: b"",
+        holds: b"+=",
+        hint: "write K=K+1",
+    },
+    Sign {
+        begins: b"",
+        holds: b"-=",
+        hint: "write K=K-1",
+    },
+    Sign {
+        begins: b"",
+        holds: b"*=",
+        hint: "write K=K*2",
+    },
+    Sign {
+        begins: b"",
+        holds: b"&",
+        hint: "a statement goes on in a line with a sign in column 6",
+    },
+];
+
+/// What a statement begins with and holds that is none or is not well formed.
+pub const BEGINNINGS: [Sign; 12] = [
+    Sign {
+        begins: b"ENDPROGRAM",
+        holds: b"",
+        hint: "END stands alone",
+    },
+    Sign {
+        begins: b"INTEGER(",
+        holds: b"",
+        hint: "INTEGER has 64 bits as it is; write INTEGER alone",
+    },
+    Sign {
+        begins: b"PRINT",
+        holds: b"=",
+        hint: "there is no implied DO; name the elements, or print in a loop",
+    },
+    Sign {
+        begins: b"READ",
+        holds: b"=",
+        hint: "there is no implied DO; name the elements, or read in a loop",
+    },
+    Sign {
+        begins: b"WRITE(*,*)",
+        holds: b"=",
+        hint: "there is no implied DO; name the elements, or print in a loop",
+    },
+    Sign {
+        begins: b"",
+        holds: b",''",
+        hint: "a text has a character at least",
+    },
+    Sign {
+        begins: b"READ*,",
+        holds: b"",
+        hint: "READ takes variables and elements of arrays",
+    },
+    Sign {
+        begins: b"READ(*,*)",
+        holds: b"",
+        hint: "READ takes variables and elements of arrays",
+    },
+    Sign {
+        begins: b"SELECTCASE",
+        holds: b"",
+        hint: "of a later FORTRAN; write IF and ELSE IF",
+    },
+    Sign {
+        begins: b"EXIT",
+        holds: b"",
+        hint: "of a later FORTRAN; write an IF block around what is left of the loop",
+    },
+    Sign {
+        begins: b"CYCLE",
+        holds: b"",
+        hint: "of a later FORTRAN; write an IF block around what is left of the loop",
+    },
+    Sign {
+        begins: b"INCLUDE",
+        holds: b"",
+        hint: "of a later FORTRAN; a source is one file",
+    },
+];
+
+/// Operators side by side.
+pub const NEIGHBOURS: [&[u8]; 7] = [b"*-", b"*+", b"/-", b"/+", b"+-", b"-+", b"--"];
+
+/// What a statement begins with and holds whose name is too long.
+pub const LENGTHS: [Sign; 3] = [
+    Sign {
+        begins: b"INTEGERFUNCTION",
+        holds: b"",
+        hint: "there are no functions but MOD, ABS, IABS, MAX, MAX0, MIN and MIN0",
+    },
+    Sign {
+        begins: b"INTEGER",
+        holds: b"::",
+        hint: "a declaration has no '::', as in INTEGER K",
+    },
+    Sign {
+        begins: b"INTEGER",
+        holds: b"=",
+        hint: "a declaration gives no value; an assignment does, or a PARAMETER statement",
+    },
+];
+
+/// What the last line of a source without END holds.
+pub const LAST: [Sign; 1] = [Sign {
+    begins: b"ENDPROGRAM",
+    holds: b"",
+    hint: "END stands alone",
+}];
+
+/// The constant that is too large.
+pub const GREAT: [Sign; 1] = [Sign {
+    begins: b"",
+    holds: b"-9223372036854775808",
+    hint: "write -9223372036854775807-1",
+}];
+
+/// What a statement begins with that is left out for good.
+pub const LEFT_OUT: [Sign; 20] = [
+    Sign {
+        begins: b"INTEGER*",
+        holds: b"",
+        hint: "INTEGER has 64 bits as it is; write INTEGER alone",
+    },
+    Sign {
+        begins: b"REAL",
+        holds: b"",
+        hint: "all variables are INTEGER",
+    },
+    Sign {
+        begins: b"DOUBLE",
+        holds: b"",
+        hint: "all variables are INTEGER",
+    },
+    Sign {
+        begins: b"COMPLEX",
+        holds: b"",
+        hint: "all variables are INTEGER",
+    },
+    Sign {
+        begins: b"LOGICAL",
+        holds: b"",
+        hint: "all variables are INTEGER",
+    },
+    Sign {
+        begins: b"CHARACTER",
+        holds: b"",
+        hint: "all variables are INTEGER",
+    },
+    Sign {
+        begins: b"ENDDO",
+        holds: b"",
+        hint: "a loop ends at the label of its DO, as in 10 CONTINUE",
+    },
+    Sign {
+        begins: b"DOWHILE",
+        holds: b"",
+        hint: "a DO counts; give it a last value, and an IF in it",
+    },
+    Sign {
+        begins: b"IMPLICIT",
+        holds: b"",
+        hint: "leave it out: names that begin with I to N are INTEGER, others are declared",
+    },
+    Sign {
+        begins: b"GOTO",
+        holds: b"",
+        hint: "there are no jumps; write an IF block or a DO",
+    },
+    Sign {
+        begins: b"CALL",
+        holds: b"",
+        hint: "there are no subroutines; write the statements in its place",
+    },
+    Sign {
+        begins: b"SUBROUTINE",
+        holds: b"",
+        hint: "there are no subroutines; a source is one program",
+    },
+    Sign {
+        begins: b"FUNCTION",
+        holds: b"",
+        hint: "there are no functions but MOD, ABS, IABS, MAX, MAX0, MIN and MIN0",
+    },
+    Sign {
+        begins: b"DATA",
+        holds: b"",
+        hint: "all variables are 0 at first; assign other values",
+    },
+    Sign {
+        begins: b"COMMON",
+        holds: b"",
+        hint: "one program has all variables; declare them alone",
+    },
+    Sign {
+        begins: b"FORMAT",
+        holds: b"",
+        hint: "values are printed in one form, by PRINT * or WRITE(*,*)",
+    },
+    Sign {
+        begins: b"WRITE",
+        holds: b"",
+        hint: "write WRITE(*,*)",
+    },
+    Sign {
+        begins: b"READ",
+        holds: b"",
+        hint: "write READ *, or READ(*,*)",
+    },
+    Sign {
+        begins: b"PRINT",
+        holds: b"",
+        hint: "write PRINT *, and a comma behind it",
+    },
+    Sign {
+        begins: b"IF(",
+        holds: b"",
+        hint: "there is no arithmetic IF; write an IF block",
+    },
+];
+
+/// Comparisons without their points.
+pub const COMPARISONS: [&[u8]; 6] = [b"EQ", b"NE", b"LT", b"LE", b"GT", b"GE"];

@@ -1,0 +1,3 @@
+pub mod Arrows
+pub mod Dependences
+pub mod Escaped

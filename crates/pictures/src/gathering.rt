@@ -1,0 +1,209 @@
+//! What the processors of a run did, gathered into as many columns as a picture may have.
+
+use std::alloc::{AllocError, Global};
+
+/// How many columns there are at most.
+const MOST: u64 = 960;
+/// How many columns all lanes have together at most, so that the picture stays small.
+const CELLS: u64 = 4_000;
+
+/// An activity that a processor holds.
+#[derive(Clone, Copy, Debug, PartialEq, Eq)]
+pub enum Held {
+    Main,
+    /// The iteration of this number.
+    Iteration(u128),
+}
+
+/// What came of an entry, beside its steps.
+#[derive(Clone, Copy, Debug, PartialEq, Eq)]
+pub enum Came {
+    Nothing,
+    /// The processor advanced an event.
+    Advanced,
+    /// What it held waits.
+    Parked,
+    /// The iteration that it held has retired.
+    Retired,
+}
+
+/// An entry of a schedule, as it was made.
+#[derive(Clone, Copy, Debug, PartialEq, Eq)]
+pub struct Turn {
+    /// The processor, from 0.
+    pub processor: usize,
+    /// How many steps it made, 1 to 1,024.
+    pub steps: u64,
+    /// What it held before.
+    pub before: Option<Held>,
+    /// What it held after.
+    pub after: Option<Held>,
+    pub came: Came,
+    /// How many iterations were open after.
+    pub open: u64,
+}
+
+/// What a processor did in the entries of a column.
+#[derive(Clone, Copy, Debug, PartialEq, Eq)]
+pub struct Cell {
+    /// Whether an entry of the column is its.
+    pub seen: bool,
+    /// What it held last.
+    pub held: Option<Held>,
+    /// What it held after its last entry there.
+    pub after: Option<Held>,
+    /// Whether it held several activities.
+    pub several: bool,
+    /// How often something was advanced, parked and retired.
+    pub advanced: u64,
+    pub parked: u64,
+    pub retired: u64,
+}
+
+/// In which nothing was done.
+const EMPTY: Cell = Cell {
+    seen: false,
+    held: None,
+    after: None,
+    several: false,
+    advanced: 0,
+    parked: 0,
+    retired: 0,
+};
+
+/// What a processor did in the whole run.
+#[derive(Clone, Copy, Debug, PartialEq, Eq)]
+pub struct Lane {
+    pub steps: u64,
+    /// How often what it held had to wait.
+    pub parked: u64,
+}
+
+/// What the processors of a run did, by columns of its entries.
+#[derive(Drop)]
+pub struct Gathered {
+    /// How many entries there are.
+    pub entries: u64,
+    /// How many columns they are gathered into.
+    pub columns: u64,
+    /// How many iterations may be open.
+    pub slots: u64,
+    pub lanes: Vec<Lane>,
+    /// Those of the first processor, then those of the next, each by column.
+    pub cells: Vec<Cell>,
+    /// How many iterations were open at most, by column.
+    pub open: Vec<u64>,
+    /// How many entries were noted.
+    pub noted: u64,
+}
+
+/// How many columns so many entries of so many processors have: one for each entry, as far as there
+/// are not too many.
+fn columns(entries: u64, processors: u64) -> u64 {
+    let room = CELLS.checked_div(processors).unwrap_or(CELLS);
+    entries.min(MOST).min(room).max(1)
+}
+
+impl Gathered {
+    /// Nothing yet, of a run of so many entries.
+    pub fn new(
+        alloc: Global,
+        entries: u64,
+        processors: usize,
+        slots: u64,
+    ) -> Result<Gathered, AllocError> {
+        let columns = columns(entries, processors as u64);
+        let mut lanes = Vec::new(alloc);
+        let mut cells = Vec::new(alloc);
+        for _ in 0..processors {
+            lanes.push(Lane {
+                steps: 0,
+                parked: 0,
+            })?;
+            for _ in 0..columns {
+                cells.push(EMPTY)?;
+            }
+        }
+        Ok(Gathered {
+            entries,
+            columns,
+            slots,
+            lanes,
+            cells,
+            open: vec![in alloc; 0; columns as usize]?,
+            noted: 0,
+        })
+    }
+
+    /// The column of the next entry.
+    fn column(&self) -> u64 {
+        let place = u128::from(self.noted).saturating_mul(u128::from(self.columns));
+        let column = place.checked_div(u128::from(self.entries)).unwrap_or(0);
+        u64::try_from(column).unwrap_or(0)
+    }
+
+    /// The cell of a processor in a column.
+    pub fn cell(&self, processor: usize, column: u64) -> Cell {
+        let place = place(self.columns, processor, column);
+        self.cells.get(place).copied().unwrap_or(EMPTY)
+    }
+
+    /// How many steps all processors made.
+    pub fn made(&self) -> u128 {
+        let mut made = 0u128;
+        for lane in &self.lanes {
+            made = made.saturating_add(u128::from(lane.steps));
+        }
+        made
+    }
+
+    /// Notes the next entry.
+    pub fn note(&mut self, turn: Turn) {
+        let column = self.column();
+        if let Some(lane) = self.lanes.get_mut(turn.processor) {
+            lane.steps = lane.steps.saturating_add(turn.steps);
+            if turn.came == Came::Parked {
+                lane.parked = lane.parked.saturating_add(1);
+            }
+        }
+        if let Some(open) = self.open.get_mut(column as usize) {
+            *open = (*open).max(turn.open);
+        }
+        let place = place(self.columns, turn.processor, column);
+        if let Some(cell) = self.cells.get_mut(place) {
+            *cell = grown(*cell, turn);
+        }
+        self.noted = self.noted.saturating_add(1);
+    }
+}
+
+/// Where the cell of a processor in a column stands.
+fn place(columns: u64, processor: usize, column: u64) -> usize {
+    processor
+        .saturating_mul(columns as usize)
+        .saturating_add(column as usize)
+}
+
+/// A cell with one entry more.
+fn grown(cell: Cell, turn: Turn) -> Cell {
+    let held = match turn.before {
+        Some(held) => Some(held),
+        None => turn.after,
+    };
+    let differs = cell.held.is_some() && held.is_some() && cell.held != held;
+    let Cell {
+        advanced,
+        parked,
+        retired,
+        ..
+    } = cell;
+    Cell {
+        seen: true,
+        held: if held.is_some() { held } else { cell.held },
+        after: turn.after,
+        several: cell.several || differs,
+        advanced: advanced.saturating_add(u64::from(turn.came == Came::Advanced)),
+        parked: parked.saturating_add(u64::from(turn.came == Came::Parked)),
+        retired: retired.saturating_add(u64::from(turn.came == Came::Retired)),
+    }
+}

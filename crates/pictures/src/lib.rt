@@ -1,0 +1,25 @@
+//! Pictures of loops and of runs, as the text of SVG files.
+#![tactic(auto)]
+
+mod arrows;
+mod drawing;
+mod escaping;
+mod gathering;
+mod lanes;
+pub mod laws;
+mod legend;
+mod loops;
+mod marks;
+mod picture;
+mod places;
+mod sketch;
+mod source_text;
+mod style;
+mod svg;
+
+pub use drawing::draw;
+pub use gathering::{Came, Cell, Gathered, Held, Lane, Turn};
+pub use lanes::{Ending, timeline};
+pub use loops::{Frame, OpenLoop, SerialLoop, open_picture, serial_picture};
+pub use picture::{Advance, Arrow, Look, LoopPicture, Row};
+pub use source_text::lines_of;

@@ -1,0 +1,71 @@
+//! What there is to draw of a loop.
+
+use ast::{Line, Name};
+
+/// How a row looks.
+#[derive(Clone, Copy, Debug, PartialEq, Eq)]
+pub enum Look {
+    /// As a statement of the source.
+    Plain,
+    /// As the statement that keeps the loop serial.
+    Marked,
+    /// As an ELSE that was made, which isn't in the source.
+    Made,
+}
+
+/// A row: what each iteration has at this height.
+#[derive(Clone, Copy, Debug, PartialEq, Eq)]
+pub struct Row<'a> {
+    /// The line in the source; of a made ELSE, that of its IF.
+    pub line: Line,
+    /// In how many loops and IFs of the range it stands.
+    pub depth: u64,
+    /// The text of the statement.
+    pub text: &'a [u8],
+    pub look: Look,
+}
+
+/// A dependence that is kept, between places among the rows.
+#[derive(Clone, Copy, Debug, PartialEq, Eq)]
+pub struct Arrow {
+    /// The event by which the sink's iteration waits; the first has the number 1.
+    pub event: usize,
+    /// Over how many iterations it goes.
+    pub distance: u128,
+    /// The row of its source.
+    pub source: usize,
+    /// The row of its sink.
+    pub sink: usize,
+    /// The line of its source.
+    pub source_line: Line,
+    /// The line of its sink.
+    pub sink_line: Line,
+}
+
+/// Where an event is advanced: behind what stands in a row.
+#[derive(Clone, Copy, Debug, PartialEq, Eq)]
+pub struct Advance {
+    pub event: usize,
+    pub row: usize,
+}
+
+/// What there is to draw of a loop.
+#[derive(Drop)]
+pub struct LoopPicture<'a> {
+    /// The loop's number, from 1.
+    pub number: usize,
+    /// The line of its DO.
+    pub line: Line,
+    /// The text of its DO.
+    pub text: &'a [u8],
+    /// What its range has, from top to bottom.
+    pub rows: Vec<Row<'a>>,
+    pub arrows: Vec<Arrow>,
+    pub advances: Vec<Advance>,
+    /// The scalars of which each iteration has one of its own.
+    pub privates: Vec<Name>,
+    /// Of a loop that stays serial, what keeps it so, as a sentence.
+    pub serial: Option<Vec<u8>>,
+    /// How many iterations are drawn, 1 to 64.
+    pub columns: u64,
+}

@@ -1,0 +1,153 @@
+//! What a loop's picture has from top to bottom.
+
+use crate::picture::{Advance, Look, Row};
+use crate::source_text::statement_text;
+use ast::{Arm, Line, Node};
+use dependence::{PlanArm, PlanStmt};
+use std::alloc::{AllocError, Global};
+
+/// What stands where an ELSE was made.
+const MADE_ELSE: &[u8] = b"(no ELSE: one is made)";
+
+/// The rows of a loop's picture, and where its events are advanced.
+#[derive(Drop)]
+pub struct Sketch<'a> {
+    /// The lines of the source.
+    pub lines: Vec<&'a [u8]>,
+    pub rows: Vec<Row<'a>>,
+    pub advances: Vec<Advance>,
+    /// The line of the statement that is in the way, if one is.
+    pub hindered: Option<Line>,
+}
+
+impl<'a> Sketch<'a> {
+    /// The beginning of a picture by these lines of a source.
+    pub fn new(alloc: Global, lines: Vec<&'a [u8]>, hindered: Option<Line>) -> Self {
+        Sketch {
+            lines,
+            rows: Vec::new(alloc),
+            advances: Vec::new(alloc),
+            hindered,
+        }
+    }
+
+    /// Adds the row of a statement. One on the line of the row above, as behind a logical IF, has
+    /// that row.
+    fn add_row(&mut self, line: Line, depth: u64) -> Result<(), AllocError> {
+        if let Some(above) = self.rows.last() {
+            if above.line == line && above.look != Look::Made {
+                return Ok(());
+            }
+        }
+        let look = match self.hindered {
+            Some(hindered) if hindered == line => Look::Marked,
+            _ => Look::Plain,
+        };
+        let text = statement_text(&self.lines, line);
+        Ok(
+            self.rows.push(Row {
+                line,
+                depth,
+                text,
+                look,
+            })?,
+        )
+    }
+
+    /// Adds the row of an ELSE that was made for the IF of a line.
+    fn add_made(&mut self, line: Line, depth: u64) -> Result<(), AllocError> {
+        Ok(
+            self.rows.push(Row {
+                line,
+                depth,
+                text: MADE_ELSE,
+                look: Look::Made,
+            })?,
+        )
+    }
+
+    /// Adds an advance behind what stands in the last row.
+    fn add_advance(&mut self, event: usize) -> Result<(), AllocError> {
+        let row = self.rows.len().saturating_sub(1);
+        Ok(self.advances.push(Advance { event, row })?)
+    }
+}
+
+#[cycle(plans)]
+fn add_plan_arms(sketch: &mut Sketch<'_>, arms: &[PlanArm], depth: u64) -> Result<(), AllocError> {
+    for arm in arms {
+        sketch.add_row(arm.line, depth)?;
+        add_plan(sketch, &arm.body, depth.saturating_add(1))?;
+    }
+    Ok(())
+}
+
+#[cycle(plans)]
+fn add_plan_node(sketch: &mut Sketch<'_>, node: &PlanStmt, depth: u64) -> Result<(), AllocError> {
+    match node {
+        PlanStmt::Await(_, _) => Ok(()),
+        PlanStmt::Advance(event) => sketch.add_advance(*event),
+        PlanStmt::Plain(statement) => sketch.add_row(statement.line, depth),
+        PlanStmt::Loop(line, _, range) => {
+            sketch.add_row(*line, depth)?;
+            add_plan(sketch, range, depth.saturating_add(1))
+        }
+        PlanStmt::Choice(arms, made) => {
+            add_plan_arms(sketch, arms, depth)?;
+            match made {
+                Some(body) => {
+                    sketch.add_made(first_line(arms), depth)?;
+                    add_plan(sketch, body, depth.saturating_add(1))
+                }
+                None => Ok(()),
+            }
+        }
+    }
+}
+
+/// Adds the rows of statements of a plan, and their advances.
+#[cycle(plans)]
+pub fn add_plan(sketch: &mut Sketch<'_>, nodes: &[PlanStmt], depth: u64) -> Result<(), AllocError> {
+    for node in nodes {
+        add_plan_node(sketch, node, depth)?;
+    }
+    Ok(())
+}
+
+/// The line of an IF, by its arms, of which there is always one.
+fn first_line(arms: &[PlanArm]) -> Line {
+    match arms {
+        [] => 0,
+        [first, ..] => first.line,
+    }
+}
+
+#[cycle(ranges)]
+fn add_arms(sketch: &mut Sketch<'_>, arms: &[Arm], depth: u64) -> Result<(), AllocError> {
+    for arm in arms {
+        sketch.add_row(arm.line, depth)?;
+        add_range(sketch, &arm.body, depth.saturating_add(1))?;
+    }
+    Ok(())
+}
+
+#[cycle(ranges)]
+fn add_node(sketch: &mut Sketch<'_>, node: &Node, depth: u64) -> Result<(), AllocError> {
+    match node {
+        Node::Plain(statement) => sketch.add_row(statement.line, depth),
+        Node::Loop(line, _, range) => {
+            sketch.add_row(*line, depth)?;
+            add_range(sketch, range, depth.saturating_add(1))
+        }
+        Node::Choice(arms) => add_arms(sketch, arms, depth),
+    }
+}
+
+/// Adds the rows of statements of a loop that has no plan.
+#[cycle(ranges)]
+pub fn add_range(sketch: &mut Sketch<'_>, nodes: &[Node], depth: u64) -> Result<(), AllocError> {
+    for node in nodes {
+        add_node(sketch, node, depth)?;
+    }
+    Ok(())
+}

@@ -1,0 +1,39 @@
+//! Lines of a source, and the statements in them.
+
+use ast::Line;
+use bstr::ByteSlice;
+use std::alloc::{AllocError, Global};
+
+/// Where a statement begins in its line, and where it ends at the latest.
+const FIRST: usize = 6;
+
+const LAST: usize = 72;
+
+/// The lines of a source, as far as its statements have lines.
+pub fn lines_of<'a>(alloc: Global, source: &'a [u8]) -> Result<Vec<&'a [u8]>, AllocError> {
+    let mut lines = Vec::new(alloc);
+    for line in source.lines() {
+        lines.push(line)?;
+    }
+    Ok(lines)
+}
+
+/// What a line has of its statement, without the blanks around it.
+fn part(line: &[u8]) -> &[u8] {
+    let front = match line.get(..LAST) {
+        Some(front) => front,
+        None => line,
+    };
+    match front.get(FIRST..) {
+        Some(text) => text.trim(),
+        None => b"",
+    }
+}
+
+/// What the initial line of a statement has of it; lines are numbered from 1.
+pub fn statement_text<'a>(lines: &[&'a [u8]], line: Line) -> &'a [u8] {
+    match lines.get((line as usize).saturating_sub(1)) {
+        Some(text) => part(text),
+        None => b"",
+    }
+}
