@@ -1,4 +1,5 @@
 pub mod Advanced
+pub mod Codes
 pub mod Engines
 pub mod Explained
 pub mod Listing

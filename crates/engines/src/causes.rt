@@ -1,9 +1,14 @@
 //! Which name a refusal is of, and which open DO or IF.
 
+mod declared;
+mod limits;
+
 use crate::mentions::{Mention, mentions};
 use crate::squeezed::Squeezed;
 use crate::visible::Visible;
 use ast::{Label, Line, Name};
+use declared::Declared;
+use limits::limit;
 use std::alloc::{AllocError, Global};
 use std::fmt::{Display, Formatter, Result as FmtResult, Write};
 
@@ -35,6 +40,26 @@ pub enum Cause {
     },
     /// An IF that is open.
     Block(Line),
+    /// A name that a statement before declares otherwise.
+    Declared {
+        name: Name,
+        line: Line,
+    },
+    /// A function's name that is used otherwise.
+    Function(Name),
+    /// The program's name that is used otherwise.
+    Program(Name),
+    /// A constant that is given a value.
+    Constant {
+        name: Name,
+        line: Line,
+    },
+    /// A name that has no value in a constant expression.
+    Unknown(Name),
+    /// A constant expression that has no value.
+    NoValue,
+    /// A limit.
+    Limit(&'static str),
 }
 
 /// How many arguments an intrinsic function takes.
@@ -72,7 +97,7 @@ pub fn cause_of(
     number: u8,
     line: Line,
 ) -> Result<Option<Cause>, AllocError> {
-    if !matches!(number, 31 | 33 | 34 | 36 | 37 | 41) {
+    if !matches!(number, 31..=38 | 40..=42) {
         return Ok(None);
     }
     let statements = Squeezed::all(alloc, source)?;
@@ -83,7 +108,11 @@ pub fn cause_of(
     let names = mentions(alloc, statement)?;
     match number {
         31 => real(alloc, &statements, &names),
+        32 => Ok(Declared::before(alloc, &statements, line)?.twice(statement, &names)),
         33 => Ok(before.misfit(&names)),
+        38 => Ok(Declared::before(alloc, &statements, line)?.assigned(statement, &names)),
+        40 => Ok(Some(limit(&statements, &before, statement))),
+        42 => Ok(Declared::before(alloc, &statements, line)?.unknown(statement, &names)),
         37 => Ok(before.active(statement, &names)),
         41 => Ok(before.labelled(statement)),
         _ => Ok(before.open()),
@@ -327,7 +356,38 @@ impl Display for Cause {
                 )
             }
             Cause::Block(line) => write!(f, "the IF in line {line} is open"),
+            Cause::Limit(limit) => f.write_str(limit),
+            Cause::NoValue => f.write_str("a value here overflows, or is divided by zero"),
+            _ => write_named(f, *self),
         }
+    }
+}
+
+/// Writes what a declared name is.
+fn write_named<W: Write>(f: &mut Formatter<W>, cause: Cause) -> FmtResult {
+    match cause {
+        Cause::Declared { name, line } => write!(
+            f,
+            "{} is declared in line {line} too",
+            Visible::new(name.trimmed())
+        ),
+        Cause::Function(name) => write!(
+            f,
+            "{} is a function of the language",
+            Visible::new(name.trimmed())
+        ),
+        Cause::Program(name) => write!(f, "{} is the program's name", Visible::new(name.trimmed())),
+        Cause::Constant { name, line } => write!(
+            f,
+            "{} is a constant, by line {line}",
+            Visible::new(name.trimmed())
+        ),
+        Cause::Unknown(name) => write!(
+            f,
+            "{} is no constant that is given before",
+            Visible::new(name.trimmed())
+        ),
+        _ => Ok(()),
     }
 }
 

@@ -2,7 +2,10 @@
 //! is said of them beside it.
 #![tactic(auto)]
 
+mod breaks;
+mod caret;
 mod causes;
+mod codes;
 mod columns;
 mod commands;
 pub mod explain;
@@ -35,6 +38,7 @@ mod verdict;
 mod visible;
 mod warnings;
 
+pub use codes::{code, code_text};
 pub use commands::{
     check, check_text, list, list_text, replay, replay_texts, seq, seq_texts, tell_survey,
     tell_verdict, upgrade,

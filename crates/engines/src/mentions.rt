@@ -31,6 +31,8 @@ pub struct Mention {
     pub count: usize,
     /// In how many parentheses it stands.
     pub depth: usize,
+    /// Whether an equals sign stands behind it.
+    pub is_given: bool,
 }
 
 /// What has been read of a statement.
@@ -110,6 +112,7 @@ impl Scanner {
         match byte {
             b'.' => self.is_operator = true,
             b'(' => self.open(named)?,
+            b'=' => self.give(named),
             b',' => self.count_one(),
             b')' => {
                 let _ = self.opened.pop();
@@ -131,8 +134,18 @@ impl Scanner {
             name,
             count: 0,
             depth: self.opened.len(),
+            is_given: false,
         })?;
         Ok(Some(place))
+    }
+
+    /// Notes that an equals sign stands behind a name.
+    fn give(&mut self, named: Option<usize>) {
+        if let Some(place) = named {
+            if let Some(mention) = self.found.get_mut(place) {
+                mention.is_given = true;
+            }
+        }
     }
 
     fn open(&mut self, named: Option<usize>) -> Result<(), AllocError> {

@@ -1,5 +1,7 @@
 //! What standard error says of a refusal or a fault.
 
+use crate::breaks::break_place;
+use crate::caret::Caret;
 use crate::causes::{Cause, cause_of};
 use crate::explain::{Explanation, Origin, fault, refusal};
 use crate::hints::{hint, hint_of_schedule};
@@ -19,6 +21,7 @@ pub struct Message<'a> {
     file: &'a str,
     line: Line,
     text: Option<&'a [u8]>,
+    caret: Option<Caret<'a>>,
     explanation: Explanation,
     cause: Option<Cause>,
     hint: Option<&'static str>,
@@ -51,6 +54,7 @@ impl<'a> Message<'a> {
             file,
             line,
             text: text_of_line(source, line),
+            caret: caret_of(alloc, source, explanation.number, line),
             explanation,
             cause,
             hint,
@@ -96,6 +100,9 @@ impl<'a> Display for Message<'a> {
         if let Some(text) = self.text {
             writeln!(f, "{}", Visible::new(text))?;
         }
+        if let Some(caret) = &self.caret {
+            write_caret(f, self.line, caret)?;
+        }
         if let Some(cause) = &self.cause {
             writeln!(f, "{cause}")?;
         }
@@ -124,6 +131,26 @@ impl<'a> Display for Place<'a> {
             line => write!(f, "{line}: "),
         }
     }
+}
+
+/// Where a statement that is malformed stops being one.
+fn caret_of(alloc: Global, source: &[u8], number: u8, line: Line) -> Option<Caret<'_>> {
+    if number != 25 {
+        return None;
+    }
+    let statement = Squeezed::of(alloc, source, line).ok()?;
+    Caret::of(source, line, break_place(&statement)?)
+}
+
+/// Writes a caret below the line in which it stands, and that line too, if it isn't the one above.
+fn write_caret<W: Write>(f: &mut Formatter<W>, line: Line, caret: &Caret<'_>) -> FmtResult {
+    if caret.line != line {
+        writeln!(f, "{}", Visible::new(caret.text))?;
+    }
+    for _ in 0..caret.column {
+        f.write_char(' ')?;
+    }
+    writeln!(f, "^")
 }
 
 fn hint_of_source(alloc: Global, source: &[u8], number: u8, line: Line) -> Option<&'static str> {

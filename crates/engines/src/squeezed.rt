@@ -115,6 +115,11 @@ impl Squeezed {
         self.text.starts_with(b"INTEGER") || self.text.starts_with(b"DIMENSION")
     }
 
+    /// Whether it names constants, if it is a statement.
+    pub fn is_parameter(&self) -> bool {
+        self.text.starts_with(b"PARAMETER(")
+    }
+
     fn add_line(&mut self, line: &[u8]) -> Result<(), AllocError> {
         if !unread(line).trim().is_empty() {
             self.is_cut = true;

@@ -1,0 +1,4 @@
+pub mod Instructions
+pub mod Names
+pub mod Operations
+pub mod Whole

@@ -1,0 +1,257 @@
+//! Where the text of a statement stops being one, as far as the order of operands and operators tells.
+
+use crate::squeezed::{Squeezed, has_outer};
+
+/// What may stand next in an expression.
+#[derive(Clone, Copy, Debug, PartialEq, Eq)]
+enum Wanted {
+    /// An operand, before which a sign may stand or not.
+    Operand { may_sign: bool },
+    /// An operator, or what ends an operand; behind a name also subscripts.
+    Operator { is_behind_name: bool },
+}
+
+const FIRST: Wanted = Wanted::Operand { may_sign: true };
+
+const NEXT: Wanted = Wanted::Operand { may_sign: false };
+
+const BEHIND: Wanted = Wanted::Operator {
+    is_behind_name: false,
+};
+
+/// A part of a statement that is being read.
+#[derive(Drop)]
+struct Reading<'a> {
+    text: &'a [u8],
+    at: usize,
+    depth: usize,
+    wanted: Wanted,
+    /// Whether an equals sign may still come.
+    may_assign: bool,
+    /// Whether commas stand between expressions.
+    is_list: bool,
+}
+
+/// The place in the text of a statement where it stops being one, if that can be told.
+pub fn break_place(statement: &Squeezed) -> Option<usize> {
+    let text = statement.text.as_slice();
+    if let Some(start) = start_of_list(text) {
+        return in_list(text, start);
+    }
+    if statement.is_loop() {
+        let start = place_of(b'=', text)?.saturating_add(1);
+        return Reading::new(text, start, false, true).end();
+    }
+    if text.starts_with(b"IF(") || text.starts_with(b"ELSEIF(") {
+        return in_condition(text);
+    }
+    if has_outer(b'=', text) {
+        return Reading::new(text, 0, true, false).end();
+    }
+    None
+}
+
+/// Where the list of a PRINT or a READ may begin.
+fn start_of_list(text: &[u8]) -> Option<usize> {
+    for front in [
+        b"PRINT*".as_slice(),
+        b"READ*".as_slice(),
+        b"WRITE(*,*)".as_slice(),
+        b"READ(*,*)".as_slice(),
+    ] {
+        if text.starts_with(front) && !has_outer(b'=', text) {
+            return Some(front.len());
+        }
+    }
+    None
+}
+
+/// Where a PRINT or a READ stops being one, whose list may begin here.
+fn in_list(text: &[u8], start: usize) -> Option<usize> {
+    let has_comma = text.get(start) == Some(&b',');
+    match (
+        text.starts_with(b"PRINT*") || text.starts_with(b"READ*"),
+        has_comma,
+    ) {
+        (_, _) if start >= text.len() => None,
+        (true, false) | (false, true) => Some(start),
+        (true, true) => Reading::new(text, start.saturating_add(1), false, true).end(),
+        (false, false) => Reading::new(text, start, false, true).end(),
+    }
+}
+
+/// Where an IF stops being one: in its condition, or in the statement behind it.
+fn in_condition(text: &[u8]) -> Option<usize> {
+    let start = place_of(b'(', text)?;
+    let mut reading = Reading::new(text, start, false, false);
+    loop {
+        match reading.step() {
+            Step::On if reading.depth == 0 => break,
+            Step::On => {}
+            Step::Broken => return Some(reading.at),
+            Step::Ended => return Some(text.len()),
+        }
+    }
+    let rest = text.get(reading.at..)?;
+    if !has_outer(b'=', rest) {
+        return None;
+    }
+    Reading::new(text, reading.at, true, false).end()
+}
+
+/// The first place of a sign.
+fn place_of(sign: u8, text: &[u8]) -> Option<usize> {
+    text.iter().position(|byte| *byte == sign)
+}
+
+/// What came of reading on.
+#[derive(Clone, Copy, Debug, PartialEq, Eq)]
+enum Step {
+    On,
+    /// What stands here can't stand here.
+    Broken,
+    /// Nothing stands here.
+    Ended,
+}
+
+impl<'a> Reading<'a> {
+    fn new(text: &'a [u8], at: usize, may_assign: bool, is_list: bool) -> Self {
+        Reading {
+            text,
+            at,
+            depth: 0,
+            wanted: FIRST,
+            may_assign,
+            is_list,
+        }
+    }
+
+    /// Where it breaks, read to the end.
+    fn end(mut self) -> Option<usize> {
+        for _ in 0..=self.text.len() {
+            match self.step() {
+                Step::On => {}
+                Step::Broken => return Some(self.at),
+                Step::Ended if self.is_whole() => return None,
+                Step::Ended => return Some(self.text.len()),
+            }
+        }
+        None
+    }
+
+    fn is_whole(&self) -> bool {
+        self.depth == 0 && matches!(self.wanted, Wanted::Operator { .. })
+    }
+
+    /// Reads one token more.
+    fn step(&mut self) -> Step {
+        let Some(byte) = self.text.get(self.at).copied() else {
+            return Step::Ended;
+        };
+        let next = match self.wanted {
+            Wanted::Operand { may_sign } => self.operand(byte, may_sign),
+            Wanted::Operator { is_behind_name } => self.operator(byte, is_behind_name),
+        };
+        match next {
+            Some((length, wanted)) => {
+                self.at = self.at.saturating_add(length);
+                self.wanted = wanted;
+                Step::On
+            }
+            None => Step::Broken,
+        }
+    }
+
+    /// The length of what begins an operand, and what may stand behind it.
+    fn operand(&mut self, byte: u8, may_sign: bool) -> Option<(usize, Wanted)> {
+        match byte {
+            b'(' => {
+                self.depth = self.depth.saturating_add(1);
+                Some((1, FIRST))
+            }
+            b'+' | b'-' if may_sign => Some((1, NEXT)),
+            b'0'..=b'9' => Some((self.length_while(|b| b.is_ascii_digit()), BEHIND)),
+            b'A'..=b'Z' => Some((
+                self.length_while(|b| b.is_ascii_alphanumeric()),
+                Wanted::Operator {
+                    is_behind_name: true,
+                },
+            )),
+            b'\'' => Some((self.length_of_text(), BEHIND)),
+            b'.' => self.dotted_operand(),
+            _ => None,
+        }
+    }
+
+    /// The same of an operator, or of what ends an operand.
+    fn operator(&mut self, byte: u8, is_behind_name: bool) -> Option<(usize, Wanted)> {
+        match byte {
+            b'+' | b'-' | b'*' | b'/' => Some((1, NEXT)),
+            b',' if self.depth > 0 || self.is_list => Some((1, FIRST)),
+            b')' if self.depth > 0 => {
+                self.depth = self.depth.saturating_sub(1);
+                Some((1, BEHIND))
+            }
+            b'(' if is_behind_name => {
+                self.depth = self.depth.saturating_add(1);
+                Some((1, FIRST))
+            }
+            b'=' if self.depth == 0 && self.may_assign => {
+                self.may_assign = false;
+                Some((1, FIRST))
+            }
+            b'.' => self.dotted_operator(),
+            _ => None,
+        }
+    }
+
+    fn dotted_operand(&self) -> Option<(usize, Wanted)> {
+        let rest = self.text.get(self.at..)?;
+        for (word, wanted) in [
+            (b".NOT.".as_slice(), FIRST),
+            (b".TRUE.".as_slice(), BEHIND),
+            (b".FALSE.".as_slice(), BEHIND),
+        ] {
+            if rest.starts_with(word) {
+                return Some((word.len(), wanted));
+            }
+        }
+        None
+    }
+
+    fn dotted_operator(&self) -> Option<(usize, Wanted)> {
+        let rest = self.text.get(self.at..)?;
+        for word in [
+            b".LT.".as_slice(),
+            b".LE.".as_slice(),
+            b".EQ.".as_slice(),
+            b".NE.".as_slice(),
+            b".GT.".as_slice(),
+            b".GE.".as_slice(),
+            b".AND.".as_slice(),
+            b".OR.".as_slice(),
+            b".EQV.".as_slice(),
+            b".NEQV.".as_slice(),
+        ] {
+            if rest.starts_with(word) {
+                return Some((word.len(), FIRST));
+            }
+        }
+        None
+    }
+
+    /// How many bytes from here on are of one kind.
+    fn length_while<F: Fn(&u8) -> bool>(&self, is_of_kind: F) -> usize {
+        let rest = self.text.get(self.at..).unwrap_or(&[]);
+        rest.iter().take_while(|byte| is_of_kind(*byte)).count()
+    }
+
+    /// How long a text between apostrophes is, with them.
+    fn length_of_text(&self) -> usize {
+        let rest = self.text.get(self.at.saturating_add(1)..).unwrap_or(&[]);
+        match place_of(b'\'', rest) {
+            Some(end) => end.saturating_add(2),
+            None => rest.len().saturating_add(1),
+        }
+    }
+}
