@@ -45,6 +45,8 @@ pub enum Cause {
         name: Name,
         line: Line,
     },
+    /// A name that its own statement declares otherwise.
+    Repeated(Name),
     /// A function's name that is used otherwise.
     Function(Name),
     /// The program's name that is used otherwise.
@@ -369,6 +371,11 @@ fn write_named<W: Write>(f: &mut Formatter<W>, cause: Cause) -> FmtResult {
         Cause::Declared { name, line } => write!(
             f,
             "{} is declared in line {line} too",
+            Visible::new(name.trimmed())
+        ),
+        Cause::Repeated(name) => write!(
+            f,
+            "{} is declared twice here",
             Visible::new(name.trimmed())
         ),
         Cause::Function(name) => write!(

@@ -120,8 +120,10 @@ impl Declared {
                 return Some(Cause::Program(name));
             }
             let entry = Entry::of(statement, mention);
-            if let Some(line) = entry.and_then(|entry| self.opposed(entry)) {
-                return Some(Cause::Declared { name, line });
+            match entry.and_then(|entry| self.opposed(entry)) {
+                Some(line) if line == statement.line => return Some(Cause::Repeated(name)),
+                Some(line) => return Some(Cause::Declared { name, line }),
+                None => {}
             }
             self.add(entry).ok()?;
         }
