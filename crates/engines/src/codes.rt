@@ -44,6 +44,7 @@ fn disassembled(alloc: Global, compiled: &Compiled) -> Result<Page, AllocError>
     Ok(Page {
         text: disassembly(alloc, &compiled.code, &heads)?,
         outcome: Outcome::Completed,
+        beyond: None,
     })
 }
 

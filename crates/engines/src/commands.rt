@@ -9,7 +9,7 @@ ghost use Rattle.engines.specs.Schedules.{LeavesBoth, Replaying, UpgradeWorks, U
 
 use crate::fault::{EngineFault, ReadFault};
 use crate::outcome::Outcome;
-use crate::page::{run, told};
+use crate::page::{seq_page, told};
 use crate::replays::{replayed, upgrade_texts};
 use crate::streams::read_all;
 use crate::survey::{Survey, shown_loops, surveyed};
@@ -90,7 +90,7 @@ pub fn seq_texts<W: Write>(
 ) -> Result<Outcome, EngineFault>
     ensures { Works (Runs store source.now input.now) (W.contents out.old) (W.contents out.new) result }
 {
-    let page = run(alloc, source, input, store)?;
+    let page = seq_page(alloc, source, input, store)?;
     page.write(out)
 }
 

@@ -2,6 +2,7 @@
 //! is said of them beside it.
 #![tactic(auto)]
 
+mod beyond;
 mod breaks;
 mod caret;
 mod causes;
@@ -38,6 +39,7 @@ mod verdict;
 mod visible;
 mod warnings;
 
+pub use beyond::Beyond;
 pub use codes::{code, code_text};
 pub use commands::{
     check, check_text, list, list_text, replay, replay_texts, seq, seq_texts, tell_survey,
@@ -49,7 +51,7 @@ pub use further::tell_further;
 pub use given::{Given, Wants};
 pub use message::{Message, Place};
 pub use outcome::Outcome;
-pub use page::Page;
+pub use page::{Page, seq_page};
 pub use ran::{Ran, Whole};
 pub use replays::{Upgraded, upgrade_texts};
 pub use running::{run, run_texts};

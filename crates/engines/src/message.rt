@@ -1,5 +1,6 @@
 //! What standard error says of a refusal or a fault.
 
+use crate::beyond::Beyond;
 use crate::breaks::break_place;
 use crate::caret::Caret;
 use crate::causes::{Cause, cause_of};
@@ -24,6 +25,7 @@ pub struct Message<'a> {
     caret: Option<Caret<'a>>,
     explanation: Explanation,
     cause: Option<Cause>,
+    beyond: Option<Beyond>,
     hint: Option<&'static str>,
     /// Whether another message of the source stands before it.
     is_further: bool,
@@ -57,9 +59,15 @@ impl<'a> Message<'a> {
             caret: caret_of(alloc, source, explanation.number, line),
             explanation,
             cause,
+            beyond: None,
             hint,
             is_further: false,
         })
+    }
+
+    /// The message of an INDEX, with the subscript that it was, if that is known.
+    pub fn with_subscript(self, beyond: Option<Beyond>) -> Self {
+        Message { beyond, ..self }
     }
 
     /// The message as one behind the first of its source.
@@ -105,6 +113,9 @@ impl<'a> Display for Message<'a> {
         }
         if let Some(cause) = &self.cause {
             writeln!(f, "{cause}")?;
+        }
+        if let Some(beyond) = &self.beyond {
+            writeln!(f, "{beyond}")?;
         }
         if let Some(hint) = self.hint {
             writeln!(f, "hint: {hint}")?;

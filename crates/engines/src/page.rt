@@ -8,6 +8,7 @@ ghost use Rattle.engines.specs.Engines.{IsJudged, Runs, ShowsRun, Tells, outcome
 ghost use Rattle.engines.specs.Shown.{EndShown, Extends, accepted, refused};
 ghost use Rattle.engines.specs.View.{row_view, rows_from};
 
+use crate::beyond::Beyond;
 use crate::fault::EngineFault;
 use crate::loops::loops_in;
 use crate::outcome::Outcome;
@@ -17,7 +18,7 @@ use crate::shown::{append_accepted, append_fault, append_refused, append_stopped
 use crate::store::append_store;
 use crate::streams::write_all;
 use crate::verdict::{Verdict, judged};
-use ast::{Answer, End, Line, Program};
+use ast::{Answer, End, Fault, Line, Program, Store};
 use interpreter::run_seq;
 use std::alloc::{AllocError, Global};
 use std::io::Write;
@@ -27,6 +28,8 @@ use std::io::Write;
 pub struct Page {
     pub text: Vec<u8>,
     pub outcome: Outcome,
+    /// Of an INDEX in a sequential run, which subscript it was, as far as that can be told.
+    pub beyond: Option<Beyond>,
 }
 
 /// What `check` writes of a verdict.
@@ -41,7 +44,12 @@ pub fn told(alloc: Global, verdict: &Verdict) -> Result<Page, AllocError>
 }
 
 /// What `seq` writes of a source and an input; at END with the store where it is wanted.
-pub fn run(alloc: Global, source: &[u8], input: &[u8], store: bool) -> Result<Page, AllocError>
+pub fn seq_page(
+    alloc: Global,
+    source: &[u8],
+    input: &[u8],
+    store: bool,
+) -> Result<Page, AllocError>
     ensures { IfOk result (λ page. Runs store source.now input.now page.outcome page.text.items) }
 {
     match judged(alloc, source)? {
@@ -60,6 +68,7 @@ fn accepted(alloc: Global, program: &Program) -> Result<Page, AllocError>
     Ok(Page {
         text,
         outcome: Outcome::Completed,
+        beyond: None,
     })
 }
 
@@ -72,6 +81,7 @@ pub fn refused(alloc: Global, number: u8, line: Line) -> Result<Page, AllocError
     Ok(Page {
         text,
         outcome: Outcome::Refused { number, line },
+        beyond: None,
     })
 }
 
@@ -88,12 +98,22 @@ fn shown(alloc: Global, program: &Program, answer: Answer, store: bool) -> Resul
         × Extends (EndShown store (rows_from (cells answer.store) 0 (map symbol_of program.now.symbols.items)) answer.end) answer.output.items page.text.items) }
 {
     let mut text = answer.output;
+    let beyond = beyond(alloc, program, &answer.store, answer.end);
     let mut rows = rows(alloc, &program.symbols, &answer.store)?;
     append_end(&mut text, answer.end, &mut rows, store)?;
     Ok(Page {
         text,
         outcome: outcome(answer.end),
+        beyond,
     })
+}
+
+/// The subscript that a run ended at, if it ended at one.
+fn beyond(alloc: Global, program: &Program, store: &Store, end: End) -> Option<Beyond> {
+    match end {
+        End::Fault(Fault::Index, line) => Beyond::of(alloc, program, store, line),
+        _ => None,
+    }
 }
 
 pub fn outcome(end: End) -> Outcome

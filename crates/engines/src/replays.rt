@@ -72,6 +72,7 @@ fn unscheduled(alloc: Global, number: u8, line: usize) -> Result<Page, AllocErro
     Ok(Page {
         text,
         outcome: Outcome::NoSchedule { number, line },
+        beyond: None,
     })
 }
 
@@ -84,6 +85,7 @@ fn answered(answer: Answer) -> Result<Page, AllocError>
     Ok(Page {
         text,
         outcome: outcome(answer.end),
+        beyond: None,
     })
 }
 

@@ -61,6 +61,7 @@ fn listed(alloc: Global, reports: &[LoopReport]) -> Result<Page, AllocError>
     Ok(Page {
         text: listing(alloc, reports)?,
         outcome: Outcome::Completed,
+        beyond: None,
     })
 }
 
