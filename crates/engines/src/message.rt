@@ -1,11 +1,11 @@
 //! What standard error says of a refusal or a fault.
 
-use crate::beyond::Beyond;
 use crate::breaks::break_place;
 use crate::caret::Caret;
 use crate::causes::{Cause, cause_of};
 use crate::explain::{Explanation, Origin, fault, refusal};
 use crate::hints::{hint, hint_of_schedule};
+use crate::note::Note;
 use crate::outcome::Outcome;
 use crate::shown::fault_number;
 use crate::squeezed::Squeezed;
@@ -25,7 +25,7 @@ pub struct Message<'a> {
     caret: Option<Caret<'a>>,
     explanation: Explanation,
     cause: Option<Cause>,
-    beyond: Option<Beyond>,
+    note: Option<Note>,
     hint: Option<&'static str>,
     /// Whether another message of the source stands before it.
     is_further: bool,
@@ -59,15 +59,15 @@ impl<'a> Message<'a> {
             caret: caret_of(alloc, source, explanation.number, line),
             explanation,
             cause,
-            beyond: None,
+            note: None,
             hint,
             is_further: false,
         })
     }
 
-    /// The message of an INDEX, with the subscript that it was, if that is known.
-    pub fn with_subscript(self, beyond: Option<Beyond>) -> Self {
-        Message { beyond, ..self }
+    /// The message with what is known beside, if anything is.
+    pub fn with_note(self, note: Option<Note>) -> Self {
+        Message { note, ..self }
     }
 
     /// The message as one behind the first of its source.
@@ -114,8 +114,8 @@ impl<'a> Display for Message<'a> {
         if let Some(cause) = &self.cause {
             writeln!(f, "{cause}")?;
         }
-        if let Some(beyond) = &self.beyond {
-            writeln!(f, "{beyond}")?;
+        if let Some(note) = &self.note {
+            writeln!(f, "{note}")?;
         }
         if let Some(hint) = self.hint {
             writeln!(f, "hint: {hint}")?;

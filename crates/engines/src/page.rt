@@ -44,12 +44,7 @@ pub fn told(alloc: Global, verdict: &Verdict) -> Result<Page, AllocError>
 }
 
 /// What `seq` writes of a source and an input; at END with the store where it is wanted.
-pub fn seq_page(
-    alloc: Global,
-    source: &[u8],
-    input: &[u8],
-    store: bool,
-) -> Result<Page, AllocError>
+pub fn seq_page(alloc: Global, source: &[u8], input: &[u8], store: bool) -> Result<Page, AllocError>
     ensures { IfOk result (λ page. Runs store source.now input.now page.outcome page.text.items) }
 {
     match judged(alloc, source)? {

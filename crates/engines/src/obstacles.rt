@@ -1,0 +1,285 @@
+//! Why an entry of a schedule can't be made.
+
+use crate::driving::{make, new_core};
+use crate::verdict::{Verdict, judged};
+use crate::visible::Visible;
+use ast::Name;
+use codegen::compile;
+use machine::{Code, Done, Frame, Next, stands_local, stands_next};
+use replay::{Act, Choice, Core, Entry, Schedule};
+use std::alloc::{AllocError, Global};
+use std::fmt::{Display, Formatter, Result as FmtResult, Write};
+
+/// The line of a schedule's first entry.
+const FIRST_LINE: usize = 3;
+
+/// How many local instructions an entry has at most.
+const BURST: u32 = 1024;
+
+/// The shared step that stands next.
+#[derive(Clone, Copy, Debug, PartialEq, Eq)]
+pub enum SharedStep {
+    Load(Option<Name>),
+    Store(Option<Name>),
+    Print,
+    Read,
+    Await(u32),
+    Advance(u32),
+    Open,
+    Join,
+    Retire,
+    Report,
+    Stop,
+    Halt,
+}
+
+/// Why an entry can't be made.
+#[derive(Clone, Copy, Debug, PartialEq, Eq)]
+pub enum Obstacle {
+    /// The run has ended.
+    Ended,
+    /// The processor holds nothing, so it has no local instruction.
+    HoldsNothing,
+    /// So many local instructions stand before this step, fewer than are asked for.
+    Few {
+        count: u32,
+        step: Option<SharedStep>,
+    },
+    /// So many local instructions stand before the shared step.
+    Local {
+        count: u32,
+    },
+    /// The processor holds something already.
+    Holds {
+        iteration: Option<u128>,
+    },
+    /// There is nothing for the processor to pick.
+    NothingReady,
+    /// What is to be picked isn't parked, or what it waits for isn't reached.
+    NotReady(Choice),
+    /// The shared step that stands next isn't possible yet.
+    NotPossible(Option<SharedStep>),
+}
+
+/// An obstacle that a processor meets.
+#[derive(Clone, Copy, Debug, PartialEq, Eq)]
+pub struct Met {
+    processor: u8,
+    obstacle: Obstacle,
+}
+
+impl Met {
+    /// Why the entry in a line of a schedule's text can't be made, if it is an entry of a run of the
+    /// source on the input.
+    pub fn of(
+        alloc: Global,
+        source: &[u8],
+        input: &[u8],
+        schedule: &[u8],
+        line: usize,
+    ) -> Option<Self> {
+        let Verdict::Accepted(program) = judged(alloc, source).ok()? else {
+            return None;
+        };
+        let compiled = compile(alloc, &program).ok()?;
+        let schedule = Schedule::parse(alloc, schedule).ok()?;
+        let place = line.checked_sub(FIRST_LINE)?;
+        met_at(alloc, &compiled.code, input, &schedule, place).unwrap_or(None)
+    }
+}
+
+/// What the entry at a place meets, once those before it are made.
+fn met_at(
+    alloc: Global,
+    code: &Code,
+    input: &[u8],
+    schedule: &Schedule,
+    place: usize,
+) -> Result<Option<Met>, AllocError> {
+    let processors = u64::from(schedule.processors());
+    let slots = u64::from(schedule.slots());
+    let Some(mut core) = new_core(alloc, code, input, processors, slots)? else {
+        return Ok(None);
+    };
+    let mut entries = schedule.entries();
+    for _ in 0..place {
+        match entries.next() {
+            Some(entry) => {
+                let _ = make(&mut core, entry)?;
+            }
+            None => return Ok(None),
+        }
+    }
+    match entries.next() {
+        Some(entry) => met_by(&core, entry),
+        None => Ok(None),
+    }
+}
+
+/// What an entry meets.
+fn met_by(core: &Core<'_>, entry: Entry) -> Result<Option<Met>, AllocError> {
+    let q = usize::from(entry.processor);
+    let obstacle = match entry.act {
+        _ if core.has_ended() => Obstacle::Ended,
+        Act::Work(_) => at_work(core, q)?,
+        Act::Share => at_share(core, q)?,
+        Act::PickMain => at_pick(core, q, Choice::Main)?,
+        Act::PickIteration(number) => at_pick(core, q, Choice::Iteration(number))?,
+        Act::TakeTicket => at_pick(core, q, Choice::Ticket)?,
+    };
+    Ok(Some(Met {
+        processor: entry.processor,
+        obstacle,
+    }))
+}
+
+/// What stands in the way of more local instructions.
+fn at_work(core: &Core<'_>, q: usize) -> Result<Obstacle, AllocError> {
+    match core.frame(q)? {
+        None => Ok(Obstacle::HoldsNothing),
+        Some(frame) => ahead(core.code(), frame),
+    }
+}
+
+/// How many local instructions stand before the next step of a frame.
+fn ahead(code: &Code, frame: Frame) -> Result<Obstacle, AllocError> {
+    if !stands_local(code, &frame) {
+        let step = step_of(code, &frame);
+        return Ok(Obstacle::Few { count: 0, step });
+    }
+    let done = Done::work(code, frame, BURST)?;
+    Ok(Obstacle::Few {
+        count: done.made(),
+        step: step_of(code, done.to()),
+    })
+}
+
+/// What stands in the way of a shared step.
+fn at_share(core: &Core<'_>, q: usize) -> Result<Obstacle, AllocError> {
+    match at_work(core, q)? {
+        Obstacle::Few { count: 0, step } => Ok(Obstacle::NotPossible(step)),
+        Obstacle::Few { count, .. } => Ok(Obstacle::Local { count }),
+        _ => Ok(Obstacle::NothingReady),
+    }
+}
+
+/// What stands in the way of a pick.
+fn at_pick(core: &Core<'_>, q: usize, choice: Choice) -> Result<Obstacle, AllocError> {
+    match core.frame(q)? {
+        Some(frame) => Ok(Obstacle::Holds {
+            iteration: frame.iteration(),
+        }),
+        None => Ok(Obstacle::NotReady(choice)),
+    }
+}
+
+/// The shared step that stands next in a frame.
+fn step_of(code: &Code, frame: &Frame) -> Option<SharedStep> {
+    match stands_next(code, frame) {
+        Next::Load { cell, .. } => Some(SharedStep::Load(name_of(code, cell))),
+        Next::Store { cell, .. } => Some(SharedStep::Store(name_of(code, cell))),
+        Next::Print { .. } => Some(SharedStep::Print),
+        Next::TakeRecord { .. } | Next::TakeValue { .. } | Next::DropRecord => {
+            Some(SharedStep::Read)
+        }
+        Next::Await { event, .. } => Some(SharedStep::Await(event)),
+        Next::Advance { event } => Some(SharedStep::Advance(event)),
+        Next::Opens(_) => Some(SharedStep::Open),
+        Next::Join { .. } => Some(SharedStep::Join),
+        Next::Retire { .. } => Some(SharedStep::Retire),
+        Next::Report { .. } => Some(SharedStep::Report),
+        Next::Stop { .. } => Some(SharedStep::Stop),
+        Next::Halt => Some(SharedStep::Halt),
+        Next::Local | Next::Stuck => None,
+    }
+}
+
+/// The name of the variable that has a cell.
+fn name_of(code: &Code, cell: usize) -> Option<Name> {
+    for variable in &code.variables {
+        let end = variable.start.saturating_add(variable.size);
+        if variable.start <= cell && cell < end {
+            return Some(variable.name);
+        }
+    }
+    None
+}
+
+impl Display for SharedStep {
+    fn fmt<W: Write>(&self, f: &mut Formatter<W>) -> FmtResult {
+        match self {
+            SharedStep::Load(name) => write_named(f, "load", *name),
+            SharedStep::Store(name) => write_named(f, "store", *name),
+            SharedStep::Print => f.write_str("print"),
+            SharedStep::Read => f.write_str("read"),
+            SharedStep::Await(event) => write!(f, "await event {event}"),
+            SharedStep::Advance(event) => write!(f, "advance event {event}"),
+            SharedStep::Open => f.write_str("open"),
+            SharedStep::Join => f.write_str("join"),
+            SharedStep::Retire => f.write_str("retire"),
+            SharedStep::Report => f.write_str("report a fault"),
+            SharedStep::Stop => f.write_str("stop"),
+            SharedStep::Halt => f.write_str("halt"),
+        }
+    }
+}
+
+fn write_named<W: Write>(f: &mut Formatter<W>, word: &str, name: Option<Name>) -> FmtResult {
+    f.write_str(word)?;
+    match name {
+        Some(name) => write!(f, " {}", Visible::new(name.trimmed())),
+        None => Ok(()),
+    }
+}
+
+impl Display for Met {
+    fn fmt<W: Write>(&self, f: &mut Formatter<W>) -> FmtResult {
+        let q = self.processor;
+        match self.obstacle {
+            Obstacle::Ended => f.write_str("the run has ended before this entry"),
+            Obstacle::HoldsNothing => write!(f, "processor {q} holds nothing"),
+            Obstacle::Few { count, step } => write_few(f, q, count, step),
+            Obstacle::Local { count } => write!(
+                f,
+                "processor {q} has {count} local instructions next, before its shared step"
+            ),
+            Obstacle::Holds { iteration: None } => write!(f, "processor {q} holds main"),
+            Obstacle::Holds {
+                iteration: Some(number),
+            } => write!(f, "processor {q} holds iteration {number}"),
+            Obstacle::NothingReady => {
+                write!(f, "processor {q} holds nothing, and nothing is ready")
+            }
+            Obstacle::NotReady(choice) => write_choice(f, choice),
+            Obstacle::NotPossible(step) => write_step(f, q, step),
+        }
+    }
+}
+
+fn write_few<W: Write>(
+    f: &mut Formatter<W>,
+    q: u8,
+    count: u32,
+    step: Option<SharedStep>,
+) -> FmtResult {
+    write!(f, "processor {q} has {count} local instructions next")?;
+    match step {
+        Some(step) => write!(f, ", and then a shared step, {step}"),
+        None => Ok(()),
+    }
+}
+
+fn write_choice<W: Write>(f: &mut Formatter<W>, choice: Choice) -> FmtResult {
+    match choice {
+        Choice::Main => f.write_str("main isn't ready"),
+        Choice::Iteration(number) => write!(f, "iteration {number} isn't ready"),
+        Choice::Ticket => f.write_str("no iteration may begin"),
+    }
+}
+
+fn write_step<W: Write>(f: &mut Formatter<W>, q: u8, step: Option<SharedStep>) -> FmtResult {
+    match step {
+        Some(step) => write!(f, "processor {q} can't {step} yet"),
+        None => write!(f, "processor {q} has no step"),
+    }
+}
