@@ -1,5 +1,4 @@
 pub mod Advanced
-pub mod Codes
 pub mod Engines
 pub mod Explained
 pub mod Listing

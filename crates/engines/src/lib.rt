@@ -6,7 +6,6 @@ mod beyond;
 mod breaks;
 mod caret;
 mod causes;
-mod codes;
 mod columns;
 mod commands;
 mod driving;
@@ -43,7 +42,6 @@ mod visible;
 mod warnings;
 
 pub use beyond::Beyond;
-pub use codes::{code, code_text};
 pub use commands::{
     check, check_text, list, list_text, replay, replay_texts, seq, seq_texts, tell_survey,
     tell_verdict, upgrade,

@@ -1,4 +1,0 @@
-pub mod Instructions
-pub mod Names
-pub mod Operations
-pub mod Whole
