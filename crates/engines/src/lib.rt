@@ -3,6 +3,8 @@
 #![tactic(auto)]
 
 mod causes;
+mod code_lines;
+mod coded;
 mod columns;
 mod commands;
 pub mod explain;
@@ -36,8 +38,8 @@ mod visible;
 mod warnings;
 
 pub use commands::{
-    check, check_text, list, list_text, replay, replay_texts, seq, seq_texts, tell_survey,
-    tell_verdict, upgrade,
+    check, check_text, code, code_text, list, list_text, replay, replay_texts, seq, seq_texts,
+    tell_survey, tell_verdict, upgrade,
 };
 pub use fault::{EngineFault, ReadFault};
 pub use figures::{Figures, say_figures};
