@@ -7,7 +7,7 @@ use Rattle.clap.specs.declared.error.kind.ErrorKind.TheVariants.{DisplayHelp, Di
 use Rattle.clap.specs.declared.builder.action.ArgAction.TheVariants.{Set, SetTrue}
 use Rattle.engines.specs.Explained.{is_explained, is_within}
 use Rattle.doac.specs.declared.command.Command.{Command}
-use Rattle.doac.specs.declared.command.Command.TheVariants.{Check, ListLoops, Seq, Run, Replay, Upgrade, Explain, ExplainSerial}
+use Rattle.doac.specs.declared.command.Command.TheVariants.{Check, ListLoops, ShowCode, Seq, Run, Replay, Upgrade, Explain, ExplainSerial}
 use Rattle.doac.specs.declared.command.LineFault.{LineFault}
 use Rattle.doac.specs.declared.command.LineFault.TheVariants.{Help, Mistake, NoCommand, NoSuchNumber, NoSize, Memory}
 use Rattle.doac.specs.declared.command.Threaded.{Threaded}
@@ -78,6 +78,9 @@ replay = with_rule (with_rule (with_rule (new_app (codes "replay")) source) whol
 abbrev pub upgrade : App
 upgrade = with_rule (with_rule (with_rule (with_rule (new_app (codes "upgrade")) source) whole_input) schedule) out
 
+abbrev pub code : App
+code = with_rule (new_app (codes "code")) source
+
 abbrev pub explain : App
 explain = with_rule (with_rule (new_app (codes "explain")) number) reason
 
@@ -88,7 +91,9 @@ wants_subcommand a = record a { top = record a.top { subcommand_required = true;
 abbrev pub doac : App
 doac =
     with_subcommand
+    (with_subcommand
     (with_subcommand (with_subcommand (with_subcommand (with_subcommand (with_subcommand (with_subcommand (wants_subcommand (new_app (codes "doac"))) check.top) list.top) seq.top) run.top) replay.top) upgrade.top)
+    code.top)
     explain.top
 
 -- what clap makes of a flag
@@ -134,6 +139,7 @@ pub record HoldsRun (values : List Row) (t : Threaded) : Type 0 where
 abbrev pub Holds : Text → List Row → Command → Type 0
 Holds name values (Check source) = (name ≡ codes "check") × (first_of (codes "F") values ≡ Some source.now)
 Holds name values (ListLoops source) = (name ≡ codes "list") × (first_of (codes "F") values ≡ Some source.now)
+Holds name values (ShowCode source) = (name ≡ codes "code") × (first_of (codes "F") values ≡ Some source.now)
 Holds name values (Seq source input store) =
     (name ≡ codes "seq") × (first_of (codes "F") values ≡ Some source.now)
     × (first_of (codes "INPUT") values ≡ option_map (λ i. i.now) input) × IsFlag store (one_of (codes "store") values)
@@ -169,7 +175,7 @@ LacksOne (x ∷ xs) values = (first_of x values ≡ None) ⊎ LacksOne xs values
 -- the subcommand is none of the program's, or lacks a file that it can't do without
 abbrev pub Lacks : Text → List Row → Type 0
 Lacks name values =
-    (((name ≡ codes "check") ⊎ ((name ≡ codes "list") ⊎ ((name ≡ codes "seq") ⊎ (name ≡ codes "run")))) → first_of (codes "F") values ≡ None)
+    (((name ≡ codes "check") ⊎ ((name ≡ codes "list") ⊎ ((name ≡ codes "seq") ⊎ ((name ≡ codes "run") ⊎ (name ≡ codes "code"))))) → first_of (codes "F") values ≡ None)
     × (name ≡ codes "replay" → LacksOne (codes "F" ∷ codes "INPUT" ∷ codes "SCHEDULE" ∷ []) values)
     × (name ≡ codes "upgrade" → LacksOne (codes "F" ∷ codes "INPUT" ∷ codes "SCHEDULE" ∷ codes "OUT" ∷ []) values)
     × (name ≡ codes "explain" → ⊥)

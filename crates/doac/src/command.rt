@@ -37,6 +37,8 @@ pub enum Command<'a> {
     Check(&'a str),
     /// `list F`: the loops of the source of this file, and which of them may be open.
     ListLoops(&'a str),
+    /// `code F`: the code of the source of this file.
+    ShowCode(&'a str),
     /// `seq F [INPUT] [--store]`: the run of the source of a file, on the input of another one, if
     /// there is one; and whether the store is wanted.
     Seq {
@@ -147,6 +149,7 @@ fn named<'a>(name: &str, given: &ArgMatches<'a>) -> Result<Command<'a>, LineFaul
     match name {
         "check" => checking(given),
         "list" => listing(given),
+        "code" => coding(given),
         "seq" => running(given),
         "run" => threading(given),
         "replay" => replaying(given),
@@ -184,6 +187,16 @@ fn listing<'a>(given: &ArgMatches<'a>) -> Result<Command<'a>, LineFault>
 {
     match text(given, "F") {
         Some(source) => Ok(Command::ListLoops(source)),
+        None => Err(LineFault::NoCommand),
+    }
+}
+
+fn coding<'a>(given: &ArgMatches<'a>) -> Result<Command<'a>, LineFault>
+    ensures found { IfOk result (Holds (codes "code") (rows_of (found_of given.now))) }
+    ensures refused { IfErr result (HoldsNone (codes "code") (rows_of (found_of given.now))) }
+{
+    match text(given, "F") {
+        Some(source) => Ok(Command::ShowCode(source)),
         None => Err(LineFault::NoCommand),
     }
 }

@@ -2,7 +2,7 @@
 
 ghost use Rattle.std.specs.Prelude.{◌≡◌, IfErr, IfOk, false, map};
 ghost use Rattle.clap.specs.Words.{app_of, rule_of, with_subcommand};
-ghost use Rattle.doac.specs.CommandLine.{Names, NamesNone, doac, input, number, out, processors, reason, run, schedule, schedule_out, slots, source, store, tally, upgrade, whole_input};
+ghost use Rattle.doac.specs.CommandLine.{Names, NamesNone, code, doac, input, number, out, processors, reason, run, schedule, schedule_out, slots, source, store, tally, upgrade, whole_input};
 
 use crate::command::{LineFault, held};
 use clap::{Arg, ArgAction};
@@ -155,6 +155,16 @@ fn with_upgrade<'a>(alloc: Global, app: clap::Command<'a>) -> Result<clap::Comma
     app.subcommand(upgrade)
 }
 
+/// A command with the command line of `code` too.
+fn with_code<'a>(alloc: Global, app: clap::Command<'a>) -> Result<clap::Command<'a>, AllocError>
+    ensures { IfOk result (λ c. app_of c ≡ with_subcommand (app_of app.entry) code.top) }
+{
+    let code = clap::Command::new(alloc, "code")
+        .about("Shows the code that a source is compiled to, instruction by instruction")
+        .arg(source(alloc))?;
+    app.subcommand(code)
+}
+
 /// The program's command lines.
 fn parser<'a>(alloc: Global) -> Result<clap::Command<'a>, AllocError>
     ensures { IfOk result (λ c. app_of c ≡ doac) }
@@ -187,7 +197,8 @@ fn parser<'a>(alloc: Global) -> Result<clap::Command<'a>, AllocError>
         .subcommand(list)?
         .subcommand(seq)?;
     let app = with_run(alloc, app)?.subcommand(replay)?;
-    with_upgrade(alloc, app)?.subcommand(explain)
+    let app = with_upgrade(alloc, app)?;
+    with_code(alloc, app)?.subcommand(explain)
 }
 
 /// Reads a command line, of which the first word is the program's name.

@@ -1,6 +1,7 @@
 //! `doac`: checks and runs FORTRAN 77 programs, also in threads, and repeats runs of the machine.
 #![tactic(auto)]
 
+mod code_file;
 mod command;
 mod command_line;
 mod files;

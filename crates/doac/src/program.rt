@@ -8,6 +8,7 @@ ghost use Rattle.engines.specs.declared.texts.Texts.{Texts};
 ghost use Rattle.doac.specs.Commands.{Follows, Obeys};
 ghost use Rattle.doac.specs.Statuses.{AfterFile, AfterFiles, EndsAs, EndsLine, HasStatus, OfGiven, OfPrint, OfWrite, UpgradeEnds, exit_of, file_status};
 
+use crate::code_file::code_file;
 use crate::command::{Command, LineFault};
 use crate::command_line::command;
 use crate::files::{FileFault, Names, Unread, is_one_of, read_file, read_texts, replace_file};
@@ -85,7 +86,7 @@ fn refuse_line<R: Print + Eprint + AllocGlobal>(rt: &R, fault: &LineFault) -> u8
         _ => {
             say_line(rt, fault);
             let _ = eprintln!(rt;
-                "The commands are check, list, seq, run, replay, upgrade and explain."
+                "The commands are check, list, code, seq, run, replay, upgrade and explain."
             );
             fault.status()
         }
@@ -130,6 +131,7 @@ fn obey<R: Files + Input + Print + Eprint + AllocGlobal + Threads + Wait + Sync>
     match command {
         Command::Check(source) => check_file(rt, source),
         Command::ListLoops(file) => list_file(rt, file),
+        Command::ShowCode(file) => code_file(rt, file),
         Command::Seq {
             source,
             input,

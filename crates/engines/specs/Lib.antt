@@ -1,4 +1,6 @@
 pub mod Advanced
+pub mod CodeLines
+pub mod Coded
 pub mod Engines
 pub mod Explained
 pub mod Listing

@@ -2,11 +2,13 @@
 //! what came of it.
 
 ghost use Rattle.std.specs.Prelude.{◌≡◌, IfOk, IfErr};
+ghost use Rattle.engines.specs.Coded.{ShowsCode};
 ghost use Rattle.engines.specs.Engines.{AfterRead, Checks, IsJudged, Leaves, LeavesOfSource, LeavesReader, LeavesReaders, OfText, Runs, Tells, Works, WorksWith, WroteAs, WrotePart, of_input, of_source};
 ghost use Rattle.engines.specs.Lists.{Lists, TellsLoops};
 ghost use Rattle.engines.specs.Reading.{LeavesThree, OfTexts};
 ghost use Rattle.engines.specs.Schedules.{LeavesBoth, Replaying, UpgradeWorks, Upgrading, WroteUpgraded, WroteUpgradedPart};
 
+use crate::coded::coded;
 use crate::fault::{EngineFault, ReadFault};
 use crate::outcome::Outcome;
 use crate::page::{seq_page, told};
@@ -73,6 +75,22 @@ pub fn list_text<W: Write>(
 {
     let survey = surveyed(alloc, source)?;
     tell_survey(alloc, &survey, out)
+}
+
+/// Writes the lines of the code of a text, or that of its refusal.
+///
+/// # Errors
+///
+/// A fault of the writer, with a beginning of the lines written; or of memory, with nothing written.
+pub fn code_text<W: Write>(
+    alloc: Global,
+    source: &[u8],
+    out: &mut W,
+) -> Result<Outcome, EngineFault>
+    ensures { Works (ShowsCode source.now) (W.contents out.old) (W.contents out.new) result }
+{
+    let page = coded(alloc, source)?;
+    page.write(out)
 }
 
 /// Runs a text on an input, and writes its records and what follows them: at a fault or a STOP its
@@ -155,6 +173,19 @@ fn list_read<W: Write>(
     list_text(alloc, &source, out)
 }
 
+/// What `code` makes of its read.
+fn code_read<W: Write>(
+    alloc: Global,
+    source: Result<Vec<u8>, ReadFault>,
+    out: &mut W,
+) -> Result<Outcome, EngineFault>
+    ensures { AfterRead source of_source (W.contents out.old) (W.contents out.new) result
+        (λ text. Works (ShowsCode text) (W.contents out.old) (W.contents out.new) result) }
+{
+    let source = source.map_err(EngineFault::of_source)?;
+    code_text(alloc, &source, out)
+}
+
 /// What `seq` makes of the read of its input, the source's having succeeded.
 fn seq_given<W: Write>(
     alloc: Global,
@@ -230,6 +261,29 @@ pub fn list<R: Read, W: Write>(
 {
     let read = read_all(alloc, source);
     let outcome = list_read(alloc, read, out)?;
+    Ok(outcome.status())
+}
+
+/// Writes the lines of the code of a source and gives the exit status: 0, or 1 for a source that is
+/// refused, by its text or for its code.
+///
+/// # Errors
+///
+/// A fault of the source's reader, with nothing written; of the writer, with a beginning of the lines
+/// written; or of memory, with nothing written.
+pub fn code<R: Read, W: Write>(
+    alloc: Global,
+    source: &mut R,
+    out: &mut W,
+) -> Result<u8, EngineFault>
+    ensures ok { IfOk result (λ status. OfText (R.remaining source.old) (λ text.
+        WroteAs (ShowsCode text) (W.contents out.old) (W.contents out.new) status)) }
+    ensures err { IfErr result (λ fault. LeavesOfSource fault (W.contents out.old) (W.contents out.new)
+        (OfText (R.remaining source.old) (λ text. WrotePart (ShowsCode text) (W.contents out.old) (W.contents out.new)))) }
+    ensures readers { IfErr result (λ fault. LeavesReader fault (R.remaining source.new)) }
+{
+    let read = read_all(alloc, source);
+    let outcome = code_read(alloc, read, out)?;
     Ok(outcome.status())
 }
 

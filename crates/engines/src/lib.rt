@@ -6,6 +6,8 @@ mod beyond;
 mod breaks;
 mod caret;
 mod causes;
+mod code_lines;
+mod coded;
 mod columns;
 mod commands;
 mod driving;
@@ -43,8 +45,8 @@ mod warnings;
 
 pub use beyond::Beyond;
 pub use commands::{
-    check, check_text, list, list_text, replay, replay_texts, seq, seq_texts, tell_survey,
-    tell_verdict, upgrade,
+    check, check_text, code, code_text, list, list_text, replay, replay_texts, seq, seq_texts,
+    tell_survey, tell_verdict, upgrade,
 };
 pub use fault::{EngineFault, ReadFault};
 pub use figures::{Figures, say_figures};

@@ -1,0 +1,14 @@
+-- What `code` may write of a source text.
+use Rattle.std.specs.Prelude.{◌≡◌, List, ℕ}
+use Rattle.engines.specs.CodeLines.{code_lines}
+use Rattle.engines.specs.Schedules.{IsNoCode, WithCode}
+use Rattle.engines.specs.declared.outcome.Outcome.{Outcome}
+use Rattle.engines.specs.declared.outcome.Outcome.TheVariants.{Completed, Refused, Faulted, NoSchedule}
+
+-- the lines of the code of the program that the source reads as, or the line of its refusal, by its
+-- text or for its code
+abbrev pub ShowsCode : List ℕ → Outcome → List ℕ → Type 0
+ShowsCode source Completed text = WithCode source (λ tree code. text ≡ code_lines code)
+ShowsCode source (Refused number line) text = IsNoCode source number line text
+ShowsCode source (Faulted fault line) text = ⊥
+ShowsCode source (NoSchedule number line) text = ⊥
