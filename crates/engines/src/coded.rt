@@ -22,6 +22,7 @@ fn shown_code(alloc: Global, program: &Program) -> Result<Page, AllocError>
         Ok(compiled) => Ok(Page {
             text: code_lines(alloc, &compiled.code)?,
             outcome: Outcome::Completed,
+            beyond: None,
         }),
         Err(CompileRefusal::Refused { number, line }) => refused(alloc, number, line),
         Err(CompileRefusal::Memory) => Err(AllocError),
