@@ -13,7 +13,7 @@ use Rattle.engines.specs.declared.outcome.Outcome.TheVariants.{Completed, Refuse
 use Rattle.engines.specs.declared.survey.Survey.{Survey}
 use Rattle.engines.specs.declared.survey.Survey.TheVariants as survey
 
-no_code : (source : List ℕ) (number line : ℕ) (text : List ℕ) → IsRefusal source number line ⊎ HasLongCode source number line → text ≡ refused number line → IsNoCode source number line text
+pub no_code : (source : List ℕ) (number line : ℕ) (text : List ℕ) → IsRefusal source number line ⊎ HasLongCode source number line → text ≡ refused number line → IsNoCode source number line text
 no_code source number line text (inl refusal) shown = inl (record { refusal = refusal; shown = shown })
 no_code source number line text (inr long) shown =
     inr (record { tree = long.tree; reads = long.reads; long = long.long; number_is = long.number_is; line_is = long.line_is; shown = shown })

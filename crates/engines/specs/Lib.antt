@@ -1,4 +1,6 @@
 pub mod Advanced
+pub mod Drawing
+pub mod Drawn
 pub mod Engines
 pub mod Explained
 pub mod Listing
@@ -7,4 +9,5 @@ pub mod Reading
 pub mod Running
 pub mod Schedules
 pub mod Shown
+pub mod Timeline
 pub mod View

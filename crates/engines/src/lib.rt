@@ -2,9 +2,12 @@
 //! is said of them beside it.
 #![tactic(auto)]
 
+mod alone;
 mod causes;
 mod columns;
 mod commands;
+mod drawing;
+mod drawn;
 pub mod explain;
 mod fault;
 mod figures;
@@ -30,15 +33,19 @@ mod store;
 mod streams;
 mod survey;
 mod texts;
+mod timeline;
 mod usage;
 mod verdict;
 mod visible;
 mod warnings;
+mod watching;
 
 pub use commands::{
     check, check_text, list, list_text, replay, replay_texts, seq, seq_texts, tell_survey,
     tell_verdict, upgrade,
 };
+pub use drawing::{Portion, draw, draw_text};
+pub use drawn::Drawn;
 pub use fault::{EngineFault, ReadFault};
 pub use figures::{Figures, say_figures};
 pub use further::tell_further;
@@ -53,6 +60,7 @@ pub use serial::say_why_serial;
 pub use streams::read_all;
 pub use survey::{Survey, surveyed};
 pub use texts::Texts;
+pub use timeline::{timeline, timeline_texts};
 pub use verdict::{Verdict, judged};
 pub use visible::VisibleLines;
 pub use warnings::{warn, warn_of_columns};
