@@ -2,7 +2,6 @@
 use Rattle.std.specs.Prelude.{◌≡◌, ℕ, List, Some}
 use Rattle.ast.specs.Meaning.{seq}
 use Rattle.ast.specs.Program.{ProgramTree}
-use Rattle.ast.specs.declared.fault.End.{End}
 use Rattle.machine.specs.Code.{Code}
 use Rattle.replay.specs.Replayed.{GivesNone}
 use Rattle.replay.specs.Replays.{Point, Replays}
@@ -13,17 +12,13 @@ use Rattle.engines.specs.declared.drawn.Drawn.TheVariants.{Picture, Shown, NoLoo
 use Rattle.engines.specs.declared.outcome.Outcome.{Outcome}
 use Rattle.engines.specs.declared.outcome.Outcome.TheVariants.{Refused, NoSchedule}
 
--- the schedule leads the code to this end on the input
-pub record EndsSo (code : Code) (input : List ℕ) (x : Schedule) (end : End) : Type 0 where
-  pub point : Point
-  pub replays : Replays code input x point
-  pub ended : point.machine.ended ≡ Some end
-
--- the text is a schedule's, which leads the code where the sequential program ends
+-- The text is a schedule's, which leads the code on the input where the sequential program ends.
 pub record IsTimed (tree : ProgramTree) (code : Code) (input schedule : List ℕ) : Type 0 where
   pub run : Schedule
   pub spelled : SchedText run schedule
-  pub ends : EndsSo code input run (seq tree input).end
+  pub point : Point
+  pub replays : Replays code input run point
+  pub ended : point.machine.ended ≡ Some (seq tree input).end
 
 -- what `timeline` comes to with code: a picture for OUT, where the schedule leads to the end of a run, or
 -- what standard output has

@@ -2,12 +2,12 @@
 //! is said of them beside it.
 #![tactic(auto)]
 
-mod alone;
 mod causes;
 mod columns;
 mod commands;
 mod drawing;
 mod drawn;
+mod driving;
 pub mod explain;
 mod fault;
 mod figures;

@@ -11,20 +11,20 @@ ghost use Rattle.engines.specs.Reading.{LeavesThree, OfTexts};
 ghost use Rattle.engines.specs.Schedules.{LeavesBoth};
 ghost use Rattle.engines.specs.Timeline.{ShowsTimeline, Times};
 
-use crate::alone::steps_alone;
 use crate::drawn::Drawn;
+use crate::driving::steps_alone;
 use crate::fault::EngineFault;
 use crate::page::{append_end, refused};
 use crate::replays::unscheduled;
 use crate::texts::read_three;
 use crate::verdict::{Verdict, judged};
-use crate::watching::{Watched, watched};
+use crate::watching::watched;
 use ast::{End, Program};
 use bstr::ByteSlice;
 use codegen::{CompileRefusal, compile};
 use machine::Code;
 use pictures::{Ending, timeline as draw_run};
-use replay::{ReplayRefusal, Schedule};
+use replay::{ReplayRefusal, Schedule, replay};
 use std::alloc::{AllocError, Global};
 use std::io::{Read, Write};
 
@@ -50,21 +50,23 @@ fn is_early(end: End) -> bool {
     }
 }
 
-/// The text of the picture of a run.
+/// The text of the picture of a run that a schedule leads to this end.
 fn text_of(
     alloc: Global,
     code: &Code,
     input: &[u8],
-    watched: &Watched,
+    schedule: &Schedule,
+    end: End,
 ) -> Result<Vec<u8>, AllocError> {
-    let Watched { end, gathered } = watched;
+    let gathered = watched(alloc, code, input, schedule)?;
+    let words = words(alloc, end)?;
     let ending = Ending {
-        words: &words(alloc, *end)?,
-        early: is_early(*end),
+        words: &words,
+        early: is_early(end),
         made: gathered.made(),
         alone: steps_alone(alloc, code, input)?,
     };
-    draw_run(alloc, gathered, &ending)
+    draw_run(alloc, &gathered, &ending)
 }
 
 /// What drawing the run of a schedule comes to.
@@ -80,8 +82,10 @@ fn drawn_schedule(
     requires spelled { SchedText schedule.now text.now }
     ensures { IfOk result (ShowsTimeline (program_of program.now) (code_of code.now) input.now text.now) }
 {
-    match watched(alloc, code, input, schedule) {
-        Ok(watched) => Ok(Drawn::Picture(text_of(alloc, code, input, &watched)?)),
+    match replay(alloc, code, input, schedule) {
+        Ok(answer) => {
+            Ok(Drawn::Picture(text_of(alloc, code, input, schedule, answer.end)?))
+        }
         Err(ReplayRefusal::Refused { number, line }) => {
             Ok(Drawn::Shown(unscheduled(alloc, number, line)?))
         }

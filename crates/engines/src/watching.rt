@@ -1,82 +1,69 @@
 //! Runs that schedules describe, watched turn by turn.
 
-ghost use Rattle.std.specs.Prelude.{◌≡◌, ◌<◌, ◌+◌, ◌^◌, ℕ, IfOk, IfErr, OnOk, length};
-ghost use Rattle.machine.specs.CodeView.{code_of};
-ghost use Rattle.replay.specs.Activities.{AreActivities, AreOf, Stays, code_in, point_in};
-ghost use Rattle.replay.specs.Making.{LeadsOnly, MadeAs};
-ghost use Rattle.replay.specs.Refusals.{Explains};
-ghost use Rattle.replay.specs.Replayed.{CannotBeMade, GivesNone, StopsAt};
-ghost use Rattle.replay.specs.Schedules.{Act as ActOf, IsAct};
-ghost use Rattle.replay.specs.View.{act as act_view};
-ghost use Rattle.engines.specs.Timeline.{EndsSo};
-
-use ast::End;
+use crate::driving::{make, new_core};
 use machine::{Code, Next, stands_next};
 use pictures::{Came, Gathered, Held, Turn};
-use replay::{Act, Activities, Entry, Holder, ReplayRefusal, Schedule, Version, begun, make_at};
-use std::alloc::Global;
+use replay::{Act, Core, Entry, ReplayRefusal, Schedule, Stepped, Version, upgrade};
+use std::alloc::{AllocError, Global};
 
-/// How a run ended, and what its processors did.
-#[derive(Drop)]
-pub struct Watched {
-    pub end: End,
-    pub gathered: Gathered,
-}
-
-/// What processor `q` holds.
-fn held(activities: &Activities<'_>, q: usize) -> Option<Held> {
-    match activities.held.get(q) {
-        Some(Some(Holder::Main)) => Some(Held::Main),
-        Some(Some(Holder::Iteration(number))) => Some(Held::Iteration(*number)),
-        _ => None,
-    }
-}
-
-/// Whether an advance stands next in what processor `q` holds.
-fn stands_advance(activities: &Activities<'_>, q: usize) -> bool
-    requires stand { AreActivities activities.now }
-    requires processor { q < length activities.now.held.items }
-{
-    match activities.frame(q) {
-        Some(frame) => match stands_next(activities.code, frame) {
-            Next::Advance { .. } => true,
-            _ => false,
-        },
-        None => false,
-    }
-}
-
-/// Whether the iteration of a number is open.
-fn is_open(activities: &Activities<'_>, number: u128) -> bool {
-    let slots = activities.slots as u128;
-    let place = number.checked_rem(slots).unwrap_or(0);
-    match activities.iterations.get(place as usize) {
-        Some(Some(iteration)) => iteration.number == number,
-        _ => false,
-    }
-}
-
-/// What came of a turn by which a processor let go of what it held.
-fn came_of_leaving(activities: &Activities<'_>, before: Held) -> Came {
-    match before {
-        _ if activities.shared.ended.is_some() => Came::Nothing,
-        Held::Main => Came::Parked,
-        Held::Iteration(number) if is_open(activities, number) => Came::Parked,
-        Held::Iteration(_) => Came::Retired,
-    }
-}
-
-/// What came of a turn, by what its processor held before and after it, and whether an advance stood
-/// there.
-fn came(
-    activities: &Activities<'_>,
-    before: Option<Held>,
-    after: Option<Held>,
+/// What is seen of a processor before an entry of its is made.
+#[derive(Clone, Copy)]
+struct Before {
+    held: Option<Held>,
+    /// Whether an advance of an event stands next in what it holds.
     advance: bool,
-) -> Came {
-    match (before, after) {
-        (Some(held), None) => came_of_leaving(activities, held),
-        _ if advance => Came::Advanced,
+    /// How many iterations are open.
+    open: u128,
+}
+
+/// Whether an advance of an event stands next in what processor `q` holds.
+fn stands_advance(core: &Core<'_>, q: usize) -> Result<bool, AllocError> {
+    match core.frame(q)? {
+        Some(frame) => match stands_next(core.code(), &frame) {
+            Next::Advance { .. } => Ok(true),
+            _ => Ok(false),
+        },
+        None => Ok(false),
+    }
+}
+
+/// What is seen before an entry of a processor that holds this.
+fn before(core: &Core<'_>, entry: Entry, held: Option<Held>) -> Result<Before, AllocError> {
+    let advance = match (entry.act, held) {
+        (Act::Share, Some(Held::Iteration(_))) => {
+            stands_advance(core, usize::from(entry.processor))?
+        }
+        _ => false,
+    };
+    Ok(Before {
+        held,
+        advance,
+        open: core.overlap(),
+    })
+}
+
+/// What the processor of an entry holds after it, of which this came.
+fn held_after(
+    core: &Core<'_>,
+    entry: Entry,
+    held: Option<Held>,
+    stepped: Stepped,
+) -> Option<Held> {
+    match (entry.act, stepped) {
+        (Act::PickMain, _) => Some(Held::Main),
+        (Act::PickIteration(number), _) => Some(Held::Iteration(number)),
+        (Act::TakeTicket, Stepped::Went(Some(number))) => Some(Held::Iteration(number)),
+        (Act::Share, _) if !core.holds(usize::from(entry.processor)) => None,
+        _ => held,
+    }
+}
+
+/// What came of an entry, by what its processor holds after it and how many iterations are open then.
+fn came(before: Before, after: Option<Held>, open: u128) -> Came {
+    match (before.held, after) {
+        (Some(_), None) if open < before.open => Came::Retired,
+        (Some(_), None) => Came::Parked,
+        _ if before.advance => Came::Advanced,
         _ => Came::Nothing,
     }
 }
@@ -89,113 +76,72 @@ fn steps_of(act: Act) -> u64 {
     }
 }
 
-/// A turn that was made.
-fn turn(
-    activities: &Activities<'_>,
-    entry: Entry,
-    before: Option<Held>,
-    advance: bool,
-) -> Turn
-    requires stand { AreActivities activities.now }
-{
-    let processor = usize::from(entry.processor);
-    let after = held(activities, processor);
-    Turn {
-        processor,
+/// Makes an entry of a processor that holds this, and gives what it did.
+fn turn(core: &mut Core<'_>, entry: Entry, held: Option<Held>) -> Result<Turn, AllocError> {
+    let before = before(core, entry, held)?;
+    let stepped = make(core, entry)?;
+    let after = held_after(core, entry, held, stepped);
+    let open = core.overlap();
+    Ok(Turn {
+        processor: usize::from(entry.processor),
         steps: steps_of(entry.act),
-        before,
+        before: held,
         after,
-        came: came(activities, before, after, advance),
-        open: u64::try_from(activities.overlap()).unwrap_or(u64::MAX),
-    }
+        came: came(before, after, open),
+        open: u64::try_from(open).unwrap_or(u64::MAX),
+    })
 }
 
-/// Makes the entry at a line, and notes what it did.
-///
-/// # Errors
-///
-/// Those of [`make_at`].
-fn watch_entry(
-    activities: &mut Activities<'_>,
-    version: Version,
-    entry: Entry,
-    line: usize,
-    gathered: &mut Gathered,
-) -> Result<(), ReplayRefusal>
-    requires stand { AreActivities activities.old }
-    requires processor { entry.processor < length activities.old.held.items }
-    requires allowed { IsAct version (act_view entry.act) }
-    ensures made { OnOk result ((named : ActOf) × MadeAs version (code_in activities.old) activities.old.slots (act_view entry.act) (point_in activities.old) entry.processor named (point_in activities.new)) }
-    ensures refused { IfErr result (λ fault. Explains fault (λ number at. (at ≡ line) × CannotBeMade version (code_in activities.old) activities.old.slots (act_view entry.act) (point_in activities.old) entry.processor number)) }
-    ensures stand { AreActivities activities.new }
-    ensures stays { Stays activities.old activities.new }
-{
-    let q = usize::from(entry.processor);
-    let before = held(activities, q);
-    let advance = entry.act == Act::Share && stands_advance(activities, q);
-    match make_at(activities, version, entry, line) {
-        Ok(_) => {
-            gathered.note(turn(activities, entry, before, advance));
-            Ok(())
-        }
-        Err(refusal) => Err(refusal),
-    }
-}
-
-/// Makes the entries of a schedule from the beginning on, and notes what they did.
-///
-/// # Errors
-///
-/// 56 at the first entry behind the end of the run, 54 at the first that isn't possible before that;
-/// and want of memory.
-fn watch(
-    activities: &mut Activities<'_>,
-    schedule: &Schedule,
-    gathered: &mut Gathered,
-) -> Result<(), ReplayRefusal>
-    requires stand { AreActivities activities.old }
-    requires of { AreOf (code_in activities.old) schedule.now.processors schedule.now.slots activities.old }
-    ensures leads { OnOk result (LeadsOnly schedule.now.version (code_in activities.old) schedule.now.slots (point_in activities.old) schedule.now.entries (point_in activities.new)) }
-    ensures refused { IfErr result (λ fault. Explains fault (StopsAt schedule.now.version (code_in activities.old) schedule.now.slots (point_in activities.old) schedule.now.entries)) }
-{
-    let version = schedule.version();
-    let mut entries = schedule.entries();
-    let mut line = 3;
-    while let Some(entry) = entries.next() {
-        if let Err(refusal) = watch_entry(activities, version, entry, line, gathered) {
-            return Err(refusal);
-        }
-        line += 1;
-    }
-    Ok(())
-}
-
-/// How the run that a schedule describes ends, and what its processors do.
-///
-/// # Errors
-///
-/// Those of [`replay::replay`].
-pub fn watched<'c>(
+/// Makes the entries of a schedule whose picks are named, and gathers what its processors do.
+fn gather(
     alloc: Global,
-    code: &'c Code,
-    input: &'c [u8],
+    core: &mut Core<'_>,
     schedule: &Schedule,
-) -> Result<Watched, ReplayRefusal>
-    ensures found { IfOk result (λ w. EndsSo (code_of code.now) input.now schedule.now w.end) }
-    ensures refused { IfErr result (λ fault. Explains fault (GivesNone (code_of code.now) input.now schedule.now)) }
-{
-    let mut activities = begun(alloc, code, input, schedule)?;
+) -> Result<Gathered, AllocError> {
     let processors = usize::from(schedule.processors());
     let slots = u64::from(schedule.slots());
     let mut gathered = Gathered::new(alloc, schedule.len() as u64, processors, slots)?;
-    if let Err(refusal) = watch(&mut activities, schedule, &mut gathered) {
-        return Err(refusal);
+    let mut holds = vec![in alloc; None; processors]?;
+    let mut entries = schedule.entries();
+    while let Some(entry) = entries.next() {
+        let processor = usize::from(entry.processor);
+        let held = holds.get(processor).copied().unwrap_or(None);
+        let turn = turn(core, entry, held)?;
+        gathered.note(turn);
+        if let Some(place) = holds.get_mut(processor) {
+            *place = turn.after;
+        }
     }
-    match activities.shared.ended {
-        Some(end) => Ok(Watched { end, gathered }),
-        None => Err(ReplayRefusal::Refused {
-            number: 55,
-            line: 2 + schedule.len(),
-        }),
+    Ok(gathered)
+}
+
+/// What the processors do in the run that a schedule, whose picks are named, describes.
+fn watched_named(
+    alloc: Global,
+    code: &Code,
+    input: &[u8],
+    schedule: &Schedule,
+) -> Result<Gathered, AllocError> {
+    let processors = u64::from(schedule.processors());
+    let slots = u64::from(schedule.slots());
+    match new_core(alloc, code, input, processors, slots)? {
+        Some(mut core) => gather(alloc, &mut core, schedule),
+        None => Gathered::new(alloc, 0, 0, 0),
+    }
+}
+
+/// What the processors do in the run that a schedule describes, which leads to its end.
+pub fn watched(
+    alloc: Global,
+    code: &Code,
+    input: &[u8],
+    schedule: &Schedule,
+) -> Result<Gathered, AllocError> {
+    if schedule.version() == Version::Second {
+        return watched_named(alloc, code, input, schedule);
+    }
+    match upgrade(alloc, code, input, schedule) {
+        Ok(named) => watched_named(alloc, code, input, &named),
+        Err(_) => Err(AllocError),
     }
 }

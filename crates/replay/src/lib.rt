@@ -30,7 +30,6 @@ mod writing;
 
 pub use activities::{Activities, Choice, Holder};
 pub use entry::{Act, Entry, Version};
-pub use following::{begun, make_at};
 pub use refusal::ReplayRefusal;
 pub use replaying::replay;
 pub use schedule::Schedule;
