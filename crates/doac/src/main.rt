@@ -3,6 +3,7 @@
 
 mod command;
 mod command_line;
+mod drawings;
 mod files;
 mod program;
 mod threads;

@@ -8,6 +8,7 @@ mod commands;
 mod drawing;
 mod drawn;
 mod driving;
+mod early;
 pub mod explain;
 mod fault;
 mod figures;
@@ -27,6 +28,7 @@ mod rows;
 mod running;
 mod serial;
 mod shown;
+mod spelled;
 mod spots;
 mod squeezed;
 mod store;
@@ -39,10 +41,11 @@ mod verdict;
 mod visible;
 mod warnings;
 mod watching;
+mod why;
 
 pub use commands::{
-    check, check_text, list, list_text, replay, replay_texts, seq, seq_texts, tell_survey,
-    tell_verdict, upgrade,
+    check, check_text, list, list_text, replay, replay_texts, seq, seq_texts, tell_reasons,
+    tell_survey, tell_verdict, upgrade,
 };
 pub use drawing::{Portion, draw, draw_text};
 pub use drawn::Drawn;

@@ -83,9 +83,7 @@ fn drawn_schedule(
     ensures { IfOk result (ShowsTimeline (program_of program.now) (code_of code.now) input.now text.now) }
 {
     match replay(alloc, code, input, schedule) {
-        Ok(answer) => {
-            Ok(Drawn::Picture(text_of(alloc, code, input, schedule, answer.end)?))
-        }
+        Ok(answer) => { Ok(Drawn::Picture(text_of(alloc, code, input, schedule, answer.end)?)) }
         Err(ReplayRefusal::Refused { number, line }) => {
             Ok(Drawn::Shown(unscheduled(alloc, number, line)?))
         }

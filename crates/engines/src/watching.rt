@@ -43,12 +43,7 @@ fn before(core: &Core<'_>, entry: Entry, held: Option<Held>) -> Result<Before, A
 }
 
 /// What the processor of an entry holds after it, of which this came.
-fn held_after(
-    core: &Core<'_>,
-    entry: Entry,
-    held: Option<Held>,
-    stepped: Stepped,
-) -> Option<Held> {
+fn held_after(core: &Core<'_>, entry: Entry, held: Option<Held>, stepped: Stepped) -> Option<Held> {
     match (entry.act, stepped) {
         (Act::PickMain, _) => Some(Held::Main),
         (Act::PickIteration(number), _) => Some(Held::Iteration(number)),
@@ -59,8 +54,9 @@ fn held_after(
 }
 
 /// What came of an entry, by what its processor holds after it and how many iterations are open then.
-fn came(before: Before, after: Option<Held>, open: u128) -> Came {
+fn came(core: &Core<'_>, before: Before, after: Option<Held>, open: u128) -> Came {
     match (before.held, after) {
+        _ if core.has_ended() => Came::Ended,
         (Some(_), None) if open < before.open => Came::Retired,
         (Some(_), None) => Came::Parked,
         _ if before.advance => Came::Advanced,
@@ -87,17 +83,13 @@ fn turn(core: &mut Core<'_>, entry: Entry, held: Option<Held>) -> Result<Turn, A
         steps: steps_of(entry.act),
         before: held,
         after,
-        came: came(before, after, open),
+        came: came(core, before, after, open),
         open: u64::try_from(open).unwrap_or(u64::MAX),
     })
 }
 
 /// Makes the entries of a schedule whose picks are named, and gathers what its processors do.
-fn gather(
-    alloc: Global,
-    core: &mut Core<'_>,
-    schedule: &Schedule,
-) -> Result<Gathered, AllocError> {
+fn gather(alloc: Global, core: &mut Core<'_>, schedule: &Schedule) -> Result<Gathered, AllocError> {
     let processors = usize::from(schedule.processors());
     let slots = u64::from(schedule.slots());
     let mut gathered = Gathered::new(alloc, schedule.len() as u64, processors, slots)?;
