@@ -28,7 +28,7 @@ fn stands_advance(core: &Core<'_>, q: usize) -> Result<bool, AllocError> {
 }
 
 /// What is seen before an entry of a processor that holds this.
-fn before(core: &Core<'_>, entry: Entry, held: Option<Held>) -> Result<Before, AllocError> {
+fn seen_before(core: &Core<'_>, entry: Entry, held: Option<Held>) -> Result<Before, AllocError> {
     let advance = match (entry.act, held) {
         (Act::Share, Some(Held::Iteration(_))) => {
             stands_advance(core, usize::from(entry.processor))?
@@ -74,7 +74,7 @@ fn steps_of(act: Act) -> u64 {
 
 /// Makes an entry of a processor that holds this, and gives what it did.
 fn turn(core: &mut Core<'_>, entry: Entry, held: Option<Held>) -> Result<Turn, AllocError> {
-    let before = before(core, entry, held)?;
+    let before = seen_before(core, entry, held)?;
     let stepped = make(core, entry)?;
     let after = held_after(core, entry, held, stepped);
     let open = core.overlap();

@@ -1,6 +1,6 @@
 use Rattle.engines.specs.Timeline.{Times}
 use Rattle.engines.proofs.Drawings.{of_written}
-use Rattle.engines.proofs.timeline.timeline_given.Goals as goal
+use Rattle.engines.proofs.timing.timeline_given.Goals as goal
 
 pub returns : goal.returns
 returns g c =
