@@ -6,7 +6,7 @@ use Rattle.clap.specs.Words.{App, HasKind, HasMatchesOf, IsAmong, kind_of, Row, 
 use Rattle.clap.specs.declared.error.kind.ErrorKind.TheVariants.{OutOfMemory}
 use Rattle.doac.specs.declared.command.Command.{Command}
 use Rattle.doac.specs.declared.command.LineFault.{LineFault}
-use Rattle.doac.specs.declared.command.LineFault.TheVariants.{Help, Mistake, NoCommand, NoSuchNumber, NoSize, Memory}
+use Rattle.doac.specs.declared.command.LineFault.TheVariants.{Help, Mistake, NoCommand, NoSuchNumber, NoSize, NoPortion, Memory}
 use Rattle.doac.specs.CommandLine.{HeldIn, HeldInNone, IsHelp, MadeOf, Names, NamesNone, doac}
 
 -- a parse that clap takes
@@ -19,22 +19,24 @@ sound words m taken = taken.1 refl
 same : (words : List Text) (m : ArgMatches) → Taken doac words m → subcommand_rows_of m ≡ subcommand_of doac words
 same words m taken = (taken.0 refl).1
 
-no_error_of_claps : (found : Option (Text × List Row)) (fault : LineFault) → HeldInNone found fault → (fault ≡ NoCommand → ⊥) → (fault ≡ NoSuchNumber → ⊥) → (fault ≡ NoSize → ⊥) → ⊥
-no_error_of_claps None fault held a b d = a held
-no_error_of_claps (Some found) NoCommand held a b d = a refl
-no_error_of_claps (Some found) NoSuchNumber held a b d = b refl
-no_error_of_claps (Some found) NoSize held a b d = d refl
-no_error_of_claps (Some found) (Help e) held a b d = held
-no_error_of_claps (Some found) (Mistake e) held a b d = held
-no_error_of_claps (Some found) Memory held a b d = held
+no_error_of_claps : (found : Option (Text × List Row)) (fault : LineFault) → HeldInNone found fault → (fault ≡ NoCommand → ⊥) → (fault ≡ NoSuchNumber → ⊥) → (fault ≡ NoSize → ⊥) → (fault ≡ NoPortion → ⊥) → ⊥
+no_error_of_claps None fault held a b d e = a held
+no_error_of_claps (Some found) NoCommand held a b d e = a refl
+no_error_of_claps (Some found) NoSuchNumber held a b d e = b refl
+no_error_of_claps (Some found) NoSize held a b d e = d refl
+no_error_of_claps (Some found) NoPortion held a b d e = e refl
+no_error_of_claps (Some found) (Help x) held a b d e = held
+no_error_of_claps (Some found) (Mistake x) held a b d e = held
+no_error_of_claps (Some found) Memory held a b d e = held
 
 none : (words : List Text) (fault : LineFault) → fault_of doac words ≡ [] → HeldInNone (subcommand_of doac words) fault → NamesNone words fault
 none words NoCommand s held = (s, held)
 none words NoSuchNumber s held = (s, held)
 none words NoSize s held = (s, held)
+none words NoPortion s held = (s, held)
 none words Memory s held = tt
-none words (Help e) s held = absurd (no_error_of_claps (subcommand_of doac words) (Help e) held (λ h. cc) (λ h. cc) (λ h. cc))
-none words (Mistake e) s held = absurd (no_error_of_claps (subcommand_of doac words) (Mistake e) held (λ h. cc) (λ h. cc) (λ h. cc))
+none words (Help e) s held = absurd (no_error_of_claps (subcommand_of doac words) (Help e) held (λ h. cc) (λ h. cc) (λ h. cc) (λ h. cc))
+none words (Mistake e) s held = absurd (no_error_of_claps (subcommand_of doac words) (Mistake e) held (λ h. cc) (λ h. cc) (λ h. cc) (λ h. cc))
 
 pub names : (app : App) (words : List Text) (m : ArgMatches) (r : Result Command LineFault) → app ≡ doac → Taken app words m
     → IfOk r (HeldIn (subcommand_rows_of m)) → IfOk r (Names words)
@@ -70,6 +72,7 @@ no_parse words error (Mistake e) kinds made = (
 no_parse words error NoCommand kinds made = absurd made
 no_parse words error NoSuchNumber kinds made = absurd made
 no_parse words error NoSize kinds made = absurd made
+no_parse words error NoPortion kinds made = absurd made
 no_parse words error Memory kinds made = tt
 
 pub parses_none : (app : App) (words : List Text) (error : Error) (r : Result Command LineFault) → app ≡ doac

@@ -1,5 +1,5 @@
 -- The command lines of the program, as clap reads them.
-use Rattle.std.specs.Prelude.{◌≡◌, ◌≢◌, ◌<◌, ◌^◌, ⊤, ◌⊎◌, ℕ, Bool, true, false, codes, List, [], ◌∷◌, Option, Some, None, option_map}
+use Rattle.std.specs.Prelude.{◌≡◌, ◌≢◌, ◌<◌, ◌≤◌, ◌^◌, ⊤, ◌⊎◌, ℕ, Bool, true, false, codes, List, [], ◌∷◌, Option, Some, None, option_map}
 use Rattle.std.specs.Str.Parse.{IsNumeral, digits_value, without_leading_plus}
 use Rattle.clap.specs.Words.{App, IsAmong, Row, Rule, Text, fault_of, first_of, kind_of, new_app, new_rule, one_of, subcommand_of, with_rule, with_subcommand}
 use Rattle.clap.specs.declared.error.Error.{Error}
@@ -7,9 +7,9 @@ use Rattle.clap.specs.declared.error.kind.ErrorKind.TheVariants.{DisplayHelp, Di
 use Rattle.clap.specs.declared.builder.action.ArgAction.TheVariants.{Set, SetTrue}
 use Rattle.engines.specs.Explained.{is_explained, is_within}
 use Rattle.doac.specs.declared.command.Command.{Command}
-use Rattle.doac.specs.declared.command.Command.TheVariants.{Check, ListLoops, ShowCode, Seq, Run, Replay, Upgrade, Explain, ExplainSerial}
+use Rattle.doac.specs.declared.command.Command.TheVariants.{Check, ListLoops, ShowCode, Seq, Run, Replay, Upgrade, Draw, Timeline, Explain, ExplainSerial}
 use Rattle.doac.specs.declared.command.LineFault.{LineFault}
-use Rattle.doac.specs.declared.command.LineFault.TheVariants.{Help, Mistake, NoCommand, NoSuchNumber, NoSize, Memory}
+use Rattle.doac.specs.declared.command.LineFault.TheVariants.{Help, Mistake, NoCommand, NoSuchNumber, NoSize, NoPortion, Memory}
 use Rattle.doac.specs.declared.command.Threaded.{Threaded}
 
 -- F, the file of the source
@@ -28,7 +28,7 @@ whole_input = record (new_rule (codes "INPUT")) { required = true; action = Some
 abbrev pub schedule : Rule
 schedule = record (new_rule (codes "SCHEDULE")) { required = true; action = Some Set }
 
--- OUT, the file that gets a schedule
+-- OUT, the file that gets a schedule or a picture
 abbrev pub out : Rule
 out = record (new_rule (codes "OUT")) { required = true; action = Some Set }
 
@@ -50,6 +50,13 @@ schedule_out = record (new_rule (codes "schedule")) { long = Some (codes "schedu
 -- --tally
 abbrev pub tally : Rule
 tally = record (new_rule (codes "tally")) { long = Some (codes "tally"); action = Some SetTrue }
+
+-- --loop and --iterations, which loop is drawn and how much of it
+abbrev pub loop_number : Rule
+loop_number = record (new_rule (codes "loop")) { long = Some (codes "loop"); action = Some Set }
+
+abbrev pub iterations : Rule
+iterations = record (new_rule (codes "iterations")) { long = Some (codes "iterations"); action = Some Set }
 
 -- N, the number of a refusal or a fault
 abbrev pub number : Rule
@@ -81,6 +88,12 @@ upgrade = with_rule (with_rule (with_rule (with_rule (new_app (codes "upgrade"))
 abbrev pub code : App
 code = with_rule (new_app (codes "code")) source
 
+abbrev pub draw : App
+draw = with_rule (with_rule (with_rule (with_rule (new_app (codes "draw")) source) out) loop_number) iterations
+
+abbrev pub timeline : App
+timeline = with_rule (with_rule (with_rule (with_rule (new_app (codes "timeline")) source) whole_input) schedule) out
+
 abbrev pub explain : App
 explain = with_rule (with_rule (new_app (codes "explain")) number) reason
 
@@ -88,13 +101,15 @@ explain = with_rule (with_rule (new_app (codes "explain")) number) reason
 abbrev pub wants_subcommand : App → App
 wants_subcommand a = record a { top = record a.top { subcommand_required = true; has_version = true } }
 
+-- a command with these subcommands, the last of them first
+abbrev pub with_subcommands : List App → App → App
+with_subcommands [] a = a
+with_subcommands (x ∷ xs) a = with_subcommand (with_subcommands xs a) x.top
+
 abbrev pub doac : App
 doac =
-    with_subcommand
-    (with_subcommand
-    (with_subcommand (with_subcommand (with_subcommand (with_subcommand (with_subcommand (with_subcommand (wants_subcommand (new_app (codes "doac"))) check.top) list.top) seq.top) run.top) replay.top) upgrade.top)
-    code.top)
-    explain.top
+    with_subcommands (explain ∷ code ∷ timeline ∷ draw ∷ upgrade ∷ replay ∷ run ∷ seq ∷ list ∷ check ∷ [])
+    (wants_subcommand (new_app (codes "doac")))
 
 -- what clap makes of a flag
 abbrev pub IsFlag : Bool → Option Text → Type 0
@@ -125,6 +140,18 @@ abbrev pub HasNoSize : Option Text → Type 0
 HasNoSize None = ⊥
 HasNoSize (Some text) = (n : ℕ) → IsSize n text → ⊥
 
+-- a text writes a number of iterations to be drawn, which is 8 where none is given
+abbrev pub IsCount : ℕ → Text → Type 0
+IsCount n text = IsSize n text × (1 ≤ n) × (n ≤ 64)
+
+abbrev pub IsCountOf : Option Text → ℕ → Type 0
+IsCountOf None n = n ≡ 8
+IsCountOf (Some text) n = IsCount n text
+
+abbrev pub HasNoCount : Option Text → Type 0
+HasNoCount None = ⊥
+HasNoCount (Some text) = (n : ℕ) → IsCount n text → ⊥
+
 -- the values of the arguments are those of a run in threads
 pub record HoldsRun (values : List Row) (t : Threaded) : Type 0 where
   pub source : first_of (codes "F") values ≡ Some t.source.now
@@ -149,6 +176,13 @@ Holds name values (Replay source input schedule) =
     × (first_of (codes "INPUT") values ≡ Some input.now) × (first_of (codes "SCHEDULE") values ≡ Some schedule.now)
 Holds name values (Upgrade source input schedule out) =
     (name ≡ codes "upgrade") × (first_of (codes "F") values ≡ Some source.now)
+    × (first_of (codes "INPUT") values ≡ Some input.now) × (first_of (codes "SCHEDULE") values ≡ Some schedule.now)
+    × (first_of (codes "OUT") values ≡ Some out.now)
+Holds name values (Draw source out number iterations) =
+    (name ≡ codes "draw") × (first_of (codes "F") values ≡ Some source.now) × (first_of (codes "OUT") values ≡ Some out.now)
+    × IsSizeOf (first_of (codes "loop") values) 1 number × IsCountOf (first_of (codes "iterations") values) iterations
+Holds name values (Timeline source input schedule out) =
+    (name ≡ codes "timeline") × (first_of (codes "F") values ≡ Some source.now)
     × (first_of (codes "INPUT") values ≡ Some input.now) × (first_of (codes "SCHEDULE") values ≡ Some schedule.now)
     × (first_of (codes "OUT") values ≡ Some out.now)
 Holds name values (Explain None) = (name ≡ codes "explain") × (first_of (codes "N") values ≡ None)
@@ -178,6 +212,8 @@ Lacks name values =
     (((name ≡ codes "check") ⊎ ((name ≡ codes "list") ⊎ ((name ≡ codes "seq") ⊎ ((name ≡ codes "run") ⊎ (name ≡ codes "code"))))) → first_of (codes "F") values ≡ None)
     × (name ≡ codes "replay" → LacksOne (codes "F" ∷ codes "INPUT" ∷ codes "SCHEDULE" ∷ []) values)
     × (name ≡ codes "upgrade" → LacksOne (codes "F" ∷ codes "INPUT" ∷ codes "SCHEDULE" ∷ codes "OUT" ∷ []) values)
+    × (name ≡ codes "draw" → LacksOne (codes "F" ∷ codes "OUT" ∷ []) values)
+    × (name ≡ codes "timeline" → LacksOne (codes "F" ∷ codes "INPUT" ∷ codes "SCHEDULE" ∷ codes "OUT" ∷ []) values)
     × (name ≡ codes "explain" → ⊥)
 
 -- the words behind `explain` name nothing that is explained: one alone no explained number, two no reason
@@ -195,6 +231,10 @@ AsksInVain name values =
 abbrev pub HasNoNumber : Text → List Row → Type 0
 HasNoNumber name values = (name ≡ codes "run") × (HasNoSize (first_of (codes "p") values) ⊎ HasNoSize (first_of (codes "s") values))
 
+-- the subcommand is to draw a loop, and one of its numbers is none
+abbrev pub HasNoPortion : Text → List Row → Type 0
+HasNoPortion name values = (name ≡ codes "draw") × (HasNoSize (first_of (codes "loop") values) ⊎ HasNoCount (first_of (codes "iterations") values))
+
 -- why what clap found is no command
 abbrev pub HoldsNone : Text → List Row → LineFault → Type 0
 HoldsNone name values (Help e) = ⊥
@@ -202,6 +242,7 @@ HoldsNone name values (Mistake e) = ⊥
 HoldsNone name values NoCommand = Lacks name values
 HoldsNone name values NoSuchNumber = AsksInVain name values
 HoldsNone name values NoSize = HasNoNumber name values
+HoldsNone name values NoPortion = HasNoPortion name values
 HoldsNone name values Memory = ⊥
 
 abbrev pub HeldInNone : Option (Text × List Row) → LineFault → Type 0
@@ -219,6 +260,7 @@ MadeOf error (Mistake e) = (e ≡ error) × (IsHelp error → ⊥) × (kind_of e
 MadeOf error NoCommand = ⊥
 MadeOf error NoSuchNumber = ⊥
 MadeOf error NoSize = ⊥
+MadeOf error NoPortion = ⊥
 MadeOf error Memory = kind_of error ≡ OutOfMemory
 
 -- why words name no command; want of memory is always allowed
@@ -228,6 +270,7 @@ NamesNone words (Mistake e) = (IsHelp e → ⊥) × IsAmong (kind_of e) (fault_o
 NamesNone words NoCommand = (fault_of doac words ≡ []) × HeldInNone (subcommand_of doac words) NoCommand
 NamesNone words NoSuchNumber = (fault_of doac words ≡ []) × HeldInNone (subcommand_of doac words) NoSuchNumber
 NamesNone words NoSize = (fault_of doac words ≡ []) × HeldInNone (subcommand_of doac words) NoSize
+NamesNone words NoPortion = (fault_of doac words ≡ []) × HeldInNone (subcommand_of doac words) NoPortion
 NamesNone words Memory = ⊤
 
 -- the exit status of words that name no command
@@ -237,4 +280,5 @@ line_status (Mistake e) = 3
 line_status NoCommand = 3
 line_status NoSuchNumber = 3
 line_status NoSize = 3
+line_status NoPortion = 3
 line_status Memory = 5

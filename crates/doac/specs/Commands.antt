@@ -5,9 +5,9 @@ use Rattle.engines.specs.Coded.{ShowsCode}
 use Rattle.engines.specs.Engines.{Checks, Runs}
 use Rattle.engines.specs.Lists.{Lists}
 use Rattle.doac.specs.CommandLine.{Names, NamesNone}
-use Rattle.doac.specs.Statuses.{EndsAs, EndsLine, EndsReplay, EndsRun, EndsUpgrade, HasStatus, OfGiven, OfPrint}
+use Rattle.doac.specs.Statuses.{EndsAs, EndsDraw, EndsLine, EndsReplay, EndsRun, EndsTimeline, EndsUpgrade, HasStatus, OfGiven, OfPrint}
 use Rattle.doac.specs.declared.command.Command.{Command}
-use Rattle.doac.specs.declared.command.Command.TheVariants.{Check, ListLoops, ShowCode, Seq, Run, Replay, Upgrade, Explain, ExplainSerial}
+use Rattle.doac.specs.declared.command.Command.TheVariants.{Check, ListLoops, ShowCode, Seq, Run, Replay, Upgrade, Draw, Timeline, Explain, ExplainSerial}
 use Rattle.doac.specs.declared.command.LineFault.{LineFault}
 
 abbrev pub Obeys : Command → ℕ → Type 0
@@ -19,6 +19,8 @@ Obeys (Seq file input store) status =
 Obeys (Run t) status = EndsRun t status
 Obeys (Replay source input schedule) status = EndsReplay status
 Obeys (Upgrade source input schedule out) status = EndsUpgrade status
+Obeys (Draw source out number iterations) status = EndsDraw (record { number = number; columns = iterations }) status
+Obeys (Timeline source input schedule out) status = EndsTimeline status
 Obeys (Explain number) status = OfPrint status
 Obeys (ExplainSerial reason) status = OfPrint status
 

@@ -1,9 +1,14 @@
 -- Exit statuses of commands, by the texts that their files hold or may hold.
 use Rattle.std.specs.Prelude.{◌≡◌, ◌⊎◌, ⊤, ℕ, List, [], Option, Some, None, Result, Ok, Err, Vec, is_some, option_map}
 use Rattle.std.specs.Global.{Global}
+use Rattle.engines.specs.Drawing.{Draws}
+use Rattle.engines.specs.Drawn.{drawn_status}
 use Rattle.engines.specs.Engines.{fault_status, status_of}
 use Rattle.engines.specs.Running.{Running}
 use Rattle.engines.specs.Schedules.{Replaying, Upgrading, upgrade_status}
+use Rattle.engines.specs.Timeline.{Times}
+use Rattle.engines.specs.declared.drawing.Portion.{Portion}
+use Rattle.engines.specs.declared.drawn.Drawn.{Drawn}
 use Rattle.engines.specs.declared.fault.EngineFault.{EngineFault}
 use Rattle.engines.specs.declared.given.Wants.{Wants}
 use Rattle.engines.specs.declared.outcome.Outcome.{Outcome}
@@ -78,6 +83,18 @@ pub record UpgradeEnds (source input schedule : List ℕ) (status : ℕ) : Type 
   pub upgraded : Upgraded
   pub allowed : Upgrading source input schedule upgraded
   pub is : status ≡ upgrade_status upgraded
+
+-- the status is that of what a command that makes a picture may come to
+pub record DrawEnds (allows : Drawn → Type 0) (status : ℕ) : Type 0 where
+  pub drawn : Drawn
+  pub allowed : allows drawn
+  pub is : status ≡ drawn_status drawn
+
+abbrev pub EndsDraw : Portion → ℕ → Type 0
+EndsDraw p status = EndsAs status ((text : List ℕ) × DrawEnds (Draws text p) status)
+
+abbrev pub EndsTimeline : ℕ → Type 0
+EndsTimeline status = EndsAs status ((texts : Texts) × DrawEnds (Times texts.source.items texts.input.items texts.schedule.items) status)
 
 abbrev pub EndsReplay : ℕ → Type 0
 EndsReplay status = EndsAs status ((texts : Texts) × HasStatus (Replaying texts.source.items texts.input.items texts.schedule.items) status)

@@ -2,8 +2,8 @@
 
 ghost use Rattle.std.specs.Prelude.{◌≡◌, IfErr, IfOk, codes, option_map, ℕ};
 ghost use Rattle.clap.specs.Words.{first_of, found_of, one_of, rows_of, subcommand_rows_of};
-ghost use Rattle.doac.specs.CommandLine.{HasNoSize, HeldIn, HeldInNone, HoldsNone, Holds, IsFlag, IsNumber, IsReason, IsSizeOf, MadeOf};
-ghost use Rattle.doac.specs.declared.command.LineFault.TheVariants.{Memory, NoSize, NoSuchNumber};
+ghost use Rattle.doac.specs.CommandLine.{HasNoCount, HasNoSize, HeldIn, HeldInNone, HoldsNone, Holds, IsCountOf, IsFlag, IsNumber, IsReason, IsSizeOf, MadeOf};
+ghost use Rattle.doac.specs.declared.command.LineFault.TheVariants.{Memory, NoPortion, NoSize, NoSuchNumber};
 
 use clap::ArgMatches;
 use clap::error::ErrorKind;
@@ -62,6 +62,24 @@ pub enum Command<'a> {
         schedule: &'a str,
         out: &'a str,
     },
+    /// `draw F OUT [--loop N] [--iterations K]`: the picture of a loop of the source of a file, written to
+    /// a file.
+    Draw {
+        source: &'a str,
+        out: &'a str,
+        /// The loop's number, 1 where none is named.
+        number: u64,
+        /// How many iterations are drawn, 1 to 64, and 8 where no number is named.
+        iterations: u64,
+    },
+    /// `timeline F INPUT SCHEDULE OUT`: the picture of the run that a schedule describes, written to a
+    /// file.
+    Timeline {
+        source: &'a str,
+        input: &'a str,
+        schedule: &'a str,
+        out: &'a str,
+    },
     /// `explain [N]`: what this refusal or fault means; without a number, which numbers there are.
     Explain(Option<u8>),
     /// `explain serial N`: for what this reason a loop stays serial.
@@ -86,6 +104,9 @@ pub enum LineFault {
     /// They name no whole number of 64 bits where one is wanted.
     #[error("error: no whole number that 64 bits hold\n\nUsage: doac run [-p <N>] [-s <N>] <F> [INPUT]\n\nFor more information, try '--help'.\n")]
     NoSize,
+    /// They ask for a picture by no whole number of 64 bits, or of no 1 to 64 iterations.
+    #[error("error: --loop takes a whole number, and --iterations one from 1 to 64\n\nUsage: doac draw [--loop <N>] [--iterations <K>] <F> <OUT>\n\nFor more information, try '--help'.\n")]
+    NoPortion,
     /// Memory was refused.
     #[error("out of memory\n")]
     Memory,
@@ -105,6 +126,7 @@ impl LineFault {
             LineFault::NoCommand => 3,
             LineFault::NoSuchNumber => 3,
             LineFault::NoSize => 3,
+            LineFault::NoPortion => 3,
             LineFault::Memory => 5,
         }
     }
@@ -154,6 +176,8 @@ fn named<'a>(name: &str, given: &ArgMatches<'a>) -> Result<Command<'a>, LineFaul
         "run" => threading(given),
         "replay" => replaying(given),
         "upgrade" => upgrading(given),
+        "draw" => drawing(given),
+        "timeline" => timing(given),
         "explain" => explaining(given),
         _ => Err(LineFault::NoCommand),
     }
@@ -278,6 +302,68 @@ fn upgrading<'a>(given: &ArgMatches<'a>) -> Result<Command<'a>, LineFault>
         text(given, "OUT"),
     ) {
         (Some(source), Some(input), Some(schedule), Some(out)) => Ok(Command::Upgrade {
+            source,
+            input,
+            schedule,
+            out,
+        }),
+        _ => Err(LineFault::NoCommand),
+    }
+}
+
+/// The number of a loop, 1 where none is named.
+fn loop_number(given: Option<&str>) -> Result<u64, LineFault>
+    ensures found { IfOk result (IsSizeOf (option_map (λ s. s.now) given.entry) 1) }
+    ensures refused { IfErr result (λ fault. (fault ≡ NoPortion) × HasNoSize (option_map (λ s. s.now) given.entry)) }
+{
+    match size(given, 1) {
+        Ok(number) => Ok(number),
+        Err(_) => Err(LineFault::NoPortion),
+    }
+}
+
+/// The number of iterations that are drawn, 8 where none is named.
+fn iterations(given: Option<&str>) -> Result<u64, LineFault>
+    ensures found { IfOk result (IsCountOf (option_map (λ s. s.now) given.entry)) }
+    ensures refused { IfErr result (λ fault. (fault ≡ NoPortion) × HasNoCount (option_map (λ s. s.now) given.entry)) }
+{
+    let Some(text) = given else {
+        return Ok(8);
+    };
+    match text.parse::<u64>() {
+        Ok(count) if 1 <= count && count <= 64 => Ok(count),
+        _ => Err(LineFault::NoPortion),
+    }
+}
+
+fn drawing<'a>(given: &ArgMatches<'a>) -> Result<Command<'a>, LineFault>
+    ensures found { IfOk result (Holds (codes "draw") (rows_of (found_of given.now))) }
+    ensures refused { IfErr result (HoldsNone (codes "draw") (rows_of (found_of given.now))) }
+{
+    let (Some(source), Some(out)) = (text(given, "F"), text(given, "OUT")) else {
+        return Err(LineFault::NoCommand);
+    };
+    let number = loop_number(text(given, "loop"))?;
+    let iterations = iterations(text(given, "iterations"))?;
+    Ok(Command::Draw {
+        source,
+        out,
+        number,
+        iterations,
+    })
+}
+
+fn timing<'a>(given: &ArgMatches<'a>) -> Result<Command<'a>, LineFault>
+    ensures found { IfOk result (Holds (codes "timeline") (rows_of (found_of given.now))) }
+    ensures refused { IfErr result (HoldsNone (codes "timeline") (rows_of (found_of given.now))) }
+{
+    match (
+        text(given, "F"),
+        text(given, "INPUT"),
+        text(given, "SCHEDULE"),
+        text(given, "OUT"),
+    ) {
+        (Some(source), Some(input), Some(schedule), Some(out)) => Ok(Command::Timeline {
             source,
             input,
             schedule,

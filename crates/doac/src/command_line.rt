@@ -2,7 +2,7 @@
 
 ghost use Rattle.std.specs.Prelude.{◌≡◌, IfErr, IfOk, false, map};
 ghost use Rattle.clap.specs.Words.{app_of, rule_of, with_subcommand};
-ghost use Rattle.doac.specs.CommandLine.{Names, NamesNone, code, doac, input, number, out, processors, reason, run, schedule, schedule_out, slots, source, store, tally, upgrade, whole_input};
+ghost use Rattle.doac.specs.CommandLine.{Names, NamesNone, code, doac, draw, input, iterations, loop_number, number, out, processors, reason, run, schedule, schedule_out, slots, source, store, tally, timeline, upgrade, whole_input};
 
 use crate::command::{LineFault, held};
 use clap::{Arg, ArgAction};
@@ -56,6 +56,36 @@ fn out<'a>(alloc: Global) -> Arg<'a>
         .required(true)
         .action(ArgAction::Set)
         .help("The file that gets the schedule with its picks named")
+}
+
+fn picture<'a>(alloc: Global) -> Arg<'a>
+    ensures rule { rule_of result ≡ out }
+    ensures local { result.global ≡ false }
+{
+    Arg::new(alloc, "OUT")
+        .required(true)
+        .action(ArgAction::Set)
+        .help("The file that gets the picture, an SVG file")
+}
+
+fn loop_number<'a>(alloc: Global) -> Arg<'a>
+    ensures rule { rule_of result ≡ loop_number }
+    ensures local { result.global ≡ false }
+{
+    Arg::new(alloc, "loop")
+        .long("loop")
+        .action(ArgAction::Set)
+        .help("The number of the loop, as list has it; without it 1")
+}
+
+fn iterations<'a>(alloc: Global) -> Arg<'a>
+    ensures rule { rule_of result ≡ iterations }
+    ensures local { result.global ≡ false }
+{
+    Arg::new(alloc, "iterations")
+        .long("iterations")
+        .action(ArgAction::Set)
+        .help("How many iterations are drawn, 1 to 64; without it 8")
 }
 
 fn store<'a>(alloc: Global) -> Arg<'a>
@@ -165,6 +195,34 @@ fn with_code<'a>(alloc: Global, app: clap::Command<'a>) -> Result<clap::Command<
     app.subcommand(code)
 }
 
+/// A command with the command line of `draw` too.
+fn with_draw<'a>(alloc: Global, app: clap::Command<'a>) -> Result<clap::Command<'a>, AllocError>
+    ensures { IfOk result (λ c. app_of c ≡ with_subcommand (app_of app.entry) draw.top) }
+{
+    let draw = clap::Command::new(alloc, "draw")
+        .about("Draws a loop: what its iterations wait for, and where they tell")
+        .arg(source(alloc))?
+        .arg(picture(alloc))?
+        .arg(loop_number(alloc))?
+        .arg(iterations(alloc))?;
+    app.subcommand(draw)
+}
+
+/// A command with the command line of `timeline` too.
+fn with_timeline<'a>(alloc: Global, app: clap::Command<'a>) -> Result<clap::Command<'a>, AllocError>
+    ensures { IfOk result (λ c. app_of c ≡ with_subcommand (app_of app.entry) timeline.top) }
+{
+    let timeline = clap::Command::new(alloc, "timeline")
+        .about(
+            "Draws the run that a schedule describes: what each processor did, and when it waited",
+        )
+        .arg(source(alloc))?
+        .arg(whole_input(alloc))?
+        .arg(schedule(alloc))?
+        .arg(picture(alloc))?;
+    app.subcommand(timeline)
+}
+
 /// The program's command lines.
 fn parser<'a>(alloc: Global) -> Result<clap::Command<'a>, AllocError>
     ensures { IfOk result (λ c. app_of c ≡ doac) }
@@ -197,7 +255,8 @@ fn parser<'a>(alloc: Global) -> Result<clap::Command<'a>, AllocError>
         .subcommand(list)?
         .subcommand(seq)?;
     let app = with_run(alloc, app)?.subcommand(replay)?;
-    let app = with_upgrade(alloc, app)?;
+    let app = with_draw(alloc, with_upgrade(alloc, app)?)?;
+    let app = with_timeline(alloc, app)?;
     with_code(alloc, app)?.subcommand(explain)
 }
 

@@ -4,6 +4,7 @@
 mod code_file;
 mod command;
 mod command_line;
+mod drawings;
 mod files;
 mod program;
 mod threads;

@@ -11,11 +11,12 @@ ghost use Rattle.doac.specs.Statuses.{AfterFile, AfterFiles, EndsAs, EndsLine, H
 use crate::code_file::code_file;
 use crate::command::{Command, LineFault};
 use crate::command_line::command;
+use crate::drawings::{draw_files, timeline_files};
 use crate::files::{FileFault, Names, Unread, is_one_of, read_file, read_texts, replace_file};
 use crate::threads::run_files;
 use engines::{
-    EngineFault, Message, Outcome, Place, Survey, Texts, Upgraded, Verdict, VisibleLines, explain,
-    judged, replay_texts, say_why_serial, seq_texts, surveyed, tell_further, tell_survey,
+    EngineFault, Message, Outcome, Place, Portion, Survey, Texts, Upgraded, Verdict, VisibleLines,
+    explain, judged, replay_texts, say_why_serial, seq_texts, surveyed, tell_further, tell_survey,
     tell_verdict, upgrade_texts, warn, warn_of_columns,
 };
 use std::convert::AsStr;
@@ -86,7 +87,7 @@ fn refuse_line<R: Print + Eprint + AllocGlobal>(rt: &R, fault: &LineFault) -> u8
         _ => {
             say_line(rt, fault);
             let _ = eprintln!(rt;
-                "The commands are check, list, code, seq, run, replay, upgrade and explain."
+                "The commands are check, list, code, seq, run, replay, upgrade, draw, timeline and explain."
             );
             fault.status()
         }
@@ -156,6 +157,34 @@ fn obey<R: Files + Input + Print + Eprint + AllocGlobal + Threads + Wait + Sync>
             schedule,
             out,
         } => upgrade_files(
+            rt,
+            Names {
+                source,
+                input,
+                schedule,
+            },
+            out,
+        ),
+        Command::Draw {
+            source,
+            out,
+            number,
+            iterations,
+        } => draw_files(
+            rt,
+            source,
+            out,
+            Portion {
+                number: number as usize,
+                columns: iterations,
+            },
+        ),
+        Command::Timeline {
+            source,
+            input,
+            schedule,
+            out,
+        } => timeline_files(
             rt,
             Names {
                 source,
@@ -424,7 +453,7 @@ pub fn warn_of_run<R: Eprint>(
 }
 
 /// Says on standard error what is wrong with a schedule's text, or with its source's.
-fn tell_of<R: Eprint + AllocGlobal>(
+pub fn tell_of<R: Eprint + AllocGlobal>(
     rt: &R,
     names: Names<'_>,
     texts: &Texts,

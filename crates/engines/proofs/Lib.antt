@@ -1,5 +1,6 @@
 pub mod Answered
 pub mod Counts
+pub mod Drawings
 pub mod Listings
 pub mod Pages
 pub mod Replayed

@@ -6,7 +6,7 @@ use Rattle.std.specs.List.Sorted.{IsSorted}
 use Rattle.std.specs.declared.cmp.Ordering.{Ordering}
 use Rattle.ast.specs.View.{letters}
 use Rattle.ast.specs.declared.name.Name.{Name}
-use Rattle.engines.specs.Listing.{Lines, Listing, advance_lines, advances_by_event}
+use Rattle.engines.specs.Listing.{ListingOf, advance_lines, advances_by_event}
 use Rattle.engines.specs.Shown.{Extends, byte_order}
 use Rattle.codegen.specs.declared.reports.LoopReport.{LoopReport}
 use Rattle.engines.specs.declared.spots.Spot.{Spot}
@@ -26,28 +26,28 @@ sorted_names cmp same (n ∷ ns) sorted k d low high =
     ∙ sorted k n low within
 
 -- the lines of one loop more
-listing_more : (n : ℕ) (rs : List LoopReport) (r : LoopReport) (text last : List ℕ) → Listing n rs text → Lines (n + length rs) r last → Listing n (rs ++ r ∷ []) (text ++ last)
-listing_more n [] r text last listed lines =
-    (last, [], subst (λ k. Lines k r last) (omega arith) lines, refl, ap (λ (xs : List ℕ). xs ++ last) listed ∙ sym (append-nil last))
-listing_more n (q ∷ rs) r text last listed lines =
+listing_more : (L : ℕ → LoopReport → List ℕ → Type 0) (n : ℕ) (rs : List LoopReport) (r : LoopReport) (text last : List ℕ) → ListingOf L n rs text → L (n + length rs) r last → ListingOf L n (rs ++ r ∷ []) (text ++ last)
+listing_more L n [] r text last listed lines =
+    (last, [], subst (λ k. L k r last) (omega arith) lines, refl, ap (λ (xs : List ℕ). xs ++ last) listed ∙ sym (append-nil last))
+listing_more L n (q ∷ rs) r text last listed lines =
     let next : n + length (q ∷ rs) ≡ (n + 1) + length rs = omega arith in (
       listed.0,
       listed.1 ++ last,
       listed.2,
-      listing_more (n + 1) rs r listed.1 last listed.3 (subst (λ k. Lines k r last) next lines),
+      listing_more L (n + 1) rs r listed.1 last listed.3 (subst (λ k. L k r last) next lines),
       ap (λ xs. xs ++ last) listed.4 ∙ append_assoc listed.0 listed.1 last,
     )
 
 -- the lines of the first n loops, and of one more
-pub listed_more : (rs : List LoopReport) (n : ℕ) (r : LoopReport) (text grown : List ℕ) → n < length rs → r ≡ get_or rs n r
-    → Listing 1 (take n rs) text → Extends (Lines (n + 1) r) text grown → Listing 1 (take (n + 1) rs) grown
-listed_more rs n r text grown within is listed extends =
+pub listed_more : (L : ℕ → LoopReport → List ℕ → Type 0) (rs : List LoopReport) (n : ℕ) (r : LoopReport) (text grown : List ℕ) → n < length rs → r ≡ get_or rs n r
+    → ListingOf L 1 (take n rs) text → Extends (L (n + 1) r) text grown → ListingOf L 1 (take (n + 1) rs) grown
+listed_more L rs n r text grown within is listed extends =
     let size : length (take n rs) ≡ n = length-take-le n rs (omega (arith, within)) in
     let number : n + 1 ≡ 1 + length (take n rs) = omega (arith, size) in
     let taken : take n rs ++ r ∷ [] ≡ take (n + 1) rs = ap (λ (q : LoopReport). take n rs ++ q ∷ []) is ∙ sym (take_more rs n r within) in
-    subst (λ (ps : List LoopReport). Listing 1 ps grown) taken
-    (subst (λ (xs : List ℕ). Listing 1 (take n rs ++ r ∷ []) xs) (sym extends.grown)
-    (listing_more 1 (take n rs) r text extends.last listed (subst (λ k. Lines k r extends.last) number extends.fits)))
+    subst (λ (ps : List LoopReport). ListingOf L 1 ps grown) taken
+    (subst (λ (xs : List ℕ). ListingOf L 1 (take n rs ++ r ∷ []) xs) (sym extends.grown)
+    (listing_more L 1 (take n rs) r text extends.last listed (subst (λ k. L k r extends.last) number extends.fits)))
 
 -- five texts appended one after another
 pub appended : (x a b c d e y₁ y₂ y₃ y₄ y₅ : List ℕ) → y₁ ≡ x ++ a → y₂ ≡ y₁ ++ b → y₃ ≡ y₂ ++ c → y₄ ≡ y₃ ++ d → y₅ ≡ y₄ ++ e → y₅ ≡ x ++ ((((a ++ b) ++ c) ++ d) ++ e)

@@ -15,6 +15,7 @@ use Rattle.replay.specs.Schedules.{SchedText, Schedule}
 use Rattle.engines.specs.Engines.{outcome_of}
 use Rattle.engines.specs.Schedules.{IsReplayed, ShowsReplay}
 use Rattle.engines.specs.Shown.{EndShown, Extends, Row, row_of}
+use Rattle.engines.specs.Timeline.{IsTimed}
 use Rattle.engines.specs.declared.outcome.Outcome.{Outcome}
 
 -- without a store the rows don't count
@@ -56,3 +57,17 @@ replayed_shown p code input x schedule answer outcome text headline spelled r en
         };
       };
     })
+
+-- a schedule that leads to an answer leads where the sequential program ends
+pub timed : (p : Program) (code : Code) (input : List ℕ) (x : Schedule) (schedule : List ℕ) (answer : Answer) → Headline code (program_of p) → SchedText x schedule → IsReplay code input x answer
+    → IsTimed (program_of p) code input schedule
+timed p code input x schedule answer headline spelled r =
+    let run = is_run code input x r.point spelled.schedule r.replays in
+    let agrees = headline input x.processors x.slots run.0 r.point.machine spelled.schedule.0 run.1 in
+    record {
+      run = x;
+      spelled = spelled;
+      point = r.point;
+      replays = r.replays;
+      ended = (agrees.answer answer.end r.is.end).is;
+    }

@@ -1,6 +1,8 @@
 pub mod Advanced
 pub mod CodeLines
 pub mod Coded
+pub mod Drawing
+pub mod Drawn
 pub mod Engines
 pub mod Explained
 pub mod Listing
@@ -9,4 +11,5 @@ pub mod Reading
 pub mod Running
 pub mod Schedules
 pub mod Shown
+pub mod Timeline
 pub mod View

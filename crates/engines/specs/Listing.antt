@@ -92,7 +92,15 @@ LinesOf n r (Body body privates relations) text =
 abbrev pub Lines : ℕ → LoopReport → List ℕ → Type 0
 Lines n r text = LinesOf n r r.plan text
 
--- the lines of loops, the first of which is loop n
+-- the same, and behind them some that say why
+abbrev pub LinesWhy : ℕ → LoopReport → List ℕ → Type 0
+LinesWhy n r text = (lines : List ℕ) × (why : List ℕ) × Lines n r lines × (text ≡ lines ++ why)
+
+-- such lines of loops, one after another, the first of which is loop n
+abbrev pub ListingOf : (ℕ → LoopReport → List ℕ → Type 0) → ℕ → List LoopReport → List ℕ → Type 0
+ListingOf lines n [] text = text ≡ []
+ListingOf lines n (r ∷ rs) text =
+    (first : List ℕ) × (rest : List ℕ) × lines n r first × ListingOf lines (n + 1) rs rest × (text ≡ first ++ rest)
+
 abbrev pub Listing : ℕ → List LoopReport → List ℕ → Type 0
-Listing n [] text = text ≡ []
-Listing n (r ∷ rs) text = (first : List ℕ) × (rest : List ℕ) × Lines n r first × Listing (n + 1) rs rest × (text ≡ first ++ rest)
+Listing = ListingOf Lines

@@ -8,7 +8,7 @@ use Rattle.codegen.specs.declared.reports.LoopReport.{LoopReport}
 use Rattle.machine.specs.Code.{Code}
 use Rattle.profile_check.specs.Reads.{Reads}
 use Rattle.engines.specs.Engines.{IsRefusal}
-use Rattle.engines.specs.Listing.{Listing}
+use Rattle.engines.specs.Listing.{Lines, LinesWhy, ListingOf}
 use Rattle.engines.specs.Schedules.{IsNoCode}
 use Rattle.engines.specs.Shown.{refused}
 use Rattle.engines.specs.declared.outcome.Outcome.{Outcome}
@@ -36,22 +36,36 @@ abbrev pub IsSurvey : List ℕ → Survey → Type 0
 IsSurvey source (survey.Loops program reports) = IsReported source (program_of program) reports.items
 IsSurvey source (survey.Refused number line) = IsRefusal source number line ⊎ HasLongCode source number line
 
--- what `list` may write of a survey
-abbrev pub TellsLoops : Survey → Outcome → List ℕ → Type 0
-TellsLoops (survey.Loops program reports) Completed text = Listing 1 reports.items text
-TellsLoops (survey.Refused number line) (Refused n l) text = (n ≡ number) × (l ≡ line) × (text ≡ refused number line)
-TellsLoops _ _ text = ⊥
+-- what `list` may write of a survey, of each loop such lines
+abbrev pub TellsBy : (ℕ → LoopReport → List ℕ → Type 0) → Survey → Outcome → List ℕ → Type 0
+TellsBy lines (survey.Loops program reports) Completed text = ListingOf lines 1 reports.items text
+TellsBy lines (survey.Refused number line) (Refused n l) text = (n ≡ number) × (l ≡ line) × (text ≡ refused number line)
+TellsBy lines _ _ text = ⊥
 
 -- the source reads as a program that has code, and this lists its loops
-pub record IsListed (source text : List ℕ) : Type 0 where
+pub record IsListedBy (lines : ℕ → LoopReport → List ℕ → Type 0) (source text : List ℕ) : Type 0 where
   pub tree : ProgramTree
   pub reports : List LoopReport
   pub reported : IsReported source tree reports
-  pub listing : Listing 1 reports text
+  pub listing : ListingOf lines 1 reports text
 
--- what `list` may write of a source text
+-- what `list` may write of a source text, of each loop such lines
+abbrev pub ListsBy : (ℕ → LoopReport → List ℕ → Type 0) → List ℕ → Outcome → List ℕ → Type 0
+ListsBy lines source Completed text = IsListedBy lines source text
+ListsBy lines source (Refused number line) text = IsNoCode source number line text
+ListsBy lines source (Faulted fault line) text = ⊥
+ListsBy lines source (NoSchedule number line) text = ⊥
+
+-- without `--why`
+abbrev pub TellsLoops : Survey → Outcome → List ℕ → Type 0
+TellsLoops = TellsBy Lines
+
 abbrev pub Lists : List ℕ → Outcome → List ℕ → Type 0
-Lists source Completed text = IsListed source text
-Lists source (Refused number line) text = IsNoCode source number line text
-Lists source (Faulted fault line) text = ⊥
-Lists source (NoSchedule number line) text = ⊥
+Lists = ListsBy Lines
+
+-- with it
+abbrev pub TellsWhy : Survey → Outcome → List ℕ → Type 0
+TellsWhy = TellsBy LinesWhy
+
+abbrev pub ListsWhy : List ℕ → Outcome → List ℕ → Type 0
+ListsWhy = ListsBy LinesWhy

@@ -4,7 +4,7 @@
 ghost use Rattle.std.specs.Prelude.{◌≡◌, IfOk, IfErr};
 ghost use Rattle.engines.specs.Coded.{ShowsCode};
 ghost use Rattle.engines.specs.Engines.{AfterRead, Checks, IsJudged, Leaves, LeavesOfSource, LeavesReader, LeavesReaders, OfText, Runs, Tells, Works, WorksWith, WroteAs, WrotePart, of_input, of_source};
-ghost use Rattle.engines.specs.Lists.{Lists, TellsLoops};
+ghost use Rattle.engines.specs.Lists.{Lists, TellsLoops, TellsWhy};
 ghost use Rattle.engines.specs.Reading.{LeavesThree, OfTexts};
 ghost use Rattle.engines.specs.Schedules.{LeavesBoth, Replaying, UpgradeWorks, Upgrading, WroteUpgraded, WroteUpgradedPart};
 
@@ -14,7 +14,7 @@ use crate::outcome::Outcome;
 use crate::page::{seq_page, told};
 use crate::replays::{replayed, upgrade_texts};
 use crate::streams::read_all;
-use crate::survey::{Survey, shown_loops, surveyed};
+use crate::survey::{Survey, shown_loops, shown_reasons, surveyed};
 use crate::texts::read_three;
 use crate::verdict::{Verdict, judged};
 use std::alloc::Global;
@@ -62,6 +62,19 @@ pub fn tell_survey<W: Write>(
     ensures { Works (TellsLoops survey.now) (W.contents out.old) (W.contents out.new) result }
 {
     let page = shown_loops(alloc, survey)?;
+    page.write(out)
+}
+
+/// Writes the lines of a survey as [`tell_survey`] does, and behind those of each loop some that say why.
+/// The errors are those of [`tell_survey`].
+pub fn tell_reasons<W: Write>(
+    alloc: Global,
+    survey: &Survey,
+    out: &mut W,
+) -> Result<Outcome, EngineFault>
+    ensures { Works (TellsWhy survey.now) (W.contents out.old) (W.contents out.new) result }
+{
+    let page = shown_reasons(alloc, survey)?;
     page.write(out)
 }
 

@@ -10,7 +10,10 @@ mod code_lines;
 mod coded;
 mod columns;
 mod commands;
+mod drawing;
+mod drawn;
 mod driving;
+mod early;
 pub mod explain;
 mod fault;
 mod figures;
@@ -32,22 +35,28 @@ mod rows;
 mod running;
 mod serial;
 mod shown;
+mod spelled;
 mod spots;
 mod squeezed;
 mod store;
 mod streams;
 mod survey;
 mod texts;
+mod timing;
 mod usage;
 mod verdict;
 mod visible;
 mod warnings;
+mod watching;
+mod why;
 
 pub use beyond::Beyond;
 pub use commands::{
     check, check_text, code, code_text, list, list_text, replay, replay_texts, seq, seq_texts,
-    tell_survey, tell_verdict, upgrade,
+    tell_reasons, tell_survey, tell_verdict, upgrade,
 };
+pub use drawing::{Portion, draw, draw_text};
+pub use drawn::Drawn;
 pub use fault::{EngineFault, ReadFault};
 pub use figures::{Figures, say_figures};
 pub use further::tell_further;
@@ -64,6 +73,7 @@ pub use serial::say_why_serial;
 pub use streams::read_all;
 pub use survey::{Survey, surveyed};
 pub use texts::Texts;
+pub use timing::{timeline, timeline_texts};
 pub use verdict::{Verdict, judged};
 pub use visible::VisibleLines;
 pub use warnings::{warn, warn_of_columns};

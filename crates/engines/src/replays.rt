@@ -64,7 +64,7 @@ impl Upgraded {
 }
 
 /// The page of a schedule that is refused.
-fn unscheduled(alloc: Global, number: u8, line: usize) -> Result<Page, AllocError>
+pub fn unscheduled(alloc: Global, number: u8, line: usize) -> Result<Page, AllocError>
     ensures { IfOk result (λ page. (page.outcome ≡ outcomes.NoSchedule number line) × (page.text.items ≡ no_schedule number line)) }
 {
     let mut text = Vec::new(alloc);

@@ -12,7 +12,7 @@ use std::fmt::{Display, Formatter, Result as FmtResult, Write};
 
 /// What keeps a loop serial.
 #[derive(Clone, Copy, Debug, PartialEq, Eq)]
-enum Hindrance {
+pub enum Hindrance {
     /// The step is 0.
     ZeroStep,
     /// The step is no constant.
@@ -27,6 +27,20 @@ enum Hindrance {
     Outer(Line),
     /// The check refused the plan.
     Refused,
+}
+
+impl Hindrance {
+    /// The line of the statement in the loop's range that is in the way, if one is.
+    pub fn line_in_range(self) -> Option<Line> {
+        match self {
+            Hindrance::Read(line) | Hindrance::Variable { line, .. } => Some(line),
+            Hindrance::ZeroStep
+            | Hindrance::NoConstant
+            | Hindrance::Sources
+            | Hindrance::Outer(_)
+            | Hindrance::Refused => None,
+        }
+    }
 }
 
 impl Display for Hindrance {
@@ -164,7 +178,7 @@ fn outer_of(view: &LoopView<'_, '_>, reports: &[LoopReport]) -> Option<Hindrance
 }
 
 /// What keeps the loop of a view serial, for the reason of a number.
-fn hindrance_of(
+pub fn hindrance_of(
     alloc: Global,
     reason: u8,
     view: &LoopView<'_, '_>,

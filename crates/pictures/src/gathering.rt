@@ -25,6 +25,8 @@ pub enum Came {
     Parked,
     /// The iteration that it held has retired.
     Retired,
+    /// The run ended, by itself or with a fault or a STOP.
+    Ended,
 }
 
 /// An entry of a schedule, as it was made.
@@ -54,10 +56,11 @@ pub struct Cell {
     pub after: Option<Held>,
     /// Whether it held several activities.
     pub several: bool,
-    /// How often something was advanced, parked and retired.
+    /// How often something was advanced, parked and retired, and whether the run ended.
     pub advanced: u64,
     pub parked: u64,
     pub retired: u64,
+    pub ended: u64,
 }
 
 /// In which nothing was done.
@@ -69,6 +72,7 @@ const EMPTY: Cell = Cell {
     advanced: 0,
     parked: 0,
     retired: 0,
+    ended: 0,
 };
 
 /// What a processor did in the whole run.
@@ -195,6 +199,7 @@ fn grown(cell: Cell, turn: Turn) -> Cell {
         advanced,
         parked,
         retired,
+        ended,
         ..
     } = cell;
     Cell {
@@ -205,5 +210,6 @@ fn grown(cell: Cell, turn: Turn) -> Cell {
         advanced: advanced.saturating_add(u64::from(turn.came == Came::Advanced)),
         parked: parked.saturating_add(u64::from(turn.came == Came::Parked)),
         retired: retired.saturating_add(u64::from(turn.came == Came::Retired)),
+        ended: ended.saturating_add(u64::from(turn.came == Came::Ended)),
     }
 }

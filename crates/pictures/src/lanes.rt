@@ -156,7 +156,8 @@ fn append_marks(out: &mut Vec<u8>, cell: Cell, at: Point, wide: u64) -> Result<(
         below,
         cell.retired,
         b"the iteration retired",
-    )
+    )?;
+    append_mark(out, b"ended", below, cell.ended, b"the run ended")
 }
 
 /// What a processor holds in a column, by what it held before it.
@@ -325,7 +326,15 @@ fn append_meanings(out: &mut Vec<u8>, y: u64) -> Result<(), AllocError> {
         1,
         b"the iteration retired",
     )?;
-    append_text(out, b"faint", Point { x: 310, y }, b"the iteration retired")
+    append_text(out, b"faint", Point { x: 310, y }, b"the iteration retired")?;
+    append_mark(
+        out,
+        b"ended",
+        Point { x: 460, y: above },
+        1,
+        b"the run ended",
+    )?;
+    append_text(out, b"faint", Point { x: 470, y }, b"the run ended")
 }
 
 /// Appends what stands above the lanes.

@@ -51,7 +51,7 @@ fn append_meaning(
 fn later(alloc: Global, distance: u128) -> Result<String, AllocError> {
     match distance {
         1 => format!(in alloc; "of the next iteration"),
-        _ => format!(in alloc; "of the iteration {distance} later"),
+        _ => format!(in alloc; "{distance} iterations later"),
     }
 }
 

@@ -1,7 +1,8 @@
 //! What there is to draw of a loop, by its source, its plan and what is reported of it.
 
-ghost use Rattle.std.specs.Prelude.{◌≡◌, IfOk, map};
-ghost use Rattle.pictures.specs.Dependences.{dependence};
+ghost use Rattle.std.specs.Prelude.{◌≡◌, [], IfOk};
+ghost use Rattle.pictures.specs.Dependences as spec;
+ghost use Rattle.pictures.specs.Dependences.{AreArrows};
 
 use crate::picture::{Arrow, LoopPicture, Row};
 use crate::sketch::{Sketch, add_plan, add_range};
@@ -61,7 +62,9 @@ fn place_of(places: &[usize], line: Line) -> usize {
 }
 
 /// The line of an event's source.
-fn line_of(sources: &[Line], event: usize) -> Line {
+fn line_of(sources: &[Line], event: usize) -> Line
+    ensures { result ≡ spec.source_line sources.now event }
+{
     sources.get(event.saturating_sub(1)).copied().unwrap_or(0)
 }
 
@@ -72,7 +75,7 @@ fn arrows(
     sources: &[Line],
     kept: &[(usize, u128, Line)],
 ) -> Result<Vec<Arrow>, AllocError>
-    ensures { IfOk result (λ arrows. map dependence arrows.items ≡ kept.now) }
+    ensures { IfOk result (λ arrows. AreArrows sources.now kept.now arrows.items) }
 {
     let places = places(alloc, rows)?;
     let mut arrows = Vec::with_capacity(alloc, kept.len())?;
@@ -104,8 +107,8 @@ pub fn open_picture<'a>(
     frame: Frame,
     opened: OpenLoop<'_>,
 ) -> Result<LoopPicture<'a>, AllocError>
-    ensures arrows { IfOk result (λ p. map dependence p.arrows.items ≡ opened.entry.kept.now) }
-    ensures columns { IfOk result (λ p. p.columns ≡ frame.columns) }
+    ensures frame { IfOk result (λ p. (p.number ≡ frame.number) × (p.line ≡ frame.line) × (p.columns ≡ frame.columns)) }
+    ensures arrows { IfOk result (λ p. AreArrows opened.entry.sources.now opened.entry.kept.now p.arrows.items) }
 {
     let Frame {
         number,
@@ -136,7 +139,10 @@ pub fn serial_picture<'a>(
     lines: Vec<&'a [u8]>,
     frame: Frame,
     serial: SerialLoop<'_>,
-) -> Result<LoopPicture<'a>, AllocError> {
+) -> Result<LoopPicture<'a>, AllocError>
+    ensures frame { IfOk result (λ p. (p.number ≡ frame.number) × (p.line ≡ frame.line) × (p.columns ≡ frame.columns)) }
+    ensures arrows { IfOk result (λ p. p.arrows.items ≡ []) }
+{
     let Frame {
         number,
         line,

@@ -63,7 +63,7 @@ text.made{fill:#555;stroke:none;font-style:italic}
 .colour1{fill:#56b4e9}
 .colour2{fill:#4cc9a0}
 .colour3{fill:#f0e442}
-.colour4{fill:#7fb2e5}
+.colour4{fill:#b3a8f0}
 .colour5{fill:#f08a4b}
 .colour6{fill:#e0a3c8}
 .label{text-anchor:middle;fill:#111;font-size:12px}
@@ -71,6 +71,7 @@ text.made{fill:#555;stroke:none;font-style:italic}
 .advanced{fill:#0072b2}
 .parked{fill:#d55e00}
 .retired{fill:#1a1a1a}
+.ended{fill:#b00020}
 @media (prefers-color-scheme:dark){
 .early{fill:#ff8a80}
 .bar{stroke:#14181c}
@@ -81,6 +82,7 @@ text.made{fill:#555;stroke:none;font-style:italic}
 .advanced{fill:#56b4e9}
 .parked{fill:#ff9a4d}
 .retired{fill:#eee}
+.ended{fill:#ff8a80}
 svg{background:#14181c}
 text{fill:#eee}
 .ground{fill:#14181c}

@@ -1,7 +1,7 @@
 use Rattle.std.proofs.Common.{◌≡◌, ◌∙◌, ap, ap₂, codes, rules}
 use Rattle.std.proofs.lemmas.Result.{IfOk-weaker}
 use Rattle.clap.specs.Words.{App, app_of, new_app, with_rule, with_subcommand}
-use Rattle.doac.specs.CommandLine.{check, list, seq, run, replay, upgrade, code, explain, input, number, whole_input, source, wants_subcommand}
+use Rattle.doac.specs.CommandLine.{check, list, seq, run, replay, upgrade, draw, timeline, code, explain, input, number, whole_input, source, wants_subcommand}
 use Rattle.doac.proofs.command_line.parser.Goals as goal
 
 pub returns : goal.returns
@@ -38,7 +38,9 @@ returns c =
     let with_run = c.in_ok-with_run.ensures ∙ ap (λ (a : App). with_subcommand a run.top) with_seq in
     let with_replay = c.in_ok-app-2.ensures.shape (search (rules, c.in_ok-replay.ensures.globals, c.in_ok-arg-4.ensures.globals, c.in_ok-arg-3.ensures.globals, c.about-4.ensures, c.new-4.ensures.local, c.source-4.ensures.local, c.whole_input.ensures.local, c.schedule.ensures.local)) ∙ ap₂ with_subcommand with_run (ap (λ (a : App). a.top) replay_is) in
     let with_upgrade = c.in_ok-with_upgrade.ensures ∙ ap (λ (a : App). with_subcommand a upgrade.top) with_replay in
-    let with_code = c.in_ok-with_code.ensures ∙ ap (λ (a : App). with_subcommand a code.top) with_upgrade in
+    let with_draw = c.in_ok-app-3.ensures ∙ ap (λ (a : App). with_subcommand a draw.top) with_upgrade in
+    let with_timeline = c.in_ok-app-4.ensures ∙ ap (λ (a : App). with_subcommand a timeline.top) with_draw in
+    let with_code = c.in_ok-with_code.ensures ∙ ap (λ (a : App). with_subcommand a code.top) with_timeline in
     IfOk-weaker c.subcommand-5.result _ _
     (λ made adds. adds.shape (search (rules, c.in_ok-explain.ensures.globals, c.in_ok-arg-5.ensures.globals, c.about-5.ensures, c.new-5.ensures.local, c.number.ensures.local, c.reason.ensures.local)) ∙ ap₂ with_subcommand with_code (ap (λ (a : App). a.top) explain_is))
     c.subcommand-5.ensures

@@ -1,0 +1,23 @@
+-- What is written of a picture.
+use Rattle.std.proofs.Common.{◌≡◌, ℕ, List, Option, Result, Ok, Err, IfOk, IfErr, subst, sym}
+use Rattle.std.specs.Prelude.{Vec}
+use Rattle.std.specs.Global.{Global}
+use Rattle.engines.specs.Drawn.{DrawWorks, WritesDrawn, WritesPart, WroteDrawn, WroteDrawnPart, drawn_status}
+use Rattle.engines.specs.Engines.{Gives, IsWriting, OfText}
+use Rattle.engines.specs.Schedules.{LeavesBoth}
+use Rattle.engines.specs.declared.drawn.Drawn.{Drawn}
+use Rattle.engines.specs.declared.fault.EngineFault.{EngineFault}
+use Rattle.engines.specs.declared.fault.EngineFault.TheVariants.{Source, Input, Schedule, Writing, Memory, OutOfRange, NotStarted, Stuck}
+
+pub of_written : (allows : Drawn → Type 0) (drawn : Drawn) (old new before after : Option (List ℕ)) (r : Result ℕ EngineFault) → allows drawn
+    → IfOk r (λ status. (status ≡ drawn_status drawn) × WritesDrawn drawn old new before after)
+    → IfErr r (λ fault. IsWriting fault × WritesPart drawn old new before after) → DrawWorks allows old new before after r
+of_written allows drawn old new before after (Ok status) allowed ok err = record { drawn = drawn; allowed = allowed; is = ok.0; written = ok.1 }
+of_written allows drawn old new before after (Err (Writing e)) allowed ok err = record { drawn = drawn; allowed = allowed; written = err.1 }
+of_written allows drawn old new before after (Err (Source e)) allowed ok err = absurd err.0
+of_written allows drawn old new before after (Err (Input e)) allowed ok err = absurd err.0
+of_written allows drawn old new before after (Err (Schedule e)) allowed ok err = absurd err.0
+of_written allows drawn old new before after (Err Memory) allowed ok err = absurd err.0
+of_written allows drawn old new before after (Err OutOfRange) allowed ok err = absurd err.0
+of_written allows drawn old new before after (Err NotStarted) allowed ok err = absurd err.0
+of_written allows drawn old new before after (Err Stuck) allowed ok err = absurd err.0

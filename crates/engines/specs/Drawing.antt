@@ -1,0 +1,61 @@
+-- What `draw` may write of a source text.
+use Rattle.std.specs.Prelude.{◌≡◌, ◌==◌, ◌-◌, ℕ, if◌then◌else◌, List, [], length, Option, None, Some, slice_get}
+use Rattle.ast.specs.Program.{ProgramTree}
+use Rattle.codegen.specs.declared.reports.LoopReport.{LoopReport}
+use Rattle.dependence.specs.declared.plan.LoopPlan.{LoopPlan}
+use Rattle.dependence.specs.declared.plan.LoopPlan.TheVariants.{Serial, Body}
+use Rattle.pictures.specs.Arrows.{IsDrawn}
+use Rattle.pictures.specs.Dependences.{AreArrows}
+use Rattle.pictures.specs.declared.picture.LoopPicture.{LoopPicture}
+use Rattle.engines.specs.Lists.{IsReported}
+use Rattle.engines.specs.Schedules.{IsNoCode}
+use Rattle.engines.specs.declared.drawing.Portion.{Portion}
+use Rattle.engines.specs.declared.drawn.Drawn.{Drawn}
+use Rattle.engines.specs.declared.drawn.Drawn.TheVariants.{Picture, Shown, NoLoop}
+use Rattle.engines.specs.declared.outcome.Outcome.{Outcome}
+use Rattle.engines.specs.declared.outcome.Outcome.TheVariants.{Refused}
+
+-- what is kept of a loop, by its report and its plan
+abbrev pub kept_of : LoopReport → LoopPlan → List (ℕ × ℕ × ℕ)
+kept_of r (Serial reason) = []
+kept_of r (Body body privates relations) = r.kept.items
+
+-- the report of the loop of a number, from 1
+abbrev pub report_of : List LoopReport → ℕ → Option LoopReport
+report_of reports n = if n == 0 then None else slice_get reports (n - 1)
+
+-- The text is a picture of so many iterations of the loop, with the arrows of what its report says is kept.
+pub record IsLoopPicture (p : Portion) (r : LoopReport) (text : List ℕ) : Type 0 where
+  pub picture : LoopPicture
+  pub number : picture.number ≡ p.number
+  pub line : picture.line ≡ r.line
+  pub columns : picture.columns ≡ p.columns
+  pub arrows : AreArrows r.sources.items (kept_of r r.plan) picture.arrows.items
+  pub drawn : IsDrawn picture text
+
+-- the source reads as a program that has code and such a loop, and the text is the loop's picture
+pub record IsDrawing (source : List ℕ) (p : Portion) (text : List ℕ) : Type 0 where
+  pub tree : ProgramTree
+  pub reports : List LoopReport
+  pub reported : IsReported source tree reports
+  pub report : LoopReport
+  pub is : report_of reports p.number ≡ Some report
+  pub picture : IsLoopPicture p report text
+
+-- the source reads as a program that has code, with so many loops, and none of this number
+pub record LacksLoop (source : List ℕ) (number count : ℕ) : Type 0 where
+  pub tree : ProgramTree
+  pub reports : List LoopReport
+  pub reported : IsReported source tree reports
+  pub none : report_of reports number ≡ None
+  pub loops : count ≡ length reports
+
+-- what `draw` comes to: a picture for OUT, what standard output has, or that there is no such loop
+abbrev pub Draws : (source : List ℕ) → Portion → Drawn → Type 0
+Draws source p (Picture text) = IsDrawing source p text.items
+Draws source p (Shown page) = IsRefusedPage page.outcome
+  where
+    IsRefusedPage : Outcome → Type 0
+    IsRefusedPage (Refused number line) = IsNoCode source number line page.text.items
+    IsRefusedPage _ = ⊥
+Draws source p (NoLoop count) = LacksLoop source p.number count

@@ -1,0 +1,43 @@
+-- What `timeline` may write of a source text, an input and the text of a schedule.
+use Rattle.std.specs.Prelude.{◌≡◌, ℕ, List, Some}
+use Rattle.ast.specs.Meaning.{seq}
+use Rattle.ast.specs.Program.{ProgramTree}
+use Rattle.machine.specs.Code.{Code}
+use Rattle.replay.specs.Replayed.{GivesNone}
+use Rattle.replay.specs.Replays.{Point, Replays}
+use Rattle.replay.specs.Schedules.{SchedText, Schedule}
+use Rattle.engines.specs.Schedules.{IsNoCode, IsNoSchedule, WithCode}
+use Rattle.engines.specs.declared.drawn.Drawn.{Drawn}
+use Rattle.engines.specs.declared.drawn.Drawn.TheVariants.{Picture, Shown, NoLoop}
+use Rattle.engines.specs.declared.outcome.Outcome.{Outcome}
+use Rattle.engines.specs.declared.outcome.Outcome.TheVariants.{Refused, NoSchedule}
+
+-- The text is a schedule's, which leads the code on the input where the sequential program ends.
+pub record IsTimed (tree : ProgramTree) (code : Code) (input schedule : List ℕ) : Type 0 where
+  pub run : Schedule
+  pub spelled : SchedText run schedule
+  pub point : Point
+  pub replays : Replays code input run point
+  pub ended : point.machine.ended ≡ Some (seq tree input).end
+
+-- what `timeline` comes to with code: a picture for OUT, where the schedule leads to the end of a run, or
+-- what standard output has
+abbrev pub ShowsTimeline : ProgramTree → Code → (input schedule : List ℕ) → Drawn → Type 0
+ShowsTimeline tree code input schedule (Picture text) = IsTimed tree code input schedule
+ShowsTimeline tree code input schedule (Shown page) = IsRefusedSchedule page.outcome
+  where
+    IsRefusedSchedule : Outcome → Type 0
+    IsRefusedSchedule (NoSchedule number line) = IsNoSchedule GivesNone code input schedule number line page.text.items
+    IsRefusedSchedule _ = ⊥
+ShowsTimeline tree code input schedule (NoLoop count) = ⊥
+
+-- what it comes to with a source
+abbrev pub Times : (source input schedule : List ℕ) → Drawn → Type 0
+Times source input schedule (Picture text) = WithCode source (λ tree code. IsTimed tree code input schedule)
+Times source input schedule (Shown page) = IsRefusedPage page.outcome
+  where
+    IsRefusedPage : Outcome → Type 0
+    IsRefusedPage (Refused number line) = IsNoCode source number line page.text.items
+    IsRefusedPage (NoSchedule number line) = WithCode source (λ tree code. IsNoSchedule GivesNone code input schedule number line page.text.items)
+    IsRefusedPage _ = ⊥
+Times source input schedule (NoLoop count) = ⊥

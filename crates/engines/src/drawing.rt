@@ -1,0 +1,270 @@
+//! Pictures of a program's loops.
+
+ghost use Rattle.std.specs.Prelude.{◌≡◌, IfOk, IfErr, option_map};
+ghost use Rattle.ast.specs.ProgramView.{program as program_of};
+ghost use Rattle.pictures.specs.Dependences.{AreArrows};
+ghost use Rattle.engines.specs.Drawing as spec;
+ghost use Rattle.engines.specs.Drawing.{Draws, IsLoopPicture, kept_of};
+ghost use Rattle.engines.specs.Drawn.{AfterSource, DrawWorks, WroteDrawn, WroteDrawnPart};
+ghost use Rattle.engines.specs.Engines.{LeavesReader, OfText};
+ghost use Rattle.engines.specs.Lists.{IsReported, IsSurvey};
+ghost use Rattle.engines.specs.Schedules.{LeavesBoth};
+
+use crate::drawn::Drawn;
+use crate::fault::{EngineFault, ReadFault};
+use crate::page::refused;
+use crate::serial::{Hindrance, hindrance_of};
+use crate::streams::read_all;
+use crate::survey::{Survey, surveyed};
+use ast::{Node, Program};
+use codegen::LoopReport;
+use dependence::{LoopPlan, PlanStmt};
+use loop_tree::{LoopTree, ScalarSet, loops};
+use pictures::{
+    Frame, LoopPicture, OpenLoop, SerialLoop, draw as draw_loop, lines_of, open_picture,
+    serial_picture,
+};
+use std::alloc::{AllocError, Global};
+use std::io::{Read, Write};
+
+/// Which loop of a program is drawn, and how much of it.
+#[derive(Clone, Copy, Debug, PartialEq, Eq)]
+pub struct Portion {
+    /// The loop's number, from 1.
+    pub number: usize,
+    /// How many iterations are drawn, 1 to 64.
+    pub columns: u64,
+}
+
+/// The report of the loop of a number, from 1.
+fn report_of(reports: &[LoopReport], number: usize) -> Option<&LoopReport>
+    ensures { option_map (λ r. r.now) result ≡ spec.report_of reports.now number }
+{
+    if number == 0 {
+        return None;
+    }
+    reports.get(number - 1)
+}
+
+/// The range of a program's loop, by its number.
+fn range_of<'p>(tree: &LoopTree<'p>, number: usize) -> &'p [Node] {
+    if number < 1 || number > tree.count() {
+        return &[];
+    }
+    tree.view(number).body()
+}
+
+/// What keeps the loop of a number serial, for a reason.
+fn hindrance(
+    alloc: Global,
+    tree: &LoopTree<'_>,
+    number: usize,
+    reason: u8,
+    reports: &[LoopReport],
+) -> Result<Option<Hindrance>, AllocError> {
+    if number < 1 || number > tree.count() {
+        return Ok(None);
+    }
+    hindrance_of(alloc, reason, &tree.view(number), reports)
+}
+
+/// A hindrance as a sentence.
+fn sentence(alloc: Global, hindrance: Option<Hindrance>) -> Result<Vec<u8>, AllocError> {
+    match hindrance {
+        Some(hindrance) => {
+            let told = format!(in alloc; "{hindrance}")?;
+            Vec::from_slice(alloc, told.as_bytes())
+        }
+        None => Ok(Vec::new(alloc)),
+    }
+}
+
+/// What there is to draw of a loop that stays serial for a reason.
+fn serial<'a>(
+    alloc: Global,
+    source: &'a [u8],
+    program: &Program,
+    reports: &[LoopReport],
+    frame: Frame,
+    reason: u8,
+) -> Result<LoopPicture<'a>, AllocError>
+    ensures frame { IfOk result (λ p. (p.number ≡ frame.number) × (p.line ≡ frame.line) × (p.columns ≡ frame.columns)) }
+    ensures arrows { IfOk result (λ p. p.arrows.items ≡ []) }
+{
+    let tree = loops(alloc, program)?;
+    let found = hindrance(alloc, &tree, frame.number, reason, reports)?;
+    let hindered = match found {
+        Some(hindrance) => hindrance.line_in_range(),
+        None => None,
+    };
+    let reason = sentence(alloc, found)?;
+    let serial = SerialLoop {
+        range: range_of(&tree, frame.number),
+        reason: &reason,
+        hindered,
+    };
+    serial_picture(alloc, lines_of(alloc, source)?, frame, serial)
+}
+
+/// What there is to draw of a loop whose iterations may overlap, by its report, the body of its plan
+/// and its private scalars.
+fn opened<'a>(
+    alloc: Global,
+    source: &'a [u8],
+    report: &LoopReport,
+    frame: Frame,
+    body: &[PlanStmt],
+    privates: &ScalarSet,
+) -> Result<LoopPicture<'a>, AllocError>
+    ensures frame { IfOk result (λ p. (p.number ≡ frame.number) × (p.line ≡ frame.line) × (p.columns ≡ frame.columns)) }
+    ensures arrows { IfOk result (λ p. AreArrows report.now.sources.items report.now.kept.items p.arrows.items) }
+{
+    let opened = OpenLoop {
+        body,
+        privates: &privates.names,
+        sources: &report.sources,
+        kept: &report.kept,
+    };
+    open_picture(alloc, lines_of(alloc, source)?, frame, opened)
+}
+
+/// What there is to draw of a loop, by its report.
+fn picture_of<'a>(
+    alloc: Global,
+    source: &'a [u8],
+    program: &Program,
+    reports: &[LoopReport],
+    report: &LoopReport,
+    portion: Portion,
+) -> Result<LoopPicture<'a>, AllocError>
+    ensures frame { IfOk result (λ p. (p.number ≡ portion.number) × (p.line ≡ report.now.line) × (p.columns ≡ portion.columns)) }
+    ensures arrows { IfOk result (λ p. AreArrows report.now.sources.items (kept_of report.now report.now.plan) p.arrows.items) }
+{
+    let frame = Frame {
+        number: portion.number,
+        line: report.line,
+        columns: portion.columns,
+    };
+    match &report.plan {
+        LoopPlan::Serial(reason) => serial(alloc, source, program, reports, frame, *reason),
+        LoopPlan::Body { body, privates, .. } => {
+            opened(alloc, source, report, frame, body, privates)
+        }
+    }
+}
+
+/// The text of the picture of a loop, by its report.
+fn text_of(
+    alloc: Global,
+    source: &[u8],
+    program: &Program,
+    reports: &[LoopReport],
+    report: &LoopReport,
+    portion: Portion,
+) -> Result<Vec<u8>, AllocError>
+    ensures { IfOk result (λ text. IsLoopPicture portion report.now text.items) }
+{
+    let picture = picture_of(alloc, source, program, reports, report, portion)?;
+    draw_loop(alloc, &picture)
+}
+
+/// What drawing one of a program's loops comes to, by their reports.
+fn drawn_loop(
+    alloc: Global,
+    source: &[u8],
+    program: &Program,
+    reports: &[LoopReport],
+    portion: Portion,
+) -> Result<Drawn, AllocError>
+    requires { IsReported source.now (program_of program.now) reports.now }
+    ensures { IfOk result (Draws source.now portion) }
+{
+    match report_of(reports, portion.number) {
+        Some(report) => {
+            Ok(Drawn::Picture(text_of(alloc, source, program, reports, report, portion)?))
+        }
+        None => Ok(Drawn::NoLoop(reports.len())),
+    }
+}
+
+/// What drawing one of a source's loops comes to, by a survey of them.
+fn drawn_survey(
+    alloc: Global,
+    source: &[u8],
+    survey: &Survey,
+    portion: Portion,
+) -> Result<Drawn, AllocError>
+    requires { IsSurvey source.now survey.now }
+    ensures { IfOk result (Draws source.now portion) }
+{
+    match survey {
+        Survey::Loops { program, reports } => {
+            drawn_loop(alloc, source, program, reports, portion)
+        }
+        Survey::Refused { number, line } => Ok(Drawn::Shown(refused(alloc, *number, *line)?)),
+    }
+}
+
+/// What drawing one of a source's loops comes to.
+pub fn draw_text(alloc: Global, source: &[u8], portion: Portion) -> Result<Drawn, AllocError>
+    ensures { IfOk result (Draws source.now portion) }
+{
+    let survey = surveyed(alloc, source)?;
+    drawn_survey(alloc, source, &survey, portion)
+}
+
+/// Draws one of a text's loops: writes the picture to `picture`, or where the text is refused the line that
+/// says why to `out`, and gives the exit status.
+fn draw_given<W: Write, V: Write>(
+    alloc: Global,
+    source: &[u8],
+    portion: Portion,
+    out: &mut W,
+    picture: &mut V,
+) -> Result<u8, EngineFault>
+    ensures { DrawWorks (Draws source.now portion) (W.contents out.old) (W.contents out.new) (V.contents picture.old) (V.contents picture.new) result }
+{
+    let drawn = draw_text(alloc, source, portion)?;
+    drawn.write(out, picture)
+}
+
+/// What `draw` makes of its read.
+fn draw_read<W: Write, V: Write>(
+    alloc: Global,
+    source: Result<Vec<u8>, ReadFault>,
+    portion: Portion,
+    out: &mut W,
+    picture: &mut V,
+) -> Result<u8, EngineFault>
+    ensures { AfterSource source (W.contents out.old) (W.contents out.new) (V.contents picture.old) (V.contents picture.new) result
+        (λ text. DrawWorks (Draws text portion) (W.contents out.old) (W.contents out.new) (V.contents picture.old) (V.contents picture.new) result) }
+{
+    let source = source.map_err(EngineFault::of_source)?;
+    draw_given(alloc, &source, portion, out, picture)
+}
+
+/// Draws one of a source's loops: writes the picture to `picture`, or where the source is refused the line
+/// that says why to `out`, and gives the exit status: 0, 1 for a source that is refused, by its text or for
+/// its code, 3 where it has no such loop, of which nothing is written.
+///
+/// # Errors
+///
+/// A fault of the source's reader, with nothing written; of one of the writers, with a beginning of its
+/// text written and nothing to the other; or of memory, with nothing written.
+pub fn draw<R: Read, W: Write, V: Write>(
+    alloc: Global,
+    source: &mut R,
+    portion: Portion,
+    out: &mut W,
+    picture: &mut V,
+) -> Result<u8, EngineFault>
+    ensures ok { IfOk result (λ status. OfText (R.remaining source.old) (λ text.
+        WroteDrawn (Draws text portion) (W.contents out.old) (W.contents out.new) (V.contents picture.old) (V.contents picture.new) status)) }
+    ensures err { IfErr result (λ fault. LeavesBoth fault (W.contents out.old) (W.contents out.new) (V.contents picture.old) (V.contents picture.new)
+        (OfText (R.remaining source.old) (λ text.
+        WroteDrawnPart (Draws text portion) (W.contents out.old) (W.contents out.new) (V.contents picture.old) (V.contents picture.new)))) }
+    ensures readers { IfErr result (λ fault. LeavesReader fault (R.remaining source.new)) }
+{
+    let read = read_all(alloc, source);
+    draw_read(alloc, read, portion, out, picture)
+}

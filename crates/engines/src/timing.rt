@@ -1,0 +1,197 @@
+//! Pictures of runs.
+
+ghost use Rattle.std.specs.Prelude.{◌≡◌, IfOk, IfErr, List, ℕ};
+ghost use Rattle.ast.specs.ProgramView.{program as program_of};
+ghost use Rattle.codegen.specs.Headline.{Headline};
+ghost use Rattle.machine.specs.CodeView.{code_of};
+ghost use Rattle.profile_check.specs.Reads.{Reads};
+ghost use Rattle.replay.specs.Schedules.{SchedText};
+ghost use Rattle.engines.specs.Drawn.{DrawWorks, WroteDrawn, WroteDrawnPart};
+ghost use Rattle.engines.specs.Reading.{LeavesThree, OfTexts};
+ghost use Rattle.engines.specs.Schedules.{LeavesBoth};
+ghost use Rattle.engines.specs.Timeline.{ShowsTimeline, Times};
+
+use crate::drawn::Drawn;
+use crate::driving::steps_alone;
+use crate::fault::EngineFault;
+use crate::page::{append_end, refused};
+use crate::replays::unscheduled;
+use crate::texts::read_three;
+use crate::verdict::{Verdict, judged};
+use crate::watching::watched;
+use ast::{End, Program};
+use bstr::ByteSlice;
+use codegen::{CompileRefusal, compile};
+use machine::Code;
+use pictures::{Ending, timeline as draw_run};
+use replay::{ReplayRefusal, Schedule, replay};
+use std::alloc::{AllocError, Global};
+use std::io::{Read, Write};
+
+/// How a run ended, in words.
+fn words(alloc: Global, end: End) -> Result<Vec<u8>, AllocError> {
+    let mut line = Vec::new(alloc);
+    append_end(&mut line, end, &mut [], false)?;
+    let mut words = Vec::from_slice(alloc, b"it came to END")?;
+    let told = line.as_slice().trim();
+    if !told.is_empty() {
+        words.clear();
+        words.extend_from_slice(b"it ended with ")?;
+        words.extend_from_slice(told)?;
+    }
+    Ok(words)
+}
+
+/// Whether a run ended with a fault or a STOP.
+fn is_early(end: End) -> bool {
+    match end {
+        End::Done => false,
+        End::Stopped(_) | End::Fault(_, _) => true,
+    }
+}
+
+/// The text of the picture of a run that a schedule leads to this end.
+fn text_of(
+    alloc: Global,
+    code: &Code,
+    input: &[u8],
+    schedule: &Schedule,
+    end: End,
+) -> Result<Vec<u8>, AllocError> {
+    let gathered = watched(alloc, code, input, schedule)?;
+    let words = words(alloc, end)?;
+    let ending = Ending {
+        words: &words,
+        early: is_early(end),
+        made: gathered.made(),
+        alone: steps_alone(alloc, code, input)?,
+    };
+    draw_run(alloc, &gathered, &ending)
+}
+
+/// What drawing the run of a schedule comes to.
+fn drawn_schedule(
+    alloc: Global,
+    program: &Program,
+    code: &Code,
+    input: &[u8],
+    schedule: &Schedule,
+    text: &[u8],
+) -> Result<Drawn, AllocError>
+    requires headline { Headline (code_of code.now) (program_of program.now) }
+    requires spelled { SchedText schedule.now text.now }
+    ensures { IfOk result (ShowsTimeline (program_of program.now) (code_of code.now) input.now text.now) }
+{
+    match replay(alloc, code, input, schedule) {
+        Ok(answer) => { Ok(Drawn::Picture(text_of(alloc, code, input, schedule, answer.end)?)) }
+        Err(ReplayRefusal::Refused { number, line }) => {
+            Ok(Drawn::Shown(unscheduled(alloc, number, line)?))
+        }
+        Err(ReplayRefusal::Memory) => Err(AllocError),
+    }
+}
+
+/// What drawing the run of a schedule's text comes to.
+fn drawn_code(
+    alloc: Global,
+    program: &Program,
+    code: &Code,
+    input: &[u8],
+    schedule: &[u8],
+) -> Result<Drawn, AllocError>
+    requires headline { Headline (code_of code.now) (program_of program.now) }
+    ensures { IfOk result (ShowsTimeline (program_of program.now) (code_of code.now) input.now schedule.now) }
+{
+    match Schedule::parse(alloc, schedule) {
+        Ok(read) => drawn_schedule(alloc, program, code, input, &read, schedule),
+        Err(ReplayRefusal::Refused { number, line }) => {
+            Ok(Drawn::Shown(unscheduled(alloc, number, line)?))
+        }
+        Err(ReplayRefusal::Memory) => Err(AllocError),
+    }
+}
+
+/// What drawing a run of a program comes to.
+fn drawn_program(
+    alloc: Global,
+    program: &Program,
+    input: &[u8],
+    schedule: &[u8],
+) -> Result<Drawn, AllocError>
+    ensures { IfOk result (λ drawn. (source : List ℕ) → Reads source (program_of program.now) → Times source input.now schedule.now drawn) }
+{
+    match compile(alloc, program) {
+        Ok(compiled) => drawn_code(alloc, program, &compiled.code, input, schedule),
+        Err(CompileRefusal::Refused { number, line }) => {
+            Ok(Drawn::Shown(refused(alloc, number, line)?))
+        }
+        Err(CompileRefusal::Memory) => Err(AllocError),
+    }
+}
+
+/// What drawing a run comes to, by a source, an input and the text of a schedule.
+pub fn timeline_texts(
+    alloc: Global,
+    source: &[u8],
+    input: &[u8],
+    schedule: &[u8],
+) -> Result<Drawn, AllocError>
+    ensures { IfOk result (Times source.now input.now schedule.now) }
+{
+    match judged(alloc, source)? {
+        Verdict::Accepted(program) => drawn_program(alloc, &program, input, schedule),
+        Verdict::Refused { number, line } => Ok(Drawn::Shown(refused(alloc, number, line)?)),
+    }
+}
+
+/// Draws a run: writes the picture to `picture`, or where there is none the line that says why to `out`,
+/// and gives the exit status.
+fn timeline_given<W: Write, V: Write>(
+    alloc: Global,
+    source: &[u8],
+    input: &[u8],
+    schedule: &[u8],
+    out: &mut W,
+    picture: &mut V,
+) -> Result<u8, EngineFault>
+    ensures { DrawWorks (Times source.now input.now schedule.now) (W.contents out.old) (W.contents out.new) (V.contents picture.old) (V.contents picture.new) result }
+{
+    let drawn = timeline_texts(alloc, source, input, schedule)?;
+    drawn.write(out, picture)
+}
+
+/// Draws the run of a source on an input that a schedule describes: writes the picture to `picture`, or
+/// where there is none the line that says why to `out`, and gives the exit status: 0, also of a run that
+/// comes to a fault, 1 for a source that is refused, by its text or for its code, 6 for a schedule that is
+/// refused. The readers are read as by [`replay`](crate::replay).
+///
+/// # Errors
+///
+/// A fault of one of the readers, with nothing written; of one of the writers, with a beginning of its
+/// text written and nothing to the other; or of memory, with nothing written.
+pub fn timeline<R: Read, I: Read, S: Read, W: Write, V: Write>(
+    alloc: Global,
+    source: &mut R,
+    input: &mut I,
+    schedule: &mut S,
+    out: &mut W,
+    picture: &mut V,
+) -> Result<u8, EngineFault>
+    ensures ok { IfOk result (λ status. OfTexts (R.remaining source.old) (I.remaining input.old) (S.remaining schedule.old) (λ text given picks.
+        WroteDrawn (Times text given picks) (W.contents out.old) (W.contents out.new) (V.contents picture.old) (V.contents picture.new) status)) }
+    ensures err { IfErr result (λ fault. LeavesBoth fault (W.contents out.old) (W.contents out.new) (V.contents picture.old) (V.contents picture.new)
+        (OfTexts (R.remaining source.old) (I.remaining input.old) (S.remaining schedule.old) (λ text given picks.
+        WroteDrawnPart (Times text given picks) (W.contents out.old) (W.contents out.new) (V.contents picture.old) (V.contents picture.new)))) }
+    ensures readers { IfErr result (λ fault.
+        LeavesThree fault (R.remaining source.new) (I.remaining input.old) (I.remaining input.new) (S.remaining schedule.old) (S.remaining schedule.new)) }
+{
+    let texts = read_three(alloc, source, input, schedule)?;
+    timeline_given(
+        alloc,
+        &texts.source,
+        &texts.input,
+        &texts.schedule,
+        out,
+        picture,
+    )
+}

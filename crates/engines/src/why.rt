@@ -1,0 +1,233 @@
+//! Why iterations of a loop wait for one another, or needn't, in words.
+
+use crate::early::early_use;
+use crate::serial::hindrance_of;
+use crate::shown::append_number;
+use crate::spelled::append_reference;
+use ast::{Line, Name, RefId};
+use codegen::LoopReport;
+use dependence::{LoopPlan, Reason, Relation};
+use loop_tree::{LoopTree, LoopView, Occurrence};
+use std::alloc::{AllocError, Global};
+
+/// Two references that were looked at, the first in an iteration and the second in a later one.
+#[derive(Clone, Copy)]
+struct Pair<'p> {
+    first: Occurrence<'p>,
+    first_line: Line,
+    second: Occurrence<'p>,
+    second_line: Line,
+    relation: Relation,
+}
+
+/// The references of these numbers, if there are such.
+fn pair_of<'p>(
+    tree: &LoopTree<'p>,
+    first: RefId,
+    second: RefId,
+    relation: Relation,
+) -> Option<Pair<'p>> {
+    let first = *tree.references().get(first.0)?;
+    let second = *tree.references().get(second.0)?;
+    Some(Pair {
+        first,
+        first_line: *tree.lines().get(first.statement)?,
+        second,
+        second_line: *tree.lines().get(second.statement)?,
+        relation,
+    })
+}
+
+fn append_occurrence(
+    out: &mut Vec<u8>,
+    occurrence: &Occurrence<'_>,
+    line: Line,
+) -> Result<(), AllocError> {
+    append_reference(out, &occurrence.reference.name, occurrence.subscripts)?;
+    out.extend_from_slice(b" of line ")?;
+    append_number(out, line)
+}
+
+/// What an iteration does at the first reference, and a later one at the second.
+fn deeds(pair: &Pair<'_>) -> (&'static [u8], &'static [u8]) {
+    match (pair.first.defines, pair.second.defines) {
+        (true, false) => (b"gives", b"reads"),
+        (false, _) => (b"reads", b"overwrites"),
+        (true, true) => (b"gives", b"overwrites"),
+    }
+}
+
+/// Appends that a later iteration needs what an iteration does, so many iterations before.
+fn append_need(out: &mut Vec<u8>, pair: &Pair<'_>, distance: u128) -> Result<(), AllocError> {
+    let (does, did) = deeds(pair);
+    out.extend_from_slice(b"iteration k ")?;
+    out.extend_from_slice(does)?;
+    out.extend_from_slice(b" what iteration k+")?;
+    append_number(out, distance)?;
+    out.extend_from_slice(b" ")?;
+    out.extend_from_slice(did)
+}
+
+/// Appends that a later iteration may need what an iteration does.
+fn append_doubt(out: &mut Vec<u8>, pair: &Pair<'_>) -> Result<(), AllocError> {
+    let (does, did) = deeds(pair);
+    out.extend_from_slice(b"what iteration k ")?;
+    out.extend_from_slice(does)?;
+    out.extend_from_slice(b" a later one perhaps ")?;
+    out.extend_from_slice(did)?;
+    out.extend_from_slice(b"; no test says which")
+}
+
+/// The test by which two references are apart.
+fn test(reason: Reason) -> &'static [u8] {
+    match reason {
+        Reason::Constant => b"constant test",
+        Reason::Divisor => b"divisor test",
+        Reason::Distance => b"distance test",
+        Reason::Range => b"range test",
+    }
+}
+
+/// Appends a dimension.
+fn append_dimension(out: &mut Vec<u8>, dimension: usize) -> Result<(), AllocError> {
+    out.extend_from_slice(b" in dimension ")?;
+    append_number(out, dimension)
+}
+
+/// Appends what two references are to one another, and which test says so.
+fn append_relation(out: &mut Vec<u8>, pair: &Pair<'_>) -> Result<(), AllocError> {
+    match pair.relation {
+        Relation::Apart(dimension, reason) => {
+            out.extend_from_slice(b"they never meet; ")?;
+            out.extend_from_slice(test(reason))?;
+            append_dimension(out, dimension)
+        }
+        Relation::Distance(dimension, distance) => {
+            append_need(out, pair, distance)?;
+            out.extend_from_slice(b"; distance test")?;
+            append_dimension(out, dimension)
+        }
+        Relation::Any if pair.first.subscripts.is_empty() => {
+            append_need(out, pair, 1)?;
+            out.extend_from_slice(b"; the scalar isn't private")
+        }
+        Relation::Any => append_doubt(out, pair),
+    }
+}
+
+/// Appends the lines of two references.
+fn append_pair(out: &mut Vec<u8>, pair: &Pair<'_>) -> Result<(), AllocError> {
+    out.extend_from_slice(b"  ")?;
+    append_occurrence(out, &pair.first, pair.first_line)?;
+    out.extend_from_slice(b" and ")?;
+    append_occurrence(out, &pair.second, pair.second_line)?;
+    out.extend_from_slice(b":\n    ")?;
+    append_relation(out, pair)?;
+    out.extend_from_slice(b"\n")
+}
+
+/// Whether something is kept of two references.
+fn is_kept(relation: Relation) -> bool {
+    match relation {
+        Relation::Apart(_, _) => false,
+        Relation::Distance(_, _) | Relation::Any => true,
+    }
+}
+
+/// Appends the lines of the pairs of which something is kept, or of the others.
+fn append_pairs(
+    out: &mut Vec<u8>,
+    tree: &LoopTree<'_>,
+    relations: &[(RefId, RefId, Relation)],
+    kept: bool,
+) -> Result<(), AllocError> {
+    for (first, second, relation) in relations {
+        if is_kept(*relation) == kept {
+            if let Some(pair) = pair_of(tree, *first, *second, *relation) {
+                append_pair(out, &pair)?;
+            }
+        }
+    }
+    Ok(())
+}
+
+/// Appends why a scalar isn't private, if a path uses it before it gives it a value.
+fn append_shared(out: &mut Vec<u8>, view: &LoopView<'_, '_>, name: Name) -> Result<(), AllocError> {
+    let Some(line) = early_use(view.body(), name) else {
+        return Ok(());
+    };
+    out.extend_from_slice(b"  ")?;
+    out.extend_from_slice(name.trimmed())?;
+    out.extend_from_slice(b" isn't private: a path uses it in line ")?;
+    append_number(out, line)?;
+    out.extend_from_slice(b" before it gives it a value\n")
+}
+
+/// Appends why scalars that the range gives values aren't private.
+fn append_all_shared(
+    out: &mut Vec<u8>,
+    view: &LoopView<'_, '_>,
+    privates: &[Name],
+) -> Result<(), AllocError> {
+    for reference in view.assigned() {
+        if !privates.contains(&reference.name) {
+            append_shared(out, view, reference.name)?;
+        }
+    }
+    Ok(())
+}
+
+/// Appends why a loop stays serial.
+fn append_serial(
+    alloc: Global,
+    out: &mut Vec<u8>,
+    reason: u8,
+    view: &LoopView<'_, '_>,
+    reports: &[LoopReport],
+) -> Result<(), AllocError> {
+    let Some(hindrance) = hindrance_of(alloc, reason, view, reports)? else {
+        return Ok(());
+    };
+    let told = format!(in alloc; "  it stays serial: {hindrance}\n")?;
+    out.extend_from_slice(told.as_bytes())
+}
+
+/// Appends the lines that say why iterations of the loop of a view wait for one another, or needn't, or
+/// why it stays serial.
+fn append_why_of(
+    alloc: Global,
+    out: &mut Vec<u8>,
+    tree: &LoopTree<'_>,
+    view: &LoopView<'_, '_>,
+    report: &LoopReport,
+    reports: &[LoopReport],
+) -> Result<(), AllocError> {
+    match &report.plan {
+        LoopPlan::Serial(reason) => append_serial(alloc, out, *reason, view, reports),
+        LoopPlan::Body {
+            privates,
+            relations,
+            ..
+        } => {
+            append_pairs(out, tree, relations, true)?;
+            append_pairs(out, tree, relations, false)?;
+            append_all_shared(out, view, &privates.names)
+        }
+    }
+}
+
+/// The lines that say why a loop is as its report says, by its number.
+pub fn why(
+    alloc: Global,
+    tree: &LoopTree<'_>,
+    number: usize,
+    report: &LoopReport,
+    reports: &[LoopReport],
+) -> Result<Vec<u8>, AllocError> {
+    let mut lines = Vec::new(alloc);
+    if number < 1 || number > tree.count() {
+        return Ok(lines);
+    }
+    append_why_of(alloc, &mut lines, tree, &tree.view(number), report, reports)?;
+    Ok(lines)
+}
