@@ -3,9 +3,14 @@
 
 mod command;
 mod command_line;
+mod fault;
 mod files;
+mod host_files;
 mod program;
+mod schedules;
+mod sources;
 mod threads;
+mod told;
 
 use std::process::ExitCode;
 

@@ -1,8 +1,9 @@
 use Rattle.std.proofs.Common.{◌≡◌, rules, subst}
 use Rattle.engines.specs.Schedules.{Upgrading}
 use Rattle.engines.specs.declared.replays.Upgraded.TheVariants.{Text, Shown}
+use Rattle.doac.specs.Deeds.{GivesFile}
 use Rattle.doac.proofs.Upgrading.{of_page, of_text}
-use Rattle.doac.proofs.program.upgrade_read.Goals as goal
+use Rattle.doac.proofs.schedules.upgrade_read.Goals as goal
 
 pub returns-in-Ok-Text : goal.returns-in-Ok-Text
 returns-in-Ok-Text g c =
@@ -15,7 +16,9 @@ returns-in-Ok-Text g c =
     let third : c.deref-3.result.now ≡ t.schedule.items = search rules in
     let allowed : Upgrading t.source.items t.input.items t.schedule.items u =
     subst (λ x. Upgrading x t.input.items t.schedule.items u) first (subst (λ y. Upgrading c.deref.result.now y t.schedule.items u) second (subst (λ z. Upgrading c.deref.result.now c.deref-2.result.now z u) third base)) in
-    of_text t.source.items t.input.items t.schedule.items c.in-Ok-Text.text c.status_of_write.result allowed c.status_of_write.ensures
+    let text : c.deref-in-Ok-Text.result.now ≡ c.in-Ok-Text.text.items = search rules in
+    of_text _ t.source.items t.input.items t.schedule.items c.in-Ok-Text.text (g.F.NamedFiles.done c.args.files.now) (g.F.NamedFiles.done c.upgrade_onto.new.files) (g.W.Write.contents c.args.out.now) c.upgrade_onto.result allowed
+    (subst (λ b. GivesFile c.args.onto.now b (g.F.NamedFiles.done c.args.files.now) (g.F.NamedFiles.done c.upgrade_onto.new.files) c.upgrade_onto.result) text c.upgrade_onto.ensures)
 
 pub returns-in-Ok-Shown : goal.returns-in-Ok-Shown
 returns-in-Ok-Shown g c =
@@ -28,4 +31,4 @@ returns-in-Ok-Shown g c =
     let third : c.deref-3.result.now ≡ t.schedule.items = search rules in
     let allowed : Upgrading t.source.items t.input.items t.schedule.items u =
     subst (λ x. Upgrading x t.input.items t.schedule.items u) first (subst (λ y. Upgrading c.deref.result.now y t.schedule.items u) second (subst (λ z. Upgrading c.deref.result.now c.deref-2.result.now z u) third base)) in
-    of_page t.source.items t.input.items t.schedule.items c.in-Ok-Shown.page c.write-outcome.result c.tell_of.result _ _ allowed c.tell_of.ensures c.write-outcome.ensures.ok c.write-outcome.ensures.err
+    of_page _ t.source.items t.input.items t.schedule.items c.in-Ok-Shown.page _ _ _ _ allowed c.upgrade_shown.ensures
