@@ -106,7 +106,8 @@ fn say_line<R: Eprint + AllocGlobal>(rt: &R, fault: &LineFault) {
     }
 }
 
-fn obey<R: Print + Eprint + AllocGlobal + Threads + Wait + Sync, F: NamedFiles, W: Write>(
+/// Does what a command asks for.
+pub fn obey<R: Print + Eprint + AllocGlobal + Threads + Wait + Sync, F: NamedFiles, W: Write>(
     rt: &R,
     files: &mut F,
     out: &mut W,
