@@ -1,4 +1,5 @@
-//! What no clause says of the commands: that they succeed, and which call is the last where one fails.
+//! What no clause says of the commands: that they succeed, and which call is the last where one
+//! fails.
 
 use crate::command::{Command, Threaded};
 use crate::fault::FileFault;
@@ -92,8 +93,8 @@ struct Case {
     put: Option<&'static [u8]>,
 }
 
-/// The commands. The schedule and what becomes of it are worked by hand in the pages; that of a run is
-/// another one each time.
+/// The commands. The schedule and what becomes of it are worked by hand in the pages; that of a run
+/// is another one each time.
 const CASES: [Case; 6] = [
     Case {
         command: Command::Check("five.f"),
