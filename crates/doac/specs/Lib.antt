@@ -1,3 +1,5 @@
-pub mod CommandLine
 pub mod Commands
+pub mod CommandLine
+pub mod Deeds
+pub mod Running
 pub mod Statuses

@@ -1,68 +1,133 @@
-//! Pictures that are written to files.
+//! `draw` and `timeline`: pictures that are written to files.
 
-ghost use Rattle.std.specs.Prelude.{◌≡◌, List, ℕ};
+ghost use Rattle.std.specs.Prelude.{◌≡◌, ◌∷◌, []};
 ghost use Rattle.engines.specs.Drawing.{Draws};
 ghost use Rattle.engines.specs.Timeline.{Times};
-ghost use Rattle.engines.specs.declared.texts.Texts.{Texts};
-ghost use Rattle.doac.specs.Statuses.{AfterFile, AfterFiles, DrawEnds, EndsAs};
+ghost use Rattle.doac.specs.Commands.{DrawsFile, TimesFiles};
+ghost use Rattle.doac.specs.Deeds.{AfterCompare, AfterFile, AfterTexts, ReadsFile, ReadsTexts, got};
+ghost use Rattle.doac.specs.Statuses.{DeliversDrawn, Ends, EndsDraw, IsPage};
 
-use crate::files::{FileFault, Names, Unread, is_one_of, read_file, read_texts, replace_file};
-use crate::program::{refuse_file, refuse_out, status_of_write, tell, tell_of};
-use engines::{Drawn, EngineFault, Place, Portion, Texts, draw_text, timeline_texts};
-use std::io;
-use std::rt::Files;
+use crate::fault::FileFault;
+use crate::files::{NamedFiles, Names, Unread, read_texts};
+use crate::schedules::{give_file, show_page};
+use crate::told::{refuse_file, refuse_out, tell, tell_of};
+use engines::{Drawn, EngineFault, Page, Place, Portion, Texts, draw_text, timeline_texts};
+use std::io::Write;
 
-/// Draws a loop of the source of a file, and writes the picture to another file.
-pub fn draw_files<R: Files + Input + Print + Eprint + AllocGlobal>(
+/// Draws a loop of the source of a file, and writes the picture to the file `onto`, if that is another
+/// one.
+pub fn draw_files<R: Eprint + AllocGlobal, F: NamedFiles, W: Write>(
     rt: &R,
-    source: &str,
-    out: &str,
+    files: &mut F,
+    out: &mut W,
+    name: &str,
+    onto: &str,
     portion: Portion,
 ) -> u8
-    ensures { EndsAs result ((text : List ℕ) × DrawEnds (Draws text portion) result) }
+    ensures { DrawsFile name.now onto.now portion
+        (F.done files.old) (F.done files.new) (W.contents out.old) (W.contents out.new) result }
 {
-    if is_one_of(rt, out, &[source]) {
-        return refuse_out(rt, out);
+    let is_read = files.is_one_of(onto, &[name]);
+    draw_unless(rt, files, out, name, onto, portion, is_read)
+}
+
+/// The same, where it is known whether the file `onto` is read.
+fn draw_unless<R: Eprint + AllocGlobal, F: NamedFiles, W: Write>(
+    rt: &R,
+    files: &mut F,
+    out: &mut W,
+    name: &str,
+    onto: &str,
+    portion: Portion,
+    is_read: bool,
+) -> u8
+    ensures { AfterCompare is_read
+        (F.done files.old) (F.done files.new) (W.contents out.old) (W.contents out.new) result
+        (ReadsFile name.now
+        (F.done files.old) (F.done files.new) (W.contents out.old) (W.contents out.new) result
+        (λ done text. EndsDraw onto.now (Draws text portion)
+        done (F.done files.new) (W.contents out.old) (W.contents out.new) result)) }
+{
+    if is_read {
+        return refuse_out(rt, onto);
     }
-    let text = read_file(rt, source);
-    draw_given(rt, source, out, portion, text)
+    let text = files.read(name);
+    draw_given(rt, files, out, name, onto, portion, text)
 }
 
 /// What `draw` makes of the bytes of its file.
-fn draw_given<R: Files + Print + Eprint + AllocGlobal>(
+fn draw_given<R: Eprint + AllocGlobal, F: NamedFiles, W: Write>(
     rt: &R,
+    files: &mut F,
+    out: &mut W,
     name: &str,
-    out: &str,
+    onto: &str,
     portion: Portion,
     text: Result<Vec<u8>, FileFault>,
 ) -> u8
-    ensures { AfterFile text result (λ text. EndsAs result (DrawEnds (Draws text portion) result)) }
+    ensures { AfterFile (got text)
+        (F.done files.old) (F.done files.new) (W.contents out.old) (W.contents out.new) result
+        (λ text. EndsDraw onto.now (Draws text portion)
+        (F.done files.old) (F.done files.new) (W.contents out.old) (W.contents out.new) result) }
 {
     match text {
-        Ok(text) => draw_source(rt, name, out, portion, &text),
+        Ok(text) => draw_source(rt, files, out, name, onto, portion, &text),
         Err(fault) => refuse_file(rt, name, &fault),
     }
 }
 
 /// Draws a loop of the text of a file; standard error has its message.
-fn draw_source<R: Files + Print + Eprint + AllocGlobal>(
+fn draw_source<R: Eprint + AllocGlobal, F: NamedFiles, W: Write>(
     rt: &R,
+    files: &mut F,
+    out: &mut W,
     name: &str,
-    out: &str,
+    onto: &str,
     portion: Portion,
     text: &[u8],
 ) -> u8
-    ensures { EndsAs result (DrawEnds (Draws text.now portion) result) }
+    ensures { EndsDraw onto.now (Draws text.now portion)
+        (F.done files.old) (F.done files.new) (W.contents out.old) (W.contents out.new) result }
 {
     match draw_text(rt.alloc(), text, portion) {
-        Ok(Drawn::Picture(picture)) => { status_of_write(rt, out, replace_file(rt, out, &picture)) }
-        Ok(Drawn::Shown(page)) => {
-            let outcome = page.write(&mut io::writer(rt));
-            tell(rt, name, text, outcome)
-        }
-        Ok(Drawn::NoLoop(count)) => refuse_loop(rt, name, portion.number, count),
+        Ok(drawn) => deliver(rt, files, out, name, onto, portion.number, text, &drawn),
         Err(_) => tell(rt, name, text, Err(EngineFault::Memory)),
     }
+}
+
+/// Writes what drawing a loop of a text came to.
+fn deliver<R: Eprint + AllocGlobal, F: NamedFiles, W: Write>(
+    rt: &R,
+    files: &mut F,
+    out: &mut W,
+    name: &str,
+    onto: &str,
+    number: usize,
+    text: &[u8],
+    drawn: &Drawn,
+) -> u8
+    ensures { DeliversDrawn onto.now drawn.now
+        (F.done files.old) (F.done files.new) (W.contents out.old) (W.contents out.new) result }
+{
+    match drawn {
+        Drawn::Picture(picture) => give_file(rt, files, onto, picture),
+        Drawn::Shown(page) => show_refusal(rt, out, name, text, page),
+        Drawn::NoLoop(count) => refuse_loop(rt, name, number, *count),
+    }
+}
+
+/// Writes why there is no picture of a loop.
+fn show_refusal<R: Eprint + AllocGlobal, W: Write>(
+    rt: &R,
+    out: &mut W,
+    name: &str,
+    text: &[u8],
+    page: &Page,
+) -> u8
+    ensures { Ends (IsPage page.now) (W.contents out.old) (W.contents out.new) result }
+{
+    let outcome = page.write(out);
+    tell(rt, name, text, outcome)
 }
 
 /// Says on standard error that a source has no loop of a number, but so many, and gives the exit status.
@@ -83,52 +148,101 @@ fn refuse_loop<R: Eprint>(rt: &R, name: &str, number: usize, count: usize) -> u8
     3
 }
 
-/// Draws the run that the schedule of a file describes, and writes the picture to another file.
-pub fn timeline_files<R: Files + Input + Print + Eprint + AllocGlobal>(
+/// Draws the run that the schedule of a file describes, and writes the picture to the file `onto`, if
+/// that is none of those that are read.
+pub fn timeline_files<R: Eprint + AllocGlobal, F: NamedFiles, W: Write>(
     rt: &R,
+    files: &mut F,
+    out: &mut W,
     names: Names<'_>,
-    out: &str,
+    onto: &str,
 ) -> u8
-    ensures { EndsAs result ((texts : Texts) × DrawEnds (Times texts.source.items texts.input.items texts.schedule.items) result) }
+    ensures { TimesFiles
+        names.entry.source.now names.entry.input.now names.entry.schedule.now onto.now
+        (F.done files.old) (F.done files.new) (W.contents out.old) (W.contents out.new) result }
 {
-    if is_one_of(rt, out, &[names.source, names.input, names.schedule]) {
-        return refuse_out(rt, out);
+    let is_read = files.is_one_of(onto, &[names.source, names.input, names.schedule]);
+    timeline_unless(rt, files, out, names, onto, is_read)
+}
+
+/// The same, where it is known whether the file `onto` is read.
+fn timeline_unless<R: Eprint + AllocGlobal, F: NamedFiles, W: Write>(
+    rt: &R,
+    files: &mut F,
+    out: &mut W,
+    names: Names<'_>,
+    onto: &str,
+    is_read: bool,
+) -> u8
+    ensures { AfterCompare is_read
+        (F.done files.old) (F.done files.new) (W.contents out.old) (W.contents out.new) result
+        (ReadsTexts names.entry.source.now names.entry.input.now names.entry.schedule.now
+        (F.done files.old) (F.done files.new) (W.contents out.old) (W.contents out.new) result
+        (λ done text given picks. EndsDraw onto.now (Times text given picks)
+        done (F.done files.new) (W.contents out.old) (W.contents out.new) result)) }
+{
+    if is_read {
+        return refuse_out(rt, onto);
     }
-    let texts = read_texts(rt, names);
-    timeline_given(rt, names, out, texts)
+    let texts = read_texts(files, names);
+    timeline_given(rt, files, out, names, onto, texts)
 }
 
 /// What `timeline` makes of the bytes of its files.
-fn timeline_given<R: Files + Print + Eprint + AllocGlobal>(
+fn timeline_given<R: Eprint + AllocGlobal, F: NamedFiles, W: Write>(
     rt: &R,
+    files: &mut F,
+    out: &mut W,
     names: Names<'_>,
-    out: &str,
+    onto: &str,
     texts: Result<Texts, Unread<'_>>,
 ) -> u8
-    ensures { AfterFiles texts.entry result (λ texts. EndsAs result (DrawEnds (Times texts.source.items texts.input.items texts.schedule.items) result)) }
+    ensures { AfterTexts texts.entry
+        (F.done files.old) (F.done files.new) (W.contents out.old) (W.contents out.new) result
+        (λ text given picks. EndsDraw onto.now (Times text given picks)
+        (F.done files.old) (F.done files.new) (W.contents out.old) (W.contents out.new) result) }
 {
     match texts {
-        Ok(texts) => timeline_read(rt, names, out, &texts),
+        Ok(texts) => timeline_read(rt, files, out, names, onto, &texts),
         Err(Unread { name, fault }) => refuse_file(rt, name, &fault),
     }
 }
 
 /// Draws the run that a schedule describes; standard error has its message.
-fn timeline_read<R: Files + Print + Eprint + AllocGlobal>(
+fn timeline_read<R: Eprint + AllocGlobal, F: NamedFiles, W: Write>(
     rt: &R,
+    files: &mut F,
+    out: &mut W,
     names: Names<'_>,
-    out: &str,
+    onto: &str,
     texts: &Texts,
 ) -> u8
-    ensures { EndsAs result (DrawEnds (Times texts.now.source.items texts.now.input.items texts.now.schedule.items) result) }
+    ensures { EndsDraw onto.now
+        (Times texts.now.source.items texts.now.input.items texts.now.schedule.items)
+        (F.done files.old) (F.done files.new) (W.contents out.old) (W.contents out.new) result }
 {
     match timeline_texts(rt.alloc(), &texts.source, &texts.input, &texts.schedule) {
-        Ok(Drawn::Picture(picture)) => { status_of_write(rt, out, replace_file(rt, out, &picture)) }
-        Ok(Drawn::Shown(page)) => {
-            let outcome = page.write(&mut io::writer(rt));
-            tell_of(rt, names, texts, outcome)
-        }
-        Ok(Drawn::NoLoop(_)) => 3,
+        Ok(drawn) => deliver_run(rt, files, out, names, onto, texts, &drawn),
         Err(_) => tell_of(rt, names, texts, Err(EngineFault::Memory)),
+    }
+}
+
+/// Writes what drawing a run came to.
+fn deliver_run<R: Eprint + AllocGlobal, F: NamedFiles, W: Write>(
+    rt: &R,
+    files: &mut F,
+    out: &mut W,
+    names: Names<'_>,
+    onto: &str,
+    texts: &Texts,
+    drawn: &Drawn,
+) -> u8
+    ensures { DeliversDrawn onto.now drawn.now
+        (F.done files.old) (F.done files.new) (W.contents out.old) (W.contents out.new) result }
+{
+    match drawn {
+        Drawn::Picture(picture) => give_file(rt, files, onto, picture),
+        Drawn::Shown(page) => show_page(rt, out, names, texts, page),
+        Drawn::NoLoop(_) => 3,
     }
 }

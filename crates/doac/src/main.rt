@@ -5,9 +5,16 @@ mod code_file;
 mod command;
 mod command_line;
 mod drawings;
+mod fault;
 mod files;
+mod host_files;
 mod program;
+mod schedules;
+mod sources;
+#[cfg(test)]
+mod tests;
 mod threads;
+mod told;
 
 use std::process::ExitCode;
 

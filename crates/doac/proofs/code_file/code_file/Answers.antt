@@ -1,7 +1,5 @@
-use Rattle.engines.specs.Coded.{ShowsCode}
-use Rattle.doac.specs.Statuses.{HasStatus}
-use Rattle.doac.proofs.Statuses.{after_file}
+use Rattle.doac.proofs.Reading.{read_last}
 use Rattle.doac.proofs.code_file.code_file.Goals as goal
 
 pub returns : goal.returns
-returns g c = after_file c.read_file-text.result c.code_given.result (λ text. HasStatus (ShowsCode text) c.code_given.result) c.code_given.ensures
+returns g c = read_last _ _ _ _ _ _ _ _ c.read-text.ensures (c.code_given.ensures _)
