@@ -9,10 +9,10 @@ ghost use Rattle.doac.specs.Statuses.{Ends};
 
 use crate::fault::FileFault;
 use crate::files::NamedFiles;
-use crate::told::{refuse_file, tell, warn_of_run};
+use crate::told::{refuse_file, tell, tell_noted, warn_of_run};
 use engines::{
-    EngineFault, Survey, Verdict, judged, say_why_serial, seq_texts, surveyed, tell_further,
-    tell_survey, tell_verdict, warn,
+    EngineFault, Sequential, Survey, Verdict, judged, say_why_serial, seq_noted, surveyed,
+    tell_further, tell_survey, tell_verdict, warn,
 };
 use std::io::Write;
 
@@ -217,7 +217,7 @@ fn seq_source<R: Eprint + AllocGlobal, W: Write>(
     ensures { Ends (Runs store text.now input.now)
         (W.contents out.old) (W.contents out.new) result }
 {
-    let outcome = seq_texts(rt.alloc(), text, input, store, out);
-    warn_of_run(rt, name, text, &outcome);
-    tell(rt, name, text, outcome)
+    let Sequential { came, note } = seq_noted(rt.alloc(), text, input, store, out);
+    warn_of_run(rt, name, text, &came);
+    tell_noted(rt, name, text, came, note)
 }

@@ -6,7 +6,7 @@ ghost use Rattle.doac.specs.Statuses.{OfPrint, exit_of};
 
 use crate::fault::FileFault;
 use crate::files::Names;
-use engines::{EngineFault, Message, Outcome, Place, Texts, warn_of_columns};
+use engines::{EngineFault, Message, Met, Note, Outcome, Place, Texts, warn_of_columns};
 use std::io;
 
 /// Says that writing failed; where nobody reads any more nobody needs to know.
@@ -112,10 +112,23 @@ pub fn tell<R: Eprint + AllocGlobal>(
 ) -> u8
     ensures { result ≡ exit_of outcome }
 {
+    tell_noted(rt, name, text, outcome, None)
+}
+
+/// The same, with what is known beside the line.
+pub fn tell_noted<R: Eprint + AllocGlobal>(
+    rt: &R,
+    name: &str,
+    text: &[u8],
+    outcome: Result<Outcome, EngineFault>,
+    note: Option<Note>,
+) -> u8
+    ensures { result ≡ exit_of outcome }
+{
     match outcome {
         Ok(outcome) => {
             if let Some(message) = Message::of(rt.alloc(), name, text, outcome) {
-                let _ = rt.eprint(message);
+                let _ = rt.eprint(message.with_note(note));
             }
             outcome.status()
         }
@@ -123,6 +136,19 @@ pub fn tell<R: Eprint + AllocGlobal>(
             say_fault(rt, &fault);
             fault.status()
         }
+    }
+}
+
+/// Why the entry in a line of a schedule can't be made, where the schedule is refused for that.
+fn obstacle<R: AllocGlobal>(rt: &R, texts: &Texts, number: u8, line: usize) -> Option<Note> {
+    let Texts {
+        source,
+        input,
+        schedule,
+    } = texts;
+    match number {
+        54 | 56 => Met::of(rt.alloc(), source, input, schedule, line).map(Note::Obstacle),
+        _ => None,
     }
 }
 
@@ -138,7 +164,8 @@ pub fn tell_of<R: Eprint + AllocGlobal>(
     match outcome {
         Ok(Outcome::NoSchedule { number, line }) => {
             let outcome = Outcome::NoSchedule { number, line };
-            tell(rt, names.schedule, &texts.schedule, Ok(outcome))
+            let note = obstacle(rt, texts, number, line);
+            tell_noted(rt, names.schedule, &texts.schedule, Ok(outcome), note)
         }
         outcome => tell(rt, names.source, &texts.source, outcome),
     }

@@ -10,6 +10,7 @@ ghost use Rattle.engines.specs.Schedules.{LeavesBoth, Replaying, UpgradeWorks, U
 
 use crate::coded::coded;
 use crate::fault::{EngineFault, ReadFault};
+use crate::note::Note;
 use crate::outcome::Outcome;
 use crate::page::{seq_page, told};
 use crate::replays::{replayed, upgrade_texts};
@@ -106,8 +107,39 @@ pub fn code_text<W: Write>(
     page.write(out)
 }
 
+/// What a sequential run came to, and what is known of its fault beside the line.
+#[derive(Drop)]
+pub struct Sequential {
+    pub came: Result<Outcome, EngineFault>,
+    pub note: Option<Note>,
+}
+
 /// Runs a text on an input, and writes its records and what follows them: at a fault or a STOP its
-/// line, and without either, where `store` says so, the store.
+/// line, and without either, where `store` says so, the store. It comes to a fault of the writer with a
+/// beginning of the text written, or of memory with nothing written.
+pub fn seq_noted<W: Write>(
+    alloc: Global,
+    source: &[u8],
+    input: &[u8],
+    store: bool,
+    out: &mut W,
+) -> Sequential
+    ensures { Works (Runs store source.now input.now)
+        (W.contents out.old) (W.contents out.new) result.came }
+{
+    match seq_page(alloc, source, input, store) {
+        Ok(page) => Sequential {
+            came: page.write(out),
+            note: page.beyond.map(Note::Subscript),
+        },
+        Err(_) => Sequential {
+            came: Err(EngineFault::Memory),
+            note: None,
+        },
+    }
+}
+
+/// As [`seq_noted`], without the note.
 ///
 /// # Errors
 ///
@@ -121,8 +153,7 @@ pub fn seq_texts<W: Write>(
 ) -> Result<Outcome, EngineFault>
     ensures { Works (Runs store source.now input.now) (W.contents out.old) (W.contents out.new) result }
 {
-    let page = seq_page(alloc, source, input, store)?;
-    page.write(out)
+    seq_noted(alloc, source, input, store, out).came
 }
 
 /// Replays a schedule of a text on an input, and writes its records and what follows them: at a fault or

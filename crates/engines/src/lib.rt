@@ -52,8 +52,8 @@ mod why;
 
 pub use beyond::Beyond;
 pub use commands::{
-    check, check_text, code, code_text, list, list_text, replay, replay_texts, seq, seq_texts,
-    tell_reasons, tell_survey, tell_verdict, upgrade,
+    Sequential, check, check_text, code, code_text, list, list_text, replay, replay_texts, seq,
+    seq_noted, seq_texts, tell_reasons, tell_survey, tell_verdict, upgrade,
 };
 pub use drawing::{Portion, draw, draw_text};
 pub use drawn::Drawn;
@@ -65,7 +65,7 @@ pub use message::{Message, Place};
 pub use note::Note;
 pub use obstacles::Met;
 pub use outcome::Outcome;
-pub use page::{Page, seq_page};
+pub use page::Page;
 pub use ran::{Ran, Whole};
 pub use replays::{Upgraded, upgrade_texts};
 pub use running::{run, run_texts};
