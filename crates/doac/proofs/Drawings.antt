@@ -1,31 +1,19 @@
--- Exit statuses of commands that make a picture.
-use Rattle.std.proofs.Common.{◌≡◌, ◌∙◌, ℕ, List, Result, Ok, Err, Vec, IfOk, IfErr, inl, inr, ap}
+-- What drawing comes to, written.
+use Rattle.std.proofs.Common.{◌≡◌, refl, ℕ, List, Option, Vec, inr}
 use Rattle.std.specs.Global.{Global}
-use Rattle.engines.specs.Drawn.{drawn_status}
-use Rattle.engines.specs.Engines.{IsWriting, status_of}
 use Rattle.engines.specs.declared.drawn.Drawn.{Drawn}
 use Rattle.engines.specs.declared.drawn.Drawn.TheVariants.{Picture, Shown}
-use Rattle.engines.specs.declared.fault.EngineFault.{EngineFault}
-use Rattle.engines.specs.declared.fault.EngineFault.TheVariants.{Source, Input, Schedule, Writing, Memory, OutOfRange, NotStarted, Stuck}
-use Rattle.engines.specs.declared.outcome.Outcome.{Outcome}
 use Rattle.engines.specs.declared.page.Page.{Page}
-use Rattle.doac.specs.Statuses.{DrawEnds, EndsAs, OfWrite, exit_of}
+use Rattle.doac.specs.Deeds.{Deed, GivesFile}
+use Rattle.doac.specs.Pictures.{EndsDrawing}
+use Rattle.doac.specs.Statuses.{Ends, IsPage}
 
--- a picture was written to a file, or writing failed
-pub of_picture : (allows : Drawn → Type 0) (text : Vec ℕ Global) (status : ℕ) → allows (Picture text) → OfWrite status → EndsAs status (DrawEnds allows status)
-of_picture allows text status allowed (inl z) = inr (inr (record { drawn = Picture text; allowed = allowed; is = z }))
-of_picture allows text status allowed (inr (inl f)) = inl f
-of_picture allows text status allowed (inr (inr m)) = inr (inl m)
+-- a picture went to a file
+pub of_picture : (allows : Drawn → Type 0) (out : List ℕ) (text : Vec ℕ Global) (before after : Option (List Deed)) (old : Option (List ℕ)) (status : ℕ)
+    → allows (Picture text) → GivesFile out text.items before after status → EndsDrawing allows out before after old old status
+of_picture allows out text before after old status allowed gives = inr (Picture text, allowed, (gives, refl))
 
--- a page was written
-pub of_page : (allows : Drawn → Type 0) (page : Page) (r : Result Outcome EngineFault) (status : ℕ) (P : Outcome → Type 0) (Q : EngineFault → Type 0) → allows (Shown page) → status ≡ exit_of r
-    → IfOk r (λ o. (o ≡ page.outcome) × P o) → IfErr r (λ f. IsWriting f × Q f) → EndsAs status (DrawEnds allows status)
-of_page allows page (Ok outcome) status P Q allowed is same fails = inr (inr (record { drawn = Shown page; allowed = allowed; is = is ∙ ap status_of same.0 }))
-of_page allows page (Err (Writing e)) status P Q allowed is same fails = inl is
-of_page allows page (Err (Source e)) status P Q allowed is same fails = absurd fails.0
-of_page allows page (Err (Input e)) status P Q allowed is same fails = absurd fails.0
-of_page allows page (Err (Schedule e)) status P Q allowed is same fails = absurd fails.0
-of_page allows page (Err Memory) status P Q allowed is same fails = absurd fails.0
-of_page allows page (Err OutOfRange) status P Q allowed is same fails = absurd fails.0
-of_page allows page (Err NotStarted) status P Q allowed is same fails = absurd fails.0
-of_page allows page (Err Stuck) status P Q allowed is same fails = absurd fails.0
+-- a page went to standard output
+pub of_page : (allows : Drawn → Type 0) (out : List ℕ) (page : Page) (before : Option (List Deed)) (old new : Option (List ℕ)) (status : ℕ)
+    → allows (Shown page) → Ends (IsPage page) old new status → EndsDrawing allows out before before old new status
+of_page allows out page before old new status allowed ends = inr (Shown page, allowed, (refl, ends))

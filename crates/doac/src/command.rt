@@ -35,8 +35,12 @@ pub struct Threaded<'a> {
 pub enum Command<'a> {
     /// `check F`: whether the source of this file is in the profile.
     Check(&'a str),
-    /// `list F`: the loops of the source of this file, and which of them may be open.
-    ListLoops(&'a str),
+    /// `list F [--why]`: the loops of the source of a file, and which of them may be open; and whether it
+    /// is wanted why.
+    ListLoops {
+        source: &'a str,
+        why: bool,
+    },
     /// `seq F [INPUT] [--store]`: the run of the source of a file, on the input of another one, if
     /// there is one; and whether the store is wanted.
     Seq {
@@ -207,7 +211,10 @@ fn listing<'a>(given: &ArgMatches<'a>) -> Result<Command<'a>, LineFault>
     ensures refused { IfErr result (HoldsNone (codes "list") (rows_of (found_of given.now))) }
 {
     match text(given, "F") {
-        Some(source) => Ok(Command::ListLoops(source)),
+        Some(source) => Ok(Command::ListLoops {
+            source,
+            why: flag(given, "why"),
+        }),
         None => Err(LineFault::NoCommand),
     }
 }

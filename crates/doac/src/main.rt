@@ -4,9 +4,14 @@
 mod command;
 mod command_line;
 mod drawings;
+mod fault;
 mod files;
+mod host_files;
 mod program;
+mod schedules;
+mod sources;
 mod threads;
+mod told;
 
 use std::process::ExitCode;
 

@@ -44,7 +44,7 @@ mod watching;
 mod why;
 
 pub use commands::{
-    check, check_text, list, list_text, replay, replay_texts, seq, seq_texts, tell_reasons,
+    check, check_text, list, list_text, replay, replay_texts, seq, seq_texts, tell_loops,
     tell_survey, tell_verdict, upgrade,
 };
 pub use drawing::{Portion, draw, draw_text};

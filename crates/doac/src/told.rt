@@ -1,0 +1,144 @@
+//! What is said on standard error, and the exit status that goes with it.
+
+ghost use Rattle.std.specs.Prelude.{◌≡◌, OnErr, OnOk};
+ghost use Rattle.doac.specs.Deeds.{OfError, OfWrite, file_status, unput};
+ghost use Rattle.doac.specs.Statuses.{OfPrint, exit_of};
+
+use crate::fault::FileFault;
+use crate::files::Names;
+use engines::{EngineFault, Message, Outcome, Place, Texts, warn_of_columns};
+use std::io;
+
+/// Says that writing failed; where nobody reads any more nobody needs to know.
+fn say_unwritten<R: Eprint>(rt: &R, error: &io::Error) {
+    match error.kind() {
+        io::ErrorKind::BrokenPipe => {}
+        _ => {
+            let _ = eprintln!(rt; "doac: writing failed: {error}");
+        }
+    }
+}
+
+/// The exit status of what was printed: 0, or 4 where that failed.
+pub fn status_of_print<R: Eprint>(rt: &R, printed: io::Result<()>) -> u8
+    ensures either { OfPrint result }
+    ensures ok { OnOk printed (result ≡ 0) }
+    ensures err { OnErr printed (result ≡ 4) }
+{
+    match printed {
+        Ok(()) => 0,
+        Err(error) => {
+            say_unwritten(rt, &error);
+            4
+        }
+    }
+}
+
+/// Says on standard error that a file couldn't be given its text, and gives the exit status: 4, or 5
+/// where there was no memory for that.
+pub fn refuse_write<R: Eprint>(rt: &R, name: &str, error: &io::Error) -> u8
+    ensures { OfError error.now 4 result }
+{
+    let file = name;
+    let _ = eprintln!(rt; "{}writing failed: {error}", Place { file, line: 0 });
+    match error.kind() {
+        io::ErrorKind::OutOfMemory => 5,
+        _ => 4,
+    }
+}
+
+/// The exit status of giving a file its text: 0, or that of the error.
+pub fn status_of_write<R: Eprint>(rt: &R, name: &str, written: io::Result<()>) -> u8
+    ensures { OfWrite (unput written) result }
+{
+    match written {
+        Ok(()) => 0,
+        Err(error) => refuse_write(rt, name, &error),
+    }
+}
+
+/// Warns of lines of which not all was read, where their source was run.
+pub fn warn_of_run<R: Eprint>(
+    rt: &R,
+    name: &str,
+    text: &[u8],
+    outcome: &Result<Outcome, EngineFault>,
+) {
+    match outcome {
+        Ok(Outcome::Completed) | Ok(Outcome::Faulted { .. }) => warn_of_columns(rt, name, text),
+        _ => {}
+    }
+}
+
+/// Says on standard error why there is no outcome.
+fn say_fault<R: Eprint>(rt: &R, fault: &EngineFault) {
+    match fault {
+        EngineFault::Writing(error) => say_unwritten(rt, error),
+        _ => {
+            let _ = eprintln!(rt; "doac: {fault}");
+        }
+    }
+}
+
+/// Says on standard error that a file can't be written, as it is read too, and gives the exit status.
+pub fn refuse_out<R: Eprint>(rt: &R, name: &str) -> u8
+    ensures { result ≡ 4 }
+{
+    let file = name;
+    let _ = eprintln!(rt;
+        "{}this file is read too, so it isn't written",
+        Place { file, line: 0 }
+    );
+    4
+}
+
+/// Says on standard error why a file's bytes can't be had, and gives the exit status.
+pub fn refuse_file<R: Eprint>(rt: &R, name: &str, fault: &FileFault) -> u8
+    ensures { result ≡ file_status fault.now }
+{
+    let file = name;
+    let _ = eprintln!(rt; "{}{fault}", Place { file, line: 0 });
+    fault.status()
+}
+
+/// Says on standard error what is wrong with a file's text, or what failed, and gives the exit
+/// status.
+pub fn tell<R: Eprint + AllocGlobal>(
+    rt: &R,
+    name: &str,
+    text: &[u8],
+    outcome: Result<Outcome, EngineFault>,
+) -> u8
+    ensures { result ≡ exit_of outcome }
+{
+    match outcome {
+        Ok(outcome) => {
+            if let Some(message) = Message::of(rt.alloc(), name, text, outcome) {
+                let _ = rt.eprint(message);
+            }
+            outcome.status()
+        }
+        Err(fault) => {
+            say_fault(rt, &fault);
+            fault.status()
+        }
+    }
+}
+
+/// Says on standard error what is wrong with a schedule's text, or with its source's.
+pub fn tell_of<R: Eprint + AllocGlobal>(
+    rt: &R,
+    names: Names<'_>,
+    texts: &Texts,
+    outcome: Result<Outcome, EngineFault>,
+) -> u8
+    ensures { result ≡ exit_of outcome }
+{
+    match outcome {
+        Ok(Outcome::NoSchedule { number, line }) => {
+            let outcome = Outcome::NoSchedule { number, line };
+            tell(rt, names.schedule, &texts.schedule, Ok(outcome))
+        }
+        outcome => tell(rt, names.source, &texts.source, outcome),
+    }
+}
