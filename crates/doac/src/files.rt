@@ -16,14 +16,17 @@ pub trait NamedFiles {
     fn read(&mut self, name: &str) -> Result<Vec<u8>, FileFault>
         ensures { done self.new ≡ noted (done self.old) (Reads name.now (got result)) };
 
-    /// Whether a name is that of one of these files, by whatever path, if that is a plain file. Where it
-    /// can't be told it isn't.
+    /// Whether a name is that of one of these files, by whatever path, if that is a plain file.
+    /// Where it can't be told it isn't.
     fn is_one_of(&mut self, name: &str, others: &[&str]) -> bool
-        ensures { done self.new ≡ noted (done self.old) (Compares name.now (map (λ other. other.now) others.now) result) };
+        ensures { done self.new ≡ noted (done self.old)
+            (Compares name.now (map (λ other. other.now) others.now) result) };
 
-    /// Gives the file of this name these bytes. A plain file has all of them, or at an error what it had.
+    /// Gives the file of this name these bytes. A plain file has all of them, or at an error what
+    /// it had.
     fn replace(&mut self, name: &str, bytes: &[u8]) -> io::Result<()>
-        ensures { done self.new ≡ noted (done self.old) (Replaces name.now bytes.now (unput result)) };
+        ensures { done self.new ≡ noted (done self.old)
+            (Replaces name.now bytes.now (unput result)) };
 }
 
 /// The names of the files that a replay takes.
@@ -59,10 +62,11 @@ fn read_named<'a, F: NamedFiles>(files: &mut F, name: &'a str) -> Result<Vec<u8>
     named(name, read)
 }
 
-/// All bytes of the files that a replay takes, read in this order, each only where those before it were
-/// had.
+/// All bytes of the files that a replay takes, read in this order, each only where those before
+/// it were had.
 pub fn read_texts<'a, F: NamedFiles>(files: &mut F, names: Names<'a>) -> Result<Texts, Unread<'a>>
-    ensures { HasRead names.entry.source.now names.entry.input.now names.entry.schedule.now (F.done files.old) (F.done files.new) result }
+    ensures { HasRead names.entry.source.now names.entry.input.now names.entry.schedule.now
+        (F.done files.old) (F.done files.new) result }
 {
     let source = read_named(files, names.source)?;
     let input = read_named(files, names.input)?;

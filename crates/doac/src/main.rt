@@ -10,6 +10,8 @@ mod host_files;
 mod program;
 mod schedules;
 mod sources;
+#[cfg(test)]
+mod tests;
 mod threads;
 mod told;
 

@@ -45,7 +45,8 @@ fn follow<
     F: NamedFiles,
     W: Write,
 >(rt: &R, files: &mut F, out: &mut W, words: &[S]) -> u8
-    ensures { Follows (map S.text words.now) (F.done files.old) (F.done files.new) (W.contents out.old) (W.contents out.new) result }
+    ensures { Follows (map S.text words.now)
+        (F.done files.old) (F.done files.new) (W.contents out.old) (W.contents out.new) result }
 {
     match command(rt.alloc(), words) {
         Ok(command) => obey(rt, files, out, command),
@@ -61,7 +62,8 @@ fn words<R: Env + AllocGlobal>(rt: &R) -> io::Result<Vec<String>> {
     Ok(words)
 }
 
-/// Says on standard error that the words can't be had, and gives the exit status: 3, or 5 for memory.
+/// Says on standard error that the words can't be had, and gives the exit status: 3, or 5 for
+/// memory.
 fn refuse_words<R: Eprint>(rt: &R, error: &io::Error) -> u8
     ensures { OfError error.now 3 result }
 {
@@ -107,13 +109,15 @@ fn say_line<R: Eprint + AllocGlobal>(rt: &R, fault: &LineFault) {
     }
 }
 
-fn obey<R: Print + Eprint + AllocGlobal + Threads + Wait + Sync, F: NamedFiles, W: Write>(
+/// Does what a command asks for.
+pub fn obey<R: Print + Eprint + AllocGlobal + Threads + Wait + Sync, F: NamedFiles, W: Write>(
     rt: &R,
     files: &mut F,
     out: &mut W,
     command: Command<'_>,
 ) -> u8
-    ensures { Obeys command.entry (F.done files.old) (F.done files.new) (W.contents out.old) (W.contents out.new) result }
+    ensures { Obeys command.entry
+        (F.done files.old) (F.done files.new) (W.contents out.old) (W.contents out.new) result }
 {
     match command {
         Command::Check(source) => check_file(rt, files, out, source),

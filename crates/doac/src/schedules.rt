@@ -18,7 +18,8 @@ pub fn replay_files<R: Eprint + AllocGlobal, F: NamedFiles, W: Write>(
     out: &mut W,
     names: Names<'_>,
 ) -> u8
-    ensures { OnTexts Replaying names.entry.source.now names.entry.input.now names.entry.schedule.now
+    ensures { OnTexts Replaying
+        names.entry.source.now names.entry.input.now names.entry.schedule.now
         (F.done files.old) (F.done files.new) (W.contents out.old) (W.contents out.new) result }
 {
     let texts = read_texts(files, names);
@@ -32,8 +33,10 @@ fn replay_given<R: Eprint + AllocGlobal, W: Write>(
     names: Names<'_>,
     texts: Result<Texts, Unread<'_>>,
 ) -> u8
-    ensures { (done : _) → AfterTexts texts.entry done done (W.contents out.old) (W.contents out.new) result
-        (λ text given picks. Ends (Replaying text given picks) (W.contents out.old) (W.contents out.new) result) }
+    ensures { (done : _) → AfterTexts texts.entry done done
+        (W.contents out.old) (W.contents out.new) result
+        (λ text given picks. Ends (Replaying text given picks)
+        (W.contents out.old) (W.contents out.new) result) }
 {
     match texts {
         Ok(texts) => replay_read(rt, out, names, &texts),
@@ -48,7 +51,8 @@ fn replay_read<R: Eprint + AllocGlobal, W: Write>(
     names: Names<'_>,
     texts: &Texts,
 ) -> u8
-    ensures { Ends (Replaying texts.now.source.items texts.now.input.items texts.now.schedule.items)
+    ensures { Ends
+        (Replaying texts.now.source.items texts.now.input.items texts.now.schedule.items)
         (W.contents out.old) (W.contents out.new) result }
 {
     let outcome = replay_texts(
@@ -62,8 +66,8 @@ fn replay_read<R: Eprint + AllocGlobal, W: Write>(
     tell_of(rt, names, texts, outcome)
 }
 
-/// Writes the schedule of a file with its picks named to the file `onto`, if that is none of those that
-/// are read.
+/// Writes the schedule of a file with its picks named to the file `onto`, if that is none of those
+/// that are read.
 pub fn upgrade_files<R: Eprint + AllocGlobal, F: NamedFiles, W: Write>(
     rt: &R,
     files: &mut F,
@@ -71,7 +75,8 @@ pub fn upgrade_files<R: Eprint + AllocGlobal, F: NamedFiles, W: Write>(
     names: Names<'_>,
     onto: &str,
 ) -> u8
-    ensures { Upgrades names.entry.source.now names.entry.input.now names.entry.schedule.now onto.now
+    ensures { Upgrades
+        names.entry.source.now names.entry.input.now names.entry.schedule.now onto.now
         (F.done files.old) (F.done files.new) (W.contents out.old) (W.contents out.new) result }
 {
     let is_read = files.is_one_of(onto, &[names.source, names.input, names.schedule]);
@@ -87,7 +92,8 @@ fn upgrade_unless<R: Eprint + AllocGlobal, F: NamedFiles, W: Write>(
     onto: &str,
     is_read: bool,
 ) -> u8
-    ensures { AfterCompare is_read (F.done files.old) (F.done files.new) (W.contents out.old) (W.contents out.new) result
+    ensures { AfterCompare is_read
+        (F.done files.old) (F.done files.new) (W.contents out.old) (W.contents out.new) result
         (ReadsTexts names.entry.source.now names.entry.input.now names.entry.schedule.now
         (F.done files.old) (F.done files.new) (W.contents out.old) (W.contents out.new) result
         (λ done text given picks. EndsUpgrade onto.now text given picks
@@ -109,7 +115,8 @@ fn upgrade_given<R: Eprint + AllocGlobal, F: NamedFiles, W: Write>(
     onto: &str,
     texts: Result<Texts, Unread<'_>>,
 ) -> u8
-    ensures { AfterTexts texts.entry (F.done files.old) (F.done files.new) (W.contents out.old) (W.contents out.new) result
+    ensures { AfterTexts texts.entry
+        (F.done files.old) (F.done files.new) (W.contents out.old) (W.contents out.new) result
         (λ text given picks. EndsUpgrade onto.now text given picks
         (F.done files.old) (F.done files.new) (W.contents out.old) (W.contents out.new) result) }
 {
@@ -129,7 +136,8 @@ fn upgrade_read<R: Eprint + AllocGlobal, F: NamedFiles, W: Write>(
     onto: &str,
     texts: &Texts,
 ) -> u8
-    ensures { EndsUpgrade onto.now texts.now.source.items texts.now.input.items texts.now.schedule.items
+    ensures { EndsUpgrade onto.now
+        texts.now.source.items texts.now.input.items texts.now.schedule.items
         (F.done files.old) (F.done files.new) (W.contents out.old) (W.contents out.new) result }
 {
     match upgrade_texts(rt.alloc(), &texts.source, &texts.input, &texts.schedule) {

@@ -23,7 +23,8 @@ pub fn check_file<R: Eprint + AllocGlobal, F: NamedFiles, W: Write>(
     out: &mut W,
     name: &str,
 ) -> u8
-    ensures { OnSource Checks name.now (F.done files.old) (F.done files.new) (W.contents out.old) (W.contents out.new) result }
+    ensures { OnSource Checks name.now
+        (F.done files.old) (F.done files.new) (W.contents out.old) (W.contents out.new) result }
 {
     let text = files.read(name);
     check_given(rt, out, name, text)
@@ -36,7 +37,8 @@ fn check_given<R: Eprint + AllocGlobal, W: Write>(
     name: &str,
     text: Result<Vec<u8>, FileFault>,
 ) -> u8
-    ensures { (done : _) → AfterFile (got text) done done (W.contents out.old) (W.contents out.new) result
+    ensures { (done : _) → AfterFile (got text) done done
+        (W.contents out.old) (W.contents out.new) result
         (λ text. Ends (Checks text) (W.contents out.old) (W.contents out.new) result) }
 {
     match text {
@@ -76,7 +78,8 @@ pub fn list_file<R: Eprint + AllocGlobal, F: NamedFiles, W: Write>(
     name: &str,
     why: bool,
 ) -> u8
-    ensures { OnSource (ListsAs why) name.now (F.done files.old) (F.done files.new) (W.contents out.old) (W.contents out.new) result }
+    ensures { OnSource (ListsAs why) name.now
+        (F.done files.old) (F.done files.new) (W.contents out.old) (W.contents out.new) result }
 {
     let text = files.read(name);
     list_given(rt, out, name, text, why)
@@ -90,7 +93,8 @@ fn list_given<R: Eprint + AllocGlobal, W: Write>(
     text: Result<Vec<u8>, FileFault>,
     why: bool,
 ) -> u8
-    ensures { (done : _) → AfterFile (got text) done done (W.contents out.old) (W.contents out.new) result
+    ensures { (done : _) → AfterFile (got text) done done
+        (W.contents out.old) (W.contents out.new) result
         (λ text. Ends (ListsAs why text) (W.contents out.old) (W.contents out.new) result) }
 {
     match text {
@@ -99,7 +103,8 @@ fn list_given<R: Eprint + AllocGlobal, W: Write>(
     }
 }
 
-/// Lists the loops of the text of a file; standard error says what keeps them serial, or has its message.
+/// Lists the loops of the text of a file; standard error says what keeps them serial, or has its
+/// message.
 fn list_source<R: Eprint + AllocGlobal, W: Write>(
     rt: &R,
     out: &mut W,
@@ -147,9 +152,12 @@ fn seq_given<R: Eprint + AllocGlobal, F: NamedFiles, W: Write>(
     input: Option<&str>,
     store: bool,
 ) -> u8
-    ensures { AfterFile (got text) (F.done files.old) (F.done files.new) (W.contents out.old) (W.contents out.new) result
-        (λ text. ReadsInput (option_map (λ i. i.now) input.entry) (F.done files.old) (F.done files.new) (W.contents out.old) (W.contents out.new) result
-        (λ done given. (F.done files.new ≡ done) × Ends (Runs store text given) (W.contents out.old) (W.contents out.new) result)) }
+    ensures { AfterFile (got text)
+        (F.done files.old) (F.done files.new) (W.contents out.old) (W.contents out.new) result
+        (λ text. ReadsInput (option_map (λ i. i.now) input.entry)
+        (F.done files.old) (F.done files.new) (W.contents out.old) (W.contents out.new) result
+        (λ done given. (F.done files.new ≡ done)
+        × Ends (Runs store text given) (W.contents out.old) (W.contents out.new) result)) }
 {
     match text {
         Ok(text) => seq_file(rt, files, out, name, &text, input, store),
@@ -167,8 +175,10 @@ fn seq_file<R: Eprint + AllocGlobal, F: NamedFiles, W: Write>(
     input: Option<&str>,
     store: bool,
 ) -> u8
-    ensures { ReadsInput (option_map (λ i. i.now) input.entry) (F.done files.old) (F.done files.new) (W.contents out.old) (W.contents out.new) result
-        (λ done given. (F.done files.new ≡ done) × Ends (Runs store text.now given) (W.contents out.old) (W.contents out.new) result) }
+    ensures { ReadsInput (option_map (λ i. i.now) input.entry)
+        (F.done files.old) (F.done files.new) (W.contents out.old) (W.contents out.new) result
+        (λ done given. (F.done files.new ≡ done)
+        × Ends (Runs store text.now given) (W.contents out.old) (W.contents out.new) result) }
 {
     let Some(input) = input else {
         return seq_source(rt, out, name, text, &[], store);
@@ -187,8 +197,10 @@ fn seq_read<R: Eprint + AllocGlobal, W: Write>(
     given: Result<Vec<u8>, FileFault>,
     store: bool,
 ) -> u8
-    ensures { (done : _) → AfterFile (got given) done done (W.contents out.old) (W.contents out.new) result
-        (λ given. Ends (Runs store text.now given) (W.contents out.old) (W.contents out.new) result) }
+    ensures { (done : _) → AfterFile (got given) done done
+        (W.contents out.old) (W.contents out.new) result
+        (λ given. Ends (Runs store text.now given)
+        (W.contents out.old) (W.contents out.new) result) }
 {
     match given {
         Ok(given) => seq_source(rt, out, name, text, &given, store),
@@ -205,7 +217,8 @@ fn seq_source<R: Eprint + AllocGlobal, W: Write>(
     input: &[u8],
     store: bool,
 ) -> u8
-    ensures { Ends (Runs store text.now input.now) (W.contents out.old) (W.contents out.new) result }
+    ensures { Ends (Runs store text.now input.now)
+        (W.contents out.old) (W.contents out.new) result }
 {
     let outcome = seq_texts(rt.alloc(), text, input, store, out);
     warn_of_run(rt, name, text, &outcome);

@@ -16,14 +16,16 @@ use std::io::Write;
 use std::sync::Wait;
 use std::thread::Threads;
 
-/// Runs the source of a file in threads, if its schedule is to go to none of the files that are read.
+/// Runs the source of a file in threads, if its schedule is to go to none of the files that are
+/// read.
 pub fn run_files<R: Eprint + AllocGlobal + Threads + Wait + Sync, F: NamedFiles, W: Write>(
     rt: &R,
     files: &mut F,
     out: &mut W,
     asked: Threaded<'_>,
 ) -> u8
-    ensures { RunsFiles asked.entry (F.done files.old) (F.done files.new) (W.contents out.old) (W.contents out.new) result }
+    ensures { RunsFiles asked.entry
+        (F.done files.old) (F.done files.new) (W.contents out.old) (W.contents out.new) result }
 {
     let Some(onto) = asked.schedule else {
         return run_read(rt, files, out, asked);
@@ -52,8 +54,10 @@ fn run_unless<R: Eprint + AllocGlobal + Threads + Wait + Sync, F: NamedFiles, W:
     onto: &str,
     is_read: bool,
 ) -> u8
-    ensures { AfterCompare is_read (F.done files.old) (F.done files.new) (W.contents out.old) (W.contents out.new) result
-        (RunsRead asked.entry (F.done files.old) (F.done files.new) (W.contents out.old) (W.contents out.new) result) }
+    ensures { AfterCompare is_read
+        (F.done files.old) (F.done files.new) (W.contents out.old) (W.contents out.new) result
+        (RunsRead asked.entry
+        (F.done files.old) (F.done files.new) (W.contents out.old) (W.contents out.new) result) }
 {
     if is_read {
         return refuse_out(rt, onto);
@@ -68,7 +72,8 @@ fn run_read<R: Eprint + AllocGlobal + Threads + Wait + Sync, F: NamedFiles, W: W
     out: &mut W,
     asked: Threaded<'_>,
 ) -> u8
-    ensures { RunsRead asked.entry (F.done files.old) (F.done files.new) (W.contents out.old) (W.contents out.new) result }
+    ensures { RunsRead asked.entry
+        (F.done files.old) (F.done files.new) (W.contents out.old) (W.contents out.new) result }
 {
     let text = files.read(asked.source);
     run_given(rt, files, out, asked, text)
@@ -82,9 +87,12 @@ fn run_given<R: Eprint + AllocGlobal + Threads + Wait + Sync, F: NamedFiles, W: 
     asked: Threaded<'_>,
     text: Result<Vec<u8>, FileFault>,
 ) -> u8
-    ensures { AfterFile (got text) (F.done files.old) (F.done files.new) (W.contents out.old) (W.contents out.new) result
-        (λ text. ReadsInput (option_map (λ i. i.now) asked.entry.input) (F.done files.old) (F.done files.new) (W.contents out.old) (W.contents out.new) result
-        (λ done given. EndsRun asked.entry text given done (F.done files.new) (W.contents out.old) (W.contents out.new) result)) }
+    ensures { AfterFile (got text)
+        (F.done files.old) (F.done files.new) (W.contents out.old) (W.contents out.new) result
+        (λ text. ReadsInput (option_map (λ i. i.now) asked.entry.input)
+        (F.done files.old) (F.done files.new) (W.contents out.old) (W.contents out.new) result
+        (λ done given. EndsRun asked.entry text given
+        done (F.done files.new) (W.contents out.old) (W.contents out.new) result)) }
 {
     match text {
         Ok(text) => run_file(rt, files, out, asked, &text),
@@ -100,8 +108,10 @@ fn run_file<R: Eprint + AllocGlobal + Threads + Wait + Sync, F: NamedFiles, W: W
     asked: Threaded<'_>,
     text: &[u8],
 ) -> u8
-    ensures { ReadsInput (option_map (λ i. i.now) asked.entry.input) (F.done files.old) (F.done files.new) (W.contents out.old) (W.contents out.new) result
-        (λ done given. EndsRun asked.entry text.now given done (F.done files.new) (W.contents out.old) (W.contents out.new) result) }
+    ensures { ReadsInput (option_map (λ i. i.now) asked.entry.input)
+        (F.done files.old) (F.done files.new) (W.contents out.old) (W.contents out.new) result
+        (λ done given. EndsRun asked.entry text.now given
+        done (F.done files.new) (W.contents out.old) (W.contents out.new) result) }
 {
     let Some(input) = asked.input else {
         return run_source(rt, files, out, asked, text, &[]);
@@ -120,8 +130,10 @@ fn run_on<R: Eprint + AllocGlobal + Threads + Wait + Sync, F: NamedFiles, W: Wri
     input: &str,
     given: Result<Vec<u8>, FileFault>,
 ) -> u8
-    ensures { AfterFile (got given) (F.done files.old) (F.done files.new) (W.contents out.old) (W.contents out.new) result
-        (λ given. EndsRun asked.entry text.now given (F.done files.old) (F.done files.new) (W.contents out.old) (W.contents out.new) result) }
+    ensures { AfterFile (got given)
+        (F.done files.old) (F.done files.new) (W.contents out.old) (W.contents out.new) result
+        (λ given. EndsRun asked.entry text.now given
+        (F.done files.old) (F.done files.new) (W.contents out.old) (W.contents out.new) result) }
 {
     match given {
         Ok(given) => run_source(rt, files, out, asked, text, &given),
@@ -138,7 +150,8 @@ fn run_source<R: Eprint + AllocGlobal + Threads + Wait + Sync, F: NamedFiles, W:
     text: &[u8],
     input: &[u8],
 ) -> u8
-    ensures { EndsRun asked.entry text.now input.now (F.done files.old) (F.done files.new) (W.contents out.old) (W.contents out.new) result }
+    ensures { EndsRun asked.entry text.now input.now
+        (F.done files.old) (F.done files.new) (W.contents out.old) (W.contents out.new) result }
 {
     let wants = Wants {
         processors: asked.processors,
@@ -175,7 +188,8 @@ fn write_run<R: Eprint + AllocGlobal, F: NamedFiles, W: Write>(
     text: &[u8],
     ran: &Ran,
 ) -> u8
-    ensures { WritesRun (option_map (λ o. o.now) asked.entry.schedule) ran.now (F.done files.old) (F.done files.new) (W.contents out.old) (W.contents out.new) result }
+    ensures { WritesRun (option_map (λ o. o.now) asked.entry.schedule) ran.now
+        (F.done files.old) (F.done files.new) (W.contents out.old) (W.contents out.new) result }
 {
     match (asked.schedule, schedule_text(ran)) {
         (Some(onto), Some(schedule)) => {

@@ -34,8 +34,8 @@ pub fn status_of_print<R: Eprint>(rt: &R, printed: io::Result<()>) -> u8
     }
 }
 
-/// Says on standard error that a file couldn't be given its text, and gives the exit status: 4, or 5
-/// where there was no memory for that.
+/// Says on standard error that a file couldn't be given its text, and gives the exit status: 4, or
+/// 5 where there was no memory for that.
 pub fn refuse_write<R: Eprint>(rt: &R, name: &str, error: &io::Error) -> u8
     ensures { OfError error.now 4 result }
 {
@@ -80,7 +80,8 @@ fn say_fault<R: Eprint>(rt: &R, fault: &EngineFault) {
     }
 }
 
-/// Says on standard error that a file can't be written, as it is read too, and gives the exit status.
+/// Says on standard error that a file can't be written, as it is read too, and gives the exit
+/// status.
 pub fn refuse_out<R: Eprint>(rt: &R, name: &str) -> u8
     ensures { result ≡ 4 }
 {
