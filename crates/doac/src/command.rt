@@ -308,7 +308,8 @@ fn upgrading<'a>(given: &ArgMatches<'a>) -> Result<Command<'a>, LineFault>
 /// The number of a loop, 1 where none is named.
 fn loop_number(given: Option<&str>) -> Result<u64, LineFault>
     ensures found { IfOk result (IsSizeOf (option_map (λ s. s.now) given.entry) 1) }
-    ensures refused { IfErr result (λ fault. (fault ≡ NoPortion) × HasNoSize (option_map (λ s. s.now) given.entry)) }
+    ensures refused { IfErr result (λ fault. (fault ≡ NoPortion) × HasNoSize
+        (option_map (λ s. s.now) given.entry)) }
 {
     match size(given, 1) {
         Ok(number) => Ok(number),
@@ -319,7 +320,8 @@ fn loop_number(given: Option<&str>) -> Result<u64, LineFault>
 /// The number of iterations that are drawn, 8 where none is named.
 fn iterations(given: Option<&str>) -> Result<u64, LineFault>
     ensures found { IfOk result (IsCountOf (option_map (λ s. s.now) given.entry)) }
-    ensures refused { IfErr result (λ fault. (fault ≡ NoPortion) × HasNoCount (option_map (λ s. s.now) given.entry)) }
+    ensures refused { IfErr result (λ fault. (fault ≡ NoPortion) × HasNoCount
+        (option_map (λ s. s.now) given.entry)) }
 {
     let Some(text) = given else {
         return Ok(8);

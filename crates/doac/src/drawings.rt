@@ -47,8 +47,10 @@ fn draw_unless<R: Eprint + AllocGlobal, F: NamedFiles, W: Write>(
     portion: Portion,
     is_read: bool,
 ) -> u8
-    ensures { AfterCompare is_read (F.done files.old) (F.done files.new) (W.contents out.old) (W.contents out.new) result
-        (ReadsFile source.now (F.done files.old) (F.done files.new) (W.contents out.old) (W.contents out.new) result
+    ensures { AfterCompare is_read (F.done files.old) (F.done files.new) (W.contents out.old)
+        (W.contents out.new) result
+        (ReadsFile source.now (F.done files.old) (F.done files.new) (W.contents out.old)
+        (W.contents out.new) result
         (λ done text. EndsDrawing (Draws text portion) onto.now
         done (F.done files.new) (W.contents out.old) (W.contents out.new) result)) }
 {
@@ -69,7 +71,8 @@ fn draw_given<R: Eprint + AllocGlobal, F: NamedFiles, W: Write>(
     portion: Portion,
     text: Result<Vec<u8>, FileFault>,
 ) -> u8
-    ensures { AfterFile (got text) (F.done files.old) (F.done files.new) (W.contents out.old) (W.contents out.new) result
+    ensures { AfterFile (got text) (F.done files.old) (F.done files.new) (W.contents out.old)
+        (W.contents out.new) result
         (λ text. EndsDrawing (Draws text portion) onto.now
         (F.done files.old) (F.done files.new) (W.contents out.old) (W.contents out.new) result) }
 {
@@ -157,7 +160,8 @@ fn timeline_unless<R: Eprint + AllocGlobal, F: NamedFiles, W: Write>(
     onto: &str,
     is_read: bool,
 ) -> u8
-    ensures { AfterCompare is_read (F.done files.old) (F.done files.new) (W.contents out.old) (W.contents out.new) result
+    ensures { AfterCompare is_read (F.done files.old) (F.done files.new) (W.contents out.old)
+        (W.contents out.new) result
         (ReadsTexts names.entry.source.now names.entry.input.now names.entry.schedule.now
         (F.done files.old) (F.done files.new) (W.contents out.old) (W.contents out.new) result
         (λ done text given picks. EndsDrawing (Times text given picks) onto.now
@@ -179,7 +183,8 @@ fn timeline_given<R: Eprint + AllocGlobal, F: NamedFiles, W: Write>(
     onto: &str,
     texts: Result<Texts, Unread<'_>>,
 ) -> u8
-    ensures { AfterTexts texts.entry (F.done files.old) (F.done files.new) (W.contents out.old) (W.contents out.new) result
+    ensures { AfterTexts texts.entry (F.done files.old) (F.done files.new) (W.contents out.old)
+        (W.contents out.new) result
         (λ text given picks. EndsDrawing (Times text given picks) onto.now
         (F.done files.old) (F.done files.new) (W.contents out.old) (W.contents out.new) result) }
 {
@@ -198,7 +203,8 @@ fn timeline_read<R: Eprint + AllocGlobal, F: NamedFiles, W: Write>(
     onto: &str,
     texts: &Texts,
 ) -> u8
-    ensures { EndsDrawing (Times texts.now.source.items texts.now.input.items texts.now.schedule.items) onto.now
+    ensures { EndsDrawing
+        (Times texts.now.source.items texts.now.input.items texts.now.schedule.items) onto.now
         (F.done files.old) (F.done files.new) (W.contents out.old) (W.contents out.new) result }
 {
     match timeline_texts(rt.alloc(), &texts.source, &texts.input, &texts.schedule) {
