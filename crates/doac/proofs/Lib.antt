@@ -1,4 +1,5 @@
 pub mod CommandLines
+pub mod Drawings
 pub mod Reading
 pub mod Statuses
 pub mod Upgrading

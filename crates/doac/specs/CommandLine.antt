@@ -36,6 +36,10 @@ out = record (new_rule (codes "OUT")) { required = true; action = Some Set }
 abbrev pub store : Rule
 store = record (new_rule (codes "store")) { long = Some (codes "store"); action = Some SetTrue }
 
+-- --why
+abbrev pub why : Rule
+why = record (new_rule (codes "why")) { long = Some (codes "why"); action = Some SetTrue }
+
 -- -p and -s, numbers of processors and of open iterations
 abbrev pub processors : Rule
 processors = record (new_rule (codes "p")) { short = Some 112; action = Some Set }
@@ -70,7 +74,7 @@ abbrev pub check : App
 check = with_rule (new_app (codes "check")) source
 
 abbrev pub list : App
-list = with_rule (new_app (codes "list")) source
+list = with_rule (with_rule (new_app (codes "list")) source) why
 
 abbrev pub seq : App
 seq = with_rule (with_rule (with_rule (new_app (codes "seq")) source) input) store
@@ -165,7 +169,8 @@ pub record HoldsRun (values : List Row) (t : Threaded) : Type 0 where
 -- the subcommand's name and the values of its arguments are a command's
 abbrev pub Holds : Text → List Row → Command → Type 0
 Holds name values (Check source) = (name ≡ codes "check") × (first_of (codes "F") values ≡ Some source.now)
-Holds name values (ListLoops source) = (name ≡ codes "list") × (first_of (codes "F") values ≡ Some source.now)
+Holds name values (ListLoops source why) =
+    (name ≡ codes "list") × (first_of (codes "F") values ≡ Some source.now) × IsFlag why (one_of (codes "why") values)
 Holds name values (ShowCode source) = (name ≡ codes "code") × (first_of (codes "F") values ≡ Some source.now)
 Holds name values (Seq source input store) =
     (name ≡ codes "seq") × (first_of (codes "F") values ≡ Some source.now)

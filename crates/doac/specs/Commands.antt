@@ -2,17 +2,15 @@
 use Rattle.std.specs.Prelude.{◌≡◌, ◌⊎◌, ℕ, List, [], ◌∷◌, Option, Some, None, option_map}
 use Rattle.clap.specs.Words.{Text}
 use Rattle.engines.specs.Coded.{ShowsCode}
-use Rattle.engines.specs.Drawing.{Draws}
 use Rattle.engines.specs.Engines.{Checks, Runs}
-use Rattle.engines.specs.Lists.{Lists}
+use Rattle.engines.specs.Lists.{ListsAs}
 use Rattle.engines.specs.Schedules.{Replaying}
-use Rattle.engines.specs.Timeline.{Times}
-use Rattle.engines.specs.declared.drawing.Portion.{Portion}
 use Rattle.engines.specs.declared.outcome.Outcome.{Outcome}
 use Rattle.doac.specs.CommandLine.{Names, NamesNone}
 use Rattle.doac.specs.Deeds.{Deed, ReadsFile, ReadsInput, ReadsTexts, UnlessRead}
+use Rattle.doac.specs.Pictures.{DrawsFile, TimesFiles}
 use Rattle.doac.specs.Running.{RunsRead, named}
-use Rattle.doac.specs.Statuses.{Ends, EndsDraw, EndsLine, EndsUpgrade, OfPrint}
+use Rattle.doac.specs.Statuses.{Ends, EndsLine, EndsUpgrade, OfPrint}
 use Rattle.doac.specs.declared.command.Command.{Command}
 use Rattle.doac.specs.declared.command.Command.TheVariants.{Check, ListLoops, ShowCode, Seq, Run, Replay, Upgrade, Draw, Timeline, Explain, ExplainSerial}
 use Rattle.doac.specs.declared.command.LineFault.{LineFault}
@@ -40,18 +38,6 @@ Upgrades source input schedule out before after old new status =
     UnlessRead out (source ∷ input ∷ schedule ∷ []) before after old new status (λ told.
     ReadsTexts source input schedule told after old new status (λ done text given picks. EndsUpgrade out text given picks done after old new status))
 
--- a loop of the source is drawn, where OUT isn't the source's file, as is found out first
-abbrev pub DrawsFile : (source out : List ℕ) → Portion → (before after : Option (List Deed)) → (old new : Option (List ℕ)) → ℕ → Type 0
-DrawsFile source out portion before after old new status =
-    UnlessRead out (source ∷ []) before after old new status (λ told.
-    ReadsFile source told after old new status (λ done text. EndsDraw out (Draws text portion) done after old new status))
-
--- the run that a schedule describes is drawn, where OUT is none of the files that are read
-abbrev pub TimesFiles : (source input schedule out : List ℕ) → (before after : Option (List Deed)) → (old new : Option (List ℕ)) → ℕ → Type 0
-TimesFiles source input schedule out before after old new status =
-    UnlessRead out (source ∷ input ∷ schedule ∷ []) before after old new status (λ told.
-    ReadsTexts source input schedule told after old new status (λ done text given picks. EndsDraw out (Times text given picks) done after old new status))
-
 -- a program is run in threads, where the file for the schedule, if one is named, is none of those that are
 -- read, as is found out first
 abbrev pub RunsUnless : (onto : Option (List ℕ)) → Threaded → (before after : Option (List Deed)) → (old new : Option (List ℕ)) → ℕ → Type 0
@@ -64,7 +50,7 @@ RunsFiles t before after old new status = RunsUnless (option_map (λ o. o.now) t
 
 abbrev pub Obeys : Command → (before after : Option (List Deed)) → (old new : Option (List ℕ)) → ℕ → Type 0
 Obeys (Check source) before after old new status = OnSource Checks source.now before after old new status
-Obeys (ListLoops source) before after old new status = OnSource Lists source.now before after old new status
+Obeys (ListLoops source why) before after old new status = OnSource (ListsAs why) source.now before after old new status
 Obeys (ShowCode source) before after old new status = OnSource ShowsCode source.now before after old new status
 Obeys (Seq source input store) before after old new status =
     OnInput (Runs store) source.now (option_map (λ i. i.now) input) before after old new status
@@ -74,7 +60,7 @@ Obeys (Replay source input schedule) before after old new status =
 Obeys (Upgrade source input schedule out) before after old new status =
     Upgrades source.now input.now schedule.now out.now before after old new status
 Obeys (Draw source out number iterations) before after old new status =
-    DrawsFile source.now out.now (record { number = number; columns = iterations }) before after old new status
+    DrawsFile (record { number = number; columns = iterations }) source.now out.now before after old new status
 Obeys (Timeline source input schedule out) before after old new status =
     TimesFiles source.now input.now schedule.now out.now before after old new status
 Obeys (Explain number) before after old new status = (after ≡ before) × OfPrint status

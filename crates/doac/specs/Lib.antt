@@ -1,5 +1,6 @@
 pub mod Commands
 pub mod CommandLine
 pub mod Deeds
+pub mod Pictures
 pub mod Running
 pub mod Statuses

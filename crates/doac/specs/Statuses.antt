@@ -2,8 +2,6 @@
 use Rattle.std.specs.Prelude.{◌≡◌, ◌⊎◌, ⊤, ℕ, List, Option, Result, Ok, Err}
 use Rattle.engines.specs.Engines.{Works, fault_status, status_of}
 use Rattle.engines.specs.Schedules.{Upgrading}
-use Rattle.engines.specs.declared.drawn.Drawn.{Drawn}
-use Rattle.engines.specs.declared.drawn.Drawn.TheVariants as drawn
 use Rattle.engines.specs.declared.fault.EngineFault.{EngineFault}
 use Rattle.engines.specs.declared.outcome.Outcome.{Outcome}
 use Rattle.engines.specs.declared.page.Page.{Page}
@@ -41,19 +39,6 @@ abbrev pub EndsUpgrade : (out source input schedule : List ℕ) → (before afte
 EndsUpgrade out source input schedule before after old new status =
     ((after ≡ before) × (new ≡ old) × (status ≡ 5))
     ⊎ ((came : Upgraded) × Upgrading source input schedule came × Delivers out came before after old new status)
-
--- what a command that makes a picture comes to is written: the picture to OUT alone, a page to standard
--- output alone, and of a loop that isn't there nothing
-abbrev pub DeliversDrawn : (out : List ℕ) → Drawn → (before after : Option (List Deed)) → (old new : Option (List ℕ)) → ℕ → Type 0
-DeliversDrawn out (drawn.Picture text) before after old new status = GivesFile out text.items before after status × (new ≡ old)
-DeliversDrawn out (drawn.Shown page) before after old new status = (after ≡ before) × Ends (IsPage page) old new status
-DeliversDrawn out (drawn.NoLoop count) before after old new status = (after ≡ before) × (new ≡ old) × (status ≡ 3)
-
--- what is allowed of such a command is written; for want of memory nothing is
-abbrev pub EndsDraw : (out : List ℕ) → (allows : Drawn → Type 0) → (before after : Option (List Deed)) → (old new : Option (List ℕ)) → ℕ → Type 0
-EndsDraw out allows before after old new status =
-    ((after ≡ before) × (new ≡ old) × (status ≡ 5))
-    ⊎ ((came : Drawn) × allows came × DeliversDrawn out came before after old new status)
 
 -- the status of a text that was printed: 0, or that of writing
 abbrev pub OfPrint : ℕ → Type 0

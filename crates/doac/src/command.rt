@@ -35,8 +35,12 @@ pub struct Threaded<'a> {
 pub enum Command<'a> {
     /// `check F`: whether the source of this file is in the profile.
     Check(&'a str),
-    /// `list F`: the loops of the source of this file, and which of them may be open.
-    ListLoops(&'a str),
+    /// `list F [--why]`: the loops of the source of a file, and which of them may be open; and whether it
+    /// is wanted why.
+    ListLoops {
+        source: &'a str,
+        why: bool,
+    },
     /// `code F`: the code of the source of this file.
     ShowCode(&'a str),
     /// `seq F [INPUT] [--store]`: the run of the source of a file, on the input of another one, if
@@ -210,7 +214,10 @@ fn listing<'a>(given: &ArgMatches<'a>) -> Result<Command<'a>, LineFault>
     ensures refused { IfErr result (HoldsNone (codes "list") (rows_of (found_of given.now))) }
 {
     match text(given, "F") {
-        Some(source) => Ok(Command::ListLoops(source)),
+        Some(source) => Ok(Command::ListLoops {
+            source,
+            why: flag(given, "why"),
+        }),
         None => Err(LineFault::NoCommand),
     }
 }
@@ -314,7 +321,8 @@ fn upgrading<'a>(given: &ArgMatches<'a>) -> Result<Command<'a>, LineFault>
 /// The number of a loop, 1 where none is named.
 fn loop_number(given: Option<&str>) -> Result<u64, LineFault>
     ensures found { IfOk result (IsSizeOf (option_map (λ s. s.now) given.entry) 1) }
-    ensures refused { IfErr result (λ fault. (fault ≡ NoPortion) × HasNoSize (option_map (λ s. s.now) given.entry)) }
+    ensures refused { IfErr result (λ fault. (fault ≡ NoPortion) × HasNoSize
+        (option_map (λ s. s.now) given.entry)) }
 {
     match size(given, 1) {
         Ok(number) => Ok(number),
@@ -325,7 +333,8 @@ fn loop_number(given: Option<&str>) -> Result<u64, LineFault>
 /// The number of iterations that are drawn, 8 where none is named.
 fn iterations(given: Option<&str>) -> Result<u64, LineFault>
     ensures found { IfOk result (IsCountOf (option_map (λ s. s.now) given.entry)) }
-    ensures refused { IfErr result (λ fault. (fault ≡ NoPortion) × HasNoCount (option_map (λ s. s.now) given.entry)) }
+    ensures refused { IfErr result (λ fault. (fault ≡ NoPortion) × HasNoCount
+        (option_map (λ s. s.now) given.entry)) }
 {
     let Some(text) = given else {
         return Ok(8);

@@ -2,7 +2,7 @@
 
 ghost use Rattle.std.specs.Prelude.{◌≡◌, IfErr, IfOk, false, map};
 ghost use Rattle.clap.specs.Words.{app_of, rule_of, with_subcommand};
-ghost use Rattle.doac.specs.CommandLine.{Names, NamesNone, code, doac, draw, input, iterations, loop_number, number, out, processors, reason, run, schedule, schedule_out, slots, source, store, tally, timeline, upgrade, whole_input};
+ghost use Rattle.doac.specs.CommandLine.{Names, NamesNone, code, doac, draw, input, iterations, loop_number, number, out, processors, reason, run, schedule, schedule_out, slots, source, store, tally, timeline, upgrade, whole_input, why};
 
 use crate::command::{LineFault, held};
 use clap::{Arg, ArgAction};
@@ -86,6 +86,16 @@ fn iterations<'a>(alloc: Global) -> Arg<'a>
         .long("iterations")
         .action(ArgAction::Set)
         .help("How many iterations are drawn, 1 to 64; without it 8")
+}
+
+fn why<'a>(alloc: Global) -> Arg<'a>
+    ensures rule { rule_of result ≡ why }
+    ensures local { result.global ≡ false }
+{
+    Arg::new(alloc, "why")
+        .long("why")
+        .action(ArgAction::SetTrue)
+        .help("Says of each loop by which references its iterations wait, and which test says so")
 }
 
 fn store<'a>(alloc: Global) -> Arg<'a>
@@ -232,7 +242,8 @@ fn parser<'a>(alloc: Global) -> Result<clap::Command<'a>, AllocError>
         .arg(source(alloc))?;
     let list = clap::Command::new(alloc, "list")
         .about("Lists the loops of a source, and where iterations that overlap wait")
-        .arg(source(alloc))?;
+        .arg(source(alloc))?
+        .arg(why(alloc))?;
     let seq = clap::Command::new(alloc, "seq")
         .about("Runs a source, one statement after another, and writes what it prints")
         .arg(source(alloc))?

@@ -1,34 +1,40 @@
-//! `draw` and `timeline`: pictures that are written to files.
+//! `draw` and `timeline`: the pictures that are made of files.
 
 ghost use Rattle.std.specs.Prelude.{◌≡◌, ◌∷◌, []};
 ghost use Rattle.engines.specs.Drawing.{Draws};
 ghost use Rattle.engines.specs.Timeline.{Times};
-ghost use Rattle.doac.specs.Commands.{DrawsFile, TimesFiles};
-ghost use Rattle.doac.specs.Deeds.{AfterCompare, AfterFile, AfterTexts, ReadsFile, ReadsTexts, got};
-ghost use Rattle.doac.specs.Statuses.{DeliversDrawn, Ends, EndsDraw, IsPage};
+ghost use Rattle.doac.specs.Deeds.{AfterCompare, AfterFile, AfterTexts, GivesFile, ReadsFile, ReadsTexts, got};
+ghost use Rattle.doac.specs.Pictures.{DrawsFile, EndsDrawing, TimesFiles};
+ghost use Rattle.doac.specs.Statuses.{Ends, IsPage};
 
 use crate::fault::FileFault;
 use crate::files::{NamedFiles, Names, Unread, read_texts};
-use crate::schedules::{give_file, show_page};
-use crate::told::{refuse_file, refuse_out, tell, tell_of};
+use crate::told::{refuse_file, refuse_out, status_of_write, tell, tell_of};
 use engines::{Drawn, EngineFault, Page, Place, Portion, Texts, draw_text, timeline_texts};
 use std::io::Write;
 
-/// Draws a loop of the source of a file, and writes the picture to the file `onto`, if that is another
-/// one.
-pub fn draw_files<R: Eprint + AllocGlobal, F: NamedFiles, W: Write>(
+/// Writes a picture to its file.
+fn picture_onto<R: Eprint, F: NamedFiles>(rt: &R, files: &mut F, onto: &str, text: &[u8]) -> u8
+    ensures { GivesFile onto.now text.now (F.done files.old) (F.done files.new) result }
+{
+    let written = files.replace(onto, text);
+    status_of_write(rt, onto, written)
+}
+
+/// Draws a loop of the source of a file to the file `onto`, if that is another one.
+pub fn draw_file<R: Eprint + AllocGlobal, F: NamedFiles, W: Write>(
     rt: &R,
     files: &mut F,
     out: &mut W,
-    name: &str,
+    source: &str,
     onto: &str,
     portion: Portion,
 ) -> u8
-    ensures { DrawsFile name.now onto.now portion
+    ensures { DrawsFile portion source.now onto.now
         (F.done files.old) (F.done files.new) (W.contents out.old) (W.contents out.new) result }
 {
-    let is_read = files.is_one_of(onto, &[name]);
-    draw_unless(rt, files, out, name, onto, portion, is_read)
+    let is_read = files.is_one_of(onto, &[source]);
+    draw_unless(rt, files, out, source, onto, portion, is_read)
 }
 
 /// The same, where it is known whether the file `onto` is read.
@@ -36,23 +42,23 @@ fn draw_unless<R: Eprint + AllocGlobal, F: NamedFiles, W: Write>(
     rt: &R,
     files: &mut F,
     out: &mut W,
-    name: &str,
+    source: &str,
     onto: &str,
     portion: Portion,
     is_read: bool,
 ) -> u8
-    ensures { AfterCompare is_read
-        (F.done files.old) (F.done files.new) (W.contents out.old) (W.contents out.new) result
-        (ReadsFile name.now
-        (F.done files.old) (F.done files.new) (W.contents out.old) (W.contents out.new) result
-        (λ done text. EndsDraw onto.now (Draws text portion)
+    ensures { AfterCompare is_read (F.done files.old) (F.done files.new) (W.contents out.old)
+        (W.contents out.new) result
+        (ReadsFile source.now (F.done files.old) (F.done files.new) (W.contents out.old)
+        (W.contents out.new) result
+        (λ done text. EndsDrawing (Draws text portion) onto.now
         done (F.done files.new) (W.contents out.old) (W.contents out.new) result)) }
 {
     if is_read {
         return refuse_out(rt, onto);
     }
-    let text = files.read(name);
-    draw_given(rt, files, out, name, onto, portion, text)
+    let text = files.read(source);
+    draw_given(rt, files, out, source, onto, portion, text)
 }
 
 /// What `draw` makes of the bytes of its file.
@@ -60,74 +66,55 @@ fn draw_given<R: Eprint + AllocGlobal, F: NamedFiles, W: Write>(
     rt: &R,
     files: &mut F,
     out: &mut W,
-    name: &str,
+    source: &str,
     onto: &str,
     portion: Portion,
     text: Result<Vec<u8>, FileFault>,
 ) -> u8
-    ensures { AfterFile (got text)
-        (F.done files.old) (F.done files.new) (W.contents out.old) (W.contents out.new) result
-        (λ text. EndsDraw onto.now (Draws text portion)
+    ensures { AfterFile (got text) (F.done files.old) (F.done files.new) (W.contents out.old)
+        (W.contents out.new) result
+        (λ text. EndsDrawing (Draws text portion) onto.now
         (F.done files.old) (F.done files.new) (W.contents out.old) (W.contents out.new) result) }
 {
     match text {
-        Ok(text) => draw_source(rt, files, out, name, onto, portion, &text),
-        Err(fault) => refuse_file(rt, name, &fault),
+        Ok(text) => draw_source(rt, files, out, source, onto, portion, &text),
+        Err(fault) => refuse_file(rt, source, &fault),
     }
 }
 
-/// Draws a loop of the text of a file; standard error has its message.
+/// Draws a loop of the text of a file to another one; standard error has its message.
 fn draw_source<R: Eprint + AllocGlobal, F: NamedFiles, W: Write>(
     rt: &R,
     files: &mut F,
     out: &mut W,
-    name: &str,
+    source: &str,
     onto: &str,
     portion: Portion,
     text: &[u8],
 ) -> u8
-    ensures { EndsDraw onto.now (Draws text.now portion)
+    ensures { EndsDrawing (Draws text.now portion) onto.now
         (F.done files.old) (F.done files.new) (W.contents out.old) (W.contents out.new) result }
 {
     match draw_text(rt.alloc(), text, portion) {
-        Ok(drawn) => deliver(rt, files, out, name, onto, portion.number, text, &drawn),
-        Err(_) => tell(rt, name, text, Err(EngineFault::Memory)),
-    }
-}
-
-/// Writes what drawing a loop of a text came to.
-fn deliver<R: Eprint + AllocGlobal, F: NamedFiles, W: Write>(
-    rt: &R,
-    files: &mut F,
-    out: &mut W,
-    name: &str,
-    onto: &str,
-    number: usize,
-    text: &[u8],
-    drawn: &Drawn,
-) -> u8
-    ensures { DeliversDrawn onto.now drawn.now
-        (F.done files.old) (F.done files.new) (W.contents out.old) (W.contents out.new) result }
-{
-    match drawn {
-        Drawn::Picture(picture) => give_file(rt, files, onto, picture),
-        Drawn::Shown(page) => show_refusal(rt, out, name, text, page),
-        Drawn::NoLoop(count) => refuse_loop(rt, name, number, *count),
+        Ok(Drawn::Picture(picture)) => picture_onto(rt, files, onto, &picture),
+        Ok(Drawn::Shown(page)) => draw_shown(rt, out, source, text, &page),
+        Ok(Drawn::NoLoop(count)) => refuse_loop(rt, source, portion.number, count),
+        Err(_) => tell(rt, source, text, Err(EngineFault::Memory)),
     }
 }
 
 /// Writes why there is no picture of a loop.
-fn show_refusal<R: Eprint + AllocGlobal, W: Write>(
+fn draw_shown<R: Eprint + AllocGlobal, W: Write>(
     rt: &R,
     out: &mut W,
-    name: &str,
+    source: &str,
     text: &[u8],
     page: &Page,
 ) -> u8
     ensures { Ends (IsPage page.now) (W.contents out.old) (W.contents out.new) result }
 {
     let outcome = page.write(out);
-    tell(rt, name, text, outcome)
+    tell(rt, source, text, outcome)
 }
 
 /// Says on standard error that a source has no loop of a number, but so many, and gives the exit status.
@@ -148,8 +135,8 @@ fn refuse_loop<R: Eprint>(rt: &R, name: &str, number: usize, count: usize) -> u8
     3
 }
 
-/// Draws the run that the schedule of a file describes, and writes the picture to the file `onto`, if
-/// that is none of those that are read.
+/// Draws the run that the schedule of a file describes to the file `onto`, if that is none of those that
+/// are read.
 pub fn timeline_files<R: Eprint + AllocGlobal, F: NamedFiles, W: Write>(
     rt: &R,
     files: &mut F,
@@ -157,8 +144,7 @@ pub fn timeline_files<R: Eprint + AllocGlobal, F: NamedFiles, W: Write>(
     names: Names<'_>,
     onto: &str,
 ) -> u8
-    ensures { TimesFiles
-        names.entry.source.now names.entry.input.now names.entry.schedule.now onto.now
+    ensures { TimesFiles names.entry.source.now names.entry.input.now names.entry.schedule.now onto.now
         (F.done files.old) (F.done files.new) (W.contents out.old) (W.contents out.new) result }
 {
     let is_read = files.is_one_of(onto, &[names.source, names.input, names.schedule]);
@@ -174,11 +160,11 @@ fn timeline_unless<R: Eprint + AllocGlobal, F: NamedFiles, W: Write>(
     onto: &str,
     is_read: bool,
 ) -> u8
-    ensures { AfterCompare is_read
-        (F.done files.old) (F.done files.new) (W.contents out.old) (W.contents out.new) result
+    ensures { AfterCompare is_read (F.done files.old) (F.done files.new) (W.contents out.old)
+        (W.contents out.new) result
         (ReadsTexts names.entry.source.now names.entry.input.now names.entry.schedule.now
         (F.done files.old) (F.done files.new) (W.contents out.old) (W.contents out.new) result
-        (λ done text given picks. EndsDraw onto.now (Times text given picks)
+        (λ done text given picks. EndsDrawing (Times text given picks) onto.now
         done (F.done files.new) (W.contents out.old) (W.contents out.new) result)) }
 {
     if is_read {
@@ -197,9 +183,9 @@ fn timeline_given<R: Eprint + AllocGlobal, F: NamedFiles, W: Write>(
     onto: &str,
     texts: Result<Texts, Unread<'_>>,
 ) -> u8
-    ensures { AfterTexts texts.entry
-        (F.done files.old) (F.done files.new) (W.contents out.old) (W.contents out.new) result
-        (λ text given picks. EndsDraw onto.now (Times text given picks)
+    ensures { AfterTexts texts.entry (F.done files.old) (F.done files.new) (W.contents out.old)
+        (W.contents out.new) result
+        (λ text given picks. EndsDrawing (Times text given picks) onto.now
         (F.done files.old) (F.done files.new) (W.contents out.old) (W.contents out.new) result) }
 {
     match texts {
@@ -208,7 +194,7 @@ fn timeline_given<R: Eprint + AllocGlobal, F: NamedFiles, W: Write>(
     }
 }
 
-/// Draws the run that a schedule describes; standard error has its message.
+/// Draws the run that a schedule describes to a file; standard error has its message.
 fn timeline_read<R: Eprint + AllocGlobal, F: NamedFiles, W: Write>(
     rt: &R,
     files: &mut F,
@@ -217,32 +203,28 @@ fn timeline_read<R: Eprint + AllocGlobal, F: NamedFiles, W: Write>(
     onto: &str,
     texts: &Texts,
 ) -> u8
-    ensures { EndsDraw onto.now
-        (Times texts.now.source.items texts.now.input.items texts.now.schedule.items)
+    ensures { EndsDrawing
+        (Times texts.now.source.items texts.now.input.items texts.now.schedule.items) onto.now
         (F.done files.old) (F.done files.new) (W.contents out.old) (W.contents out.new) result }
 {
     match timeline_texts(rt.alloc(), &texts.source, &texts.input, &texts.schedule) {
-        Ok(drawn) => deliver_run(rt, files, out, names, onto, texts, &drawn),
+        Ok(Drawn::Picture(picture)) => picture_onto(rt, files, onto, &picture),
+        Ok(Drawn::Shown(page)) => timeline_shown(rt, out, names, texts, &page),
+        Ok(Drawn::NoLoop(_)) => 3,
         Err(_) => tell_of(rt, names, texts, Err(EngineFault::Memory)),
     }
 }
 
-/// Writes what drawing a run came to.
-fn deliver_run<R: Eprint + AllocGlobal, F: NamedFiles, W: Write>(
+/// Writes why there is no picture of a run.
+fn timeline_shown<R: Eprint + AllocGlobal, W: Write>(
     rt: &R,
-    files: &mut F,
     out: &mut W,
     names: Names<'_>,
-    onto: &str,
     texts: &Texts,
-    drawn: &Drawn,
+    page: &Page,
 ) -> u8
-    ensures { DeliversDrawn onto.now drawn.now
-        (F.done files.old) (F.done files.new) (W.contents out.old) (W.contents out.new) result }
+    ensures { Ends (IsPage page.now) (W.contents out.old) (W.contents out.new) result }
 {
-    match drawn {
-        Drawn::Picture(picture) => give_file(rt, files, onto, picture),
-        Drawn::Shown(page) => show_page(rt, out, names, texts, page),
-        Drawn::NoLoop(_) => 3,
-    }
+    let outcome = page.write(out);
+    tell_of(rt, names, texts, outcome)
 }

@@ -9,7 +9,7 @@ ghost use Rattle.doac.specs.Statuses.{EndsLine};
 use crate::code_file::code_file;
 use crate::command::{Command, LineFault};
 use crate::command_line::command;
-use crate::drawings::{draw_files, timeline_files};
+use crate::drawings::{draw_file, timeline_files};
 use crate::files::{NamedFiles, Names};
 use crate::host_files::HostFiles;
 use crate::schedules::{replay_files, upgrade_files};
@@ -122,7 +122,7 @@ pub fn obey<R: Print + Eprint + AllocGlobal + Threads + Wait + Sync, F: NamedFil
 {
     match command {
         Command::Check(source) => check_file(rt, files, out, source),
-        Command::ListLoops(source) => list_file(rt, files, out, source),
+        Command::ListLoops { source, why } => list_file(rt, files, out, source, why),
         Command::ShowCode(source) => code_file(rt, files, out, source),
         Command::Seq {
             source,
@@ -165,7 +165,7 @@ pub fn obey<R: Print + Eprint + AllocGlobal + Threads + Wait + Sync, F: NamedFil
             out: onto,
             number,
             iterations,
-        } => draw_files(
+        } => draw_file(
             rt,
             files,
             out,

@@ -141,22 +141,22 @@ fn upgrade_read<R: Eprint + AllocGlobal, F: NamedFiles, W: Write>(
         (F.done files.old) (F.done files.new) (W.contents out.old) (W.contents out.new) result }
 {
     match upgrade_texts(rt.alloc(), &texts.source, &texts.input, &texts.schedule) {
-        Ok(Upgraded::Text(text)) => give_file(rt, files, onto, &text),
-        Ok(Upgraded::Shown(page)) => show_page(rt, out, names, texts, &page),
+        Ok(Upgraded::Text(text)) => upgrade_onto(rt, files, onto, &text),
+        Ok(Upgraded::Shown(page)) => upgrade_shown(rt, out, names, texts, &page),
         Err(_) => tell_of(rt, names, texts, Err(EngineFault::Memory)),
     }
 }
 
-/// Gives a file its text.
-pub fn give_file<R: Eprint, F: NamedFiles>(rt: &R, files: &mut F, onto: &str, text: &[u8]) -> u8
+/// Writes the text of a schedule to its file.
+fn upgrade_onto<R: Eprint, F: NamedFiles>(rt: &R, files: &mut F, onto: &str, text: &[u8]) -> u8
     ensures { GivesFile onto.now text.now (F.done files.old) (F.done files.new) result }
 {
     let written = files.replace(onto, text);
     status_of_write(rt, onto, written)
 }
 
-/// Writes what is shown where there is nothing for a file.
-pub fn show_page<R: Eprint + AllocGlobal, W: Write>(
+/// Writes why there is no such schedule.
+fn upgrade_shown<R: Eprint + AllocGlobal, W: Write>(
     rt: &R,
     out: &mut W,
     names: Names<'_>,

@@ -2,7 +2,7 @@
 
 ghost use Rattle.std.specs.Prelude.{◌≡◌, option_map};
 ghost use Rattle.engines.specs.Engines.{Checks, Runs};
-ghost use Rattle.engines.specs.Lists.{Lists};
+ghost use Rattle.engines.specs.Lists.{ListsAs};
 ghost use Rattle.doac.specs.Commands.{OnInput, OnSource};
 ghost use Rattle.doac.specs.Deeds.{AfterFile, ReadsInput, got};
 ghost use Rattle.doac.specs.Statuses.{Ends};
@@ -12,7 +12,7 @@ use crate::files::NamedFiles;
 use crate::told::{refuse_file, tell, tell_noted, warn_of_run};
 use engines::{
     EngineFault, Sequential, Survey, Verdict, judged, say_why_serial, seq_noted, surveyed,
-    tell_further, tell_survey, tell_verdict, warn,
+    tell_further, tell_loops, tell_verdict, warn,
 };
 use std::io::Write;
 
@@ -76,12 +76,13 @@ pub fn list_file<R: Eprint + AllocGlobal, F: NamedFiles, W: Write>(
     files: &mut F,
     out: &mut W,
     name: &str,
+    why: bool,
 ) -> u8
-    ensures { OnSource Lists name.now
+    ensures { OnSource (ListsAs why) name.now
         (F.done files.old) (F.done files.new) (W.contents out.old) (W.contents out.new) result }
 {
     let text = files.read(name);
-    list_given(rt, out, name, text)
+    list_given(rt, out, name, text, why)
 }
 
 /// What `list` makes of the bytes of its file.
@@ -90,13 +91,14 @@ fn list_given<R: Eprint + AllocGlobal, W: Write>(
     out: &mut W,
     name: &str,
     text: Result<Vec<u8>, FileFault>,
+    why: bool,
 ) -> u8
     ensures { (done : _) → AfterFile (got text) done done
         (W.contents out.old) (W.contents out.new) result
-        (λ text. Ends (Lists text) (W.contents out.old) (W.contents out.new) result) }
+        (λ text. Ends (ListsAs why text) (W.contents out.old) (W.contents out.new) result) }
 {
     match text {
-        Ok(text) => list_source(rt, out, name, &text),
+        Ok(text) => list_source(rt, out, name, &text, why),
         Err(fault) => refuse_file(rt, name, &fault),
     }
 }
@@ -108,12 +110,13 @@ fn list_source<R: Eprint + AllocGlobal, W: Write>(
     out: &mut W,
     name: &str,
     text: &[u8],
+    why: bool,
 ) -> u8
-    ensures { Ends (Lists text.now) (W.contents out.old) (W.contents out.new) result }
+    ensures { Ends (ListsAs why text.now) (W.contents out.old) (W.contents out.new) result }
 {
     match surveyed(rt.alloc(), text) {
         Ok(survey) => {
-            let outcome = tell_survey(rt.alloc(), &survey, out);
+            let outcome = tell_loops(rt.alloc(), &survey, why, out);
             if let Survey::Loops { program, reports } = &survey {
                 say_why_serial(rt, name, program, reports);
             }

@@ -103,7 +103,10 @@ const CASES: [Case; 6] = [
         put: Some(b""),
     },
     Case {
-        command: Command::ListLoops("five.f"),
+        command: Command::ListLoops {
+            source: "five.f",
+            why: false,
+        },
         calls: b"read five.f\n",
         output: b"",
         put: Some(b""),

@@ -1,11 +1,11 @@
 -- What is told of a survey of a source's loops is what `list` may write of the source.
 use Rattle.std.proofs.Common.{ℕ, List, Option, Result, Ok, Err, inl, inr, subst, sym}
-use Rattle.std.specs.Prelude.{◌≡◌, ◌⊎◌}
+use Rattle.std.specs.Prelude.{◌≡◌, ◌⊎◌, Bool, true, false}
 use Rattle.ast.specs.ProgramView.{program as program_of}
 use Rattle.engines.specs.Engines.{IsRefusal, Works}
 use Rattle.codegen.specs.declared.reports.LoopReport.{LoopReport}
 use Rattle.engines.specs.Listing.{Lines, LinesWhy}
-use Rattle.engines.specs.Lists.{HasLongCode, IsSurvey, Lists, ListsBy, ListsWhy, TellsBy, TellsLoops, TellsWhy}
+use Rattle.engines.specs.Lists.{HasLongCode, IsSurvey, Lists, ListsAs, ListsBy, TellsAs, TellsBy, TellsLoops}
 use Rattle.engines.specs.Schedules.{IsNoCode}
 use Rattle.engines.specs.Shown.{refused}
 use Rattle.engines.specs.declared.fault.EngineFault.{EngineFault}
@@ -50,7 +50,8 @@ pub of_survey : (source : List ℕ) (s : Survey) (old new : Option (List ℕ)) (
     → Works (TellsLoops s) old new r → Works (Lists source) old new r
 of_survey = of_survey_by Lines
 
--- the same with what `--why` adds
-pub why_of_survey : (source : List ℕ) (s : Survey) (old new : Option (List ℕ)) (r : Result Outcome EngineFault) → IsSurvey source s
-    → Works (TellsWhy s) old new r → Works (ListsWhy source) old new r
-why_of_survey = of_survey_by LinesWhy
+-- the same with what `--why` adds, where it is wanted
+pub of_survey_as : (why : Bool) (source : List ℕ) (s : Survey) (old new : Option (List ℕ)) (r : Result Outcome EngineFault) → IsSurvey source s
+    → Works (TellsAs why s) old new r → Works (ListsAs why source) old new r
+of_survey_as true = of_survey_by LinesWhy
+of_survey_as false = of_survey_by Lines

@@ -1,5 +1,5 @@
 -- What `list` may write of a source text.
-use Rattle.std.specs.Prelude.{◌≡◌, ◌⊎◌, ℕ, List}
+use Rattle.std.specs.Prelude.{◌≡◌, ◌⊎◌, ℕ, Bool, true, false, List}
 use Rattle.ast.specs.Program.{ProgramTree}
 use Rattle.ast.specs.ProgramView.{program as program_of}
 use Rattle.codegen.specs.Program.{IsCompiled, HasLongCode as HasNoCode}
@@ -67,5 +67,11 @@ Lists = ListsBy Lines
 abbrev pub TellsWhy : Survey → Outcome → List ℕ → Type 0
 TellsWhy = TellsBy LinesWhy
 
-abbrev pub ListsWhy : List ℕ → Outcome → List ℕ → Type 0
-ListsWhy = ListsBy LinesWhy
+-- as it is wanted
+abbrev pub TellsAs : (why : Bool) → Survey → Outcome → List ℕ → Type 0
+TellsAs true = TellsWhy
+TellsAs false = TellsLoops
+
+abbrev pub ListsAs : (why : Bool) → List ℕ → Outcome → List ℕ → Type 0
+ListsAs true = ListsBy LinesWhy
+ListsAs false = Lists

@@ -4,7 +4,7 @@
 ghost use Rattle.std.specs.Prelude.{◌≡◌, IfOk, IfErr};
 ghost use Rattle.engines.specs.Coded.{ShowsCode};
 ghost use Rattle.engines.specs.Engines.{AfterRead, Checks, IsJudged, Leaves, LeavesOfSource, LeavesReader, LeavesReaders, OfText, Runs, Tells, Works, WorksWith, WroteAs, WrotePart, of_input, of_source};
-ghost use Rattle.engines.specs.Lists.{Lists, TellsLoops, TellsWhy};
+ghost use Rattle.engines.specs.Lists.{Lists, TellsAs, TellsLoops, TellsWhy};
 ghost use Rattle.engines.specs.Reading.{LeavesThree, OfTexts};
 ghost use Rattle.engines.specs.Schedules.{LeavesBoth, Replaying, UpgradeWorks, Upgrading, WroteUpgraded, WroteUpgradedPart};
 
@@ -66,9 +66,25 @@ pub fn tell_survey<W: Write>(
     page.write(out)
 }
 
-/// Writes the lines of a survey as [`tell_survey`] does, and behind those of each loop some that say why.
-/// The errors are those of [`tell_survey`].
-pub fn tell_reasons<W: Write>(
+/// Writes the lines of a survey as [`tell_survey`] does, and where it is wanted behind those of each loop
+/// some that say why. The errors are those of [`tell_survey`].
+pub fn tell_loops<W: Write>(
+    alloc: Global,
+    survey: &Survey,
+    why: bool,
+    out: &mut W,
+) -> Result<Outcome, EngineFault>
+    ensures { Works (TellsAs why survey.now) (W.contents out.old) (W.contents out.new) result }
+{
+    if why {
+        tell_reasons(alloc, survey, out)
+    } else {
+        tell_survey(alloc, survey, out)
+    }
+}
+
+/// Writes the lines of a survey, and behind those of each loop some that say why.
+fn tell_reasons<W: Write>(
     alloc: Global,
     survey: &Survey,
     out: &mut W,

@@ -88,7 +88,8 @@ fn serial<'a>(
     frame: Frame,
     reason: u8,
 ) -> Result<LoopPicture<'a>, AllocError>
-    ensures frame { IfOk result (λ p. (p.number ≡ frame.number) × (p.line ≡ frame.line) × (p.columns ≡ frame.columns)) }
+    ensures frame { IfOk result (λ p. (p.number ≡ frame.number) × (p.line ≡ frame.line) ×
+        (p.columns ≡ frame.columns)) }
     ensures arrows { IfOk result (λ p. p.arrows.items ≡ []) }
 {
     let tree = loops(alloc, program)?;
@@ -116,8 +117,10 @@ fn opened<'a>(
     body: &[PlanStmt],
     privates: &ScalarSet,
 ) -> Result<LoopPicture<'a>, AllocError>
-    ensures frame { IfOk result (λ p. (p.number ≡ frame.number) × (p.line ≡ frame.line) × (p.columns ≡ frame.columns)) }
-    ensures arrows { IfOk result (λ p. AreArrows report.now.sources.items report.now.kept.items p.arrows.items) }
+    ensures frame { IfOk result (λ p. (p.number ≡ frame.number) × (p.line ≡ frame.line) ×
+        (p.columns ≡ frame.columns)) }
+    ensures arrows { IfOk result
+        (λ p. AreArrows report.now.sources.items report.now.kept.items p.arrows.items) }
 {
     let opened = OpenLoop {
         body,
@@ -137,8 +140,10 @@ fn picture_of<'a>(
     report: &LoopReport,
     portion: Portion,
 ) -> Result<LoopPicture<'a>, AllocError>
-    ensures frame { IfOk result (λ p. (p.number ≡ portion.number) × (p.line ≡ report.now.line) × (p.columns ≡ portion.columns)) }
-    ensures arrows { IfOk result (λ p. AreArrows report.now.sources.items (kept_of report.now report.now.plan) p.arrows.items) }
+    ensures frame { IfOk result (λ p. (p.number ≡ portion.number) × (p.line ≡ report.now.line) ×
+        (p.columns ≡ portion.columns)) }
+    ensures arrows { IfOk result (λ p. AreArrows report.now.sources.items
+        (kept_of report.now report.now.plan) p.arrows.items) }
 {
     let frame = Frame {
         number: portion.number,
@@ -222,7 +227,8 @@ fn draw_given<W: Write, V: Write>(
     out: &mut W,
     picture: &mut V,
 ) -> Result<u8, EngineFault>
-    ensures { DrawWorks (Draws source.now portion) (W.contents out.old) (W.contents out.new) (V.contents picture.old) (V.contents picture.new) result }
+    ensures { DrawWorks (Draws source.now portion) (W.contents out.old) (W.contents out.new)
+        (V.contents picture.old) (V.contents picture.new) result }
 {
     let drawn = draw_text(alloc, source, portion)?;
     drawn.write(out, picture)
@@ -236,8 +242,10 @@ fn draw_read<W: Write, V: Write>(
     out: &mut W,
     picture: &mut V,
 ) -> Result<u8, EngineFault>
-    ensures { AfterSource source (W.contents out.old) (W.contents out.new) (V.contents picture.old) (V.contents picture.new) result
-        (λ text. DrawWorks (Draws text portion) (W.contents out.old) (W.contents out.new) (V.contents picture.old) (V.contents picture.new) result) }
+    ensures { AfterSource source (W.contents out.old) (W.contents out.new) (V.contents picture.old)
+        (V.contents picture.new) result
+        (λ text. DrawWorks (Draws text portion) (W.contents out.old) (W.contents out.new)
+        (V.contents picture.old) (V.contents picture.new) result) }
 {
     let source = source.map_err(EngineFault::of_source)?;
     draw_given(alloc, &source, portion, out, picture)
@@ -259,10 +267,13 @@ pub fn draw<R: Read, W: Write, V: Write>(
     picture: &mut V,
 ) -> Result<u8, EngineFault>
     ensures ok { IfOk result (λ status. OfText (R.remaining source.old) (λ text.
-        WroteDrawn (Draws text portion) (W.contents out.old) (W.contents out.new) (V.contents picture.old) (V.contents picture.new) status)) }
-    ensures err { IfErr result (λ fault. LeavesBoth fault (W.contents out.old) (W.contents out.new) (V.contents picture.old) (V.contents picture.new)
+        WroteDrawn (Draws text portion) (W.contents out.old) (W.contents out.new)
+        (V.contents picture.old) (V.contents picture.new) status)) }
+    ensures err { IfErr result (λ fault. LeavesBoth fault (W.contents out.old) (W.contents out.new)
+        (V.contents picture.old) (V.contents picture.new)
         (OfText (R.remaining source.old) (λ text.
-        WroteDrawnPart (Draws text portion) (W.contents out.old) (W.contents out.new) (V.contents picture.old) (V.contents picture.new)))) }
+        WroteDrawnPart (Draws text portion) (W.contents out.old) (W.contents out.new)
+        (V.contents picture.old) (V.contents picture.new)))) }
     ensures readers { IfErr result (λ fault. LeavesReader fault (R.remaining source.new)) }
 {
     let read = read_all(alloc, source);

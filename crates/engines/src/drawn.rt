@@ -29,9 +29,11 @@ impl Drawn {
     /// A fault of the writer, with a beginning of the text written.
     pub fn write<W: Write, V: Write>(&self, out: &mut W, picture: &mut V) -> Result<u8, EngineFault>
         ensures ok { IfOk result (λ status. (status ≡ drawn_status self.now)
-            × WritesDrawn self.now (W.contents out.old) (W.contents out.new) (V.contents picture.old) (V.contents picture.new)) }
+            × WritesDrawn self.now (W.contents out.old) (W.contents out.new)
+            (V.contents picture.old) (V.contents picture.new)) }
         ensures err { IfErr result (λ fault. IsWriting fault
-            × WritesPart self.now (W.contents out.old) (W.contents out.new) (V.contents picture.old) (V.contents picture.new)) }
+            × WritesPart self.now (W.contents out.old) (W.contents out.new) (V.contents picture.old)
+            (V.contents picture.new)) }
     {
         match self {
             Drawn::Picture(text) => match write_all(picture, text) {

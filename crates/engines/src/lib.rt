@@ -53,7 +53,7 @@ mod why;
 pub use beyond::Beyond;
 pub use commands::{
     Sequential, check, check_text, code, code_text, list, list_text, replay, replay_texts, seq,
-    seq_noted, seq_texts, tell_reasons, tell_survey, tell_verdict, upgrade,
+    seq_noted, seq_texts, tell_loops, tell_survey, tell_verdict, upgrade,
 };
 pub use drawing::{Portion, draw, draw_text};
 pub use drawn::Drawn;

@@ -77,7 +77,8 @@ pub fn shown_loops(alloc: Global, survey: &Survey) -> Result<Page, AllocError>
 }
 
 fn listed_why(alloc: Global, program: &Program, reports: &[LoopReport]) -> Result<Page, AllocError>
-    ensures { IfOk result (λ page. (page.outcome ≡ Outcome.Completed) × ListingOf LinesWhy 1 reports.now page.text.items) }
+    ensures { IfOk result (λ page. (page.outcome ≡ Outcome.Completed)
+        × ListingOf LinesWhy 1 reports.now page.text.items) }
 {
     let tree = loops(alloc, program)?;
     Ok(Page {

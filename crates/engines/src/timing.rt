@@ -80,7 +80,8 @@ fn drawn_schedule(
 ) -> Result<Drawn, AllocError>
     requires headline { Headline (code_of code.now) (program_of program.now) }
     requires spelled { SchedText schedule.now text.now }
-    ensures { IfOk result (ShowsTimeline (program_of program.now) (code_of code.now) input.now text.now) }
+    ensures { IfOk result (ShowsTimeline (program_of program.now)
+        (code_of code.now) input.now text.now) }
 {
     match replay(alloc, code, input, schedule) {
         Ok(answer) => { Ok(Drawn::Picture(text_of(alloc, code, input, schedule, answer.end)?)) }
@@ -100,7 +101,8 @@ fn drawn_code(
     schedule: &[u8],
 ) -> Result<Drawn, AllocError>
     requires headline { Headline (code_of code.now) (program_of program.now) }
-    ensures { IfOk result (ShowsTimeline (program_of program.now) (code_of code.now) input.now schedule.now) }
+    ensures { IfOk result (ShowsTimeline (program_of program.now)
+        (code_of code.now) input.now schedule.now) }
 {
     match Schedule::parse(alloc, schedule) {
         Ok(read) => drawn_schedule(alloc, program, code, input, &read, schedule),
@@ -118,7 +120,8 @@ fn drawn_program(
     input: &[u8],
     schedule: &[u8],
 ) -> Result<Drawn, AllocError>
-    ensures { IfOk result (λ drawn. (source : List ℕ) → Reads source (program_of program.now) → Times source input.now schedule.now drawn) }
+    ensures { IfOk result (λ drawn. (source : List ℕ) → Reads source (program_of program.now)
+        → Times source input.now schedule.now drawn) }
 {
     match compile(alloc, program) {
         Ok(compiled) => drawn_code(alloc, program, &compiled.code, input, schedule),
@@ -154,7 +157,8 @@ fn timeline_given<W: Write, V: Write>(
     out: &mut W,
     picture: &mut V,
 ) -> Result<u8, EngineFault>
-    ensures { DrawWorks (Times source.now input.now schedule.now) (W.contents out.old) (W.contents out.new) (V.contents picture.old) (V.contents picture.new) result }
+    ensures { DrawWorks (Times source.now input.now schedule.now) (W.contents out.old)
+        (W.contents out.new) (V.contents picture.old) (V.contents picture.new) result }
 {
     let drawn = timeline_texts(alloc, source, input, schedule)?;
     drawn.write(out, picture)
@@ -177,13 +181,19 @@ pub fn timeline<R: Read, I: Read, S: Read, W: Write, V: Write>(
     out: &mut W,
     picture: &mut V,
 ) -> Result<u8, EngineFault>
-    ensures ok { IfOk result (λ status. OfTexts (R.remaining source.old) (I.remaining input.old) (S.remaining schedule.old) (λ text given picks.
-        WroteDrawn (Times text given picks) (W.contents out.old) (W.contents out.new) (V.contents picture.old) (V.contents picture.new) status)) }
-    ensures err { IfErr result (λ fault. LeavesBoth fault (W.contents out.old) (W.contents out.new) (V.contents picture.old) (V.contents picture.new)
-        (OfTexts (R.remaining source.old) (I.remaining input.old) (S.remaining schedule.old) (λ text given picks.
-        WroteDrawnPart (Times text given picks) (W.contents out.old) (W.contents out.new) (V.contents picture.old) (V.contents picture.new)))) }
+    ensures ok { IfOk result (λ status. OfTexts (R.remaining source.old) (I.remaining input.old)
+        (S.remaining schedule.old) (λ text given picks.
+        WroteDrawn (Times text given picks) (W.contents out.old) (W.contents out.new)
+        (V.contents picture.old) (V.contents picture.new) status)) }
+    ensures err { IfErr result (λ fault. LeavesBoth fault (W.contents out.old) (W.contents out.new)
+        (V.contents picture.old) (V.contents picture.new)
+        (OfTexts (R.remaining source.old) (I.remaining input.old) (S.remaining schedule.old)
+        (λ text given picks.
+        WroteDrawnPart (Times text given picks) (W.contents out.old) (W.contents out.new)
+        (V.contents picture.old) (V.contents picture.new)))) }
     ensures readers { IfErr result (λ fault.
-        LeavesThree fault (R.remaining source.new) (I.remaining input.old) (I.remaining input.new) (S.remaining schedule.old) (S.remaining schedule.new)) }
+        LeavesThree fault (R.remaining source.new) (I.remaining input.old) (I.remaining input.new)
+        (S.remaining schedule.old) (S.remaining schedule.new)) }
 {
     let texts = read_three(alloc, source, input, schedule)?;
     timeline_given(

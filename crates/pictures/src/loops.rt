@@ -107,8 +107,10 @@ pub fn open_picture<'a>(
     frame: Frame,
     opened: OpenLoop<'_>,
 ) -> Result<LoopPicture<'a>, AllocError>
-    ensures frame { IfOk result (λ p. (p.number ≡ frame.number) × (p.line ≡ frame.line) × (p.columns ≡ frame.columns)) }
-    ensures arrows { IfOk result (λ p. AreArrows opened.entry.sources.now opened.entry.kept.now p.arrows.items) }
+    ensures frame { IfOk result (λ p. (p.number ≡ frame.number) × (p.line ≡ frame.line) ×
+        (p.columns ≡ frame.columns)) }
+    ensures arrows { IfOk result
+        (λ p. AreArrows opened.entry.sources.now opened.entry.kept.now p.arrows.items) }
 {
     let Frame {
         number,
@@ -140,7 +142,8 @@ pub fn serial_picture<'a>(
     frame: Frame,
     serial: SerialLoop<'_>,
 ) -> Result<LoopPicture<'a>, AllocError>
-    ensures frame { IfOk result (λ p. (p.number ≡ frame.number) × (p.line ≡ frame.line) × (p.columns ≡ frame.columns)) }
+    ensures frame { IfOk result (λ p. (p.number ≡ frame.number) × (p.line ≡ frame.line) ×
+        (p.columns ≡ frame.columns)) }
     ensures arrows { IfOk result (λ p. p.arrows.items ≡ []) }
 {
     let Frame {
