@@ -170,9 +170,9 @@ impl<'a> Reading<'a> {
                 Some((1, FIRST))
             }
             b'+' | b'-' if may_sign => Some((1, NEXT)),
-            b'0'..=b'9' => Some((self.length_while(|b| b.is_ascii_digit()), BEHIND)),
+            b'0'..=b'9' => Some((self.digits(), BEHIND)),
             b'A'..=b'Z' => Some((
-                self.length_while(|b| b.is_ascii_alphanumeric()),
+                self.letters(),
                 Wanted::Operator {
                     is_behind_name: true,
                 },
@@ -240,10 +240,28 @@ impl<'a> Reading<'a> {
         None
     }
 
-    /// How many bytes from here on are of one kind.
-    fn length_while<F: Fn(&u8) -> bool>(&self, is_of_kind: F) -> usize {
-        let rest = self.text.get(self.at..).unwrap_or(&[]);
-        rest.iter().take_while(|byte| is_of_kind(*byte)).count()
+    /// How many digits stand here.
+    fn digits(&self) -> usize {
+        let mut length: usize = 0;
+        for byte in self.text.get(self.at..).unwrap_or(&[]) {
+            if !byte.is_ascii_digit() {
+                break;
+            }
+            length = length.saturating_add(1);
+        }
+        length
+    }
+
+    /// How many letters and digits stand here.
+    fn letters(&self) -> usize {
+        let mut length: usize = 0;
+        for byte in self.text.get(self.at..).unwrap_or(&[]) {
+            if !byte.is_ascii_alphanumeric() {
+                break;
+            }
+            length = length.saturating_add(1);
+        }
+        length
     }
 
     /// How long a text between apostrophes is, with them.
