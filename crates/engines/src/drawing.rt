@@ -1,6 +1,6 @@
 //! Pictures of a program's loops.
 
-ghost use Rattle.std.specs.Prelude.{◌≡◌, IfOk, IfErr, option_map};
+ghost use Rattle.std.specs.Prelude.{◌≡◌, [], IfOk, IfErr, option_map};
 ghost use Rattle.ast.specs.ProgramView.{program as program_of};
 ghost use Rattle.pictures.specs.Dependences.{AreArrows};
 ghost use Rattle.engines.specs.Drawing as spec;
