@@ -193,6 +193,7 @@ fn drawn_loop(
 }
 
 /// What drawing one of a source's loops comes to, by a survey of them.
+#[tactic(auto, using(crate::proofs::Surveys::no_code))]
 fn drawn_survey(
     alloc: Global,
     source: &[u8],
