@@ -1,5 +1,5 @@
 pub mod CommandLines
-pub mod Drawings
+pub mod Delivered
 pub mod Reading
 pub mod Statuses
 pub mod Upgrading

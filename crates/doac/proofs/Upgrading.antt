@@ -1,5 +1,5 @@
 -- What an upgrade comes to, written.
-use Rattle.std.proofs.Common.{◌≡◌, refl, ℕ, List, Option, Vec, inr}
+use Rattle.std.proofs.Common.{refl, ℕ, List, Option, Vec, inr}
 use Rattle.std.specs.Global.{Global}
 use Rattle.engines.specs.Schedules.{Upgrading}
 use Rattle.engines.specs.declared.page.Page.{Page}

@@ -1,6 +1,6 @@
 //! The files that the program reads and writes, by their names.
 
-ghost use Rattle.std.specs.Prelude.{◌≡◌, List, Option, None, IfErr, map};
+ghost use Rattle.std.specs.Prelude.{◌≡◌, List, Option, None, map};
 ghost use Rattle.doac.specs.Deeds.{Compares, Deed, HasRead, Reads, Replaces, got, noted, unread, unput};
 
 use crate::fault::FileFault;

@@ -1,7 +1,6 @@
 //! The program: its words, its files, and what it says on standard error.
 
-ghost use Rattle.std.specs.Prelude.{◌≡◌, map};
-ghost use Rattle.std.specs.IoError.{error_kind};
+ghost use Rattle.std.specs.Prelude.{map};
 ghost use Rattle.doac.specs.Commands.{Follows, Obeys};
 ghost use Rattle.doac.specs.Deeds.{OfError};
 ghost use Rattle.doac.specs.Statuses.{EndsLine};

@@ -1,6 +1,5 @@
 //! `replay` and `upgrade`: what is made of a source, an input and a schedule.
 
-ghost use Rattle.std.specs.Prelude.{◌≡◌, ◌∷◌, []};
 ghost use Rattle.engines.specs.Schedules.{Replaying};
 ghost use Rattle.doac.specs.Commands.{OnTexts, Upgrades};
 ghost use Rattle.doac.specs.Deeds.{AfterCompare, AfterTexts, GivesFile, ReadsTexts};

@@ -3,8 +3,8 @@
 ghost use Rattle.std.specs.Prelude.{◌≡◌, ◌∷◌, option_map};
 ghost use Rattle.engines.specs.Running.{Running};
 ghost use Rattle.doac.specs.Commands.{RunsFiles};
-ghost use Rattle.doac.specs.Deeds.{AfterCompare, AfterFile, AfterPut, Compares, OfError, ReadsInput, got, noted, unput};
-ghost use Rattle.doac.specs.Running.{EndsRun, RunsRead, ShowsRan, Shown, WritesRun, named, schedule_of, wants_of};
+ghost use Rattle.doac.specs.Deeds.{AfterCompare, AfterFile, AfterPut, Compares, ReadsInput, got, noted, unput};
+ghost use Rattle.doac.specs.Running.{EndsRun, RunsRead, ShowsRan, Shown, WritesRun, named, schedule_of};
 
 use crate::command::Threaded;
 use crate::fault::FileFault;

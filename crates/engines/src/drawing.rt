@@ -1,6 +1,6 @@
 //! Pictures of a program's loops.
 
-ghost use Rattle.std.specs.Prelude.{◌≡◌, IfOk, IfErr, option_map};
+ghost use Rattle.std.specs.Prelude.{◌≡◌, [], IfOk, IfErr, option_map};
 ghost use Rattle.ast.specs.ProgramView.{program as program_of};
 ghost use Rattle.pictures.specs.Dependences.{AreArrows};
 ghost use Rattle.engines.specs.Drawing as spec;
@@ -193,6 +193,7 @@ fn drawn_loop(
 }
 
 /// What drawing one of a source's loops comes to, by a survey of them.
+#[tactic(auto, using(crate::proofs::Surveys::no_code))]
 fn drawn_survey(
     alloc: Global,
     source: &[u8],

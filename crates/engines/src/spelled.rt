@@ -88,18 +88,6 @@ fn append_call(
     append_list(out, arguments)
 }
 
-#[cycle(spelled)]
-fn append_pair(
-    out: &mut Vec<u8>,
-    left: &Expr,
-    operator: Operator,
-    right: &Expr,
-) -> Result<(), AllocError> {
-    append_expression(out, left)?;
-    out.extend_from_slice(sign(operator))?;
-    append_expression(out, right)
-}
-
 /// Appends an expression.
 #[cycle(spelled)]
 fn append_expression(out: &mut Vec<u8>, expression: &Expr) -> Result<(), AllocError> {
@@ -119,6 +107,10 @@ fn append_expression(out: &mut Vec<u8>, expression: &Expr) -> Result<(), AllocEr
             out.extend_from_slice(before(*prefix))?;
             append_expression(out, operand)
         }
-        Expr::Binary(operator, left, right) => append_pair(out, left, *operator, right),
+        Expr::Binary(operator, left, right) => {
+            append_expression(out, left)?;
+            out.extend_from_slice(sign(*operator))?;
+            append_expression(out, right)
+        }
     }
 }

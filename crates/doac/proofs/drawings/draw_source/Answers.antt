@@ -2,13 +2,13 @@ use Rattle.std.proofs.Common.{◌≡◌, rules, subst}
 use Rattle.engines.specs.Drawing.{Draws}
 use Rattle.engines.specs.declared.drawn.Drawn.TheVariants.{Picture, Shown}
 use Rattle.doac.specs.Deeds.{GivesFile}
-use Rattle.doac.proofs.Drawings.{of_page, of_picture}
+use Rattle.doac.proofs.Delivered.{of_page, of_picture}
 use Rattle.doac.proofs.drawings.draw_source.Goals as goal
 
 pub returns-in-Ok-Picture : goal.returns-in-Ok-Picture
 returns-in-Ok-Picture g c =
     let allows = Draws c.args.text.now c.args.portion in
-    let text : c.deref-in-Ok-Picture.result.now ≡ c.in-Ok-Picture.picture.items = search rules in
+    let text : c.deref.result.now ≡ c.in-Ok-Picture.picture.items = search rules in
     of_picture allows _ c.in-Ok-Picture.picture (g.F.NamedFiles.done c.args.files.now) (g.F.NamedFiles.done c.picture_onto.new.files) (g.W.Write.contents c.args.out.now) c.picture_onto.result
     (subst allows c.in-Ok-Picture.field-0-is c.in-Ok-Picture.ensures)
     (subst (λ b. GivesFile c.args.onto.now b (g.F.NamedFiles.done c.args.files.now) (g.F.NamedFiles.done c.picture_onto.new.files) c.picture_onto.result) text c.picture_onto.ensures)

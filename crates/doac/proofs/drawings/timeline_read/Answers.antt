@@ -3,7 +3,7 @@ use Rattle.engines.specs.Timeline.{Times}
 use Rattle.engines.specs.declared.drawn.Drawn.{Drawn}
 use Rattle.engines.specs.declared.drawn.Drawn.TheVariants.{Picture, Shown}
 use Rattle.doac.specs.Deeds.{GivesFile}
-use Rattle.doac.proofs.Drawings.{of_page, of_picture}
+use Rattle.doac.proofs.Delivered.{of_page, of_picture}
 use Rattle.doac.proofs.drawings.timeline_read.Goals as goal
 
 pub returns-in-Ok-Picture : goal.returns-in-Ok-Picture
