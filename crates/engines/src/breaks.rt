@@ -84,7 +84,7 @@ fn in_list(text: &[u8], start: usize) -> Option<usize> {
 fn in_condition(text: &[u8]) -> Option<usize> {
     let start = place_of(b'(', text)?;
     let mut reading = Reading::new(text, start, false, false);
-    loop {
+    for _ in 0..=text.len() {
         match reading.step() {
             Step::On if reading.depth == 0 => break,
             Step::On => {}
