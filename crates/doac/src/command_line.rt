@@ -197,8 +197,7 @@ fn parser<'a>(alloc: Global) -> Result<clap::Command<'a>, AllocError>
         .subcommand(list)?
         .subcommand(seq)?;
     let app = with_run(alloc, app)?.subcommand(replay)?;
-    let app = with_upgrade(alloc, app)?;
-    with_code(alloc, app)?.subcommand(explain)
+    with_code(alloc, with_upgrade(alloc, app)?)?.subcommand(explain)
 }
 
 /// Reads a command line, of which the first word is the program's name.

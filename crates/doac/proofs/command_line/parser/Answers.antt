@@ -11,7 +11,7 @@ returns c =
     let seq_new : app_of c.about-3.result ≡ new_app (codes "seq") = search (rules, c.about-3.ensures, c.new-3.ensures.app) in
     let replay_new : app_of c.about-4.result ≡ new_app (codes "replay") = search (rules, c.about-4.ensures, c.new-4.ensures.app) in
     let explain_new : app_of c.about-5.result ≡ new_app (codes "explain") = search (rules, c.about-5.ensures, c.new-5.ensures.app) in
-    let doac_new : app_of c.version.result ≡ wants_subcommand (new_app (codes "doac")) = search rules in
+    let doac_new : app_of c.version.result ≡ wants_subcommand (new_app (codes "doac")) = search (rules, c.version.ensures, c.subcommand_required.ensures, c.about-6.ensures, c.new-6.ensures.app) in
     let check_is : app_of c.in_ok-check.check ≡ check =
     c.in_ok-check.ensures.shape c.source.ensures.local ∙ ap₂ with_rule check_new c.source.ensures.rule in
     let list_is : app_of c.in_ok-list.list ≡ list =
