@@ -96,22 +96,22 @@ fn mistakes_of_signs(rt: HostRuntime) -> Result<(), Fail> {
         (
             b"      K=2**3\n      END\n",
             25,
-            "f:1: refused: the statement is not well formed\n      K=2**3\nhint: there is no power; write a product\n",
+            "f:1: refused: the statement is not well formed\n      K=2**3\n          ^\nhint: there is no power; write a product\n",
         ),
         (
             b"      K=1 ! one\n      END\n",
             25,
-            "f:1: refused: the statement is not well formed\n      K=1 ! one\nhint: '!' begins no comment",
+            "f:1: refused: the statement is not well formed\n      K=1 ! one\n          ^\nhint: '!' begins no comment",
         ),
         (
             b"      PRINT *,\"HI\"\n      END\n",
             25,
-            "f:1: refused: the statement is not well formed\n      PRINT *,\"HI\"\nhint: a text stands between apostrophes\n",
+            "f:1: refused: the statement is not well formed\n      PRINT *,\"HI\"\n              ^\nhint: a text stands between apostrophes\n",
         ),
         (
             b"      MY_K=1\n      END\n",
             25,
-            "f:1: refused: the statement is not well formed\n      MY_K=1\nhint: a name has letters and digits alone\n",
+            "f:1: refused: the statement is not well formed\n      MY_K=1\n        ^\nhint: a name has letters and digits alone\n",
         ),
         (
             b"      INTEGER :: K\n      END\n",
@@ -128,17 +128,17 @@ fn mistakes_of_operators(rt: HostRuntime) -> Result<(), Fail> {
         (
             b"      K=1; L=2\n      END\n",
             25,
-            "f:1: refused: the statement is not well formed\n      K=1; L=2\nhint: a line holds one statement\n",
+            "f:1: refused: the statement is not well formed\n      K=1; L=2\n         ^\nhint: a line holds one statement\n",
         ),
         (
             b"      IF (K==1) L=2\n      END\n",
             25,
-            "f:1: refused: the statement is not well formed\n      IF (K==1) L=2\nhint: write .EQ. in the place of '=='\n",
+            "f:1: refused: the statement is not well formed\n      IF (K==1) L=2\n           ^\nhint: write .EQ. in the place of '=='\n",
         ),
         (
             b"      IF (K<1) L=2\n      END\n",
             25,
-            "f:1: refused: the statement is not well formed\n      IF (K<1) L=2\nhint: write .LT. or .LE.",
+            "f:1: refused: the statement is not well formed\n      IF (K<1) L=2\n           ^\nhint: write .LT. or .LE.",
         ),
         (
             b"      PRINT *,'IT'S'\n      END\n",
@@ -160,7 +160,7 @@ fn mistakes_of_loops(rt: HostRuntime) -> Result<(), Fail> {
         (
             b"      DO I=1,3\n      END\n",
             25,
-            "f:1: refused: the statement is not well formed\n      DO I=1,3\nhint: a DO names the label",
+            "f:1: refused: the statement is not well formed\n      DO I=1,3\n            ^\nhint: a DO names the label",
         ),
         (
             b"      DO 10 I=1.10\n   10 CONTINUE\n      END\n",
