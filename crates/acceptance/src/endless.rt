@@ -125,7 +125,7 @@ fn assembled(rt: &(impl Abort + AllocGlobal), acts: &[Does]) -> Result<Code, All
         operands: 2,
         counters: 0,
     };
-    match Code::new(parts) {
+    match Code::new(alloc, parts)? {
         Some(code) => Ok(code),
         None => panic!(*rt; "the code is laid"),
     }

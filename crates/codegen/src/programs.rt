@@ -141,9 +141,10 @@ fn whole(
         operands: operands as usize,
         counters: counters as usize,
     };
-    match Code::new(parts) {
-        Some(code) => Ok(code),
-        None => Err(TOO_LONG),
+    match Code::new(alloc, parts) {
+        Ok(Some(code)) => Ok(code),
+        Ok(None) => Err(TOO_LONG),
+        Err(_) => Err(Refusal::Memory),
     }
 }
 

@@ -1,6 +1,7 @@
 pub mod Actions
 pub mod Stacks
 pub mod Runs
+pub mod Shortcuts
 pub mod Views
 pub mod Example
 pub mod Equal

@@ -1,3 +1,4 @@
+mod ActCode
 pub mod Alike
 pub mod Code
 pub mod CodeView
@@ -6,6 +7,8 @@ pub mod FrameView
 pub mod Laid
 pub mod Local
 pub mod Next
+pub mod Short
+pub mod Shortcut
 pub mod Solo
 pub mod State
 pub mod View

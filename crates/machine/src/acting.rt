@@ -61,7 +61,7 @@ fn next(cursor: Cursor, top: usize) -> Cursor
 
 /// The instruction so many behind the next one.
 #[inline(always)]
-fn skip(cursor: Cursor, n: u32) -> Cursor
+pub fn skip(cursor: Cursor, n: u32) -> Cursor
     requires { cursor.place < 2 ^ 63 }
     ensures { result ≡ record cursor { place = cursor.place + 1 + n } }
 {
@@ -253,7 +253,7 @@ fn push_step(slots: &mut [i64], counters: &[Counter], cursor: Cursor) -> Went
 }
 
 #[inline(always)]
-fn back(cursor: Cursor, n: u32) -> Cursor
+pub fn back(cursor: Cursor, n: u32) -> Cursor
     ensures { result ≡ record cursor { place = cursor.place - n } }
 {
     Cursor {

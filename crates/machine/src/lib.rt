@@ -12,7 +12,10 @@ pub mod laws;
 mod next;
 mod parts;
 mod same;
+mod shortcut;
+mod shortening;
 mod stack;
+mod taking;
 mod working;
 
 pub use code::{Await, Code, Loop, Open, Parts, Piece, Variable};
@@ -20,4 +23,5 @@ pub use done::Done;
 pub use frame::{Counter, Frame};
 pub use instr::{Act, Axis, Instr};
 pub use next::{Next, stands_next};
+pub use shortcut::{Entry, Shortcut};
 pub use working::{Stop, local, stands_local};

@@ -43,14 +43,14 @@ returns-then-len-gt-MOST_INSTRUCTIONS-clause-refused c =
       ],
     )
 
-pub returns-in-Some-clause-code : goal.returns-in-Some-clause-code
-returns-in-Some-clause-code c =
+pub returns-in-Ok-Some-clause-code : goal.returns-in-Ok-Some-clause-code
+returns-in-Ok-Some-clause-code c =
     let t = program_of c.args.program.now in
     let xs = planned_in (loops_seen c.args.tree.now) c.args.reports.now in
     let m = c.in_ok-made.made in
     let all = c.in_ok-made.ensures ∙ made_with t.symbols xs (main_made t (opened_by xs)) in
     let instructions = ap (λ (x : Made). x.instructions) all in
-    let made : code_of c.in-Some.code ≡ record {
+    let made : code_of c.in-Ok-Some.code ≡ record {
       instructions = m.instructions.items;
       records = records_of m.records;
       awaits = m.awaits.items;
@@ -58,7 +58,7 @@ returns-in-Some-clause-code c =
       loops = map loop_of m.loops.items;
       operands = c.of_block-operands.result;
       counters = c.loops_of_block-counters.result;
-    } = c.in-Some.ensures.code in
+    } = rw c.in-Ok-Some.field-0-is at c.in-Ok-Some.ensures.code in
     let short_enough : length m.instructions.items ≤ most_instructions = search rules in
     let given : length c.args.program.now.symbols.items ≤ most_symbols = search rules in
     let mapped = length-map c.args.program.now.symbols.items symbol in
@@ -84,8 +84,8 @@ returns-in-Some-clause-code c =
       few_room = little_room t c.greater-room.result room less;
     })
 
-pub returns-in-None-clause-refused : goal.returns-in-None-clause-refused
-returns-in-None-clause-refused c =
+pub returns-in-Ok-None-clause-refused : goal.returns-in-Ok-None-clause-refused
+returns-in-Ok-None-clause-refused c =
     let t = program_of c.args.program.now in
     let names : variables_in c.in_ok-variables.field-0.items ≡ variables_for t.symbols = search rules in
-    absurd (none_refused (are_distinct (names_in c.in_ok-variables.field-0.items)) (are_laid 0 c.in_ok-variables.field-0.items) c.in-None.ensures.exactly (distinct_law c.in_ok-variables.field-0.items t.symbols c.args.program.now.distinct names) c.in_ok-variables.ensures.laid)
+    absurd (none_refused (are_distinct (names_in c.in_ok-variables.field-0.items)) (are_laid 0 c.in_ok-variables.field-0.items) (rw c.in-Ok-None.field-0-is at c.in-Ok-None.ensures.exactly) (distinct_law c.in_ok-variables.field-0.items t.symbols c.args.program.now.distinct names) c.in_ok-variables.ensures.laid)
