@@ -7,6 +7,7 @@ pub mod Ending
 pub mod Finding
 pub mod Frames
 pub mod Fusing
+pub mod Growing
 pub mod Halting
 pub mod Held
 pub mod Items
@@ -14,6 +15,7 @@ pub mod Lands
 pub mod Leading
 pub mod Nesting
 pub mod Offsets
+pub mod Onward
 pub mod Placing
 pub mod Reaching
 pub mod Seats

@@ -9,6 +9,11 @@ use Rattle.ast.specs.declared.answer.Answer.{Answer}
 use Rattle.ast.specs.declared.fault.End.{End}
 use Rattle.ast.specs.declared.fault.End.TheVariants.{Done, Stopped, Fault as Faulted}
 use Rattle.std.specs.declared.alloc.AllocError.{AllocError}
+use Rattle.std.specs.Io.KnownBytes.{Appends}
+use Rattle.interpreter.specs.Handing.{Begins, FallsShort}
+use Rattle.interpreter.specs.declared.run_end.RunEnd.{RunEnd}
+use Rattle.interpreter.specs.declared.run_end.RunFault.{RunFault}
+use Rattle.interpreter.specs.declared.run_end.RunFault.TheVariants as faults
 use Rattle.interpreter.specs.declared.stop.Stop.{Stop}
 use Rattle.interpreter.specs.declared.stop.Stop.TheVariants.{Memory, Fault as Fails, Stopped as Stops}
 
@@ -39,3 +44,15 @@ ended (Ok done) = Ok Done
 ended (Err (Memory e)) = Err e
 ended (Err (Fails f l)) = Ok (Faulted f l)
 ended (Err (Stops l)) = Ok (Stopped l)
+
+-- A writer's known bytes grew by the output of a run, and the ending is that of the run; or by a
+-- beginning of its output, where there was no memory, and where the writer failed one of which something
+-- is missing.
+abbrev pub Came : List Symbol → Run → Option (List ℕ) → Option (List ℕ) → Result RunEnd RunFault → Type 0
+Came symbols run old new (Ok ending) = Appends old new run.output × (ending.end ≡ run.end) × (cells ending.store ≡ cells_of symbols run.store)
+Came symbols run old new (Err faults.Memory) = (got : List ℕ) × Appends old new got × Begins got run.output
+Came symbols run old new (Err (faults.Writing e)) = (got : List ℕ) × Appends old new got × FallsShort got run.output
+
+-- the same of a program's meaning on an input
+abbrev pub Streams : ProgramTree → List ℕ → Option (List ℕ) → Option (List ℕ) → Result RunEnd RunFault → Type 0
+Streams program input old new result = Came program.symbols (seq program input) old new result

@@ -4,6 +4,7 @@ pub mod CodeView
 pub mod Executing
 pub mod Fitting
 pub mod Fused
+pub mod Handing
 pub mod Halts
 pub mod Kept
 pub mod Lowered

@@ -58,6 +58,15 @@ impl<'p> Input<'p> {
         }
     }
 
+    /// How many records are left.
+    pub fn left(self) -> usize {
+        let mut count: usize = 0;
+        for _ in self.records {
+            count = count.saturating_add(1);
+        }
+        count
+    }
+
     /// The next integer, from the first record that has one where none is left.
     ///
     /// # Errors

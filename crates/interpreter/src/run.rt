@@ -2,14 +2,20 @@
 
 ghost use Rattle.std.specs.Prelude.{◌≡◌, IfOk};
 ghost use Rattle.ast.specs.ProgramView.{program as program_of};
-ghost use Rattle.interpreter.specs.Answers.{ended, HoldsValues, IsAnswer};
+ghost use Rattle.interpreter.specs.Answers.{ended, HoldsValues, IsAnswer, Streams};
 
 use crate::fast::run_lowered;
+use crate::handing::write_all;
 use crate::machine::Machine;
+use crate::run_end::{RunEnd, RunFault};
 use crate::statements::exec_block;
 use crate::stop::Stop;
 use ast::{Answer, End, Program};
 use std::alloc::{AllocError, Global};
+use std::io::Write;
+
+/// How many bytes of records may wait where the output is kept.
+const KEPT_AT_ONCE: usize = 65_536;
 
 /// How a run ended whose statements answered so.
 fn end_of(answered: Result<(), Stop>) -> Result<End, AllocError>
@@ -24,7 +30,7 @@ fn end_of(answered: Result<(), Stop>) -> Result<End, AllocError>
 }
 
 /// Runs a program on an input by its tree.
-fn run_plain(alloc: Global, program: &Program, input: &[u8]) -> Result<Answer, AllocError>
+fn run_tree(alloc: Global, program: &Program, input: &[u8]) -> Result<Answer, AllocError>
     ensures { IfOk result (IsAnswer (program_of program.now) input.now) }
 {
     let mut machine = Machine::new(alloc, program, input)?;
@@ -33,13 +39,59 @@ fn run_plain(alloc: Global, program: &Program, input: &[u8]) -> Result<Answer, A
     Ok(machine.into_answer(end))
 }
 
-/// Runs a program on an input by its lowered code, where it has any, and otherwise by its tree.
+/// Runs a program on an input by its tree; its records go onto the writer at the end.
+fn run_plain<W: Write>(
+    alloc: Global,
+    program: &Program,
+    input: &[u8],
+    writer: &mut W,
+) -> Result<RunEnd, RunFault>
+    ensures { Streams (program_of program.now) input.now (W.contents writer.old) (W.contents writer.new) result }
+{
+    let answer = run_tree(alloc, program, input)?;
+    match write_all(writer, &answer.output) {
+        Ok(()) => Ok(RunEnd {
+            end: answer.end,
+            store: answer.store,
+            left: None,
+        }),
+        Err(error) => Err(RunFault::Writing(error)),
+    }
+}
+
+/// Runs a program on an input, one statement after another, from a store of zeros, and writes the
+/// records that it prints while it runs: whole records, of which `most` bytes may wait at most before
+/// they are handed on; at 0 each goes on at once.
+///
+/// The ending has the end of the run and the store there, also at a fault or a STOP.
+///
+/// # Errors
+///
+/// `RunFault::Memory` where memory is refused, and the writer's error where it fails or takes no byte:
+/// a beginning of the records is written then.
+pub fn run_onto<W: Write>(
+    alloc: Global,
+    program: &Program,
+    input: &[u8],
+    most: usize,
+    writer: &mut W,
+) -> Result<RunEnd, RunFault>
+    ensures { Streams (program_of program.now) input.now (W.contents writer.old) (W.contents writer.new) result }
+{
+    match run_lowered(alloc, program, input, most, writer) {
+        Some(came) => came,
+        None => run_plain(alloc, program, input, writer),
+    }
+}
+
+/// Runs a program on an input and keeps its records.
 fn run(alloc: Global, program: &Program, input: &[u8]) -> Result<Answer, AllocError>
     ensures { IfOk result (IsAnswer (program_of program.now) input.now) }
 {
-    match run_lowered(alloc, program, input)? {
-        Some(answer) => Ok(answer),
-        None => run_plain(alloc, program, input),
+    let mut output = Vec::new(alloc);
+    match run_onto(alloc, program, input, KEPT_AT_ONCE, &mut output) {
+        Ok(RunEnd { end, store, .. }) => Ok(Answer { output, store, end }),
+        Err(_) => Err(AllocError),
     }
 }
 

@@ -1,17 +1,12 @@
-use Rattle.std.proofs.Common.{List, map, sym, subst}
-use Rattle.ast.specs.Symbols.{Symbol}
-use Rattle.ast.specs.View.{block_view, symbol}
-use Rattle.ast.specs.declared.tree.Node.{Node}
-use Rattle.interpreter.specs.Placed.{PlacedBlock}
-use Rattle.interpreter.proofs.Placing.{placed}
+use Rattle.std.proofs.Common.{◌∙◌, [], sym}
+use Rattle.std.proofs.KnownBytes.{Appends-nil}
+use Rattle.ast.specs.Meaning.{seq}
+use Rattle.ast.specs.ProgramView.{program as program_of}
+use Rattle.interpreter.proofs.Onward.{part_got}
 use Rattle.interpreter.proofs.run.run_plain.Goals as goal
 
-pub exec_block-answered-requires : goal.exec_block-answered-requires
-exec_block-answered-requires c =
-    let p = c.args.program.now in
-    let ss = map symbol p.symbols.items in
-    record {
-      placed =
-          subst (λ (symbols : List Symbol). PlacedBlock symbols (block_view c.deref.result.now)) (sym c.in_ok-machine.ensures.symbols)
-          (subst (λ (nodes : List Node). PlacedBlock ss (block_view nodes)) (sym c.deref.ensures.value) (placed ss (block_view p.body.items) p.placed));
-    }
+pub returns-in-Err : goal.returns-in-Err
+returns-in-Err g c =
+    let known = g.W.Write.contents c.args.writer.now in
+    part_got known known (g.W.Write.contents c.write_all.new.writer) c.deref.result.now (seq (program_of c.args.program.now) c.args.input.now).output
+    ([], Appends-nil known, sym (c.deref.ensures.value ∙ c.in_ok-answer.ensures.output)) c.in-Err.ensures.err
