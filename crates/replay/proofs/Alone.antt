@@ -3,7 +3,7 @@ use Rattle.std.proofs.Common.{inl, inr, ◌≡◌, ◌∙◌, ℕ, false, refl, 
 use Rattle.machine.specs.Code.{Code}
 use Rattle.machine.specs.State.{Choice, take_main, take_iteration, take_ticket}
 use Rattle.replay.specs.Activities.{Stays, code_in, kept_in, point_in}
-use Rattle.replay.specs.Making.{MadeAs, pick_of}
+use Rattle.replay.specs.Making.{IsNamed, MadeAs, pick_of}
 use Rattle.replay.specs.Parts.{Kept, point_of}
 use Rattle.replay.specs.Replays.{Point, ByRule, Moves, Picks, Works, Does}
 use Rattle.replay.specs.Schedules.{works, shares, IsAct}
@@ -18,6 +18,7 @@ made_work v code s n a q b i w = record {
   only = λ c x. works_same code s n a q c b x w;
   named = w;
   allowed = i;
+  is_named = refl;
   same = λ e. refl;
 }
 
@@ -27,6 +28,7 @@ made_share First code s a q b m = record {
   only = only;
   named = m;
   allowed = tt;
+  is_named = tt;
   same = λ e. refl;
 }
   where
@@ -38,6 +40,7 @@ made_share Second code s a q b m = record {
   only = λ c x. moves_same code s false false a q c b x m;
   named = m;
   allowed = tt;
+  is_named = tt;
   same = λ e. refl;
 }
 
@@ -51,12 +54,23 @@ pick_named code s v take_main a q b h = h
 pick_named code s v (take_iteration k) a q b h = h
 pick_named code s v take_ticket a q b h = h
 
+pick_itself : (c : Choice) → IsNamed (pick_of c) (pick_of c)
+pick_itself take_main = refl
+pick_itself (take_iteration k) = refl
+pick_itself take_ticket = refl
+
+pick_of_share : (c : Choice) → IsNamed shares (pick_of c)
+pick_of_share take_main = tt
+pick_of_share (take_iteration k) = tt
+pick_of_share take_ticket = tt
+
 pub made_pick : (v : Version) (code : Code) (s : ℕ) (c : Choice) (a : Point) (q : ℕ) (b : Point) → IsAct Second (pick_of c) → Picks code s c a q b → MadeAs v code s (pick_of c) a q (pick_of c) b
 made_pick v code s c a q b i h = record {
   does = named_pick code s v c a q b h;
   only = λ d x. picks_same code s c a q d b (pick_named code s v c a q d x) h;
   named = named_pick code s Second c a q b h;
   allowed = i;
+  is_named = pick_itself c;
   same = λ e. refl;
 }
 
@@ -68,6 +82,7 @@ made_by_rule code s c a q b i alone rule h = record {
   only = only;
   named = named_pick code s Second c a q b h;
   allowed = i;
+  is_named = pick_of_share c;
   same = λ e. (let z : First ≡ Second = e in cc);
 }
   where

@@ -4,9 +4,9 @@ use Rattle.std.proofs.lemmas.List.{append-nil, length-append}
 use Rattle.ast.specs.declared.fault.End.{End}
 use Rattle.machine.specs.Code.{Code}
 use Rattle.replay.specs.Activities.{AreActivities, Stays, code_in, point_in}
-use Rattle.replay.specs.Making.{LeadsOnly, MadeAs}
+use Rattle.replay.specs.Making.{AreNamed, IsNamed, LeadsOnly, MadeAs}
 use Rattle.replay.specs.Refusals.{Explains}
-use Rattle.replay.specs.Replayed.{CannotBeMade, NoneLeads, StopsAt}
+use Rattle.replay.specs.Replayed.{CannotBeMade, NamesPicks, NoneLeads, StopsAt}
 use Rattle.replay.specs.Replays.{Point, Works, Does, Leads}
 use Rattle.replay.specs.Schedules.{Act, works, shares, picks_main, picks, takes_ticket, AreEntries, Entry, IsAct, Schedule, with_entry}
 use Rattle.replay.specs.declared.activities.Activities.{Activities}
@@ -147,7 +147,47 @@ refused_stop r v w p s all a b rest more e line t h f k x =
 pub record FollowingNamed (x : Schedule) (a : Activities) (rest : List Entry) (line : ℕ) (b : Activities) (y : Schedule) : Type 0 where
   pub follows : Following x.version x.processors x.slots x.entries a rest line b
   pub named : Leads Second (code_in a) x.slots (point_in a) y.entries (point_in b)
+  pub front : List Entry
+  pub is : x.entries ≡ front ++ rest
+  pub each : AreNamed front y.entries
   pub sizes : y ≡ record { version = Second; processors = x.processors; slots = x.slots; entries = y.entries }
+
+named_more : (xs ys : List Entry) (x : Entry) (n : Act) → AreNamed xs ys → IsNamed x.act n → AreNamed (xs ++ x ∷ []) (ys ++ record { processor = x.processor; act = n } ∷ [])
+named_more [] [] x n h i = (refl, i, tt)
+named_more [] (b ∷ ys) x n h i = absurd h
+named_more (a ∷ xs) [] x n h i = absurd h
+named_more (a ∷ xs) (b ∷ ys) x n h i = (h.0, h.1, named_more xs ys x n h.2 i)
+
+-- entries are named by themselves
+itself : (x : Act) → IsNamed x x
+itself (works n) = refl
+itself shares = tt
+itself picks_main = refl
+itself (picks k) = refl
+itself takes_ticket = refl
+
+all_themselves : (xs : List Entry) → AreNamed xs xs
+all_themselves [] = tt
+all_themselves (x ∷ xs) = (refl, itself x.act, all_themselves xs)
+
+pub names_itself : (code : Code) (a b : Point) (x y : Schedule) → x.version ≡ Second → y ≡ x → LeadsOnly x.version code x.slots a x.entries b → NamesPicks code a x y
+names_itself code a b x y v e l =
+    subst (λ (z : Schedule). NamesPicks code a x z) (sym e) (record {
+      version = v;
+      processors = refl;
+      slots = refl;
+      entries = all_themselves x.entries;
+      point = b;
+      old = l.leads;
+      new = subst (λ (w : Version). Leads w code x.slots a x.entries b) v l.leads;
+      same = λ d. refl;
+    })
+
+-- none is left
+pub each_named : (x : Schedule) (a : Activities) (rest : List Entry) (line : ℕ) (b : Activities) (y : Schedule) → FollowingNamed x a rest line b y → rest ≡ [] → AreNamed x.entries y.entries
+each_named x a rest line b y f e =
+    subst (λ (es : List Entry). AreNamed es y.entries)
+    (sym (f.is ∙ ap (λ (es : List Entry). f.front ++ es) e ∙ append-nil f.front)) f.each
 
 pub starts_named : (x : Schedule) (a : Activities) (rest : List Entry) (y : Schedule) → rest ≡ x.entries → AreEntries x.version x.processors x.entries → AreActivities a → y ≡ record { version = Second; processors = x.processors; slots = x.slots; entries = [] }
     → FollowingNamed x a rest 3 a y
@@ -155,6 +195,9 @@ starts_named x a rest y r i s e = record {
   follows = subst (λ (es : List Entry). Following x.version x.processors x.slots x.entries a es 3 a) (sym r)
       (at_start x.version (code_in a) x.slots (point_in a) x.entries, i, s, record { code_is = refl; processors = refl; slots = refl });
   named = subst (λ (es : List Entry). Leads Second (code_in a) x.slots (point_in a) es (point_in a)) (sym (ap (λ (z : Schedule). z.entries) e)) refl;
+  front = [];
+  is = sym r;
+  each = subst (λ (es : List Entry). AreNamed [] es) (sym (ap (λ (z : Schedule). z.entries) e)) tt;
   sizes = e ∙ ap (λ (es : List Entry). sized x es) (sym (ap (λ (z : Schedule). z.entries) e));
 }
   where
@@ -168,6 +211,10 @@ names_on x a b d rest more e line n y z h f r m i t w = record {
   named = subst (λ (es : List Entry). Leads Second (code_in a) x.slots (point_in a) es (point_in d)) (sym (ap (λ (v : Schedule). v.entries) w))
       (leads_more Second (code_in a) x.slots (point_in a) (point_in b) (point_in d) y.entries (record { processor = e.processor; act = n }) f.named
       (made_here x.version a b x.slots e.act e.processor n (point_in d) f.follows.3 h m).named);
+  front = f.front ++ e ∷ [];
+  is = f.is ∙ ap (λ (es : List Entry). f.front ++ es) r ∙ sym (append_assoc f.front (e ∷ []) more);
+  each = subst (λ (es : List Entry). AreNamed (f.front ++ e ∷ []) es) (sym (ap (λ (v : Schedule). v.entries) w))
+      (named_more f.front y.entries e n f.each m.is_named);
   sizes = w ∙ ap (λ (v : Schedule). with_entry v (record { processor = e.processor; act = n })) f.sizes ∙ ap (λ (es : List Entry). sized x es) (sym (ap (λ (v : Schedule). v.entries) w));
 }
   where

@@ -3,7 +3,7 @@ use Rattle.std.proofs.Common.{◌≡◌, ◌≢◌, ℕ, ◌+◌, ◌<◌, ◌�
 use Rattle.std.proofs.lemmas.List.{length-append}
 use Rattle.replay.specs.Kept.{IsKept, entry_of, seen, taken}
 use Rattle.replay.specs.Reading.{entry_at, header_at, sizes_at}
-use Rattle.replay.specs.Refusals.{BeginsEntry, Explains, Refuses, number_of}
+use Rattle.replay.specs.Refusals.{BeginsEntry, Explains, Refuses, number_of, IsHeaded, WantsMemory}
 use Rattle.replay.specs.Schedules.{Act, picks, Entry, IsAct, IsSchedule, SchedText, Schedule, entry_text, header, line_before, text_before, with_entry}
 use Rattle.machine.specs.State.{AreSizes, most_processors}
 use Rattle.replay.specs.declared.entry.Version.{Version}
@@ -136,7 +136,16 @@ pub begun_at : (bytes : List ℕ) (v : Version) (rest : List ℕ) (p s : ℕ) (b
     → x ≡ record { version = v; processors = p; slots = s; entries = [] } → bytes ≡ text_before x behind
 begun_at bytes v rest p s behind x e f new = (opened bytes v rest p s behind e f).1 ∙ ap (λ (y : Schedule). text_before y behind) (sym new)
 
+pub headed : (bytes : List ℕ) (v : Version) (rest : List ℕ) (p s : ℕ) (behind : List ℕ) → header_at bytes ≡ Some (v, rest) → sizes_at rest ≡ Some (p, s, behind) → IsHeaded bytes
+headed bytes v rest p s behind e f =
+    let first = opened bytes v rest p s behind e f in
+    record { version = v; processors = p; slots = s; sizes = first.0; rest = behind; is = first.1 }
+
 -- ---- refusals
+
+pub wants_where : (fault : ReplayRefusal) (P : Type 0) → P → WantsMemory fault P
+wants_where Memory P h = h
+wants_where (Refused number line) P h = tt
 
 pub at_bytes : (t bytes : List ℕ) (fault : ReplayRefusal) → bytes ≡ t → Explains fault (λ number line. Refuses t number line) → Explains fault (λ number line. Refuses bytes number line)
 at_bytes t bytes Memory e h = tt

@@ -1,10 +1,10 @@
 -- What making an entry of a schedule came to.
-use Rattle.std.specs.Prelude.{◌≡◌, ℕ, List, Option, Some, None}
+use Rattle.std.specs.Prelude.{◌≡◌, ℕ, List, [], ◌∷◌, Option, Some, None, ⊤}
 use Rattle.machine.specs.Code.{Code}
 use Rattle.machine.specs.State.{Choice, take_main, take_iteration, take_ticket}
 use Rattle.replay.specs.Activities.{code_in, point_in}
 use Rattle.replay.specs.Replays.{Point, Does, Leads}
-use Rattle.replay.specs.Schedules.{Act, picks_main, picks, takes_ticket, Entry, IsAct}
+use Rattle.replay.specs.Schedules.{Act, works, shares, picks_main, picks, takes_ticket, Entry, IsAct}
 use Rattle.replay.specs.declared.activities.Activities.{Activities}
 use Rattle.replay.specs.declared.entry.Version.{Version}
 use Rattle.replay.specs.declared.entry.Version.TheVariants.{Second}
@@ -15,6 +15,18 @@ pick_of take_main = picks_main
 pick_of (take_iteration k) = picks k
 pick_of take_ticket = takes_ticket
 
+-- The second version names an act so: a shared step may turn out to be a pick, all else is as it was.
+abbrev pub IsNamed : Act → Act → Type 0
+IsNamed shares (works n) = ⊥
+IsNamed shares y = ⊤
+IsNamed x y = y ≡ x
+
+-- It names entries so, one by one, each of its own processor.
+abbrev pub AreNamed : List Entry → List Entry → Type 0
+AreNamed [] [] = ⊤
+AreNamed (x ∷ xs) (y ∷ ys) = (y.processor ≡ x.processor) × IsNamed x.act y.act × AreNamed xs ys
+AreNamed _ _ = ⊥
+
 -- What processor q does in an entry leads to this point alone, and an entry of the second version says
 -- the same.
 pub record MadeAs (v : Version) (code : Code) (s : ℕ) (x : Act) (a : Point) (q : ℕ) (y : Act) (b : Point) : Type 0 where
@@ -22,6 +34,7 @@ pub record MadeAs (v : Version) (code : Code) (s : ℕ) (x : Act) (a : Point) (q
   pub only : (c : Point) → Does v code s x a q c → c ≡ b
   pub named : Does Second code s y a q b
   pub allowed : IsAct Second y
+  pub is_named : IsNamed x y
   pub same : v ≡ Second → y ≡ x
 
 -- the entry was made, or it can't be made

@@ -80,6 +80,20 @@ abbrev pub Explains : ReplayRefusal → (ℕ → ℕ → Type 0) → Type 0
 Explains Memory claim = ⊤
 Explains (Refused number line) claim = claim number line
 
+-- The bytes begin with lines 1 and 2 of a schedule.
+pub record IsHeaded (bytes : List ℕ) : Type 0 where
+  pub version : Version
+  pub processors : ℕ
+  pub slots : ℕ
+  pub sizes : AreSizes processors slots
+  pub rest : List ℕ
+  pub is : bytes ≡ line_before (header version) (line_before (sizes_text processors slots) rest)
+
+-- memory is wanted only where this holds
+abbrev pub WantsMemory : ReplayRefusal → Type 0 → Type 0
+WantsMemory Memory claim = claim
+WantsMemory (Refused number line) claim = ⊤
+
 -- an account of the code: the number of what an entry lacks
 abbrev pub number_of : NoEntry → ℕ
 number_of Form = 52

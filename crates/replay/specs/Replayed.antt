@@ -7,6 +7,7 @@ use Rattle.ast.specs.declared.fault.End.{End}
 use Rattle.machine.specs.Code.{Code}
 use Rattle.machine.specs.State.{Machine}
 use Rattle.machine.specs.declared.code.Variable.{Variable}
+use Rattle.replay.specs.Making.{AreNamed}
 use Rattle.replay.specs.Replays.{Point, Does, Leads, Replays, beginning}
 use Rattle.replay.specs.Schedules.{Act, Entry, Schedule}
 use Rattle.replay.specs.declared.entry.Version.{Version}
@@ -78,12 +79,13 @@ LeadsNowhere code input x = (b : Point) → Replays code input x b → ⊥
 
 -- ---- upgrades
 
--- From a point a schedule of the second version leads where this one leads; one that is of that version
--- already is itself.
+-- From a point a schedule of the second version leads where this one leads, entry by entry; one that is
+-- of that version already is itself.
 pub record NamesPicks (code : Code) (a : Point) (x y : Schedule) : Type 0 where
   pub version : y.version ≡ Second
   pub processors : y.processors ≡ x.processors
   pub slots : y.slots ≡ x.slots
+  pub entries : AreNamed x.entries y.entries
   pub point : Point
   pub old : Leads x.version code x.slots a x.entries point
   pub new : Leads Second code x.slots a y.entries point

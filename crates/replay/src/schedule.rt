@@ -2,7 +2,7 @@
 
 ghost use Rattle.std.specs.Prelude.{◌≡◌, ◌≢◌, ◌<◌, ◌^◌, ◌++◌, ◌∷◌, [], IfOk, IfErr, OnOk, OnErr, length};
 ghost use Rattle.replay.specs.Kept.{entries_of, entry_of, taken};
-ghost use Rattle.replay.specs.Refusals.{Explains, Refuses, number_of};
+ghost use Rattle.replay.specs.Refusals.{Explains, IsHeaded, Refuses, WantsMemory, number_of};
 ghost use Rattle.replay.specs.Schedules.{Entry as EntryOf, IsAct, IsSchedule, SchedText, Schedule as ScheduleOf, text_before, text_of, picks, with_entry};
 ghost use Rattle.machine.specs.State.{AreSizes};
 ghost use Rattle.replay.specs.View.{act as act_view, entry as entry_view};
@@ -220,11 +220,12 @@ impl Schedule {
     /// # Errors
     ///
     /// 51 where line 1 or 2 is absent or not of its form or range, 52 at a line that is no entry, 53 at
-    /// an entry of a processor that isn't there; and want of memory.
+    /// an entry of a processor that isn't there; and want of memory, which only entries take.
     pub fn parse(alloc: Global, bytes: &[u8]) -> Result<Schedule, ReplayRefusal>
         ensures found { IfOk result (λ x. SchedText x bytes.now) }
         ensures refused { IfErr result (λ fault. Explains fault (λ number line. Refuses bytes.now number line)) }
         ensures only { IfErr result (λ fault. Explains fault (λ number line. (x : ScheduleOf) → SchedText x bytes.now → ⊥)) }
+        ensures memory { IfErr result (λ fault. WantsMemory fault (IsHeaded bytes.now)) }
         ensures one { (x y : ScheduleOf) → SchedText x bytes.now → SchedText y bytes.now → x ≡ y }
     {
         let Some((version, rest)) = header(bytes) else {

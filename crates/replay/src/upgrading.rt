@@ -3,7 +3,7 @@
 ghost use Rattle.std.specs.Prelude.{◌≡◌, IfOk, IfErr, OnOk, []};
 ghost use Rattle.machine.specs.CodeView.{code_of};
 ghost use Rattle.replay.specs.Activities.{AreActivities, AreOf, code_in, point_in};
-ghost use Rattle.replay.specs.Making.{LeadsOnly};
+ghost use Rattle.replay.specs.Making.{AreNamed, LeadsOnly};
 ghost use Rattle.replay.specs.Refusals.{Explains};
 ghost use Rattle.replay.specs.Replayed.{HasStop, IsUpgrade, LeadsNowhere, NamesPicks, NoneLeads, StopsAt};
 ghost use Rattle.replay.specs.Replays.{Leads};
@@ -30,6 +30,7 @@ fn follow_naming(
     requires new { named.old ≡ record { version = Second; processors = schedule.now.processors; slots = schedule.now.slots; entries = [] } }
     ensures leads { OnOk result (LeadsOnly schedule.now.version (code_in activities.old) schedule.now.slots (point_in activities.old) schedule.now.entries (point_in activities.new)) }
     ensures named { OnOk result (Leads Second (code_in activities.old) schedule.now.slots (point_in activities.old) named.new.entries (point_in activities.new)) }
+    ensures each { OnOk result (AreNamed schedule.now.entries named.new.entries) }
     ensures sizes { named.new ≡ record named.old { entries = named.new.entries } }
     ensures refused { IfErr result (λ fault. Explains fault (StopsAt schedule.now.version (code_in activities.old) schedule.now.slots (point_in activities.old) schedule.now.entries)) }
     ensures only { IfErr result (λ fault. Explains fault (λ number line. NoneLeads schedule.now.version (code_in activities.old) schedule.now.slots (point_in activities.old) schedule.now.entries)) }
@@ -90,8 +91,8 @@ fn as_it_is(activities: &mut Activities<'_>, schedule: &Schedule) -> Result<Sche
     }
 }
 
-/// A schedule of the second version that leads to the same point, whether the run ends there or not;
-/// one that is of that version already is given back as it is.
+/// A schedule of the second version that leads to the same point, whether the run ends there or not. Its
+/// entries are the same, one by one, but for shared steps that turn out to be picks; one that is of that version already is given back as it is.
 ///
 /// # Errors
 ///

@@ -1,5 +1,6 @@
 use Rattle.std.proofs.Common.{sym, ◌∙◌}
-use Rattle.replay.proofs.Parsing.{at_bytes, begun_at, no_sizes, only_refused, opened}
+use Rattle.replay.proofs.Parsing.{at_bytes, begun_at, headed, no_sizes, only_refused, opened, wants_where}
+use Rattle.replay.specs.Refusals.{IsHeaded}
 use Rattle.replay.proofs.Wholes.{one_schedule, refused_only}
 use Rattle.replay.proofs.schedule.Schedule.parse.Goals as goal
 
@@ -33,6 +34,11 @@ returns-in-Err-clause-only c =
     let begun = begun_at c.args.bytes.now c.in-Some.version c.in-Some.rest.now c.in-Some-sizes.processors c.in-Some-sizes.slots c.in-Some-sizes.rest.now c.new-schedule.result
     (sym c.in-Some.ensures) (sym c.in-Some-sizes.ensures) c.new-schedule.ensures.new in
     only_refused c.args.bytes.now c.in-Err.refusal (at_bytes _ c.args.bytes.now c.in-Err.refusal begun c.in-Err.ensures.err)
+
+pub returns-in-Err-clause-memory : goal.returns-in-Err-clause-memory
+returns-in-Err-clause-memory c =
+    wants_where c.in-Err.refusal (IsHeaded c.args.bytes.now)
+    (headed c.args.bytes.now c.in-Some.version c.in-Some.rest.now c.in-Some-sizes.processors c.in-Some-sizes.slots c.in-Some-sizes.rest.now (sym c.in-Some.ensures) (sym c.in-Some-sizes.ensures))
 
 pub returns-in_default-sizes-clause-one : goal.returns-in_default-sizes-clause-one
 returns-in_default-sizes-clause-one c = one_schedule c.args.bytes.now
