@@ -1,7 +1,80 @@
--- The arrows of a picture's text: a group for each dependence that is kept.
-use Rattle.std.specs.Prelude.{◌≡◌, ◌%◌, ◌-◌, ℕ, suc, zero, codes, decimal, List, [], ◌∷◌, ◌++◌}
+-- The arrows of a loop's picture: these and no others.
+use Rattle.std.specs.Prelude.{◌≡◌, ◌==◌, ◌%◌, ◌+◌, ◌*◌, ◌-◌, ℕ, suc, zero, nat_le, if◌then◌else◌, codes, decimal, List, [], ◌∷◌, ◌++◌, length, Option, Some, None, Vec}
+use Rattle.std.specs.Global.{Global}
+use Rattle.pictures.specs.Markup.{curve, marks, opening}
+use Rattle.pictures.specs.declared.mark.Mark.{Mark}
 use Rattle.pictures.specs.declared.picture.Arrow.{Arrow}
 use Rattle.pictures.specs.declared.picture.LoopPicture.{LoopPicture}
+use Rattle.pictures.specs.declared.picture.Row.{Row}
+use Rattle.pictures.specs.declared.places.Ends.{Ends}
+use Rattle.pictures.specs.declared.places.Place.{Place}
+use Rattle.pictures.specs.declared.places.TheConstants.{ACROSS, LEFT, MIDDLE, PITCH, STEP, TIP}
+use Rattle.pictures.specs.declared.svg.Point.{Point}
+use Rattle.pictures.specs.declared.svg.Size.{Size}
+
+-- ---- where they go
+
+-- an arrow from a place to a row of the iteration so many later
+pub record Way : Type 0 where
+  pub from : Place
+  pub over : ℕ
+  pub row : ℕ
+
+abbrev pub to : Way → Place
+to w = record { column = w.from.column + w.over; row = w.row }
+
+-- between these rows, from an iteration on
+abbrev pub arrow_in : Ends → ℕ → ℕ → Way
+arrow_in e distance k = record { from = record { column = k; row = e.source }; over = distance; row = e.sink }
+
+-- the first row in which a line stands, by the number of the first row
+abbrev pub row_from : ℕ → List Row → ℕ → Option ℕ
+row_from n [] line = None
+row_from n (r ∷ rows) line = if r.line == line then Some n else row_from (n + 1) rows line
+
+abbrev pub between : Option ℕ → Option ℕ → Option Ends
+between (Some source) (Some sink) = Some (record { source = source; sink = sink })
+between (Some source) None = None
+between None sink = None
+
+-- the rows of a dependence's lines, where both have one
+abbrev pub ends_of : List Row → Arrow → Option Ends
+ends_of rows a = between (row_from 0 rows a.source_line) (row_from 0 rows a.sink_line)
+
+-- from the last row of an iteration to the first one of the next
+abbrev pub in_turn : List Row → Ends
+in_turn rows = record { source = length rows - 1; sink = 0 }
+
+-- ---- how they look
+
+-- the middle of the right edge of a place's box, and where the tip of an arrow to it begins
+abbrev pub exit : Place → Point
+exit p = record { x = LEFT + STEP * p.column + ACROSS; y = MIDDLE + PITCH * p.row }
+
+abbrev pub tip : Place → Point
+tip p = record { x = LEFT + STEP * p.column - TIP; y = MIDDLE + PITCH * p.row }
+
+-- over so many iterations it passes below the boxes between its ends
+abbrev pub bend : ℕ → ℕ
+bend distance = if nat_le distance 1 then 0 else 24
+
+abbrev pub stroke : Way → List ℕ
+stroke w = curve (exit w.from) (tip (to w)) (bend w.over)
+
+-- the arrows of a kind that begin in the first so many iterations
+abbrev pub strokes : ℕ → (ℕ → Way) → List ℕ
+strokes zero way = []
+strokes (suc n) way = strokes n way ++ stroke (way n)
+
+-- the arrows between two rows, from each of so many iterations that has one so far on
+abbrev pub strokes_between : Ends → ℕ → ℕ → List ℕ
+strokes_between e distance columns = strokes (columns - distance) (arrow_in e distance)
+
+abbrev pub strokes_of : ℕ → ℕ → Option Ends → List ℕ
+strokes_of columns distance None = []
+strokes_of columns distance (Some e) = strokes_between e distance columns
+
+-- ---- of what they are
 
 -- one of six hues for each event
 abbrev pub hue : ℕ → ℕ
@@ -24,37 +97,36 @@ hued a = codes "<g class=\"arrow hue" ++ decimal (hue a.event) ++ codes "\"><tit
 abbrev pub head : Arrow → List ℕ
 head a = ((hued a ++ lines a) ++ span a) ++ codes "</title>"
 
--- an arrow, by what says how it goes
-abbrev pub stroke : List ℕ → List ℕ
-stroke way = codes "<path d=\"" ++ way ++ codes "\"/>"
+-- a dependence with its arrows
+abbrev pub group : ℕ → List Row → Arrow → List ℕ
+group columns rows a = head a ++ strokes_of columns a.distance (ends_of rows a) ++ codes "</g>\n"
 
--- so many arrows
-abbrev pub AreStrokes : ℕ → List ℕ → Type 0
-AreStrokes zero text = text ≡ []
-AreStrokes (suc n) text =
-    (before : List ℕ) × (way : List ℕ) × AreStrokes n before × (text ≡ before ++ stroke way)
+abbrev pub groups : ℕ → List Row → List Arrow → List ℕ
+groups columns rows [] = []
+groups columns rows (a ∷ others) = group columns rows a ++ groups columns rows others
 
--- the group of a dependence among so many iterations: an arrow from each that has one so far on
-pub record IsGroup (columns : ℕ) (a : Arrow) (text : List ℕ) : Type 0 where
-  pub strokes : List ℕ
-  pub are : AreStrokes (columns - a.distance) strokes
-  pub is : text ≡ head a ++ strokes ++ codes "</g>\n"
+-- each iteration comes behind the one before
+abbrev pub one_by_one : ℕ → List Row → List ℕ
+one_by_one columns rows =
+    codes "<g class=\"order\"><title>one iteration after another</title>"
+    ++ strokes_between (in_turn rows) 1 columns ++ codes "</g>\n"
 
--- the groups of dependences, one behind another
-abbrev pub AreGroups : ℕ → List Arrow → List ℕ → Type 0
-AreGroups columns [] text = text ≡ []
-AreGroups columns (a ∷ others) text =
-    (first : List ℕ) × (rest : List ℕ) × IsGroup columns a first
-    × AreGroups columns others rest × (text ≡ first ++ rest)
+abbrev pub order_if : Option (Vec ℕ Global) → List ℕ → List ℕ
+order_if None text = []
+order_if (Some reason) text = text
 
--- a picture's text with these groups in it
-pub record HasGroups (columns : ℕ) (arrows : List Arrow) (text : List ℕ) : Type 0 where
-  pub front : List ℕ
-  pub groups : List ℕ
-  pub back : List ℕ
-  pub are : AreGroups columns arrows groups
-  pub is : text ≡ front ++ groups ++ back
+-- the order of a loop's iterations, where it stays serial
+abbrev pub order : LoopPicture → List ℕ
+order p = order_if p.serial (one_by_one p.columns p.rows.items)
 
--- the text of a loop's picture has the arrows of its dependences
-abbrev pub IsDrawn : LoopPicture → List ℕ → Type 0
-IsDrawn p text = HasGroups p.columns p.arrows.items text
+abbrev pub arrows : LoopPicture → List ℕ
+arrows p = order p ++ groups p.columns p.rows.items p.arrows.items
+
+-- The text is a picture with the arrows of a loop: those of its dependences, and of a serial one the order of
+-- its iterations. Beside them it has words, boxes and discs.
+pub record IsDrawn (p : LoopPicture) (text : List ℕ) : Type 0 where
+  pub size : Size
+  pub sheet : List ℕ
+  pub front : List Mark
+  pub back : List Mark
+  pub is : text ≡ opening size sheet ++ (marks front ++ arrows p ++ marks back) ++ codes "</svg>\n"

@@ -1,3 +1,5 @@
 pub mod Arrows
 pub mod Dependences
 pub mod Escaped
+pub mod Markup
+pub mod Runs

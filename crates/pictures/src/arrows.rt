@@ -1,11 +1,11 @@
 //! Arrows between iterations, one group for each dependence that is kept.
 
-ghost use Rattle.std.specs.Prelude.{◌≡◌, ◌++◌, ◌-◌, IfOk, OnOk};
+ghost use Rattle.std.specs.Prelude.{◌≡◌, ◌+◌, ◌++◌, ◌-◌, ◌<◌, ◌^◌, IfOk, OnOk};
 ghost use Rattle.pictures.specs.Arrows as spec;
-ghost use Rattle.pictures.specs.Arrows.{AreGroups, AreStrokes, IsGroup};
+ghost use Rattle.pictures.specs.Markup as markup;
 
-use crate::picture::Arrow;
-use crate::places::{entry, exit};
+use crate::picture::{Arrow, LoopPicture, Row};
+use crate::places::{Ends, Place, exit, row_of, tip};
 use crate::style::hue;
 use crate::svg::{Point, append_number};
 use std::alloc::{AllocError, Global};
@@ -18,68 +18,133 @@ fn starts(columns: u64, distance: u128) -> u64
     u64::try_from(left).unwrap_or(0)
 }
 
-/// How far an arrow bends, so that it passes the boxes between its ends.
-fn bend(distance: u64) -> u64 {
-    if distance > 1 { 24 } else { 0 }
-}
-
-fn append_point(out: &mut Vec<u8>, point: Point) -> Result<(), AllocError> {
+fn append_point(out: &mut Vec<u8>, point: Point) -> Result<(), AllocError>
+    ensures { OnOk result (out.new.items ≡ out.old.items ++ markup.point point) }
+{
     out.extend_from_slice(b" ")?;
     append_number(out, point.x)?;
     out.extend_from_slice(b" ")?;
     append_number(out, point.y)
 }
 
-/// How an arrow goes from one point to another.
-fn way(alloc: Global, from: Point, to: Point, bend: u64) -> Result<Vec<u8>, AllocError> {
-    let tip = Point {
-        x: to.x.saturating_sub(13),
-        y: to.y,
-    };
-    let leaving = Point {
-        x: from.x.saturating_add(22),
-        y: from.y.saturating_add(bend),
-    };
-    let coming = Point {
-        x: tip.x.saturating_sub(22),
-        y: tip.y.saturating_add(bend),
-    };
-    let mut out = Vec::from_slice(alloc, b"M")?;
-    append_point(&mut out, from)?;
-    out.extend_from_slice(b" C")?;
-    append_point(&mut out, leaving)?;
-    append_point(&mut out, coming)?;
-    append_point(&mut out, tip)?;
-    Ok(out)
+fn append_start(out: &mut Vec<u8>, from: Point) -> Result<(), AllocError>
+    ensures { OnOk result (out.new.items ≡ out.old.items ++ markup.start from) }
+{
+    out.extend_from_slice(b"<path d=\"M")?;
+    append_point(out, from)?;
+    out.extend_from_slice(b" C")
 }
 
-/// Appends an arrow, by how it goes.
-fn append_stroke(out: &mut Vec<u8>, way: &[u8]) -> Result<(), AllocError>
-    ensures { OnOk result (out.new.items ≡ out.old.items ++ spec.stroke way.now) }
+/// Appends how an arrow goes on from where it begins.
+fn append_bent(out: &mut Vec<u8>, from: Point, to: Point, bend: u128) -> Result<(), AllocError>
+    requires from { (from.x + 22 < 2 ^ 128) × (from.y + bend < 2 ^ 128) }
+    requires to { to.y + bend < 2 ^ 128 }
+    ensures { OnOk result (out.new.items ≡ out.old.items ++ markup.bent from to bend) }
 {
-    out.extend_from_slice(b"<path d=\"")?;
-    out.extend_from_slice(way)?;
+    append_point(
+        out,
+        Point {
+            x: from.x + 22,
+            y: from.y + bend,
+        },
+    )?;
+    append_point(
+        out,
+        Point {
+            x: to.x.saturating_sub(22),
+            y: to.y + bend,
+        },
+    )?;
+    append_point(out, to)
+}
+
+/// Appends an arrow from one point to another.
+fn append_curve(out: &mut Vec<u8>, from: Point, to: Point, bend: u128) -> Result<(), AllocError>
+    requires from { (from.x + 22 < 2 ^ 128) × (from.y + bend < 2 ^ 128) }
+    requires to { to.y + bend < 2 ^ 128 }
+    ensures { OnOk result (out.new.items ≡ out.old.items ++ markup.curve from to bend) }
+{
+    append_start(out, from)?;
+    append_bent(out, from, to, bend)?;
     out.extend_from_slice(b"\"/>")
 }
 
-/// The way of a dependence's arrow that begins in an iteration.
-fn way_of(alloc: Global, arrow: &Arrow, column: u64) -> Result<Vec<u8>, AllocError> {
-    let span = u64::try_from(arrow.distance).unwrap_or(u64::MAX);
-    let from = exit(column, arrow.source);
-    let to = entry(column.saturating_add(span), arrow.sink);
-    way(alloc, from, to, bend(span))
+/// How far an arrow over so many iterations bends, so that it passes the boxes between its ends.
+fn bend(distance: u128) -> u128
+    ensures { result ≡ spec.bend distance }
+{
+    if distance <= 1 { 0 } else { 24 }
 }
 
-/// The arrows of a dependence, so many.
-fn strokes(alloc: Global, arrow: &Arrow, count: u64) -> Result<Vec<u8>, AllocError>
-    ensures { IfOk result (λ text. AreStrokes count text.items) }
+/// Appends the arrow between two rows that begins in an iteration and ends so many later.
+fn append_arrow(
+    out: &mut Vec<u8>,
+    ends: Ends,
+    distance: u128,
+    column: u64,
+) -> Result<(), AllocError>
+    requires { column + distance < 2 ^ 64 }
+    ensures { OnOk result (out.new.items ≡ out.old.items
+        ++ spec.stroke (spec.arrow_in ends distance column)) }
+{
+    let column = u128::from(column);
+    let from = Place {
+        column,
+        row: ends.source,
+    };
+    let to = Place {
+        column: column + distance,
+        row: ends.sink,
+    };
+    append_curve(out, exit(from), tip(to), bend(distance))
+}
+
+/// The arrows between two rows, from each of so many iterations that has one so far on.
+fn strokes(alloc: Global, ends: Ends, distance: u128, columns: u64) -> Result<Vec<u8>, AllocError>
+    ensures { IfOk result (λ text. text.items ≡ spec.strokes_between ends distance columns) }
 {
     let mut out = Vec::new(alloc);
-    for column in 0..count {
-        let way = way_of(alloc, arrow, column)?;
-        append_stroke(&mut out, &way)?;
+    for column in 0..starts(columns, distance) {
+        append_arrow(&mut out, ends, distance, column)?;
     }
     Ok(out)
+}
+
+/// The rows of a dependence's lines, where both have one.
+fn ends_of(rows: &[Row<'_>], arrow: &Arrow) -> Option<Ends>
+    ensures { result ≡ spec.ends_of rows.now arrow.now }
+{
+    let source = row_of(rows, arrow.source_line);
+    let sink = row_of(rows, arrow.sink_line);
+    match (source, sink) {
+        (Some(source), Some(sink)) => Some(Ends { source, sink }),
+        _ => None,
+    }
+}
+
+/// Of each dependence, the row of its sink, if both its lines have one.
+pub fn sinks(alloc: Global, picture: &LoopPicture<'_>) -> Result<Vec<Option<usize>>, AllocError> {
+    let mut sinks = Vec::with_capacity(alloc, picture.arrows.len())?;
+    for arrow in &picture.arrows {
+        sinks.push(ends_of(&picture.rows, arrow).map(|ends| ends.sink))?;
+    }
+    Ok(sinks)
+}
+
+/// The arrows of a dependence among so many iterations.
+fn strokes_of(
+    alloc: Global,
+    rows: &[Row<'_>],
+    arrow: &Arrow,
+    columns: u64,
+) -> Result<Vec<u8>, AllocError>
+    ensures { IfOk result (λ text. text.items
+        ≡ spec.strokes_of columns arrow.now.distance (spec.ends_of rows.now arrow.now)) }
+{
+    match ends_of(rows, arrow) {
+        Some(ends) => strokes(alloc, ends, arrow.distance, columns),
+        None => Ok(Vec::new(alloc)),
+    }
 }
 
 /// Appends the lines of a dependence.
@@ -123,41 +188,77 @@ fn append_head(out: &mut Vec<u8>, arrow: &Arrow) -> Result<(), AllocError>
 }
 
 /// The group of a dependence among so many iterations.
-fn group(alloc: Global, arrow: &Arrow, columns: u64) -> Result<Vec<u8>, AllocError>
-    ensures { IfOk result (λ text. IsGroup columns arrow.now text.items) }
+fn group(
+    alloc: Global,
+    rows: &[Row<'_>],
+    arrow: &Arrow,
+    columns: u64,
+) -> Result<Vec<u8>, AllocError>
+    ensures { IfOk result (λ text. text.items ≡ spec.group columns rows.now arrow.now) }
 {
     let mut out = Vec::new(alloc);
     append_head(&mut out, arrow)?;
-    let strokes = strokes(alloc, arrow, starts(columns, arrow.distance))?;
+    let strokes = strokes_of(alloc, rows, arrow, columns)?;
     out.extend_from_slice(&strokes)?;
     out.extend_from_slice(b"</g>\n")?;
     Ok(out)
 }
 
 /// The groups of dependences, one after another.
-pub fn groups(alloc: Global, arrows: &[Arrow], columns: u64) -> Result<Vec<u8>, AllocError>
-    ensures { IfOk result (λ text. AreGroups columns arrows.now text.items) }
+fn groups(
+    alloc: Global,
+    rows: &[Row<'_>],
+    arrows: &[Arrow],
+    columns: u64,
+) -> Result<Vec<u8>, AllocError>
+    ensures { IfOk result (λ text. text.items ≡ spec.groups columns rows.now arrows.now) }
 {
     let mut out = Vec::new(alloc);
     for arrow in arrows {
-        let group = group(alloc, arrow, columns)?;
+        let group = group(alloc, rows, arrow, columns)?;
         out.extend_from_slice(&group)?;
     }
     Ok(out)
 }
 
-/// Appends what shows that iterations of so many rows go one after another.
-pub fn append_order(
-    alloc: Global,
-    out: &mut Vec<u8>,
-    rows: usize,
-    columns: u64,
-) -> Result<(), AllocError> {
-    out.extend_from_slice(b"<g class=\"order\"><title>one iteration after another</title>")?;
-    for column in 1..columns {
-        let from = exit(column.saturating_sub(1), rows.saturating_sub(1));
-        let way = way(alloc, from, entry(column, 0), 0)?;
-        append_stroke(out, &way)?;
+/// From the last row of an iteration to the first one of the next.
+fn in_turn(rows: &[Row<'_>]) -> Ends
+    ensures { result ≡ spec.in_turn rows.now }
+{
+    Ends {
+        source: rows.len().saturating_sub(1),
+        sink: 0,
     }
-    out.extend_from_slice(b"</g>\n")
+}
+
+/// What shows that iterations go one after another.
+fn order(alloc: Global, rows: &[Row<'_>], columns: u64) -> Result<Vec<u8>, AllocError>
+    ensures { IfOk result (λ text. text.items ≡ spec.one_by_one columns rows.now) }
+{
+    let mut out = Vec::new(alloc);
+    out.extend_from_slice(b"<g class=\"order\"><title>one iteration after another</title>")?;
+    let strokes = strokes(alloc, in_turn(rows), 1, columns)?;
+    out.extend_from_slice(&strokes)?;
+    out.extend_from_slice(b"</g>\n")?;
+    Ok(out)
+}
+
+/// The order of a loop's iterations, where it stays serial.
+fn order_of(alloc: Global, picture: &LoopPicture<'_>) -> Result<Vec<u8>, AllocError>
+    ensures { IfOk result (λ text. text.items ≡ spec.order picture.now) }
+{
+    match &picture.serial {
+        Some(_) => order(alloc, &picture.rows, picture.columns),
+        None => Ok(Vec::new(alloc)),
+    }
+}
+
+/// The arrows of a loop's picture.
+pub fn arrows(alloc: Global, picture: &LoopPicture<'_>) -> Result<Vec<u8>, AllocError>
+    ensures { IfOk result (λ text. text.items ≡ spec.arrows picture.now) }
+{
+    let mut out = order_of(alloc, picture)?;
+    let groups = groups(alloc, &picture.rows, &picture.arrows, picture.columns)?;
+    out.extend_from_slice(&groups)?;
+    Ok(out)
 }

@@ -1,31 +1,22 @@
 //! The picture of a loop.
 
-ghost use Rattle.std.specs.Prelude.{IfOk};
+ghost use Rattle.std.specs.Prelude.{◌≡◌, ◌++◌, IfOk, OnOk};
 ghost use Rattle.pictures.specs.Arrows.{IsDrawn};
+ghost use Rattle.pictures.specs.Markup as markup;
 
-use crate::arrows::{append_order, groups};
-use crate::legend::{append_legend, height};
-use crate::marks::{append_advances, append_awaits};
+use crate::arrows::{arrows, sinks};
+use crate::legend::{add_legend, height};
+use crate::mark::{Class, Mark};
+use crate::marks::{add_advances, add_awaits};
 use crate::picture::{Look, LoopPicture, Row};
-use crate::places::{BOX, corner, width};
-use crate::style::{STYLE, append_tips};
-use crate::svg::{Point, append_attribute, append_box, append_text};
+use crate::places::{BOX, corner, place_in, width};
+use crate::style::SHEET;
+use crate::svg::{Point, Size, append_marks, opening};
 use ast::Name;
 use std::alloc::{AllocError, Global};
 
 /// How many characters of a statement are shown.
 const SHOWN: usize = 36;
-
-/// Appends what each picture begins with.
-pub fn append_front(out: &mut Vec<u8>, width: u64, height: u64) -> Result<(), AllocError> {
-    out.extend_from_slice(b"<svg xmlns=\"http://www.w3.org/2000/svg\" role=\"img\"")?;
-    append_attribute(out, b"width", width)?;
-    append_attribute(out, b"height", height)?;
-    out.extend_from_slice(b">\n")?;
-    out.extend_from_slice(STYLE)?;
-    append_tips(out)?;
-    out.extend_from_slice(b"<rect class=\"ground\" width=\"100%\" height=\"100%\"/>\n")
-}
 
 /// A text that isn't too long to be shown.
 fn cut(alloc: Global, text: &[u8]) -> Result<Vec<u8>, AllocError> {
@@ -53,10 +44,22 @@ fn private(alloc: Global, names: &[Name]) -> Result<Vec<u8>, AllocError> {
     Ok(text)
 }
 
-/// Appends what is said above the rows.
-fn append_heading(
+/// Adds words at a point.
+pub fn add_words(
     alloc: Global,
-    out: &mut Vec<u8>,
+    marks: &mut Vec<Mark>,
+    class: &'static [u8],
+    at: Point,
+    words: &[u8],
+) -> Result<(), AllocError> {
+    let words = Vec::from_slice(alloc, words)?;
+    Ok(marks.push(Mark::Words(Class::plain(class), at, words))?)
+}
+
+/// Adds what is said above the rows.
+fn add_heading(
+    alloc: Global,
+    marks: &mut Vec<Mark>,
     picture: &LoopPicture<'_>,
 ) -> Result<(), AllocError> {
     let LoopPicture { number, line, .. } = picture;
@@ -65,17 +68,18 @@ fn append_heading(
         None => "iterations may overlap",
     };
     let heading = format!(in alloc; "Loop {number}, line {line}: {says}")?;
-    append_text(out, b"heading", Point { x: 20, y: 30 }, heading.as_bytes())?;
-    append_text(
-        out,
-        b"code",
-        Point { x: 20, y: 52 },
-        &cut(alloc, picture.text)?,
-    )?;
+    let top = Point { x: 20, y: 30 };
+    add_words(alloc, marks, b"heading", top, heading.as_bytes())?;
+    let text = cut(alloc, picture.text)?;
+    let class = classes(picture.look).1;
+    add_words(alloc, marks, class, Point { x: 20, y: 52 }, &text)?;
     let below = Point { x: 20, y: 74 };
     match &picture.serial {
-        Some(reason) => append_text(out, b"reason", below, reason),
-        None => append_text(out, b"private", below, &private(alloc, &picture.privates)?),
+        Some(reason) => add_words(alloc, marks, b"reason", below, reason),
+        None => {
+            let names = private(alloc, &picture.privates)?;
+            add_words(alloc, marks, b"private", below, &names)
+        }
     }
 }
 
@@ -88,118 +92,131 @@ fn classes(look: Look) -> (&'static [u8], &'static [u8]) {
     }
 }
 
-/// Appends what stands to the left of a row's boxes.
-fn append_label(
+/// Adds what stands to the left of a row's boxes.
+fn add_label(
     alloc: Global,
-    out: &mut Vec<u8>,
-    place: usize,
+    marks: &mut Vec<Mark>,
+    number: usize,
     row: &Row<'_>,
 ) -> Result<(), AllocError> {
-    let y = corner(0, place).y.saturating_add(13);
+    let y = corner(place_in(0, number)).y.saturating_add(13);
     if row.look != Look::Made {
         let line = format!(in alloc; "{}", row.line)?;
-        append_text(out, b"faint right", Point { x: 44, y }, line.as_bytes())?;
+        let at = Point { x: 44, y };
+        add_words(alloc, marks, b"faint right", at, line.as_bytes())?;
     }
-    let x = 56u64.saturating_add(row.depth.min(8).saturating_mul(14));
-    append_text(
-        out,
-        classes(row.look).1,
-        Point { x, y },
-        &cut(alloc, row.text)?,
-    )
+    let depth = u128::from(row.depth.min(8));
+    let x = 56u128.saturating_add(depth.saturating_mul(14));
+    let text = cut(alloc, row.text)?;
+    add_words(alloc, marks, classes(row.look).1, Point { x, y }, &text)
 }
 
-fn append_labels(alloc: Global, out: &mut Vec<u8>, rows: &[Row<'_>]) -> Result<(), AllocError> {
-    for (place, row) in rows.iter().enumerate() {
-        append_label(alloc, out, place, row)?;
+fn add_labels(alloc: Global, marks: &mut Vec<Mark>, rows: &[Row<'_>]) -> Result<(), AllocError> {
+    for (number, row) in rows.iter().enumerate() {
+        add_label(alloc, marks, number, row)?;
     }
     Ok(())
 }
 
-/// Appends the boxes of an iteration.
-fn append_boxes(
+/// What the box of a row in an iteration says of itself.
+fn title_of(alloc: Global, row: &Row<'_>, iteration: u64) -> Result<Vec<u8>, AllocError> {
+    let Row { line, .. } = row;
+    let title = match row.look {
+        Look::Made => {
+            format!(in alloc; "iteration {iteration}: ELSE made for the IF of line {line}")?
+        }
+        _ => format!(in alloc; "iteration {iteration}: line {line}")?,
+    };
+    Vec::from_slice(alloc, title.as_bytes())
+}
+
+/// Adds the boxes of an iteration.
+fn add_boxes(
     alloc: Global,
-    out: &mut Vec<u8>,
+    marks: &mut Vec<Mark>,
     rows: &[Row<'_>],
     column: u64,
 ) -> Result<(), AllocError> {
-    let iteration = column.saturating_add(1);
-    for (place, row) in rows.iter().enumerate() {
-        let title = match row.look {
-            Look::Made => format!(in alloc;
-                "iteration {iteration}: ELSE made for the IF of line {}",
-                row.line
-            )?,
-            _ => format!(in alloc; "iteration {iteration}: line {}", row.line)?,
-        };
-        let at = corner(column, place);
-        append_box(out, classes(row.look).0, at, BOX, title.as_bytes())?;
+    for (number, row) in rows.iter().enumerate() {
+        let title = title_of(alloc, row, column.saturating_add(1))?;
+        let class = Class::plain(classes(row.look).0);
+        marks.push(Mark::Tile(class, corner(place_in(column, number)), BOX, title))?;
     }
     Ok(())
 }
 
-/// Appends an iteration.
-fn append_column(
+/// Adds an iteration.
+fn add_column(
     alloc: Global,
-    out: &mut Vec<u8>,
+    marks: &mut Vec<Mark>,
     picture: &LoopPicture<'_>,
     column: u64,
 ) -> Result<(), AllocError> {
-    let head = corner(column, 0);
+    let head = corner(place_in(column, 0));
     let at = Point {
         x: head.x.saturating_add(BOX.width.wrapping_div(2)),
         y: head.y.saturating_sub(14),
     };
     let number = format!(in alloc; "iteration {}", column.saturating_add(1))?;
-    append_text(out, b"faint middle", at, number.as_bytes())?;
-    append_boxes(alloc, out, &picture.rows, column)
+    add_words(alloc, marks, b"faint middle", at, number.as_bytes())?;
+    add_boxes(alloc, marks, &picture.rows, column)
 }
 
-/// Appends what an iteration awaits and advances.
-fn append_marks(
-    alloc: Global,
+/// What stands in a picture under its arrows.
+fn front(alloc: Global, picture: &LoopPicture<'_>) -> Result<Vec<Mark>, AllocError> {
+    let mut marks = Vec::new(alloc);
+    add_heading(alloc, &mut marks, picture)?;
+    add_labels(alloc, &mut marks, &picture.rows)?;
+    for column in 0..picture.columns {
+        add_column(alloc, &mut marks, picture, column)?;
+    }
+    Ok(marks)
+}
+
+/// What stands in a picture over its arrows: what iterations await and advance, and what is said below.
+fn back(alloc: Global, picture: &LoopPicture<'_>) -> Result<Vec<Mark>, AllocError> {
+    let mut marks = Vec::new(alloc);
+    let sinks = sinks(alloc, picture)?;
+    for column in 0..picture.columns {
+        add_awaits(alloc, &mut marks, &picture.arrows, &sinks, column)?;
+        add_advances(alloc, &mut marks, &picture.advances, column)?;
+    }
+    add_legend(alloc, &mut marks, picture)?;
+    Ok(marks)
+}
+
+/// How wide and how high the picture of a loop is.
+fn size(picture: &LoopPicture<'_>) -> Size {
+    Size {
+        width: width(picture.columns),
+        height: height(picture),
+    }
+}
+
+/// Appends a picture's arrows, between what stands under them and over them.
+fn append_body(
     out: &mut Vec<u8>,
-    picture: &LoopPicture<'_>,
-    column: u64,
-) -> Result<(), AllocError> {
-    append_awaits(alloc, out, &picture.arrows, column)?;
-    append_advances(alloc, out, &picture.advances, column)
-}
-
-/// What stands in a picture before its arrows.
-fn front(alloc: Global, picture: &LoopPicture<'_>) -> Result<Vec<u8>, AllocError> {
-    let mut out = Vec::new(alloc);
-    append_front(&mut out, width(picture.columns), height(picture))?;
-    append_heading(alloc, &mut out, picture)?;
-    append_labels(alloc, &mut out, &picture.rows)?;
-    for column in 0..picture.columns {
-        append_column(alloc, &mut out, picture, column)?;
-    }
-    if picture.serial.is_some() {
-        append_order(alloc, &mut out, picture.rows.len(), picture.columns)?;
-    }
-    Ok(out)
-}
-
-/// What stands in a picture behind its arrows.
-fn back(alloc: Global, picture: &LoopPicture<'_>) -> Result<Vec<u8>, AllocError> {
-    let mut out = Vec::new(alloc);
-    for column in 0..picture.columns {
-        append_marks(alloc, &mut out, picture, column)?;
-    }
-    append_legend(alloc, &mut out, picture)?;
-    out.extend_from_slice(b"</svg>\n")?;
-    Ok(out)
+    front: &[Mark],
+    arrows: &[u8],
+    back: &[Mark],
+) -> Result<(), AllocError>
+    ensures { OnOk result (out.new.items ≡ out.old.items
+        ++ (markup.marks front.now ++ arrows.now ++ markup.marks back.now)) }
+{
+    append_marks(out, front)?;
+    out.extend_from_slice(arrows)?;
+    append_marks(out, back)
 }
 
 /// The text of the picture of a loop: an SVG file.
 pub fn draw(alloc: Global, picture: &LoopPicture<'_>) -> Result<Vec<u8>, AllocError>
     ensures { IfOk result (λ text. IsDrawn picture.now text.items) }
 {
-    let mut text = front(alloc, picture)?;
-    let groups = groups(alloc, &picture.arrows, picture.columns)?;
-    text.extend_from_slice(&groups)?;
+    let front = front(alloc, picture)?;
+    let arrows = arrows(alloc, picture)?;
     let back = back(alloc, picture)?;
-    text.extend_from_slice(&back)?;
+    let mut text = opening(alloc, size(picture), SHEET)?;
+    append_body(&mut text, &front, &arrows, &back)?;
+    text.extend_from_slice(b"</svg>\n")?;
     Ok(text)
 }

@@ -1,5 +1,8 @@
 //! What the processors of a run did, gathered into as many columns as a picture may have.
 
+ghost use Rattle.std.specs.Prelude.{◌≡◌, ◌<◌, ◌≤◌, IfOk, length, replicate};
+ghost use Rattle.pictures.specs.Runs as spec;
+
 use std::alloc::{AllocError, Global};
 
 /// How many columns there are at most.
@@ -108,6 +111,61 @@ fn columns(entries: u64, processors: u64) -> u64 {
     entries.min(MOST).min(room).max(1)
 }
 
+/// What a processor did that has done nothing.
+const NOTHING: Lane = Lane {
+    steps: 0,
+    parked: 0,
+};
+
+/// The lanes of so many processors that have done nothing.
+fn no_lanes(alloc: Global, processors: usize) -> Result<Vec<Lane>, AllocError>
+    ensures { IfOk result (λ lanes. lanes.items ≡ replicate processors spec.nothing) }
+{
+    let mut lanes = Vec::new(alloc);
+    while lanes.len() < processors {
+        lanes.push(NOTHING)?;
+    }
+    Ok(lanes)
+}
+
+/// So many empty cells.
+fn no_cells(alloc: Global, count: u64) -> Result<Vec<Cell>, AllocError> {
+    let mut cells = Vec::new(alloc);
+    for _ in 0..count {
+        cells.push(EMPTY)?;
+    }
+    Ok(cells)
+}
+
+/// What a processor did, with one entry more.
+fn counted(lane: Lane, turn: Turn) -> Lane
+    ensures { result ≡ spec.counted turn lane }
+{
+    Lane {
+        steps: lane.steps.saturating_add(turn.steps),
+        parked: lane.parked.saturating_add(parks(turn.came)),
+    }
+}
+
+/// One where what a processor held had to wait.
+fn parks(came: Came) -> u64
+    ensures { result ≡ spec.parks came }
+{
+    match came {
+        Came::Parked => 1,
+        Came::Nothing | Came::Advanced | Came::Retired | Came::Ended => 0,
+    }
+}
+
+/// Counts an entry in its processor's lane, if there is one.
+fn count(lanes: &mut [Lane], turn: Turn)
+    ensures { lanes.new ≡ spec.with_turn turn lanes.old }
+{
+    if turn.processor < lanes.len() {
+        lanes[turn.processor] = counted(lanes[turn.processor], turn);
+    }
+}
+
 impl Gathered {
     /// Nothing yet, of a run of so many entries.
     pub fn new(
@@ -115,19 +173,13 @@ impl Gathered {
         entries: u64,
         processors: usize,
         slots: u64,
-    ) -> Result<Gathered, AllocError> {
+    ) -> Result<Gathered, AllocError>
+        ensures lanes { IfOk result
+            (λ gathered. gathered.lanes.items ≡ replicate processors spec.nothing) }
+    {
         let columns = columns(entries, processors as u64);
-        let mut lanes = Vec::new(alloc);
-        let mut cells = Vec::new(alloc);
-        for _ in 0..processors {
-            lanes.push(Lane {
-                steps: 0,
-                parked: 0,
-            })?;
-            for _ in 0..columns {
-                cells.push(EMPTY)?;
-            }
-        }
+        let lanes = no_lanes(alloc, processors)?;
+        let cells = no_cells(alloc, columns.saturating_mul(processors as u64))?;
         Ok(Gathered {
             entries,
             columns,
@@ -162,14 +214,11 @@ impl Gathered {
     }
 
     /// Notes the next entry.
-    pub fn note(&mut self, turn: Turn) {
+    pub fn note(&mut self, turn: Turn)
+        ensures lanes { self.new.lanes.items ≡ spec.with_turn turn self.old.lanes.items }
+    {
         let column = self.column();
-        if let Some(lane) = self.lanes.get_mut(turn.processor) {
-            lane.steps = lane.steps.saturating_add(turn.steps);
-            if turn.came == Came::Parked {
-                lane.parked = lane.parked.saturating_add(1);
-            }
-        }
+        count(&mut self.lanes, turn);
         if let Some(open) = self.open.get_mut(column as usize) {
             *open = (*open).max(turn.open);
         }

@@ -1,28 +1,70 @@
 //! The picture of a run.
 
-use crate::drawing::append_front;
-use crate::gathering::{Cell, Gathered, Held};
-use crate::svg::{Point, Size, append_attribute, append_box, append_number, append_text, open};
+ghost use Rattle.std.specs.Prelude.{◌≡◌, ◌++◌, IfOk, OnOk};
+ghost use Rattle.pictures.specs.Markup as markup;
+ghost use Rattle.pictures.specs.Runs as spec;
+ghost use Rattle.pictures.specs.Runs.{AreFigures, TellsRun};
+
+use crate::gathering::{Cell, Gathered, Held, Lane};
+use crate::mark::Class;
+use crate::style::SHEET;
+use crate::svg::{Point, Size, append_class, append_number, append_tile, append_words, opening};
 use std::alloc::{AllocError, Global};
 
 /// Where the lanes begin, from the left and from the top.
-const LEFT: u64 = 130;
+const LEFT: u128 = 130;
 
-const TOP: u64 = 172;
+const TOP: u128 = 172;
 /// How far two lanes are apart, and how high a bar is.
-const PITCH: u64 = 36;
+const PITCH: u128 = 36;
 
-const BAR: u64 = 22;
+const BAR: u128 = 22;
 /// Where the curve of open iterations stands, and how high it is.
-const BASE: u64 = 146;
+const BASE: u128 = 146;
 
-const RISE: u64 = 60;
+const RISE: u128 = 60;
 /// How wide all columns are together at most, and one of them.
-const WIDE: u64 = 960;
+const WIDE: u128 = 960;
 
-const WIDEST: u64 = 24;
+const WIDEST: u128 = 24;
 /// How many colours iterations have.
 const COLOURS: u128 = 7;
+
+/// The class of an iteration's bar, by its colour.
+fn coloured(colour: u128) -> &'static [u8] {
+    match colour {
+        0 => b"bar colour0",
+        1 => b"bar colour1",
+        2 => b"bar colour2",
+        3 => b"bar colour3",
+        4 => b"bar colour4",
+        5 => b"bar colour5",
+        _ => b"bar colour6",
+    }
+}
+
+/// The upper left corner of a column of a processor's lane.
+fn corner(processor: usize, column: u64, wide: u128) -> Point {
+    Point {
+        x: LEFT.saturating_add(wide.saturating_mul(u128::from(column))),
+        y: TOP.saturating_add(PITCH.saturating_mul(processor as u128)),
+    }
+}
+
+/// How large a mark is.
+const MARK: Size = Size {
+    width: 4,
+    height: 6,
+};
+
+/// What marks say.
+const ADVANCED: &str = "advanced an event";
+
+const PARKED: &str = "it was parked";
+
+const RETIRED: &str = "the iteration retired";
+
+const ENDED: &str = "the run ended";
 
 /// How a run ended, and what it is compared with.
 #[derive(Clone, Copy, Debug, PartialEq, Eq)]
@@ -38,8 +80,8 @@ pub struct Ending<'a> {
 }
 
 /// How wide a column is.
-fn wide(columns: u64) -> u64 {
-    WIDE.checked_div(columns)
+fn wide(columns: u64) -> u128 {
+    WIDE.checked_div(u128::from(columns))
         .unwrap_or(WIDEST)
         .max(1)
         .min(WIDEST)
@@ -55,12 +97,13 @@ struct Stretch {
 }
 
 /// The class of a stretch's bar.
-fn class_of(alloc: Global, stretch: Stretch) -> Result<String, AllocError> {
-    match stretch.held {
-        _ if stretch.several => format!(in alloc; "bar several"),
-        Held::Main => format!(in alloc; "bar main"),
-        Held::Iteration(k) => format!(in alloc; "bar colour{}", k.wrapping_rem(COLOURS)),
-    }
+fn class_of(stretch: Stretch) -> Class {
+    let name: &'static [u8] = match stretch.held {
+        _ if stretch.several => b"bar several",
+        Held::Main => b"bar main",
+        Held::Iteration(k) => coloured(k.wrapping_rem(COLOURS)),
+    };
+    Class::plain(name)
 }
 
 /// What a stretch's bar says of itself.
@@ -87,22 +130,29 @@ fn append_stretch(
     out: &mut Vec<u8>,
     processor: usize,
     stretch: Stretch,
-    wide: u64,
+    wide: u128,
 ) -> Result<(), AllocError> {
-    let at = Point {
-        x: LEFT.saturating_add(wide.saturating_mul(stretch.first)),
-        y: TOP.saturating_add(PITCH.saturating_mul(processor as u64)),
-    };
+    let at = corner(processor, stretch.first, wide);
     let length = stretch.last.saturating_sub(stretch.first).saturating_add(1);
     let size = Size {
-        width: wide.saturating_mul(length),
+        width: wide.saturating_mul(u128::from(length)),
         height: BAR,
     };
-    let class = class_of(alloc, stretch)?;
     let title = title_of(alloc, processor, stretch)?;
-    append_box(out, class.as_bytes(), at, size, title.as_bytes())?;
+    append_tile(out, class_of(stretch), at, size, title.as_bytes())?;
+    append_label(alloc, out, stretch, at, size)
+}
+
+/// Appends the letters on a stretch's bar, where they have room.
+fn append_label(
+    alloc: Global,
+    out: &mut Vec<u8>,
+    stretch: Stretch,
+    at: Point,
+    size: Size,
+) -> Result<(), AllocError> {
     let label = label_of(alloc, stretch)?;
-    let needed = (label.len() as u64).saturating_mul(8).saturating_add(2);
+    let needed = (label.len() as u128).saturating_mul(8).saturating_add(2);
     if label.is_empty() || needed > size.width {
         return Ok(());
     }
@@ -110,35 +160,37 @@ fn append_stretch(
         x: at.x.saturating_add(size.width.wrapping_div(2)),
         y: at.y.saturating_add(15),
     };
-    append_text(out, b"label", middle, label.as_bytes())
+    append_words(out, Class::plain(b"label"), middle, label.as_bytes())
 }
 
 /// Appends a mark of a column, of this class and way, if something happened there so often.
 fn append_mark(
+    alloc: Global,
     out: &mut Vec<u8>,
-    class: &[u8],
+    class: &'static [u8],
     at: Point,
     times: u64,
-    says: &[u8],
+    says: &str,
 ) -> Result<(), AllocError> {
     if times == 0 {
         return Ok(());
     }
-    open(out, b"rect", class)?;
-    append_attribute(out, b"x", at.x)?;
-    append_attribute(out, b"y", at.y)?;
-    out.extend_from_slice(b" width=\"4\" height=\"6\"><title>")?;
-    out.extend_from_slice(says)?;
-    if times > 1 {
-        out.extend_from_slice(b" ")?;
-        append_number(out, times)?;
-        out.extend_from_slice(b" times")?;
-    }
-    out.extend_from_slice(b"</title></rect>\n")
+    let title = if times > 1 {
+        format!(in alloc; "{says} {times} times")?
+    } else {
+        format!(in alloc; "{says}")?
+    };
+    append_tile(out, Class::plain(class), at, MARK, title.as_bytes())
 }
 
 /// Appends the marks of a cell.
-fn append_marks(out: &mut Vec<u8>, cell: Cell, at: Point, wide: u64) -> Result<(), AllocError> {
+fn append_marks(
+    alloc: Global,
+    out: &mut Vec<u8>,
+    cell: Cell,
+    at: Point,
+    wide: u128,
+) -> Result<(), AllocError> {
     let x = at.x.saturating_add(wide.saturating_sub(4).wrapping_div(2));
     let above = Point {
         x,
@@ -148,16 +200,10 @@ fn append_marks(out: &mut Vec<u8>, cell: Cell, at: Point, wide: u64) -> Result<(
         x,
         y: at.y.saturating_add(BAR).saturating_sub(1),
     };
-    append_mark(out, b"advanced", above, cell.advanced, b"advanced an event")?;
-    append_mark(out, b"parked", below, cell.parked, b"it was parked")?;
-    append_mark(
-        out,
-        b"retired",
-        below,
-        cell.retired,
-        b"the iteration retired",
-    )?;
-    append_mark(out, b"ended", below, cell.ended, b"the run ended")
+    append_mark(alloc, out, b"advanced", above, cell.advanced, ADVANCED)?;
+    append_mark(alloc, out, b"parked", below, cell.parked, PARKED)?;
+    append_mark(alloc, out, b"retired", below, cell.retired, RETIRED)?;
+    append_mark(alloc, out, b"ended", below, cell.ended, ENDED)
 }
 
 /// What a processor holds in a column, by what it held before it.
@@ -217,73 +263,106 @@ fn begun(held: Option<Held>, column: u64, several: bool) -> Option<Stretch> {
 
 /// Appends the marks of a processor's lane.
 fn append_lane_marks(
+    alloc: Global,
     out: &mut Vec<u8>,
     gathered: &Gathered,
     processor: usize,
 ) -> Result<(), AllocError> {
     let wide = wide(gathered.columns);
     for column in 0..gathered.columns {
-        let at = Point {
-            x: LEFT.saturating_add(wide.saturating_mul(column)),
-            y: TOP.saturating_add(PITCH.saturating_mul(processor as u64)),
-        };
-        append_marks(out, gathered.cell(processor, column), at, wide)?;
+        let at = corner(processor, column, wide);
+        append_marks(alloc, out, gathered.cell(processor, column), at, wide)?;
+    }
+    Ok(())
+}
+
+/// How high the curve is where so many iterations of at most so many are open.
+fn rise(open: u64, slots: u64) -> u128 {
+    RISE.saturating_mul(u128::from(open))
+        .checked_div(u128::from(slots))
+        .unwrap_or(0)
+}
+
+/// Appends the line of the curve of open iterations.
+fn append_line(out: &mut Vec<u8>, gathered: &Gathered) -> Result<(), AllocError> {
+    let wide = wide(gathered.columns);
+    for open in &gathered.open {
+        out.extend_from_slice(b"V")?;
+        append_number(out, BASE.saturating_sub(rise(*open, gathered.slots)))?;
+        out.extend_from_slice(b"h")?;
+        append_number(out, wide)?;
     }
     Ok(())
 }
 
 /// Appends the curve of open iterations.
 fn append_curve(alloc: Global, out: &mut Vec<u8>, gathered: &Gathered) -> Result<(), AllocError> {
-    let wide = wide(gathered.columns);
-    out.extend_from_slice(b"<path class=\"curve\" d=\"M")?;
+    append_class(out, b"<path class=\"", Class::plain(b"curve"))?;
+    out.extend_from_slice(b" d=\"M")?;
     append_number(out, LEFT)?;
     out.extend_from_slice(b" ")?;
     append_number(out, BASE)?;
-    for open in &gathered.open {
-        let rise = RISE
-            .saturating_mul(*open)
-            .checked_div(gathered.slots)
-            .unwrap_or(0);
-        out.extend_from_slice(b"V")?;
-        append_number(out, BASE.saturating_sub(rise))?;
-        out.extend_from_slice(b"h")?;
-        append_number(out, wide)?;
-    }
+    append_line(out, gathered)?;
     out.extend_from_slice(b"V")?;
     append_number(out, BASE)?;
     out.extend_from_slice(b"Z\"><title>open iterations</title></path>\n")?;
     let slots = format!(in alloc; "{}", gathered.slots)?;
-    append_text(
-        out,
-        b"faint right",
-        Point { x: 122, y: 94 },
-        slots.as_bytes(),
-    )?;
-    append_text(
-        out,
-        b"faint right",
-        Point { x: 122, y: 122 },
-        b"iterations open",
-    )?;
-    append_text(out, b"faint right", Point { x: 122, y: 148 }, b"0")
+    let class = Class::plain(b"faint right");
+    append_words(out, class, Point { x: 122, y: 94 }, slots.as_bytes())?;
+    append_words(out, class, Point { x: 122, y: 122 }, b"iterations open")?;
+    append_words(out, class, Point { x: 122, y: 148 }, b"0")
 }
 
-/// Appends what is said of a processor below the lanes.
-fn append_figures(
-    alloc: Global,
-    out: &mut Vec<u8>,
-    gathered: &Gathered,
-    y: u64,
-) -> Result<(), AllocError> {
-    for (processor, lane) in gathered.lanes.iter().enumerate() {
-        let told = format!(in alloc;
-            "processor {processor}: steps {}, parked {}",
-            lane.steps, lane.parked
-        )?;
-        let y = y.saturating_add((processor as u64).saturating_mul(20));
-        append_text(out, b"figure", Point { x: 20, y }, told.as_bytes())?;
+/// Appends how many steps a processor made.
+fn append_steps(out: &mut Vec<u8>, processor: usize, steps: u64) -> Result<(), AllocError>
+    ensures { OnOk result (out.new.items ≡ out.old.items ++ spec.made processor steps) }
+{
+    out.extend_from_slice(b"processor ")?;
+    append_number(out, processor)?;
+    out.extend_from_slice(b": steps ")?;
+    append_number(out, steps)
+}
+
+/// What a processor did, in words.
+fn figure(alloc: Global, processor: usize, lane: &Lane) -> Result<Vec<u8>, AllocError>
+    ensures { IfOk result (λ told. told.items ≡ spec.figure processor lane.now) }
+{
+    let mut told = Vec::new(alloc);
+    append_steps(&mut told, processor, lane.steps)?;
+    told.extend_from_slice(b", parked ")?;
+    append_number(&mut told, lane.parked)?;
+    Ok(told)
+}
+
+/// The text of words at a point.
+fn words(alloc: Global, class: Class, at: Point, told: &[u8]) -> Result<Vec<u8>, AllocError>
+    ensures { IfOk result (λ text. text.items ≡ markup.words class at told.now) }
+{
+    let mut text = Vec::new(alloc);
+    append_words(&mut text, class, at, told)?;
+    Ok(text)
+}
+
+/// Where the line of a processor stands, below a height.
+fn beside(processor: usize, y: u128) -> Point {
+    Point {
+        x: 20,
+        y: y.saturating_add((processor as u128).saturating_mul(20)),
     }
-    Ok(())
+}
+
+/// The lines of what processors did, below a height.
+fn figures(alloc: Global, lanes: &[Lane], y: u128) -> Result<Vec<u8>, AllocError>
+    ensures { IfOk result (λ text. AreFigures lanes.now text.items) }
+{
+    let class = Class::plain(b"figure");
+    let mut text = Vec::new(alloc);
+    for (processor, lane) in lanes.iter().enumerate() {
+        let told = figure(alloc, processor, lane)?;
+        let line = words(alloc, class, beside(processor, y), &told)?;
+        text.extend_from_slice(&line)?;
+    }
+    Ok(text)
 }
 
 /// Appends what is said of the whole run.
@@ -291,50 +370,42 @@ fn append_whole(
     alloc: Global,
     out: &mut Vec<u8>,
     ending: &Ending<'_>,
-    y: u64,
+    y: u128,
 ) -> Result<(), AllocError> {
     let Ending { made, alone, .. } = ending;
     let steps = format!(in alloc;
         "steps {made}; with one processor and one open iteration {alone}"
     )?;
-    append_text(out, b"figure", Point { x: 20, y }, steps.as_bytes())
+    let class = Class::plain(b"figure");
+    append_words(out, class, Point { x: 20, y }, steps.as_bytes())
+}
+
+/// Appends a mark of a kind, and what it means.
+fn append_meaning(
+    alloc: Global,
+    out: &mut Vec<u8>,
+    class: &'static [u8],
+    at: Point,
+    says: &str,
+) -> Result<(), AllocError> {
+    let above = Point {
+        x: at.x,
+        y: at.y.saturating_sub(8),
+    };
+    append_mark(alloc, out, class, above, 1, says)?;
+    let words = Point {
+        x: at.x.saturating_add(10),
+        y: at.y,
+    };
+    append_words(out, Class::plain(b"faint"), words, says.as_bytes())
 }
 
 /// Appends what the marks mean.
-fn append_meanings(out: &mut Vec<u8>, y: u64) -> Result<(), AllocError> {
-    let above = y.saturating_sub(8);
-    append_mark(
-        out,
-        b"advanced",
-        Point { x: 20, y: above },
-        1,
-        b"advanced an event",
-    )?;
-    append_text(out, b"faint", Point { x: 30, y }, b"advanced an event")?;
-    append_mark(
-        out,
-        b"parked",
-        Point { x: 180, y: above },
-        1,
-        b"it was parked",
-    )?;
-    append_text(out, b"faint", Point { x: 190, y }, b"it was parked")?;
-    append_mark(
-        out,
-        b"retired",
-        Point { x: 300, y: above },
-        1,
-        b"the iteration retired",
-    )?;
-    append_text(out, b"faint", Point { x: 310, y }, b"the iteration retired")?;
-    append_mark(
-        out,
-        b"ended",
-        Point { x: 460, y: above },
-        1,
-        b"the run ended",
-    )?;
-    append_text(out, b"faint", Point { x: 470, y }, b"the run ended")
+fn append_meanings(alloc: Global, out: &mut Vec<u8>, y: u128) -> Result<(), AllocError> {
+    append_meaning(alloc, out, b"advanced", Point { x: 20, y }, ADVANCED)?;
+    append_meaning(alloc, out, b"parked", Point { x: 180, y }, PARKED)?;
+    append_meaning(alloc, out, b"retired", Point { x: 300, y }, RETIRED)?;
+    append_meaning(alloc, out, b"ended", Point { x: 460, y }, ENDED)
 }
 
 /// Appends what stands above the lanes.
@@ -354,29 +425,70 @@ fn append_heading(
     let heading = format!(in alloc;
         "A run: {processors} processors, {slots} iterations open at most"
     )?;
-    append_text(out, b"heading", Point { x: 20, y: 30 }, heading.as_bytes())?;
+    let class = Class::plain(b"heading");
+    append_words(out, class, Point { x: 20, y: 30 }, heading.as_bytes())?;
     let axis = format!(in alloc;
         "from left to right: the {entries} entries of its schedule, in {columns} columns"
     )?;
-    append_text(out, b"faint", Point { x: 20, y: 52 }, axis.as_bytes())?;
-    let class: &[u8] = if ending.early { b"early" } else { b"faint" };
-    append_text(out, class, Point { x: 20, y: 72 }, ending.words)
+    let class = Class::plain(b"faint");
+    append_words(out, class, Point { x: 20, y: 52 }, axis.as_bytes())?;
+    let class = Class::plain(if ending.early { b"early" } else { b"faint" });
+    append_words(out, class, Point { x: 20, y: 72 }, ending.words)
 }
 
 /// Appends the lanes of all processors.
 fn append_lanes(alloc: Global, out: &mut Vec<u8>, gathered: &Gathered) -> Result<(), AllocError> {
     for processor in 0..gathered.lanes.len() {
-        let y = TOP.saturating_add(PITCH.saturating_mul(processor as u64));
+        let at = corner(processor, 0, 0);
         let name = format!(in alloc; "processor {processor}")?;
-        let at = Point {
+        let beside = Point {
             x: 122,
-            y: y.saturating_add(15),
+            y: at.y.saturating_add(15),
         };
-        append_text(out, b"right", at, name.as_bytes())?;
+        append_words(out, Class::plain(b"right"), beside, name.as_bytes())?;
         append_lane(alloc, out, gathered, processor)?;
-        append_lane_marks(out, gathered, processor)?;
+        append_lane_marks(alloc, out, gathered, processor)?;
     }
     Ok(())
+}
+
+/// What is below the lanes of so many processors.
+fn below(processors: usize) -> u128 {
+    corner(processors, 0, 0).y.saturating_add(16)
+}
+
+/// How wide and how high the picture of a run is.
+fn size(gathered: &Gathered) -> Size {
+    let all = wide(gathered.columns).saturating_mul(u128::from(gathered.columns));
+    let lines = (gathered.lanes.len() as u128).saturating_mul(20);
+    Size {
+        width: LEFT.saturating_add(all).max(640).saturating_add(20),
+        height: below(gathered.lanes.len())
+            .saturating_add(lines)
+            .saturating_add(64),
+    }
+}
+
+/// What stands in the picture of a run above what is said of its processors.
+fn front(alloc: Global, gathered: &Gathered, ending: &Ending<'_>) -> Result<Vec<u8>, AllocError> {
+    let mut out = opening(alloc, size(gathered), SHEET)?;
+    append_heading(alloc, &mut out, gathered, ending)?;
+    append_curve(alloc, &mut out, gathered)?;
+    append_lanes(alloc, &mut out, gathered)?;
+    append_meanings(alloc, &mut out, below(gathered.lanes.len()))?;
+    Ok(out)
+}
+
+/// What stands in the picture of a run behind what is said of its processors.
+fn back(alloc: Global, gathered: &Gathered, ending: &Ending<'_>) -> Result<Vec<u8>, AllocError> {
+    let lines = (gathered.lanes.len() as u128).saturating_mul(20);
+    let y = below(gathered.lanes.len())
+        .saturating_add(lines)
+        .saturating_add(24);
+    let mut out = Vec::new(alloc);
+    append_whole(alloc, &mut out, ending, y)?;
+    out.extend_from_slice(b"</svg>\n")?;
+    Ok(out)
 }
 
 /// The text of the picture of a run: an SVG file.
@@ -384,26 +496,14 @@ pub fn timeline(
     alloc: Global,
     gathered: &Gathered,
     ending: &Ending<'_>,
-) -> Result<Vec<u8>, AllocError> {
-    let count = gathered.lanes.len() as u64;
-    let below = TOP
-        .saturating_add(PITCH.saturating_mul(count))
-        .saturating_add(16);
-    let width = LEFT.saturating_add(wide(gathered.columns).saturating_mul(gathered.columns));
-    let height = below
-        .saturating_add(count.saturating_mul(20))
-        .saturating_add(64);
-    let mut out = Vec::new(alloc);
-    append_front(&mut out, width.max(640).saturating_add(20), height)?;
-    append_heading(alloc, &mut out, gathered, ending)?;
-    append_curve(alloc, &mut out, gathered)?;
-    append_lanes(alloc, &mut out, gathered)?;
-    append_meanings(&mut out, below)?;
-    append_figures(alloc, &mut out, gathered, below.saturating_add(24))?;
-    let last = below
-        .saturating_add(count.saturating_mul(20))
-        .saturating_add(24);
-    append_whole(alloc, &mut out, ending, last)?;
-    out.extend_from_slice(b"</svg>\n")?;
-    Ok(out)
+) -> Result<Vec<u8>, AllocError>
+    ensures { IfOk result (λ text. TellsRun gathered.now text.items) }
+{
+    let mut text = front(alloc, gathered, ending)?;
+    let y = below(gathered.lanes.len()).saturating_add(24);
+    let figures = figures(alloc, &gathered.lanes, y)?;
+    text.extend_from_slice(&figures)?;
+    let back = back(alloc, gathered, ending)?;
+    text.extend_from_slice(&back)?;
+    Ok(text)
 }

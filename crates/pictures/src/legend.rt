@@ -1,22 +1,24 @@
 //! What is said below the picture of a loop.
 
+use crate::drawing::add_words;
+use crate::mark::Mark;
+use crate::marks::class_of;
 use crate::picture::{Arrow, LoopPicture};
 use crate::places::bottom;
-use crate::style::hue;
-use crate::svg::{Point, append_disc, append_text};
+use crate::svg::Point;
 use std::alloc::{AllocError, Global};
 
 /// How many dependences are told in words.
 const TOLD: usize = 12;
 /// How far two lines are apart.
-const PITCH: u64 = 22;
+const PITCH: u128 = 22;
 /// Where lines begin.
-const LEFT: u64 = 20;
+const LEFT: u128 = 20;
 
 /// The lines that have been written, and those to come.
 #[derive(Clone, Copy, Debug, PartialEq, Eq)]
 struct Pen {
-    y: u64,
+    y: u128,
 }
 
 impl Pen {
@@ -27,11 +29,12 @@ impl Pen {
     }
 }
 
-/// Appends what a mark means, with one of its kind.
-fn append_meaning(
-    out: &mut Vec<u8>,
+/// Adds what the marks of a kind mean, with one of them.
+fn add_meaning(
+    alloc: Global,
+    marks: &mut Vec<Mark>,
     pen: &mut Pen,
-    class: &[u8],
+    kind: &'static [u8],
     meaning: &[u8],
 ) -> Result<(), AllocError> {
     let Point { x, y } = pen.next();
@@ -43,22 +46,32 @@ fn append_meaning(
         x: x.saturating_add(24),
         y,
     };
-    append_disc(out, class, disc, 1, meaning)?;
-    append_text(out, b"faint", words, meaning)
+    let title = Vec::from_slice(alloc, meaning)?;
+    marks.push(Mark::Disc(class_of(kind, 1), disc, 1, title))?;
+    add_words(alloc, marks, b"faint", words, meaning)
 }
 
 /// How many iterations later a sink comes.
 fn later(alloc: Global, distance: u128) -> Result<String, AllocError> {
     match distance {
-        1 => format!(in alloc; "of the next iteration"),
-        _ => format!(in alloc; "{distance} iterations later"),
+        1 => format!(in alloc; " of the next iteration"),
+        _ => format!(in alloc; ", {distance} iterations later"),
     }
 }
 
-/// Appends a dependence in words.
-fn append_told(
+/// What is said of a dependence of which no arrow is seen among so many iterations.
+fn unseen(arrow: &Arrow, columns: u64) -> &'static str {
+    if arrow.distance < u128::from(columns) {
+        ""
+    } else {
+        " (beyond what is drawn)"
+    }
+}
+
+/// Adds a dependence in words.
+fn add_told(
     alloc: Global,
-    out: &mut Vec<u8>,
+    marks: &mut Vec<Mark>,
     pen: &mut Pen,
     arrow: &Arrow,
     columns: u64,
@@ -68,82 +81,62 @@ fn append_told(
         distance,
         source_line,
         sink_line,
-        ..
     } = arrow;
     let later = later(alloc, *distance)?;
-    let beyond = if *distance < u128::from(columns) {
-        ""
-    } else {
-        " (beyond what is drawn)"
-    };
+    let unseen = unseen(arrow, columns);
     let told = format!(in alloc;
-        "event {event}: line {source_line} comes before line {sink_line} {later}{beyond}"
+        "event {event}: line {source_line} comes before line {sink_line}{later}{unseen}"
     )?;
-    let class = format!(in alloc; "told hue{}", hue(*event))?;
-    append_text(out, class.as_bytes(), pen.next(), told.as_bytes())
+    let told = Vec::from_slice(alloc, told.as_bytes())?;
+    Ok(marks.push(Mark::Words(class_of(b"told", *event), pen.next(), told))?)
 }
 
-fn append_all_told(
+fn add_all_told(
     alloc: Global,
-    out: &mut Vec<u8>,
+    marks: &mut Vec<Mark>,
     pen: &mut Pen,
     arrows: &[Arrow],
     columns: u64,
 ) -> Result<(), AllocError> {
     for arrow in arrows.iter().take(TOLD) {
-        append_told(alloc, out, pen, arrow, columns)?;
+        add_told(alloc, marks, pen, arrow, columns)?;
     }
     let more = arrows.len().saturating_sub(TOLD);
     if more > 0 {
         let told = format!(in alloc; "and {more} more")?;
-        append_text(out, b"faint", pen.next(), told.as_bytes())?;
+        add_words(alloc, marks, b"faint", pen.next(), told.as_bytes())?;
     }
     Ok(())
 }
 
-/// Appends what is said below the picture of a loop.
-pub fn append_legend(
+/// Adds what is said below the picture of a loop.
+pub fn add_legend(
     alloc: Global,
-    out: &mut Vec<u8>,
+    marks: &mut Vec<Mark>,
     picture: &LoopPicture<'_>,
 ) -> Result<(), AllocError> {
     let mut pen = Pen {
         y: bottom(picture.rows.len()),
     };
     if picture.serial.is_some() {
-        return append_text(
-            out,
-            b"faint",
-            pen.next(),
-            b"each iteration begins when the one before has ended",
-        );
+        let told = b"each iteration begins when the one before has ended";
+        return add_words(alloc, marks, b"faint", pen.next(), told);
     }
     if picture.arrows.is_empty() {
-        return append_text(
-            out,
-            b"faint",
-            pen.next(),
-            b"no iteration waits for another one",
-        );
+        let told = b"no iteration waits for another one";
+        return add_words(alloc, marks, b"faint", pen.next(), told);
     }
-    append_meaning(
-        out,
-        &mut pen,
-        b"await hue1",
-        b"here an iteration waits until the one where the arrow begins has advanced this event",
-    )?;
-    append_meaning(
-        out,
-        &mut pen,
-        b"advance hue1",
-        b"here it advances this event, as what a later one waits for is done",
-    )?;
-    append_all_told(alloc, out, &mut pen, &picture.arrows, picture.columns)
+    let told =
+        b"here an iteration waits until the one where the arrow begins has advanced this event";
+    add_meaning(alloc, marks, &mut pen, b"await", told)?;
+    let told = b"here it advances this event, as what a later one waits for is done";
+    add_meaning(alloc, marks, &mut pen, b"advance", told)?;
+    add_all_told(alloc, marks, &mut pen, &picture.arrows, picture.columns)
 }
 
 /// How high the picture of a loop is with what is said below it.
-pub fn height(picture: &LoopPicture<'_>) -> u64 {
-    let told = picture.arrows.len().min(TOLD.saturating_add(1)) as u64;
+pub fn height(picture: &LoopPicture<'_>) -> u128 {
+    let told = picture.arrows.len().min(TOLD.saturating_add(1)) as u128;
     let lines = told.saturating_add(3);
     bottom(picture.rows.len()).saturating_add(PITCH.saturating_mul(lines))
 }

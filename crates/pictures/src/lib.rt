@@ -9,6 +9,7 @@ mod lanes;
 pub mod laws;
 mod legend;
 mod loops;
+mod mark;
 mod marks;
 mod picture;
 mod places;

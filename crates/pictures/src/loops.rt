@@ -4,8 +4,8 @@ ghost use Rattle.std.specs.Prelude.{◌≡◌, [], IfOk};
 ghost use Rattle.pictures.specs.Dependences as spec;
 ghost use Rattle.pictures.specs.Dependences.{AreArrows};
 
-use crate::picture::{Arrow, LoopPicture, Row};
-use crate::sketch::{Sketch, add_plan, add_range};
+use crate::picture::{Arrow, Look, LoopPicture};
+use crate::sketch::{Sketch, add_plan, add_range, look_of};
 use crate::source_text::statement_text;
 use ast::{Line, Name, Node};
 use dependence::PlanStmt;
@@ -31,7 +31,7 @@ pub struct SerialLoop<'r> {
     pub range: &'r [Node],
     /// What keeps it serial, as a sentence.
     pub reason: &'r [u8],
-    /// The line of the statement of its range that does, if one does.
+    /// The line of the statement that does, if one does: of its range, or its own DO.
     pub hindered: Option<Line>,
 }
 
@@ -46,21 +46,6 @@ pub struct Frame {
     pub columns: u64,
 }
 
-/// By line, the first row of its statement; lines have numbers up to 65,535.
-fn places(alloc: Global, rows: &[Row<'_>]) -> Result<Vec<usize>, AllocError> {
-    let mut places = vec![in alloc; 0; 65_536]?;
-    for (place, row) in rows.iter().enumerate().rev() {
-        if let Some(first) = places.get_mut(row.line as usize) {
-            *first = place;
-        }
-    }
-    Ok(places)
-}
-
-fn place_of(places: &[usize], line: Line) -> usize {
-    places.get(line as usize).copied().unwrap_or(0)
-}
-
 /// The line of an event's source.
 fn line_of(sources: &[Line], event: usize) -> Line
     ensures { result ≡ spec.source_line sources.now event }
@@ -68,25 +53,20 @@ fn line_of(sources: &[Line], event: usize) -> Line
     sources.get(event.saturating_sub(1)).copied().unwrap_or(0)
 }
 
-/// The dependences that are kept, between rows.
+/// The dependences that are kept.
 fn arrows(
     alloc: Global,
-    rows: &[Row<'_>],
     sources: &[Line],
     kept: &[(usize, u128, Line)],
 ) -> Result<Vec<Arrow>, AllocError>
     ensures { IfOk result (λ arrows. AreArrows sources.now kept.now arrows.items) }
 {
-    let places = places(alloc, rows)?;
     let mut arrows = Vec::with_capacity(alloc, kept.len())?;
     for (event, distance, sink_line) in kept {
-        let source_line = line_of(sources, *event);
         arrows.push(Arrow {
             event: *event,
             distance: *distance,
-            source: place_of(&places, source_line),
-            sink: place_of(&places, *sink_line),
-            source_line,
+            source_line: line_of(sources, *event),
             sink_line: *sink_line,
         })?;
     }
@@ -121,11 +101,12 @@ pub fn open_picture<'a>(
     let mut sketch = Sketch::new(alloc, lines, None);
     add_plan(&mut sketch, opened.body, 0)?;
     let Sketch { rows, advances, .. } = sketch;
-    let arrows = arrows(alloc, &rows, opened.sources, opened.kept)?;
+    let arrows = arrows(alloc, opened.sources, opened.kept)?;
     Ok(LoopPicture {
         number,
         line,
         text,
+        look: Look::Plain,
         rows,
         arrows,
         advances,
@@ -159,6 +140,7 @@ pub fn serial_picture<'a>(
         number,
         line,
         text,
+        look: look_of(line, serial.hindered),
         rows,
         arrows: Vec::new(alloc),
         advances,

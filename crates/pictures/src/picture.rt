@@ -25,17 +25,13 @@ pub struct Row<'a> {
     pub look: Look,
 }
 
-/// A dependence that is kept, between places among the rows.
+/// A dependence that is kept.
 #[derive(Clone, Copy, Debug, PartialEq, Eq)]
 pub struct Arrow {
     /// The event by which the sink's iteration waits; the first has the number 1.
     pub event: usize,
     /// Over how many iterations it goes.
     pub distance: u128,
-    /// The row of its source.
-    pub source: usize,
-    /// The row of its sink.
-    pub sink: usize,
     /// The line of its source.
     pub source_line: Line,
     /// The line of its sink.
@@ -56,8 +52,9 @@ pub struct LoopPicture<'a> {
     pub number: usize,
     /// The line of its DO.
     pub line: Line,
-    /// The text of its DO.
+    /// The text of its DO, and how it looks.
     pub text: &'a [u8],
+    pub look: Look,
     /// What its range has, from top to bottom.
     pub rows: Vec<Row<'a>>,
     pub arrows: Vec<Arrow>,

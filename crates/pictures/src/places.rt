@@ -1,54 +1,114 @@
 //! Where rows and iterations stand in the picture of a loop.
 
+ghost use Rattle.std.specs.Prelude.{◌≡◌, ◌<◌, ◌^◌};
+ghost use Rattle.pictures.specs.Arrows as spec;
+
+use crate::picture::Row;
 use crate::svg::{Point, Size};
+use ast::Line;
 
 /// Where the rows begin.
-const TOP: u64 = 112;
+const TOP: u128 = 112;
+/// Where the middle of the first row is.
+const MIDDLE: u128 = 121;
 /// How far two rows are apart.
-const PITCH: u64 = 32;
+const PITCH: u128 = 32;
 /// Where the first iteration begins.
-const LEFT: u64 = 372;
+const LEFT: u128 = 372;
 /// How far two iterations are apart.
-const STEP: u64 = 104;
+const STEP: u128 = 104;
+/// How wide a statement's box is.
+const ACROSS: u128 = 56;
+/// How long the tip of an arrow is.
+const TIP: u128 = 13;
 
 /// How wide and how high a statement's box is.
 pub const BOX: Size = Size {
-    width: 56,
+    width: ACROSS,
     height: 18,
 };
 
-/// The upper left corner of the box of a row in an iteration; both are numbered from 0.
-pub fn corner(column: u64, row: usize) -> Point {
-    Point {
-        x: LEFT.saturating_add(STEP.saturating_mul(column)),
-        y: TOP.saturating_add(PITCH.saturating_mul(row as u64)),
+/// A place of a picture: the box of a row in an iteration; both are counted from 0.
+#[derive(Clone, Copy, Debug, PartialEq, Eq)]
+pub struct Place {
+    pub column: u128,
+    pub row: usize,
+}
+
+/// The rows between which a dependence goes.
+#[derive(Clone, Copy, Debug, PartialEq, Eq)]
+pub struct Ends {
+    pub source: usize,
+    pub sink: usize,
+}
+
+/// The first row in which a line stands.
+pub fn row_of(rows: &[Row<'_>], line: Line) -> Option<usize>
+    ensures { result ≡ spec.row_from 0 rows.now line }
+{
+    for (place, row) in rows.iter().enumerate() {
+        if row.line == line {
+            return Some(place);
+        }
+    }
+    None
+}
+
+/// The place of a row in an iteration.
+pub fn place_in(column: u64, row: usize) -> Place
+    ensures { result ≡ record { column = column; row = row } }
+{
+    Place {
+        column: u128::from(column),
+        row,
     }
 }
 
-/// The middle of a box's left edge.
-pub fn entry(column: u64, row: usize) -> Point {
-    let Point { x, y } = corner(column, row);
+/// The upper left corner of a place's box.
+pub fn corner(place: Place) -> Point {
+    Point {
+        x: LEFT.saturating_add(STEP.saturating_mul(place.column)),
+        y: TOP.saturating_add(PITCH.saturating_mul(place.row as u128)),
+    }
+}
+
+/// The middle of the left edge of a place's box.
+pub fn entry(place: Place) -> Point {
+    let Point { x, y } = corner(place);
     Point {
         x,
         y: y.saturating_add(9),
     }
 }
 
-/// The middle of a box's right edge.
-pub fn exit(column: u64, row: usize) -> Point {
-    let Point { x, y } = entry(column, row);
+/// The middle of the right edge of a place's box.
+pub fn exit(place: Place) -> Point
+    requires { place.column < 2 ^ 64 }
+    ensures { result ≡ spec.exit place }
+{
     Point {
-        x: x.saturating_add(BOX.width),
-        y,
+        x: LEFT + STEP * place.column + ACROSS,
+        y: MIDDLE + PITCH * place.row as u128,
+    }
+}
+
+/// Where the tip begins of an arrow to a place.
+pub fn tip(place: Place) -> Point
+    requires { place.column < 2 ^ 64 }
+    ensures { result ≡ spec.tip place }
+{
+    Point {
+        x: LEFT + STEP * place.column - TIP,
+        y: MIDDLE + PITCH * place.row as u128,
     }
 }
 
 /// How wide a picture of so many iterations is.
-pub fn width(columns: u64) -> u64 {
-    LEFT.saturating_add(STEP.saturating_mul(columns))
+pub fn width(columns: u64) -> u128 {
+    corner(place_in(columns, 0)).x
 }
 
 /// What is below so many rows.
-pub fn bottom(rows: usize) -> u64 {
-    TOP.saturating_add(PITCH.saturating_mul(rows as u64))
+pub fn bottom(rows: usize) -> u128 {
+    corner(place_in(0, rows)).y
 }

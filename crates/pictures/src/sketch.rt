@@ -39,10 +39,7 @@ impl<'a> Sketch<'a> {
                 return Ok(());
             }
         }
-        let look = match self.hindered {
-            Some(hindered) if hindered == line => Look::Marked,
-            _ => Look::Plain,
-        };
+        let look = look_of(line, self.hindered);
         let text = statement_text(&self.lines, line);
         Ok(
             self.rows.push(Row {
@@ -70,6 +67,14 @@ impl<'a> Sketch<'a> {
     fn add_advance(&mut self, event: usize) -> Result<(), AllocError> {
         let row = self.rows.len().saturating_sub(1);
         Ok(self.advances.push(Advance { event, row })?)
+    }
+}
+
+/// How the statement of a line looks, by the line of the one that is in the way.
+pub fn look_of(line: Line, hindered: Option<Line>) -> Look {
+    match hindered {
+        Some(hindered) if hindered == line => Look::Marked,
+        _ => Look::Plain,
     }
 }
 

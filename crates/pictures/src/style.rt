@@ -4,8 +4,6 @@
 ghost use Rattle.std.specs.Prelude.{◌≡◌};
 ghost use Rattle.pictures.specs.Arrows as spec;
 
-use std::alloc::AllocError;
-
 /// How many hues there are.
 const HUES: usize = 6;
 
@@ -16,8 +14,8 @@ pub fn hue(event: usize) -> usize
     event.wrapping_rem(HUES)
 }
 
-/// The style sheet of a picture.
-pub const STYLE: &[u8] = b"<style>
+/// The style sheet of a picture, and the tips of arrows: one without a hue, and one of each.
+pub const SHEET: &[u8] = b"<style>
 svg{background:#fff;font-family:sans-serif;font-size:13px}
 text{fill:#1a1a1a}
 .ground{fill:#fff}
@@ -113,22 +111,13 @@ text.marked{fill:#ffb27a}
 .await.hue5 circle{stroke:#a9a9f5}
 }
 </style>
+<defs>
+<marker id=\"tip\" viewBox=\"0 0 10 10\" refX=\"2\" refY=\"5\" markerWidth=\"5\" markerHeight=\"5\" orient=\"auto\"><path d=\"M0 0L10 5L0 10z\"/></marker>
+<marker id=\"tip0\" viewBox=\"0 0 10 10\" refX=\"2\" refY=\"5\" markerWidth=\"5\" markerHeight=\"5\" orient=\"auto\"><path d=\"M0 0L10 5L0 10z\"/></marker>
+<marker id=\"tip1\" viewBox=\"0 0 10 10\" refX=\"2\" refY=\"5\" markerWidth=\"5\" markerHeight=\"5\" orient=\"auto\"><path d=\"M0 0L10 5L0 10z\"/></marker>
+<marker id=\"tip2\" viewBox=\"0 0 10 10\" refX=\"2\" refY=\"5\" markerWidth=\"5\" markerHeight=\"5\" orient=\"auto\"><path d=\"M0 0L10 5L0 10z\"/></marker>
+<marker id=\"tip3\" viewBox=\"0 0 10 10\" refX=\"2\" refY=\"5\" markerWidth=\"5\" markerHeight=\"5\" orient=\"auto\"><path d=\"M0 0L10 5L0 10z\"/></marker>
+<marker id=\"tip4\" viewBox=\"0 0 10 10\" refX=\"2\" refY=\"5\" markerWidth=\"5\" markerHeight=\"5\" orient=\"auto\"><path d=\"M0 0L10 5L0 10z\"/></marker>
+<marker id=\"tip5\" viewBox=\"0 0 10 10\" refX=\"2\" refY=\"5\" markerWidth=\"5\" markerHeight=\"5\" orient=\"auto\"><path d=\"M0 0L10 5L0 10z\"/></marker>
+</defs>
 ";
-
-/// Appends the tips of arrows: one of each hue, and one without.
-pub fn append_tips(out: &mut Vec<u8>) -> Result<(), AllocError> {
-    out.extend_from_slice(b"<defs>\n")?;
-    append_tip(out, b"tip")?;
-    for name in [b"tip0", b"tip1", b"tip2", b"tip3", b"tip4", b"tip5"] {
-        append_tip(out, name)?;
-    }
-    out.extend_from_slice(b"</defs>\n")
-}
-
-fn append_tip(out: &mut Vec<u8>, name: &[u8]) -> Result<(), AllocError> {
-    out.extend_from_slice(b"<marker id=\"")?;
-    out.extend_from_slice(name)?;
-    out.extend_from_slice(b"\" viewBox=\"0 0 10 10\" refX=\"2\" refY=\"5\"")?;
-    out.extend_from_slice(b" markerWidth=\"5\" markerHeight=\"5\" orient=\"auto\">")?;
-    out.extend_from_slice(b"<path d=\"M0 0L10 5L0 10z\"/></marker>\n")
-}
