@@ -23,7 +23,14 @@ fn trial(
     let source = source.as_bytes();
     let outcome = match origin {
         Origin::Refusal => check_text(rt.alloc(), source, &mut out)?,
-        Origin::Fault(_) => seq_texts(rt.alloc(), source, input.as_bytes(), false, &mut out)?,
+        Origin::Fault(_) => seq_texts(
+            rt.alloc(),
+            source,
+            input.as_bytes(),
+            false,
+            65_536,
+            &mut out,
+        )?,
         Origin::Schedule => {
             replay_texts(
                 rt.alloc(),

@@ -140,7 +140,7 @@ fn assembled(
         operands: 4,
         counters: 0,
     };
-    match Code::new(parts) {
+    match Code::new(alloc, parts)? {
         Some(code) => Ok(code),
         None => panic!(*rt; "the code is laid"),
     }
@@ -287,8 +287,8 @@ fn opened<'c>(rt: &(impl Abort + AllocGlobal), code: &'c Code) -> Result<Core<'c
     Ok(core)
 }
 
-/// The code of a loop over 1 and 2, each of whose iterations prints its value.
-fn of_two_records(rt: &(impl Abort + AllocGlobal)) -> Result<Code, AllocError> {
+/// The code of a loop over 1 and 2, each of whose iterations does this.
+fn of_two(rt: &(impl Abort + AllocGlobal), body: &[&[Does]]) -> Result<Code, AllocError> {
     let main = [
         Does::Constant(1),
         Does::Constant(2),
@@ -296,7 +296,12 @@ fn of_two_records(rt: &(impl Abort + AllocGlobal)) -> Result<Code, AllocError> {
         Does::Join,
         Does::Halt,
     ];
-    assembled(rt, &main, &[&RECORD])
+    assembled(rt, &main, body)
+}
+
+/// The code of a loop over 1 and 2, each of whose iterations prints its value.
+fn of_two_records(rt: &(impl Abort + AllocGlobal)) -> Result<Code, AllocError> {
+    of_two(rt, &[&RECORD])
 }
 
 /// What comes of a pick.
@@ -396,5 +401,42 @@ fn work_is_handed_in_once(rt: HostRuntime) -> Result<(), Fail> {
     let mut core = opened(&rt, &code)?;
     handed_in(&rt, &mut core)?;
     handed_in_late(&rt, &mut core)?;
+    Ok(())
+}
+
+/// Work that isn't of what processor 0 holds isn't taken, and the schedule stays as it was.
+fn is_strange(rt: &impl Abort, core: &mut Core<'_>, done: Done<'_>) -> Result<(), Fail> {
+    let before = core.schedule().text()?;
+    assert_eq!(*rt; core.hand_in(0, done), Err(HandIn::Stranger));
+    assert_eq!(*rt; core.schedule().text()?, before);
+    Ok(())
+}
+
+/// A core whose processor 0 holds the first iteration of a loop of two trips.
+fn holding<'c>(rt: &(impl Abort + AllocGlobal), code: &'c Code) -> Result<Core<'c>, Fail> {
+    let mut core = opened(rt, code)?;
+    picks(rt, &mut core, 0, Choice::Ticket, Stepped::Went(Some(0)))?;
+    Ok(core)
+}
+
+#[test]
+fn work_of_another_frame_of_another_core(rt: HostRuntime) -> Result<(), Fail> {
+    let code = of_two_records(&rt)?;
+    let mut core = holding(&rt, &code)?;
+    let mut other = holding(&rt, &code)?;
+    picks(&rt, &mut other, 1, Choice::Ticket, Stepped::Went(Some(1)))?;
+    is_strange(&rt, &mut core, worked(&rt, &other, 1)?)?;
+    hands_in(&rt, &mut core, 0, 0, Ok(()))?;
+    Ok(())
+}
+
+/// The frames of both cores are equal, their code isn't.
+#[test]
+fn work_of_another_code(rt: HostRuntime) -> Result<(), Fail> {
+    let code = of_two_records(&rt)?;
+    let mut core = holding(&rt, &code)?;
+    let other = of_two(&rt, &[&RECORD, &QUOTIENT])?;
+    is_strange(&rt, &mut core, worked(&rt, &holding(&rt, &other)?, 0)?)?;
+    hands_in(&rt, &mut core, 0, 0, Ok(()))?;
     Ok(())
 }

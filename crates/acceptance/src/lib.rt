@@ -9,6 +9,8 @@ mod commands;
 #[cfg(test)]
 mod cores;
 #[cfg(test)]
+mod drawings;
+#[cfg(test)]
 mod driven;
 #[cfg(test)]
 mod drivers;

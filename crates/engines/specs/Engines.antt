@@ -1,5 +1,5 @@
 -- What the engines do: which bytes they may write of a source text, and with which outcome.
-use Rattle.std.specs.Prelude.{◌≡◌, ℕ, ◌<◌, Bool, IfSome, List, length, take, ⊤, Option, Result, Ok, Err, Vec}
+use Rattle.std.specs.Prelude.{◌≡◌, ◌⊎◌, ℕ, Bool, IfSome, List, ⊤, Option, Result, Ok, Err, Vec}
 use Rattle.std.specs.Global.{Global}
 use Rattle.std.specs.Io.KnownBytes.{Appends, IsAtEnd, Keeps}
 use Rattle.ast.specs.Meaning.{seq}
@@ -7,9 +7,17 @@ use Rattle.ast.specs.Program.{ProgramTree}
 use Rattle.ast.specs.ProgramView.{program as program_of}
 use Rattle.ast.specs.declared.fault.End.{End}
 use Rattle.ast.specs.declared.fault.End.TheVariants.{Done, Stopped, Fault as FaultedAt}
+use Rattle.interpreter.specs.Handing.{Begins}
+pub use Rattle.interpreter.specs.Handing.{AppendsPart}
 use Rattle.profile_check.specs.Causes.{Refuses}
 use Rattle.profile_check.specs.Reads.{Reads}
-use Rattle.engines.specs.Shown.{accepted, refused, Shown}
+use Rattle.ast.specs.Symbols.{Symbol}
+use Rattle.ast.specs.View.{cells}
+use Rattle.interpreter.specs.declared.run_end.RunEnd.{RunEnd}
+use Rattle.interpreter.specs.declared.run_end.RunFault.{RunFault}
+use Rattle.interpreter.specs.declared.run_end.RunFault.TheVariants as run_faults
+use Rattle.engines.specs.Shown.{accepted, refused, EndShown, Shown}
+use Rattle.engines.specs.View.{rows_from}
 use Rattle.engines.specs.declared.fault.EngineFault.{EngineFault}
 use Rattle.engines.specs.declared.fault.EngineFault.TheVariants.{Source, Input, Schedule, Writing, Memory, OutOfRange, NotStarted, Stuck}
 use Rattle.engines.specs.declared.fault.ReadFault.{ReadFault}
@@ -107,10 +115,6 @@ Gives known text = IfSome known (λ bytes. text ≡ bytes)
 abbrev pub OfText : Option (List ℕ) → (List ℕ → Type 0) → Type 0
 OfText known P = (text : List ℕ) × Gives known text × P text
 
--- known bytes stay at the front and grow by a beginning of a text, of which something is missing
-abbrev pub AppendsPart : Option (List ℕ) → Option (List ℕ) → List ℕ → Type 0
-AppendsPart old new text = (n : ℕ) × (n < length text) × Appends old new (take n text)
-
 -- the writer's bytes grew by a text that an outcome allows
 pub record Wrote (allows : Outcome → List ℕ → Type 0) (old new : Option (List ℕ)) (outcome : Outcome) : Type 0 where
   pub text : List ℕ
@@ -178,17 +182,57 @@ Works allows old new (Err (Writing e)) = WrotePart allows old new
 Works allows old new (Err Memory) = Keeps old new
 Works allows old new (Err _) = ⊥
 
--- the same of work that reads an input first, of which nothing is written where that fails
-abbrev pub WorksWith : Option (List ℕ) → (List ℕ → Outcome → List ℕ → Type 0) → Option (List ℕ) → Option (List ℕ) → Result Outcome EngineFault → Type 0
-WorksWith input allows old new (Ok outcome) = OfText input (λ given. Wrote (allows given) old new outcome)
-WorksWith input allows old new (Err (Source e)) = ⊥
-WorksWith input allows old new (Err (Input e)) = Keeps old new
-WorksWith input allows old new (Err (Schedule e)) = ⊥
-WorksWith input allows old new (Err (Writing e)) = OfText input (λ given. WrotePart (allows given) old new)
-WorksWith input allows old new (Err Memory) = Keeps old new
-WorksWith input allows old new (Err OutOfRange) = ⊥
-WorksWith input allows old new (Err NotStarted) = ⊥
-WorksWith input allows old new (Err Stuck) = ⊥
+-- what follows the records of a run with this ending
+abbrev pub Follows : Bool → List Symbol → RunEnd → Outcome → List ℕ → Type 0
+Follows store symbols ended outcome text =
+    (outcome ≡ outcome_of ended.end) × EndShown store (rows_from (cells ended.store) 0 symbols) ended.end text
+
+-- the fault of a run that came to no end
+abbrev pub engine_fault : RunFault → EngineFault
+engine_fault run_faults.Memory = Memory
+engine_fault (run_faults.Writing e) = Writing e
+
+-- the source reads as a program, and the writer's bytes grew by a beginning of what its run on the input
+-- prints
+pub record Began (source input : List ℕ) (old new : Option (List ℕ)) : Type 0 where
+  pub tree : ProgramTree
+  pub reads : Reads source tree
+  pub got : List ℕ
+  pub begins : Begins got (seq tree input).output
+  pub grown : Appends old new got
+
+-- What `seq` comes to, whose records are written while the program runs: an outcome with an allowed text
+-- written; where writing failed part of one, or a beginning of the records; where memory was refused
+-- nothing, or a beginning of the records. No fault of reading comes of it.
+abbrev pub Streams : Bool → List ℕ → List ℕ → Option (List ℕ) → Option (List ℕ) → Result Outcome EngineFault → Type 0
+Streams store source input old new (Ok outcome) = Wrote (Runs store source input) old new outcome
+Streams store source input old new (Err (Writing e)) = WrotePart (Runs store source input) old new ⊎ Began source input old new
+Streams store source input old new (Err Memory) = Keeps old new ⊎ Began source input old new
+Streams store source input old new (Err _) = ⊥
+
+-- the same of `seq` that reads its input first, of which nothing is written where that fails
+abbrev pub StreamsWith : Option (List ℕ) → Bool → List ℕ → Option (List ℕ) → Option (List ℕ) → Result Outcome EngineFault → Type 0
+StreamsWith input store source old new (Ok outcome) = OfText input (λ given. Wrote (Runs store source given) old new outcome)
+StreamsWith input store source old new (Err (Source e)) = ⊥
+StreamsWith input store source old new (Err (Input e)) = Keeps old new
+StreamsWith input store source old new (Err (Schedule e)) = ⊥
+StreamsWith input store source old new (Err (Writing e)) = OfText input (λ given. WrotePart (Runs store source given) old new ⊎ Began source given old new)
+StreamsWith input store source old new (Err Memory) = Keeps old new ⊎ OfText input (λ given. Began source given old new)
+StreamsWith input store source old new (Err OutOfRange) = ⊥
+StreamsWith input store source old new (Err NotStarted) = ⊥
+StreamsWith input store source old new (Err Stuck) = ⊥
+
+-- what a fault of `seq` leaves: part of an allowed text or a beginning of the records where writing failed;
+-- nothing or a beginning of the records where memory was refused; nothing where reading failed
+abbrev pub LeavesRun : EngineFault → Option (List ℕ) → Option (List ℕ) → (part began : Type 0) → Type 0
+LeavesRun (Source e) old new part began = Keeps old new
+LeavesRun (Input e) old new part began = Keeps old new
+LeavesRun (Schedule e) old new part began = ⊥
+LeavesRun (Writing e) old new part began = part
+LeavesRun Memory old new part began = Keeps old new ⊎ began
+LeavesRun OutOfRange old new part began = ⊥
+LeavesRun NotStarted old new part began = ⊥
+LeavesRun Stuck old new part began = ⊥
 
 -- what comes after a read: where it failed its fault, with nothing written; otherwise what is made
 -- of its bytes

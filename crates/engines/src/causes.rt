@@ -1,6 +1,7 @@
 //! Which name a refusal is of, and which open DO or IF.
 
 mod declared;
+mod kinds;
 mod limits;
 
 use crate::mentions::{Mention, mentions};
@@ -8,6 +9,7 @@ use crate::squeezed::Squeezed;
 use crate::visible::Visible;
 use ast::{Label, Line, Name};
 use declared::Declared;
+use kinds::wrong_kind;
 use limits::limit;
 use std::alloc::{AllocError, Global};
 use std::fmt::{Display, Formatter, Result as FmtResult, Write};
@@ -60,6 +62,10 @@ pub enum Cause {
     Unknown(Name),
     /// A constant expression that has no value.
     NoValue,
+    /// A name that stands where a logical value is wanted.
+    Integer(Name),
+    /// A name that is given a logical value.
+    Logical(Name),
     /// A limit.
     Limit(&'static str),
 }
@@ -99,7 +105,7 @@ pub fn cause_of(
     number: u8,
     line: Line,
 ) -> Result<Option<Cause>, AllocError> {
-    if !matches!(number, 31..=38 | 40..=42) {
+    if !matches!(number, 31..=38 | 40..=43) {
         return Ok(None);
     }
     let statements = Squeezed::all(alloc, source)?;
@@ -116,6 +122,7 @@ pub fn cause_of(
         40 => Ok(Some(limit(&statements, &before, statement))),
         42 => Ok(Declared::before(alloc, &statements, line)?.unknown(statement, &names)),
         37 => Ok(before.active(statement, &names)),
+        43 => Ok(wrong_kind(statement, &names)),
         41 => Ok(before.labelled(statement)),
         _ => Ok(before.open()),
     }
@@ -392,6 +399,16 @@ fn write_named<W: Write>(f: &mut Formatter<W>, cause: Cause) -> FmtResult {
         Cause::Unknown(name) => write!(
             f,
             "{} is no constant that is given before",
+            Visible::new(name.trimmed())
+        ),
+        Cause::Integer(name) => write!(
+            f,
+            "{} is an integer, and a logical value is wanted",
+            Visible::new(name.trimmed())
+        ),
+        Cause::Logical(name) => write!(
+            f,
+            "{} is an integer, and is given a logical value",
             Visible::new(name.trimmed())
         ),
         _ => Ok(()),

@@ -22,7 +22,6 @@ fn shown_code(alloc: Global, program: &Program) -> Result<Page, AllocError>
         Ok(compiled) => Ok(Page {
             text: code_lines(alloc, &compiled.code)?,
             outcome: Outcome::Completed,
-            beyond: None,
         }),
         Err(CompileRefusal::Refused { number, line }) => refused(alloc, number, line),
         Err(CompileRefusal::Memory) => Err(AllocError),

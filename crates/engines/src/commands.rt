@@ -1,19 +1,19 @@
 //! The engines, over any readers and writers: they read to the end, work over values, and write
 //! what came of it.
 
-ghost use Rattle.std.specs.Prelude.{◌≡◌, IfOk, IfErr};
+ghost use Rattle.std.specs.Prelude.{◌≡◌, ◌⊎◌, IfOk, IfErr};
 ghost use Rattle.engines.specs.Coded.{ShowsCode};
-ghost use Rattle.engines.specs.Engines.{AfterRead, Checks, IsJudged, Leaves, LeavesOfSource, LeavesReader, LeavesReaders, OfText, Runs, Tells, Works, WorksWith, WroteAs, WrotePart, of_input, of_source};
+ghost use Rattle.engines.specs.Engines.{AfterRead, Began, Checks, IsJudged, Leaves, LeavesOfSource, LeavesRun, LeavesReader, LeavesReaders, OfText, Runs, Streams, StreamsWith, Tells, Works, WroteAs, WrotePart, of_input, of_source};
 ghost use Rattle.engines.specs.Lists.{Lists, TellsAs, TellsLoops, TellsWhy};
 ghost use Rattle.engines.specs.Reading.{LeavesThree, OfTexts};
 ghost use Rattle.engines.specs.Schedules.{LeavesBoth, Replaying, UpgradeWorks, Upgrading, WroteUpgraded, WroteUpgradedPart};
 
 use crate::coded::coded;
 use crate::fault::{EngineFault, ReadFault};
-use crate::note::Note;
 use crate::outcome::Outcome;
-use crate::page::{seq_page, told};
+use crate::page::told;
 use crate::replays::{replayed, upgrade_texts};
+use crate::sequential::seq_texts;
 use crate::streams::read_all;
 use crate::survey::{Survey, shown_loops, shown_reasons, surveyed};
 use crate::texts::read_three;
@@ -123,55 +123,6 @@ pub fn code_text<W: Write>(
     page.write(out)
 }
 
-/// What a sequential run came to, and what is known of its fault beside the line.
-#[derive(Drop)]
-pub struct Sequential {
-    pub came: Result<Outcome, EngineFault>,
-    pub note: Option<Note>,
-}
-
-/// Runs a text on an input, and writes its records and what follows them: at a fault or a STOP its
-/// line, and without either, where `store` says so, the store. It comes to a fault of the writer with a
-/// beginning of the text written, or of memory with nothing written.
-pub fn seq_noted<W: Write>(
-    alloc: Global,
-    source: &[u8],
-    input: &[u8],
-    store: bool,
-    out: &mut W,
-) -> Sequential
-    ensures { Works (Runs store source.now input.now)
-        (W.contents out.old) (W.contents out.new) result.came }
-{
-    match seq_page(alloc, source, input, store) {
-        Ok(page) => Sequential {
-            came: page.write(out),
-            note: page.beyond.map(Note::Subscript),
-        },
-        Err(_) => Sequential {
-            came: Err(EngineFault::Memory),
-            note: None,
-        },
-    }
-}
-
-/// As [`seq_noted`], without the note.
-///
-/// # Errors
-///
-/// A fault of the writer, with a beginning of the text written; or of memory, with nothing written.
-pub fn seq_texts<W: Write>(
-    alloc: Global,
-    source: &[u8],
-    input: &[u8],
-    store: bool,
-    out: &mut W,
-) -> Result<Outcome, EngineFault>
-    ensures { Works (Runs store source.now input.now) (W.contents out.old) (W.contents out.new) result }
-{
-    seq_noted(alloc, source, input, store, out).came
-}
-
 /// Replays a schedule of a text on an input, and writes its records and what follows them: at a fault or
 /// a STOP its line. Where there is nothing to replay the line says why.
 ///
@@ -252,13 +203,14 @@ fn seq_given<W: Write>(
     source: &[u8],
     input: Result<Vec<u8>, ReadFault>,
     store: bool,
+    most: usize,
     out: &mut W,
 ) -> Result<Outcome, EngineFault>
     ensures { AfterRead input of_input (W.contents out.old) (W.contents out.new) result
-        (λ given. Works (Runs store source.now given) (W.contents out.old) (W.contents out.new) result) }
+        (λ given. Streams store source.now given (W.contents out.old) (W.contents out.new) result) }
 {
     let input = input.map_err(EngineFault::of_input)?;
-    seq_texts(alloc, source, &input, store, out)
+    seq_texts(alloc, source, &input, store, most, out)
 }
 
 /// What `seq` makes of the read of its source: only where that succeeded is the input read.
@@ -267,16 +219,17 @@ fn seq_read<I: Read, W: Write>(
     source: Result<Vec<u8>, ReadFault>,
     input: &mut I,
     store: bool,
+    most: usize,
     out: &mut W,
 ) -> Result<Outcome, EngineFault>
     ensures work { AfterRead source of_source (W.contents out.old) (W.contents out.new) result
-        (λ text. WorksWith (I.remaining input.old) (Runs store text) (W.contents out.old) (W.contents out.new) result) }
+        (λ text. StreamsWith (I.remaining input.old) store text (W.contents out.old) (W.contents out.new) result) }
     ensures untouched { IfErr source (λ _. I.remaining input.new ≡ I.remaining input.old) }
     ensures readers { IfOk source (λ _. IfErr result (λ fault. LeavesReader fault (I.remaining input.new))) }
 {
     let source = source.map_err(EngineFault::of_source)?;
     let read = read_all(alloc, input);
-    seq_given(alloc, &source, read, store, out)
+    seq_given(alloc, &source, read, store, most, out)
 }
 
 /// Checks a source, writes its line and gives the exit status: 0, or 1 for a source that is refused.
@@ -348,28 +301,33 @@ pub fn code<R: Read, W: Write>(
 }
 
 /// Runs a source on an input, writes its records and what follows them, and gives the exit status:
-/// 0, 1 for a source that is refused, 2 for a fault. The input is read after the source.
+/// 0, 1 for a source that is refused, 2 for a fault. The input is read after the source. The records are
+/// written while the program runs, whole records, of which `most` bytes may wait at most.
 ///
 /// # Errors
 ///
-/// A fault of one of the readers, with nothing written; of the writer, with a beginning of the text
-/// written; or of memory, with nothing written.
+/// A fault of one of the readers, with nothing written; of the writer, with part of the text or a
+/// beginning of the records written; or of memory, with nothing or a beginning of the records written.
 pub fn seq<R: Read, I: Read, W: Write>(
     alloc: Global,
     source: &mut R,
     input: &mut I,
     store: bool,
+    most: usize,
     out: &mut W,
 ) -> Result<u8, EngineFault>
     ensures ok { IfOk result (λ status. OfText (R.remaining source.old) (λ text. OfText (I.remaining input.old) (λ given.
         WroteAs (Runs store text given) (W.contents out.old) (W.contents out.new) status))) }
-    ensures err { IfErr result (λ fault. Leaves fault (W.contents out.old) (W.contents out.new)
+    ensures err { IfErr result (λ fault. LeavesRun fault (W.contents out.old) (W.contents out.new)
         (OfText (R.remaining source.old) (λ text. OfText (I.remaining input.old) (λ given.
-        WrotePart (Runs store text given) (W.contents out.old) (W.contents out.new))))) }
+        WrotePart (Runs store text given) (W.contents out.old) (W.contents out.new)
+        ⊎ Began text given (W.contents out.old) (W.contents out.new))))
+        (OfText (R.remaining source.old) (λ text. OfText (I.remaining input.old) (λ given.
+        Began text given (W.contents out.old) (W.contents out.new))))) }
     ensures readers { IfErr result (λ fault. LeavesReaders fault (R.remaining source.new) (I.remaining input.old) (I.remaining input.new)) }
 {
     let read = read_all(alloc, source);
-    let outcome = seq_read(alloc, read, input, store, out)?;
+    let outcome = seq_read(alloc, read, input, store, most, out)?;
     Ok(outcome.status())
 }
 

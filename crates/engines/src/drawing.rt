@@ -95,7 +95,7 @@ fn serial<'a>(
     let tree = loops(alloc, program)?;
     let found = hindrance(alloc, &tree, frame.number, reason, reports)?;
     let hindered = match found {
-        Some(hindrance) => hindrance.line_in_range(),
+        Some(hindrance) => hindrance.line(frame.line),
         None => None,
     };
     let reason = sentence(alloc, found)?;

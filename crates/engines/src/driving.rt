@@ -1,7 +1,10 @@
 //! Cores, driven on one thread.
 
+ghost use Rattle.std.specs.Prelude.{IfOk, IfSome};
+ghost use Rattle.replay.specs.Activities.{AreActivities};
+
 use machine::{Code, Done, Frame, stands_local};
-use replay::{Act, Choice, Core, CoreRefusal, Entry, HandIn, Stepped};
+use replay::{Act, Activities, Choice, Core, CoreRefusal, Entry, HandIn, Stepped};
 use std::alloc::{AllocError, Global};
 
 /// How many local instructions are done at a time, at most.
@@ -63,25 +66,56 @@ pub fn make(core: &mut Core<'_>, entry: Entry) -> Result<Stepped, AllocError> {
     }
 }
 
-/// The one processor of a run does what it does next.
-fn go_on(core: &mut Core<'_>) -> Result<Stepped, AllocError> {
-    if core.is_local(0) {
-        work(core, 0, BURST)
+/// The activities at the beginning of a run of so many processors with so many open iterations; `None` where
+/// there are no such runs.
+pub fn begun<'c>(
+    alloc: Global,
+    code: &'c Code,
+    input: &'c [u8],
+    processors: usize,
+    slots: usize,
+) -> Result<Option<Activities<'c>>, AllocError>
+    ensures stand { IfOk result (λ o. IfSome o AreActivities) }
+{
+    if processors < 1 || processors > 64 || slots < 1 || slots > 256 {
+        return Ok(None);
+    }
+    Ok(Some(Activities::new(alloc, code, input, processors, slots)?))
+}
+
+/// The one processor of a run does what it does next, and whether it did something.
+fn go_on(activities: &mut Activities<'_>) -> Result<bool, AllocError>
+    requires stand { AreActivities activities.old }
+    ensures stand { AreActivities activities.new }
+{
+    if activities.held.is_empty() {
+        return Ok(false);
+    }
+    let local = match activities.frame(0) {
+        Some(frame) => stands_local(activities.code, frame),
+        None => {
+            let choice = activities.choice();
+            return activities.pick(0, choice);
+        }
+    };
+    if local {
+        Ok(activities.work(0, 1))
     } else {
-        core.step(0)
+        activities.share(0)
     }
 }
 
 /// How many steps code takes on an input with one processor and one open iteration.
 pub fn steps_alone(alloc: Global, code: &Code, input: &[u8]) -> Result<u128, AllocError> {
-    let Some(mut core) = new_core(alloc, code, input, 1, 1)? else {
+    let Some(mut activities) = begun(alloc, code, input, 1, 1)? else {
         return Ok(0);
     };
+    let mut made = 0u128;
     for _ in 0..u64::MAX {
-        match go_on(&mut core)? {
-            Stepped::Went(_) => {}
-            Stepped::Idle | Stepped::Ended => break,
+        if !go_on(&mut activities)? {
+            break;
         }
+        made = made.saturating_add(1);
     }
-    Ok(core.tally().made)
+    Ok(made)
 }

@@ -29,10 +29,12 @@ mod obstacles;
 mod outcome;
 mod page;
 mod ran;
+mod records;
 mod replays;
 mod row;
 mod rows;
 mod running;
+mod sequential;
 mod serial;
 mod shown;
 mod spelled;
@@ -52,8 +54,8 @@ mod why;
 
 pub use beyond::Beyond;
 pub use commands::{
-    Sequential, check, check_text, code, code_text, list, list_text, replay, replay_texts, seq,
-    seq_noted, seq_texts, tell_loops, tell_survey, tell_verdict, upgrade,
+    check, check_text, code, code_text, list, list_text, replay, replay_texts, seq, tell_loops,
+    tell_survey, tell_verdict, upgrade,
 };
 pub use drawing::{Portion, draw, draw_text};
 pub use drawn::Drawn;
@@ -67,8 +69,10 @@ pub use obstacles::Met;
 pub use outcome::Outcome;
 pub use page::Page;
 pub use ran::{Ran, Whole};
+pub use records::LastRecord;
 pub use replays::{Upgraded, upgrade_texts};
 pub use running::{run, run_texts};
+pub use sequential::{Sequential, seq_noted, seq_texts};
 pub use serial::say_why_serial;
 pub use streams::read_all;
 pub use survey::{Survey, surveyed};

@@ -1,25 +1,21 @@
 //! What the engines write.
 
-ghost use Rattle.std.specs.Prelude.{◌≡◌, ◌≤◌, IfOk, OnOk, length, map};
+ghost use Rattle.std.specs.Prelude.{◌≡◌, ◌≤◌, IfOk, OnOk, map};
 ghost use Rattle.ast.specs.Program.{loops_in};
 ghost use Rattle.ast.specs.ProgramView.{program as program_of};
-ghost use Rattle.ast.specs.View.{cells, symbol as symbol_of};
-ghost use Rattle.engines.specs.Engines.{IsJudged, Runs, ShowsRun, Tells, outcome_of};
+ghost use Rattle.engines.specs.Engines.{IsJudged, Tells, outcome_of};
 ghost use Rattle.engines.specs.Shown.{EndShown, Extends, accepted, refused};
-ghost use Rattle.engines.specs.View.{row_view, rows_from};
+ghost use Rattle.engines.specs.View.{row_view};
 
-use crate::beyond::Beyond;
 use crate::fault::EngineFault;
 use crate::loops::loops_in;
 use crate::outcome::Outcome;
 use crate::row::Row;
-use crate::rows::rows;
 use crate::shown::{append_accepted, append_fault, append_refused, append_stopped};
 use crate::store::append_store;
-use crate::streams::write_all;
-use crate::verdict::{Verdict, judged};
-use ast::{Answer, End, Fault, Line, Program, Store};
-use interpreter::run_seq;
+use crate::verdict::Verdict;
+use ast::{End, Line, Program};
+use interpreter::write_all;
 use std::alloc::{AllocError, Global};
 use std::io::Write;
 
@@ -28,8 +24,6 @@ use std::io::Write;
 pub struct Page {
     pub text: Vec<u8>,
     pub outcome: Outcome,
-    /// Of an INDEX in a sequential run, which subscript it was, as far as that can be told.
-    pub beyond: Option<Beyond>,
 }
 
 /// What `check` writes of a verdict.
@@ -43,16 +37,6 @@ pub fn told(alloc: Global, verdict: &Verdict) -> Result<Page, AllocError>
     }
 }
 
-/// What `seq` writes of a source and an input; at END with the store where it is wanted.
-pub fn seq_page(alloc: Global, source: &[u8], input: &[u8], store: bool) -> Result<Page, AllocError>
-    ensures { IfOk result (λ page. Runs store source.now input.now page.outcome page.text.items) }
-{
-    match judged(alloc, source)? {
-        Verdict::Accepted(program) => ran(alloc, &program, input, store),
-        Verdict::Refused { number, line } => refused(alloc, number, line),
-    }
-}
-
 fn accepted(alloc: Global, program: &Program) -> Result<Page, AllocError>
     requires { loops_in (program_of program.now).block ≤ (program_of program.now).count }
     ensures { IfOk result (λ page. (page.outcome ≡ Outcome.Completed)
@@ -63,7 +47,6 @@ fn accepted(alloc: Global, program: &Program) -> Result<Page, AllocError>
     Ok(Page {
         text,
         outcome: Outcome::Completed,
-        beyond: None,
     })
 }
 
@@ -76,39 +59,7 @@ pub fn refused(alloc: Global, number: u8, line: Line) -> Result<Page, AllocError
     Ok(Page {
         text,
         outcome: Outcome::Refused { number, line },
-        beyond: None,
     })
-}
-
-fn ran(alloc: Global, program: &Program, input: &[u8], store: bool) -> Result<Page, AllocError>
-    ensures { IfOk result (λ page. ShowsRun store (program_of program.now) input.now page.outcome page.text.items) }
-{
-    let answer = run_seq(alloc, program, input)?;
-    shown(alloc, program, answer, store)
-}
-
-fn shown(alloc: Global, program: &Program, answer: Answer, store: bool) -> Result<Page, AllocError>
-    requires { length (cells answer.store) ≡ length program.now.symbols.items }
-    ensures { IfOk result (λ page. (page.outcome ≡ outcome_of answer.end)
-        × Extends (EndShown store (rows_from (cells answer.store) 0 (map symbol_of program.now.symbols.items)) answer.end) answer.output.items page.text.items) }
-{
-    let mut text = answer.output;
-    let beyond = beyond(alloc, program, &answer.store, answer.end);
-    let mut rows = rows(alloc, &program.symbols, &answer.store)?;
-    append_end(&mut text, answer.end, &mut rows, store)?;
-    Ok(Page {
-        text,
-        outcome: outcome(answer.end),
-        beyond,
-    })
-}
-
-/// The subscript that a run ended at, if it ended at one.
-fn beyond(alloc: Global, program: &Program, store: &Store, end: End) -> Option<Beyond> {
-    match end {
-        End::Fault(Fault::Index, line) => Beyond::of(alloc, program, store, line),
-        _ => None,
-    }
 }
 
 pub fn outcome(end: End) -> Outcome

@@ -9,7 +9,7 @@ use crate::fault::EngineFault;
 use crate::figures::Figures;
 use crate::outcome::Outcome;
 use crate::page::Page;
-use crate::streams::write_all;
+use interpreter::write_all;
 use std::io::Write;
 
 /// A run that came to its end.

@@ -15,10 +15,10 @@ use crate::fault::EngineFault;
 use crate::outcome::Outcome;
 use crate::page::{Page, append_end, outcome, refused};
 use crate::shown::append_no_schedule;
-use crate::streams::write_all;
 use crate::verdict::{Verdict, judged};
 use ast::{Answer, Program};
 use codegen::{CompileRefusal, compile};
+use interpreter::write_all;
 use machine::Code;
 use replay::{ReplayRefusal, Schedule, replay, upgrade};
 use std::alloc::{AllocError, Global};
@@ -72,7 +72,6 @@ pub fn unscheduled(alloc: Global, number: u8, line: usize) -> Result<Page, Alloc
     Ok(Page {
         text,
         outcome: Outcome::NoSchedule { number, line },
-        beyond: None,
     })
 }
 
@@ -85,7 +84,6 @@ fn answered(answer: Answer) -> Result<Page, AllocError>
     Ok(Page {
         text,
         outcome: outcome(answer.end),
-        beyond: None,
     })
 }
 

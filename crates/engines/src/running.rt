@@ -137,7 +137,6 @@ fn ended(alloc: Global, program: &Program, report: Report, wants: Wants, alone: 
             page: Page {
                 text,
                 outcome: outcome(end),
-                beyond: None,
             },
             schedule,
             figures: wants.tally.then_some(Figures {

@@ -30,15 +30,13 @@ pub enum Hindrance {
 }
 
 impl Hindrance {
-    /// The line of the statement in the loop's range that is in the way, if one is.
-    pub fn line_in_range(self) -> Option<Line> {
+    /// The line of the statement that is in the way, if one is: in the range of the loop, or its own DO,
+    /// which stands in this line.
+    pub fn line(self, own: Line) -> Option<Line> {
         match self {
+            Hindrance::ZeroStep | Hindrance::NoConstant => Some(own),
             Hindrance::Read(line) | Hindrance::Variable { line, .. } => Some(line),
-            Hindrance::ZeroStep
-            | Hindrance::NoConstant
-            | Hindrance::Sources
-            | Hindrance::Outer(_)
-            | Hindrance::Refused => None,
+            Hindrance::Sources | Hindrance::Outer(_) | Hindrance::Refused => None,
         }
     }
 }

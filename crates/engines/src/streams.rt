@@ -1,12 +1,12 @@
-//! Whole texts from readers, and whole texts to writers.
+//! Whole texts from readers.
 
-ghost use Rattle.std.specs.Prelude.{◌≡◌, ◌<◌, ◌++◌, ℕ, List, length, true, false, IfOk, OnOk, OnErr};
-ghost use Rattle.std.specs.Io.KnownBytes.{Appends, Consumes, IsAtEnd};
-ghost use Rattle.engines.specs.Engines.{AppendsPart, Gives};
+ghost use Rattle.std.specs.Prelude.{◌≡◌, ◌<◌, ◌++◌, ℕ, List, length, true, false, IfOk, OnOk};
+ghost use Rattle.std.specs.Io.KnownBytes.{Consumes, IsAtEnd};
+ghost use Rattle.engines.specs.Engines.{Gives};
 
 use crate::fault::ReadFault;
 use std::alloc::Global;
-use std::io::{Error, ErrorKind, Read, Result as IoResult, Write};
+use std::io::Read;
 
 /// How many bytes are asked for at once.
 const CHUNK: usize = 4096;
@@ -40,19 +40,4 @@ pub fn read_all<R: Read>(alloc: Global, reader: &mut R) -> Result<Vec<u8>, ReadF
     let mut bytes = Vec::new(alloc);
     while read_some(reader, &mut bytes)? {}
     Ok(bytes)
-}
-
-/// Writes a whole text. A writer that takes no byte has failed.
-pub fn write_all<W: Write>(writer: &mut W, text: &[u8]) -> IoResult<()>
-    ensures ok { OnOk result (Appends (W.contents writer.old) (W.contents writer.new) text.now) }
-    ensures err { OnErr result (AppendsPart (W.contents writer.old) (W.contents writer.new) text.now) }
-{
-    let mut done = 0;
-    while done < text.len() {
-        match writer.write(&text[done..])? {
-            0 => return Err(Error::from(ErrorKind::WriteZero)),
-            taken => done += taken,
-        }
-    }
-    Ok(())
 }

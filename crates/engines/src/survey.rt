@@ -62,7 +62,6 @@ fn listed(alloc: Global, reports: &[LoopReport]) -> Result<Page, AllocError>
     Ok(Page {
         text: listing(alloc, reports)?,
         outcome: Outcome::Completed,
-        beyond: None,
     })
 }
 
@@ -84,7 +83,6 @@ fn listed_why(alloc: Global, program: &Program, reports: &[LoopReport]) -> Resul
     Ok(Page {
         text: listing_why(alloc, &tree, reports)?,
         outcome: Outcome::Completed,
-        beyond: None,
     })
 }
 

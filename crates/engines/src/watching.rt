@@ -1,9 +1,12 @@
 //! Runs that schedules describe, watched turn by turn.
 
-use crate::driving::{make, new_core};
+ghost use Rattle.std.specs.Prelude.{◌≡◌, ◌<◌, length};
+ghost use Rattle.replay.specs.Activities.{AreActivities};
+
+use crate::driving::begun;
 use machine::{Code, Next, stands_next};
 use pictures::{Came, Gathered, Held, Turn};
-use replay::{Act, Core, Entry, ReplayRefusal, Schedule, Stepped, Version, upgrade};
+use replay::{Act, Activities, Choice, Entry, Holder, Schedule, Version, upgrade};
 use std::alloc::{AllocError, Global};
 
 /// What is seen of a processor before an entry of its is made.
@@ -16,47 +19,48 @@ struct Before {
     open: u128,
 }
 
-/// Whether an advance of an event stands next in what processor `q` holds.
-fn stands_advance(core: &Core<'_>, q: usize) -> Result<bool, AllocError> {
-    match core.frame(q)? {
-        Some(frame) => match stands_next(core.code(), &frame) {
-            Next::Advance { .. } => Ok(true),
-            _ => Ok(false),
-        },
-        None => Ok(false),
+/// What processor `q` holds.
+fn held_by(activities: &Activities<'_>, q: usize) -> Option<Held> {
+    match activities.held.get(q)? {
+        None => None,
+        Some(Holder::Main) => Some(Held::Main),
+        Some(Holder::Iteration(number)) => Some(Held::Iteration(*number)),
     }
 }
 
-/// What is seen before an entry of a processor that holds this.
-fn seen_before(core: &Core<'_>, entry: Entry, held: Option<Held>) -> Result<Before, AllocError> {
-    let advance = match (entry.act, held) {
-        (Act::Share, Some(Held::Iteration(_))) => {
-            stands_advance(core, usize::from(entry.processor))?
-        }
-        _ => false,
-    };
-    Ok(Before {
-        held,
-        advance,
-        open: core.overlap(),
-    })
+/// Whether an advance of an event stands next in what processor `q` holds.
+fn stands_advance(activities: &Activities<'_>, q: usize) -> bool
+    requires stand { AreActivities activities.now }
+    requires processor { q < length activities.now.held.items }
+{
+    match activities.frame(q) {
+        Some(frame) => matches!(stands_next(activities.code, frame), Next::Advance { .. }),
+        None => false,
+    }
 }
 
-/// What the processor of an entry holds after it, of which this came.
-fn held_after(core: &Core<'_>, entry: Entry, held: Option<Held>, stepped: Stepped) -> Option<Held> {
-    match (entry.act, stepped) {
-        (Act::PickMain, _) => Some(Held::Main),
-        (Act::PickIteration(number), _) => Some(Held::Iteration(number)),
-        (Act::TakeTicket, Stepped::Went(Some(number))) => Some(Held::Iteration(number)),
-        (Act::Share, _) if !core.holds(usize::from(entry.processor)) => None,
-        _ => held,
+/// What is seen before an entry.
+fn seen_before(activities: &Activities<'_>, entry: Entry) -> Before
+    requires stand { AreActivities activities.now }
+    requires processor { entry.processor < length activities.now.held.items }
+{
+    let q = usize::from(entry.processor);
+    let held = held_by(activities, q);
+    let advance = match (entry.act, held) {
+        (Act::Share, Some(Held::Iteration(_))) => stands_advance(activities, q),
+        _ => false,
+    };
+    Before {
+        held,
+        advance,
+        open: activities.overlap(),
     }
 }
 
 /// What came of an entry, by what its processor holds after it and how many iterations are open then.
-fn came(core: &Core<'_>, before: Before, after: Option<Held>, open: u128) -> Came {
+fn came(ended: bool, before: Before, after: Option<Held>, open: u128) -> Came {
     match (before.held, after) {
-        _ if core.has_ended() => Came::Ended,
+        _ if ended => Came::Ended,
         (Some(_), None) if open < before.open => Came::Retired,
         (Some(_), None) => Came::Parked,
         _ if before.advance => Came::Advanced,
@@ -72,36 +76,59 @@ fn steps_of(act: Act) -> u64 {
     }
 }
 
-/// Makes an entry of a processor that holds this, and gives what it did.
-fn turn(core: &mut Core<'_>, entry: Entry, held: Option<Held>) -> Result<Turn, AllocError> {
-    let before = seen_before(core, entry, held)?;
-    let stepped = make(core, entry)?;
-    let after = held_after(core, entry, held, stepped);
-    let open = core.overlap();
+/// Makes an entry of a schedule whose picks are named.
+fn make(activities: &mut Activities<'_>, entry: Entry) -> Result<bool, AllocError>
+    requires stand { AreActivities activities.old }
+    requires processor { entry.processor < length activities.old.held.items }
+    ensures stand { AreActivities activities.new }
+{
+    let q = usize::from(entry.processor);
+    match entry.act {
+        Act::Work(0) => Ok(false),
+        Act::Work(count) => Ok(activities.work(q, u32::from(count))),
+        Act::Share => activities.share(q),
+        Act::PickMain => activities.pick(q, Choice::Main),
+        Act::PickIteration(number) => activities.pick(q, Choice::Iteration(number)),
+        Act::TakeTicket => activities.pick(q, Choice::Ticket),
+    }
+}
+
+/// Makes an entry, and gives what it did.
+fn turn(activities: &mut Activities<'_>, entry: Entry) -> Result<Turn, AllocError>
+    requires stand { AreActivities activities.old }
+    requires processor { entry.processor < length activities.old.held.items }
+    ensures stand { AreActivities activities.new }
+{
+    let q = usize::from(entry.processor);
+    let before = seen_before(activities, entry);
+    make(activities, entry)?;
+    let after = held_by(activities, q);
+    let open = activities.overlap();
     Ok(Turn {
-        processor: usize::from(entry.processor),
+        processor: q,
         steps: steps_of(entry.act),
-        before: held,
+        before: before.held,
         after,
-        came: came(core, before, after, open),
+        came: came(activities.shared.ended.is_some(), before, after, open),
         open: u64::try_from(open).unwrap_or(u64::MAX),
     })
 }
 
 /// Makes the entries of a schedule whose picks are named, and gathers what its processors do.
-fn gather(alloc: Global, core: &mut Core<'_>, schedule: &Schedule) -> Result<Gathered, AllocError> {
+fn gather(
+    alloc: Global,
+    activities: &mut Activities<'_>,
+    schedule: &Schedule,
+) -> Result<Gathered, AllocError>
+    requires stand { AreActivities activities.old }
+{
     let processors = usize::from(schedule.processors());
     let slots = u64::from(schedule.slots());
     let mut gathered = Gathered::new(alloc, schedule.len() as u64, processors, slots)?;
-    let mut holds = vec![in alloc; None; processors]?;
     let mut entries = schedule.entries();
     while let Some(entry) = entries.next() {
-        let processor = usize::from(entry.processor);
-        let held = holds.get(processor).copied().unwrap_or(None);
-        let turn = turn(core, entry, held)?;
-        gathered.note(turn);
-        if let Some(place) = holds.get_mut(processor) {
-            *place = turn.after;
+        if usize::from(entry.processor) < activities.held.len() {
+            gathered.note(turn(activities, entry)?);
         }
     }
     Ok(gathered)
@@ -114,10 +141,10 @@ fn watched_named(
     input: &[u8],
     schedule: &Schedule,
 ) -> Result<Gathered, AllocError> {
-    let processors = u64::from(schedule.processors());
-    let slots = u64::from(schedule.slots());
-    match new_core(alloc, code, input, processors, slots)? {
-        Some(mut core) => gather(alloc, &mut core, schedule),
+    let processors = usize::from(schedule.processors());
+    let slots = usize::from(schedule.slots());
+    match begun(alloc, code, input, processors, slots)? {
+        Some(mut activities) => gather(alloc, &mut activities, schedule),
         None => Gathered::new(alloc, 0, 0, 0),
     }
 }

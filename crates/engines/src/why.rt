@@ -78,6 +78,16 @@ fn append_doubt(out: &mut Vec<u8>, pair: &Pair<'_>) -> Result<(), AllocError> {
     out.extend_from_slice(b"; no test says which")
 }
 
+/// Appends that no later iteration needs what an iteration does.
+fn append_none(out: &mut Vec<u8>, pair: &Pair<'_>) -> Result<(), AllocError> {
+    let (does, did) = deeds(pair);
+    out.extend_from_slice(b"what iteration k ")?;
+    out.extend_from_slice(does)?;
+    out.extend_from_slice(b" no later one ")?;
+    out.extend_from_slice(did)?;
+    out.extend_from_slice(b"; ")
+}
+
 /// The test by which two references are apart.
 fn test(reason: Reason) -> &'static [u8] {
     match reason {
@@ -98,7 +108,7 @@ fn append_dimension(out: &mut Vec<u8>, dimension: usize) -> Result<(), AllocErro
 fn append_relation(out: &mut Vec<u8>, pair: &Pair<'_>) -> Result<(), AllocError> {
     match pair.relation {
         Relation::Apart(dimension, reason) => {
-            out.extend_from_slice(b"they never meet; ")?;
+            append_none(out, pair)?;
             out.extend_from_slice(test(reason))?;
             append_dimension(out, dimension)
         }

@@ -1,0 +1,5 @@
+use Rattle.replay.specs.Activities.{AreActivities}
+use Rattle.engines.proofs.driving.steps_alone.Given as goal
+
+abbrev pub invariant-loop : goal.invariant-loop
+invariant-loop l = AreActivities l.activities
