@@ -2,7 +2,7 @@
 use Rattle.std.specs.Prelude.{◌≡◌, ◌⊎◌, ℕ, List, [], ◌∷◌, Option, Some, None, option_map}
 use Rattle.clap.specs.Words.{Text}
 use Rattle.engines.specs.Coded.{ShowsCode}
-use Rattle.engines.specs.Engines.{Checks, Runs}
+use Rattle.engines.specs.Engines.{Checks}
 use Rattle.engines.specs.Lists.{ListsAs}
 use Rattle.engines.specs.Schedules.{Replaying}
 use Rattle.engines.specs.declared.outcome.Outcome.{Outcome}
@@ -10,7 +10,7 @@ use Rattle.doac.specs.CommandLine.{Names, NamesNone}
 use Rattle.doac.specs.Deeds.{Deed, ReadsFile, ReadsInput, ReadsTexts, UnlessRead}
 use Rattle.doac.specs.Pictures.{DrawsFile, TimesFiles}
 use Rattle.doac.specs.Running.{RunsRead, named}
-use Rattle.doac.specs.Statuses.{Ends, EndsLine, EndsUpgrade, OfPrint}
+use Rattle.doac.specs.Statuses.{Ends, EndsLine, EndsRun, EndsUpgrade, OfPrint}
 use Rattle.doac.specs.declared.command.Command.{Command}
 use Rattle.doac.specs.declared.command.Command.TheVariants.{Check, ListLoops, ShowCode, Seq, Run, Replay, Upgrade, Draw, Timeline, Explain, ExplainSerial}
 use Rattle.doac.specs.declared.command.LineFault.{LineFault}
@@ -21,11 +21,11 @@ abbrev pub OnSource : (List ℕ → Outcome → List ℕ → Type 0) → (source
 OnSource allows source before after old new status =
     ReadsFile source before after old new status (λ done text. (after ≡ done) × Ends (allows text) old new status)
 
--- the source is read, then the input, and what is allowed of them is written
-abbrev pub OnInput : (List ℕ → List ℕ → Outcome → List ℕ → Type 0) → (source : List ℕ) → (input : Option (List ℕ)) → (before after : Option (List Deed)) → (old new : Option (List ℕ)) → ℕ → Type 0
-OnInput allows source input before after old new status =
+-- the source is read, then the input, and the command ends so on them
+abbrev pub OnInput : (List ℕ → List ℕ → Option (List ℕ) → Option (List ℕ) → ℕ → Type 0) → (source : List ℕ) → (input : Option (List ℕ)) → (before after : Option (List Deed)) → (old new : Option (List ℕ)) → ℕ → Type 0
+OnInput ends source input before after old new status =
     ReadsFile source before after old new status (λ read text.
-    ReadsInput input read after old new status (λ done given. (after ≡ done) × Ends (allows text given) old new status))
+    ReadsInput input read after old new status (λ done given. (after ≡ done) × ends text given old new status))
 
 -- the source is read, then the input, then the schedule, and what is allowed of them is written
 abbrev pub OnTexts : (List ℕ → List ℕ → List ℕ → Outcome → List ℕ → Type 0) → (source input schedule : List ℕ) → (before after : Option (List Deed)) → (old new : Option (List ℕ)) → ℕ → Type 0
@@ -53,7 +53,7 @@ Obeys (Check source) before after old new status = OnSource Checks source.now be
 Obeys (ListLoops source why) before after old new status = OnSource (ListsAs why) source.now before after old new status
 Obeys (ShowCode source) before after old new status = OnSource ShowsCode source.now before after old new status
 Obeys (Seq source input store) before after old new status =
-    OnInput (Runs store) source.now (option_map (λ i. i.now) input) before after old new status
+    OnInput (EndsRun store) source.now (option_map (λ i. i.now) input) before after old new status
 Obeys (Run t) before after old new status = RunsFiles t before after old new status
 Obeys (Replay source input schedule) before after old new status =
     OnTexts Replaying source.now input.now schedule.now before after old new status

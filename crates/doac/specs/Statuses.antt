@@ -1,6 +1,6 @@
 -- Exit statuses, and what is written to standard output.
-use Rattle.std.specs.Prelude.{◌≡◌, ◌⊎◌, ⊤, ℕ, List, Option, Result, Ok, Err}
-use Rattle.engines.specs.Engines.{Works, fault_status, status_of}
+use Rattle.std.specs.Prelude.{◌≡◌, ◌⊎◌, ⊤, ℕ, Bool, List, Option, Result, Ok, Err}
+use Rattle.engines.specs.Engines.{Streams, Works, fault_status, status_of}
 use Rattle.engines.specs.Schedules.{Upgrading}
 use Rattle.engines.specs.declared.fault.EngineFault.{EngineFault}
 use Rattle.engines.specs.declared.outcome.Outcome.{Outcome}
@@ -22,6 +22,13 @@ exit_of (Err fault) = fault_status fault
 pub record Ends (allows : Outcome → List ℕ → Type 0) (old new : Option (List ℕ)) (status : ℕ) : Type 0 where
   pub came : Result Outcome EngineFault
   pub works : Works allows old new came
+  pub is : status ≡ exit_of came
+
+-- `seq` wrote its records to standard output while it ran, and then what follows them, or a beginning of
+-- that where writing failed or memory was refused; and the status is that of what it came to
+pub record EndsRun (store : Bool) (source input : List ℕ) (old new : Option (List ℕ)) (status : ℕ) : Type 0 where
+  pub came : Result Outcome EngineFault
+  pub streams : Streams store source input old new came
   pub is : status ≡ exit_of came
 
 -- the text and the outcome are a page's

@@ -1,10 +1,12 @@
 //! The command line, read by clap.
 
 ghost use Rattle.std.specs.Prelude.{◌≡◌, IfErr, IfOk, false, map};
-ghost use Rattle.clap.specs.Words.{app_of, rule_of, with_subcommand};
+ghost use Rattle.clap.specs.Words.{app_of, new_app, rule_of, with_subcommand};
+ghost use Rattle.clap.specs.declared.builder.command.Command.TheViews.{out-Command as fields_of};
 ghost use Rattle.doac.specs.CommandLine.{Names, NamesNone, code, doac, draw, input, iterations, loop_number, number, out, processors, reason, run, schedule, schedule_out, slots, source, store, tally, timeline, upgrade, whole_input, why};
 
 use crate::command::{LineFault, held};
+use crate::help;
 use clap::{Arg, ArgAction};
 use std::alloc::{AllocError, Global};
 use std::convert::AsStr;
@@ -166,19 +168,33 @@ fn reason<'a>(alloc: Global) -> Arg<'a>
         .help("Behind the word serial, the number behind SERIAL")
 }
 
+/// A command of this name, with what stands at the beginning and at the end of its help.
+fn named<'a>(alloc: Global, name: &'a str, about: &'a str, ending: &'a str) -> clap::Command<'a>
+    ensures app { app_of result ≡ new_app name.entry.now }
+    ensures local { (fields_of result).has_globals ≡ false }
+{
+    clap::Command::new(alloc, name)
+        .about(about)
+        .after_help(ending)
+}
+
 /// A command with the command line of `run` too.
 fn with_run<'a>(alloc: Global, app: clap::Command<'a>) -> Result<clap::Command<'a>, AllocError>
     ensures { IfOk result (λ c. app_of c ≡ with_subcommand (app_of app.entry) run.top) }
 {
-    let run = clap::Command::new(alloc, "run")
-        .about("Runs a source in threads, iterations overlapping where they may")
-        .arg(source(alloc))?
-        .arg(input(alloc))?
-        .arg(processors(alloc))?
-        .arg(slots(alloc))?
-        .arg(schedule_out(alloc))?
-        .arg(store(alloc))?
-        .arg(tally(alloc))?;
+    let run = named(
+        alloc,
+        "run",
+        "Runs a source in threads, iterations overlapping where they may",
+        help::RUN,
+    )
+    .arg(source(alloc))?
+    .arg(input(alloc))?
+    .arg(processors(alloc))?
+    .arg(slots(alloc))?
+    .arg(schedule_out(alloc))?
+    .arg(store(alloc))?
+    .arg(tally(alloc))?;
     app.subcommand(run)
 }
 
@@ -186,12 +202,16 @@ fn with_run<'a>(alloc: Global, app: clap::Command<'a>) -> Result<clap::Command<'
 fn with_upgrade<'a>(alloc: Global, app: clap::Command<'a>) -> Result<clap::Command<'a>, AllocError>
     ensures { IfOk result (λ c. app_of c ≡ with_subcommand (app_of app.entry) upgrade.top) }
 {
-    let upgrade = clap::Command::new(alloc, "upgrade")
-        .about("Writes a schedule in the form that names what is picked")
-        .arg(source(alloc))?
-        .arg(whole_input(alloc))?
-        .arg(schedule(alloc))?
-        .arg(out(alloc))?;
+    let upgrade = named(
+        alloc,
+        "upgrade",
+        "Writes a schedule in the form that names what is picked",
+        help::UPGRADE,
+    )
+    .arg(source(alloc))?
+    .arg(whole_input(alloc))?
+    .arg(schedule(alloc))?
+    .arg(out(alloc))?;
     app.subcommand(upgrade)
 }
 
@@ -199,9 +219,13 @@ fn with_upgrade<'a>(alloc: Global, app: clap::Command<'a>) -> Result<clap::Comma
 fn with_code<'a>(alloc: Global, app: clap::Command<'a>) -> Result<clap::Command<'a>, AllocError>
     ensures { IfOk result (λ c. app_of c ≡ with_subcommand (app_of app.entry) code.top) }
 {
-    let code = clap::Command::new(alloc, "code")
-        .about("Shows the code that a source is compiled to, instruction by instruction")
-        .arg(source(alloc))?;
+    let code = named(
+        alloc,
+        "code",
+        "Shows the code that a source is compiled to, instruction by instruction",
+        help::CODE,
+    )
+    .arg(source(alloc))?;
     app.subcommand(code)
 }
 
@@ -209,12 +233,16 @@ fn with_code<'a>(alloc: Global, app: clap::Command<'a>) -> Result<clap::Command<
 fn with_draw<'a>(alloc: Global, app: clap::Command<'a>) -> Result<clap::Command<'a>, AllocError>
     ensures { IfOk result (λ c. app_of c ≡ with_subcommand (app_of app.entry) draw.top) }
 {
-    let draw = clap::Command::new(alloc, "draw")
-        .about("Draws a loop: what its iterations wait for, and where they tell")
-        .arg(source(alloc))?
-        .arg(picture(alloc))?
-        .arg(loop_number(alloc))?
-        .arg(iterations(alloc))?;
+    let draw = named(
+        alloc,
+        "draw",
+        "Draws a loop: what its iterations wait for, and where they tell",
+        help::DRAW,
+    )
+    .arg(source(alloc))?
+    .arg(picture(alloc))?
+    .arg(loop_number(alloc))?
+    .arg(iterations(alloc))?;
     app.subcommand(draw)
 }
 
@@ -222,14 +250,16 @@ fn with_draw<'a>(alloc: Global, app: clap::Command<'a>) -> Result<clap::Command<
 fn with_timeline<'a>(alloc: Global, app: clap::Command<'a>) -> Result<clap::Command<'a>, AllocError>
     ensures { IfOk result (λ c. app_of c ≡ with_subcommand (app_of app.entry) timeline.top) }
 {
-    let timeline = clap::Command::new(alloc, "timeline")
-        .about(
-            "Draws the run that a schedule describes: what each processor did, and when it waited",
-        )
-        .arg(source(alloc))?
-        .arg(whole_input(alloc))?
-        .arg(schedule(alloc))?
-        .arg(picture(alloc))?;
+    let timeline = named(
+        alloc,
+        "timeline",
+        "Draws the run that a schedule describes: what each processor did, and when it waited",
+        help::TIMELINE,
+    )
+    .arg(source(alloc))?
+    .arg(whole_input(alloc))?
+    .arg(schedule(alloc))?
+    .arg(picture(alloc))?;
     app.subcommand(timeline)
 }
 
@@ -237,27 +267,47 @@ fn with_timeline<'a>(alloc: Global, app: clap::Command<'a>) -> Result<clap::Comm
 fn parser<'a>(alloc: Global) -> Result<clap::Command<'a>, AllocError>
     ensures { IfOk result (λ c. app_of c ≡ doac) }
 {
-    let check = clap::Command::new(alloc, "check")
-        .about("Checks a source and writes ACCEPTED or REFUSED")
-        .arg(source(alloc))?;
-    let list = clap::Command::new(alloc, "list")
-        .about("Lists the loops of a source, and where iterations that overlap wait")
-        .arg(source(alloc))?
-        .arg(why(alloc))?;
-    let seq = clap::Command::new(alloc, "seq")
-        .about("Runs a source, one statement after another, and writes what it prints")
-        .arg(source(alloc))?
-        .arg(input(alloc))?
-        .arg(store(alloc))?;
-    let replay = clap::Command::new(alloc, "replay")
-        .about("Repeats a run of the machine turn by turn, and writes what it prints")
-        .arg(source(alloc))?
-        .arg(whole_input(alloc))?
-        .arg(schedule(alloc))?;
-    let explain = clap::Command::new(alloc, "explain")
-        .about("Explains a refusal, a fault or a serial loop by its number")
-        .arg(number(alloc))?
-        .arg(reason(alloc))?;
+    let check = named(
+        alloc,
+        "check",
+        "Checks a source and writes ACCEPTED or REFUSED",
+        help::CHECK,
+    )
+    .arg(source(alloc))?;
+    let list = named(
+        alloc,
+        "list",
+        "Lists the loops of a source, and where iterations that overlap wait",
+        help::LIST,
+    )
+    .arg(source(alloc))?
+    .arg(why(alloc))?;
+    let seq = named(
+        alloc,
+        "seq",
+        "Runs a source, one statement after another, and writes what it prints",
+        help::SEQ,
+    )
+    .arg(source(alloc))?
+    .arg(input(alloc))?
+    .arg(store(alloc))?;
+    let replay = named(
+        alloc,
+        "replay",
+        "Repeats a run of the machine turn by turn, and writes what it prints",
+        help::REPLAY,
+    )
+    .arg(source(alloc))?
+    .arg(whole_input(alloc))?
+    .arg(schedule(alloc))?;
+    let explain = named(
+        alloc,
+        "explain",
+        "Explains a refusal, a fault or a serial loop by its number",
+        help::EXPLAIN,
+    )
+    .arg(number(alloc))?
+    .arg(reason(alloc))?;
     let app = clap::Command::new(alloc, "doac")
         .about("Checks and runs FORTRAN 77 programs of INTEGER variables")
         .subcommand_required(true)

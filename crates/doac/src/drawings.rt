@@ -3,23 +3,15 @@
 ghost use Rattle.std.specs.Prelude.{◌≡◌, ◌∷◌, []};
 ghost use Rattle.engines.specs.Drawing.{Draws};
 ghost use Rattle.engines.specs.Timeline.{Times};
-ghost use Rattle.doac.specs.Deeds.{AfterCompare, AfterFile, AfterTexts, GivesFile, ReadsFile, ReadsTexts, got};
+ghost use Rattle.doac.specs.Deeds.{AfterCompare, AfterFile, AfterTexts, ReadsFile, ReadsTexts, got};
 ghost use Rattle.doac.specs.Pictures.{DrawsFile, EndsDrawing, TimesFiles};
 ghost use Rattle.doac.specs.Statuses.{Ends, IsPage};
 
 use crate::fault::FileFault;
 use crate::files::{NamedFiles, Names, Unread, read_texts};
-use crate::told::{refuse_file, refuse_out, status_of_write, tell, tell_of};
+use crate::told::{give_file, refuse_file, refuse_out, show_page, tell, tell_of};
 use engines::{Drawn, EngineFault, Page, Place, Portion, Texts, draw_text, timeline_texts};
 use std::io::Write;
-
-/// Writes a picture to its file.
-fn picture_onto<R: Eprint, F: NamedFiles>(rt: &R, files: &mut F, onto: &str, text: &[u8]) -> u8
-    ensures { GivesFile onto.now text.now (F.done files.old) (F.done files.new) result }
-{
-    let written = files.replace(onto, text);
-    status_of_write(rt, onto, written)
-}
 
 /// Draws a loop of the source of a file to the file `onto`, if that is another one.
 pub fn draw_file<R: Eprint + AllocGlobal, F: NamedFiles, W: Write>(
@@ -96,7 +88,7 @@ fn draw_source<R: Eprint + AllocGlobal, F: NamedFiles, W: Write>(
         (F.done files.old) (F.done files.new) (W.contents out.old) (W.contents out.new) result }
 {
     match draw_text(rt.alloc(), text, portion) {
-        Ok(Drawn::Picture(picture)) => picture_onto(rt, files, onto, &picture),
+        Ok(Drawn::Picture(picture)) => give_file(rt, files, onto, &picture),
         Ok(Drawn::Shown(page)) => draw_shown(rt, out, source, text, &page),
         Ok(Drawn::NoLoop(count)) => refuse_loop(rt, source, portion.number, count),
         Err(_) => tell(rt, source, text, Err(EngineFault::Memory)),
@@ -208,23 +200,9 @@ fn timeline_read<R: Eprint + AllocGlobal, F: NamedFiles, W: Write>(
         (F.done files.old) (F.done files.new) (W.contents out.old) (W.contents out.new) result }
 {
     match timeline_texts(rt.alloc(), &texts.source, &texts.input, &texts.schedule) {
-        Ok(Drawn::Picture(picture)) => picture_onto(rt, files, onto, &picture),
-        Ok(Drawn::Shown(page)) => timeline_shown(rt, out, names, texts, &page),
+        Ok(Drawn::Picture(picture)) => give_file(rt, files, onto, &picture),
+        Ok(Drawn::Shown(page)) => show_page(rt, out, names, texts, &page),
         Ok(Drawn::NoLoop(_)) => 3,
         Err(_) => tell_of(rt, names, texts, Err(EngineFault::Memory)),
     }
-}
-
-/// Writes why there is no picture of a run.
-fn timeline_shown<R: Eprint + AllocGlobal, W: Write>(
-    rt: &R,
-    out: &mut W,
-    names: Names<'_>,
-    texts: &Texts,
-    page: &Page,
-) -> u8
-    ensures { Ends (IsPage page.now) (W.contents out.old) (W.contents out.new) result }
-{
-    let outcome = page.write(out);
-    tell_of(rt, names, texts, outcome)
 }

@@ -7,6 +7,7 @@ mod command_line;
 mod drawings;
 mod fault;
 mod files;
+mod help;
 mod host_files;
 mod program;
 mod schedules;
@@ -16,8 +17,9 @@ mod tests;
 mod threads;
 mod told;
 
+use std::io::IsTerminal;
 use std::process::ExitCode;
 
 fn main(rt: HostRuntime) -> ExitCode {
-    ExitCode::from(program::run(&rt))
+    ExitCode::from(program::run(&rt, rt.stdout().is_terminal()))
 }

@@ -23,16 +23,23 @@ use std::sync::Wait;
 use std::thread::Threads;
 use std::{env, io};
 
-/// Does what the words of the command line ask for, and gives the exit status.
+/// How many bytes of records may wait to be written where standard output is no terminal.
+const MOST_WAITING: usize = 65_536;
+
+/// Does what the words of the command line ask for, and gives the exit status. On a terminal each record
+/// of a sequential run is written at once.
 pub fn run<R: Env + Files + Input + Print + Eprint + AllocGlobal + Threads + Wait + Sync>(
     rt: &R,
+    is_terminal: bool,
 ) -> u8 {
+    let most = if is_terminal { 0 } else { MOST_WAITING };
     match words(rt) {
         Ok(words) => follow(
             rt,
             &mut HostFiles::new(rt),
             &mut io::writer(rt),
             words.as_slice(),
+            most,
         ),
         Err(error) => refuse_words(rt, &error),
     }
@@ -44,12 +51,12 @@ fn follow<
     R: Print + Eprint + AllocGlobal + Threads + Wait + Sync,
     F: NamedFiles,
     W: Write,
->(rt: &R, files: &mut F, out: &mut W, words: &[S]) -> u8
+>(rt: &R, files: &mut F, out: &mut W, words: &[S], most: usize) -> u8
     ensures { Follows (map S.text words.now)
         (F.done files.old) (F.done files.new) (W.contents out.old) (W.contents out.new) result }
 {
     match command(rt.alloc(), words) {
-        Ok(command) => obey(rt, files, out, command),
+        Ok(command) => obey(rt, files, out, command, most),
         Err(fault) => refuse_line(rt, &fault),
     }
 }
@@ -109,12 +116,13 @@ fn say_line<R: Eprint + AllocGlobal>(rt: &R, fault: &LineFault) {
     }
 }
 
-/// Does what a command asks for.
+/// Does what a command asks for. Of a sequential run's records `most` bytes may wait to be written.
 pub fn obey<R: Print + Eprint + AllocGlobal + Threads + Wait + Sync, F: NamedFiles, W: Write>(
     rt: &R,
     files: &mut F,
     out: &mut W,
     command: Command<'_>,
+    most: usize,
 ) -> u8
     ensures { Obeys command.entry
         (F.done files.old) (F.done files.new) (W.contents out.old) (W.contents out.new) result }
@@ -127,7 +135,7 @@ pub fn obey<R: Print + Eprint + AllocGlobal + Threads + Wait + Sync, F: NamedFil
             source,
             input,
             store,
-        } => seq_files(rt, files, out, source, input, store),
+        } => seq_files(rt, files, out, source, input, store, most),
         Command::Run(asked) => run_files(rt, files, out, asked),
         Command::Replay {
             source,

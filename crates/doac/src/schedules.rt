@@ -2,12 +2,12 @@
 
 ghost use Rattle.engines.specs.Schedules.{Replaying};
 ghost use Rattle.doac.specs.Commands.{OnTexts, Upgrades};
-ghost use Rattle.doac.specs.Deeds.{AfterCompare, AfterTexts, GivesFile, ReadsTexts};
-ghost use Rattle.doac.specs.Statuses.{Ends, EndsUpgrade, IsPage};
+ghost use Rattle.doac.specs.Deeds.{AfterCompare, AfterTexts, ReadsTexts};
+ghost use Rattle.doac.specs.Statuses.{Ends, EndsUpgrade};
 
 use crate::files::{NamedFiles, Names, Unread, read_texts};
-use crate::told::{refuse_file, refuse_out, status_of_write, tell_of, warn_of_run};
-use engines::{EngineFault, Page, Texts, Upgraded, replay_texts, upgrade_texts};
+use crate::told::{give_file, refuse_file, refuse_out, show_page, tell_of, warn_of_run};
+use engines::{EngineFault, Texts, Upgraded, replay_texts, upgrade_texts};
 use std::io::Write;
 
 /// Replays the schedule of a file.
@@ -140,30 +140,8 @@ fn upgrade_read<R: Eprint + AllocGlobal, F: NamedFiles, W: Write>(
         (F.done files.old) (F.done files.new) (W.contents out.old) (W.contents out.new) result }
 {
     match upgrade_texts(rt.alloc(), &texts.source, &texts.input, &texts.schedule) {
-        Ok(Upgraded::Text(text)) => upgrade_onto(rt, files, onto, &text),
-        Ok(Upgraded::Shown(page)) => upgrade_shown(rt, out, names, texts, &page),
+        Ok(Upgraded::Text(text)) => give_file(rt, files, onto, &text),
+        Ok(Upgraded::Shown(page)) => show_page(rt, out, names, texts, &page),
         Err(_) => tell_of(rt, names, texts, Err(EngineFault::Memory)),
     }
-}
-
-/// Writes the text of a schedule to its file.
-fn upgrade_onto<R: Eprint, F: NamedFiles>(rt: &R, files: &mut F, onto: &str, text: &[u8]) -> u8
-    ensures { GivesFile onto.now text.now (F.done files.old) (F.done files.new) result }
-{
-    let written = files.replace(onto, text);
-    status_of_write(rt, onto, written)
-}
-
-/// Writes why there is no such schedule.
-fn upgrade_shown<R: Eprint + AllocGlobal, W: Write>(
-    rt: &R,
-    out: &mut W,
-    names: Names<'_>,
-    texts: &Texts,
-    page: &Page,
-) -> u8
-    ensures { Ends (IsPage page.now) (W.contents out.old) (W.contents out.new) result }
-{
-    let outcome = page.write(out);
-    tell_of(rt, names, texts, outcome)
 }

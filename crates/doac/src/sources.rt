@@ -1,18 +1,18 @@
 //! `check`, `list` and `seq`: what is made of a source.
 
 ghost use Rattle.std.specs.Prelude.{◌≡◌, option_map};
-ghost use Rattle.engines.specs.Engines.{Checks, Runs};
+ghost use Rattle.engines.specs.Engines.{Checks};
 ghost use Rattle.engines.specs.Lists.{ListsAs};
 ghost use Rattle.doac.specs.Commands.{OnInput, OnSource};
 ghost use Rattle.doac.specs.Deeds.{AfterFile, ReadsInput, got};
-ghost use Rattle.doac.specs.Statuses.{Ends};
+ghost use Rattle.doac.specs.Statuses.{Ends, EndsRun};
 
 use crate::fault::FileFault;
 use crate::files::NamedFiles;
 use crate::told::{refuse_file, tell, tell_noted, warn_of_run};
 use engines::{
-    EngineFault, Sequential, Survey, Verdict, judged, say_why_serial, seq_noted, surveyed,
-    tell_further, tell_loops, tell_verdict, warn,
+    EngineFault, LastRecord, Sequential, Survey, Verdict, judged, say_why_serial, seq_noted,
+    surveyed, tell_further, tell_loops, tell_verdict, warn,
 };
 use std::io::Write;
 
@@ -126,7 +126,8 @@ fn list_source<R: Eprint + AllocGlobal, W: Write>(
     }
 }
 
-/// Runs the source of a file, one statement after another.
+/// Runs the source of a file, one statement after another. Of the records that it prints `most` bytes
+/// may wait to be written.
 pub fn seq_files<R: Eprint + AllocGlobal, F: NamedFiles, W: Write>(
     rt: &R,
     files: &mut F,
@@ -134,12 +135,13 @@ pub fn seq_files<R: Eprint + AllocGlobal, F: NamedFiles, W: Write>(
     name: &str,
     input: Option<&str>,
     store: bool,
+    most: usize,
 ) -> u8
-    ensures { OnInput (Runs store) name.now (option_map (λ i. i.now) input.entry)
+    ensures { OnInput (EndsRun store) name.now (option_map (λ i. i.now) input.entry)
         (F.done files.old) (F.done files.new) (W.contents out.old) (W.contents out.new) result }
 {
     let text = files.read(name);
-    seq_given(rt, files, out, name, text, input, store)
+    seq_given(rt, files, out, name, text, input, store, most)
 }
 
 /// What `seq` makes of the bytes of its source's file: only where they were had is an input read.
@@ -151,16 +153,17 @@ fn seq_given<R: Eprint + AllocGlobal, F: NamedFiles, W: Write>(
     text: Result<Vec<u8>, FileFault>,
     input: Option<&str>,
     store: bool,
+    most: usize,
 ) -> u8
     ensures { AfterFile (got text)
         (F.done files.old) (F.done files.new) (W.contents out.old) (W.contents out.new) result
         (λ text. ReadsInput (option_map (λ i. i.now) input.entry)
         (F.done files.old) (F.done files.new) (W.contents out.old) (W.contents out.new) result
         (λ done given. (F.done files.new ≡ done)
-        × Ends (Runs store text given) (W.contents out.old) (W.contents out.new) result)) }
+        × EndsRun store text given (W.contents out.old) (W.contents out.new) result)) }
 {
     match text {
-        Ok(text) => seq_file(rt, files, out, name, &text, input, store),
+        Ok(text) => seq_file(rt, files, out, name, &text, input, store, most),
         Err(fault) => refuse_file(rt, name, &fault),
     }
 }
@@ -174,17 +177,18 @@ fn seq_file<R: Eprint + AllocGlobal, F: NamedFiles, W: Write>(
     text: &[u8],
     input: Option<&str>,
     store: bool,
+    most: usize,
 ) -> u8
     ensures { ReadsInput (option_map (λ i. i.now) input.entry)
         (F.done files.old) (F.done files.new) (W.contents out.old) (W.contents out.new) result
         (λ done given. (F.done files.new ≡ done)
-        × Ends (Runs store text.now given) (W.contents out.old) (W.contents out.new) result) }
+        × EndsRun store text.now given (W.contents out.old) (W.contents out.new) result) }
 {
     let Some(input) = input else {
-        return seq_source(rt, out, name, text, &[], store);
+        return seq_source(rt, out, name, text, None, &[], store, most);
     };
     let given = files.read(input);
-    seq_read(rt, out, name, text, input, given, store)
+    seq_read(rt, out, name, text, input, given, store, most)
 }
 
 /// What `seq` makes of the bytes of its input's file.
@@ -196,31 +200,40 @@ fn seq_read<R: Eprint + AllocGlobal, W: Write>(
     input: &str,
     given: Result<Vec<u8>, FileFault>,
     store: bool,
+    most: usize,
 ) -> u8
     ensures { (done : _) → AfterFile (got given) done done
         (W.contents out.old) (W.contents out.new) result
-        (λ given. Ends (Runs store text.now given)
+        (λ given. EndsRun store text.now given
         (W.contents out.old) (W.contents out.new) result) }
 {
     match given {
-        Ok(given) => seq_source(rt, out, name, text, &given, store),
+        Ok(given) => seq_source(rt, out, name, text, Some(input), &given, store, most),
         Err(fault) => refuse_file(rt, input, &fault),
     }
 }
 
-/// Runs the text of a file on an input; standard error has its message.
+/// Runs the text of a file on an input, which is that of a file if one is given; standard error has its
+/// message, and at a fault of the input its record.
 fn seq_source<R: Eprint + AllocGlobal, W: Write>(
     rt: &R,
     out: &mut W,
     name: &str,
     text: &[u8],
+    given: Option<&str>,
     input: &[u8],
     store: bool,
+    most: usize,
 ) -> u8
-    ensures { Ends (Runs store text.now input.now)
+    ensures { EndsRun store text.now input.now
         (W.contents out.old) (W.contents out.new) result }
 {
-    let Sequential { came, note } = seq_noted(rt.alloc(), text, input, store, out);
+    let Sequential { came, note, left } = seq_noted(rt.alloc(), text, input, store, most, out);
     warn_of_run(rt, name, text, &came);
-    tell_noted(rt, name, text, came, note)
+    let last = LastRecord::of(given, input, &came, left);
+    let status = tell_noted(rt, name, text, came, note);
+    if let Some(record) = last {
+        let _ = rt.eprint(record);
+    }
+    status
 }

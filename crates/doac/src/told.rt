@@ -1,13 +1,13 @@
 //! What is said on standard error, and the exit status that goes with it.
 
 ghost use Rattle.std.specs.Prelude.{◌≡◌, OnErr, OnOk};
-ghost use Rattle.doac.specs.Deeds.{OfError, OfWrite, file_status, unput};
-ghost use Rattle.doac.specs.Statuses.{OfPrint, exit_of};
+ghost use Rattle.doac.specs.Deeds.{GivesFile, OfError, OfWrite, file_status, unput};
+ghost use Rattle.doac.specs.Statuses.{Ends, IsPage, OfPrint, exit_of};
 
 use crate::fault::FileFault;
-use crate::files::Names;
-use engines::{EngineFault, Message, Met, Note, Outcome, Place, Texts, warn_of_columns};
-use std::io;
+use crate::files::{NamedFiles, Names};
+use engines::{EngineFault, Message, Met, Note, Outcome, Page, Place, Texts, warn_of_columns};
+use std::io::{self, Write};
 
 /// Says that writing failed; where nobody reads any more nobody needs to know.
 fn say_unwritten<R: Eprint>(rt: &R, error: &io::Error) {
@@ -55,6 +55,14 @@ pub fn status_of_write<R: Eprint>(rt: &R, name: &str, written: io::Result<()>) -
         Ok(()) => 0,
         Err(error) => refuse_write(rt, name, &error),
     }
+}
+
+/// Gives a file its text: a schedule, or a picture.
+pub fn give_file<R: Eprint, F: NamedFiles>(rt: &R, files: &mut F, onto: &str, text: &[u8]) -> u8
+    ensures { GivesFile onto.now text.now (F.done files.old) (F.done files.new) result }
+{
+    let written = files.replace(onto, text);
+    status_of_write(rt, onto, written)
 }
 
 /// Warns of lines of which not all was read, where their source was run.
@@ -169,4 +177,18 @@ pub fn tell_of<R: Eprint + AllocGlobal>(
         }
         outcome => tell(rt, names.source, &texts.source, outcome),
     }
+}
+
+/// Writes what is shown of texts that have no schedule or picture to give.
+pub fn show_page<R: Eprint + AllocGlobal, W: Write>(
+    rt: &R,
+    out: &mut W,
+    names: Names<'_>,
+    texts: &Texts,
+    page: &Page,
+) -> u8
+    ensures { Ends (IsPage page.now) (W.contents out.old) (W.contents out.new) result }
+{
+    let outcome = page.write(out);
+    tell_of(rt, names, texts, outcome)
 }

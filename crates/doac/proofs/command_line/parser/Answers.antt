@@ -6,13 +6,13 @@ use Rattle.doac.proofs.command_line.parser.Goals as goal
 
 pub returns : goal.returns
 returns c =
-    let check_new : app_of c.about.result ≡ new_app (codes "check") = search (rules, c.about.ensures, c.new.ensures.app) in
-    let list_new : app_of c.about-2.result ≡ new_app (codes "list") = search (rules, c.about-2.ensures, c.new-2.ensures.app) in
-    let seq_new : app_of c.about-3.result ≡ new_app (codes "seq") = search (rules, c.about-3.ensures, c.new-3.ensures.app) in
-    let replay_new : app_of c.about-4.result ≡ new_app (codes "replay") = search (rules, c.about-4.ensures, c.new-4.ensures.app) in
-    let explain_new : app_of c.about-5.result ≡ new_app (codes "explain") = search (rules, c.about-5.ensures, c.new-5.ensures.app) in
+    let check_new : app_of c.named.result ≡ new_app (codes "check") = c.named.ensures.app in
+    let list_new : app_of c.named-2.result ≡ new_app (codes "list") = c.named-2.ensures.app in
+    let seq_new : app_of c.named-3.result ≡ new_app (codes "seq") = c.named-3.ensures.app in
+    let replay_new : app_of c.named-4.result ≡ new_app (codes "replay") = c.named-4.ensures.app in
+    let explain_new : app_of c.named-5.result ≡ new_app (codes "explain") = c.named-5.ensures.app in
     let doac_new : app_of c.version.result ≡ wants_subcommand (new_app (codes "doac")) =
-    search (rules, c.version.ensures, c.subcommand_required.ensures, c.about-6.ensures, c.new-6.ensures.app) in
+    search (rules, c.version.ensures, c.subcommand_required.ensures, c.about.ensures, c.new.ensures.app) in
     let check_is : app_of c.in_ok-check.check ≡ check =
     c.in_ok-check.ensures.shape c.source.ensures.local ∙ ap₂ with_rule check_new c.source.ensures.rule in
     let list_source : app_of c.in_ok-arg.field-0 ≡ with_rule (new_app (codes "list")) source =
@@ -35,15 +35,15 @@ returns c =
     c.in_ok-arg-6.ensures.shape c.number.ensures.local ∙ ap₂ with_rule explain_new c.number.ensures.rule in
     let explain_is : app_of c.in_ok-explain.explain ≡ explain =
     c.in_ok-explain.ensures.shape c.reason.ensures.local ∙ ap₂ with_rule explain_number c.reason.ensures.rule in
-    let with_check = c.in_ok-subcommand.ensures.shape (search (rules, c.in_ok-check.ensures.globals, c.about.ensures, c.new.ensures.local, c.source.ensures.local)) ∙ ap₂ with_subcommand doac_new (ap (λ (a : App). a.top) check_is) in
-    let with_list = c.in_ok-subcommand-2.ensures.shape (search (rules, c.in_ok-list.ensures.globals, c.in_ok-arg.ensures.globals, c.about-2.ensures, c.new-2.ensures.local, c.source-2.ensures.local, c.why.ensures.local)) ∙ ap₂ with_subcommand with_check (ap (λ (a : App). a.top) list_is) in
-    let with_seq = c.in_ok-app.ensures.shape (search (rules, c.in_ok-seq.ensures.globals, c.in_ok-arg-3.ensures.globals, c.in_ok-arg-2.ensures.globals, c.about-3.ensures, c.new-3.ensures.local, c.source-3.ensures.local, c.input.ensures.local, c.store.ensures.local)) ∙ ap₂ with_subcommand with_list (ap (λ (a : App). a.top) seq_is) in
+    let with_check = c.in_ok-subcommand.ensures.shape (search (rules, c.in_ok-check.ensures.globals, c.named.ensures.local, c.source.ensures.local)) ∙ ap₂ with_subcommand doac_new (ap (λ (a : App). a.top) check_is) in
+    let with_list = c.in_ok-subcommand-2.ensures.shape (search (rules, c.in_ok-list.ensures.globals, c.in_ok-arg.ensures.globals, c.named-2.ensures.local, c.source-2.ensures.local, c.why.ensures.local)) ∙ ap₂ with_subcommand with_check (ap (λ (a : App). a.top) list_is) in
+    let with_seq = c.in_ok-app.ensures.shape (search (rules, c.in_ok-seq.ensures.globals, c.in_ok-arg-3.ensures.globals, c.in_ok-arg-2.ensures.globals, c.named-3.ensures.local, c.source-3.ensures.local, c.input.ensures.local, c.store.ensures.local)) ∙ ap₂ with_subcommand with_list (ap (λ (a : App). a.top) seq_is) in
     let with_run = c.in_ok-with_run.ensures ∙ ap (λ (a : App). with_subcommand a run.top) with_seq in
-    let with_replay = c.in_ok-app-2.ensures.shape (search (rules, c.in_ok-replay.ensures.globals, c.in_ok-arg-5.ensures.globals, c.in_ok-arg-4.ensures.globals, c.about-4.ensures, c.new-4.ensures.local, c.source-4.ensures.local, c.whole_input.ensures.local, c.schedule.ensures.local)) ∙ ap₂ with_subcommand with_run (ap (λ (a : App). a.top) replay_is) in
+    let with_replay = c.in_ok-app-2.ensures.shape (search (rules, c.in_ok-replay.ensures.globals, c.in_ok-arg-5.ensures.globals, c.in_ok-arg-4.ensures.globals, c.named-4.ensures.local, c.source-4.ensures.local, c.whole_input.ensures.local, c.schedule.ensures.local)) ∙ ap₂ with_subcommand with_run (ap (λ (a : App). a.top) replay_is) in
     let with_upgrade = c.in_ok-with_upgrade.ensures ∙ ap (λ (a : App). with_subcommand a upgrade.top) with_replay in
     let with_draw = c.in_ok-app-3.ensures ∙ ap (λ (a : App). with_subcommand a draw.top) with_upgrade in
     let with_timeline = c.in_ok-app-4.ensures ∙ ap (λ (a : App). with_subcommand a timeline.top) with_draw in
     let with_code = c.in_ok-with_code.ensures ∙ ap (λ (a : App). with_subcommand a code.top) with_timeline in
     IfOk-weaker c.subcommand-5.result _ _
-    (λ made adds. adds.shape (search (rules, c.in_ok-explain.ensures.globals, c.in_ok-arg-6.ensures.globals, c.about-5.ensures, c.new-5.ensures.local, c.number.ensures.local, c.reason.ensures.local)) ∙ ap₂ with_subcommand with_code (ap (λ (a : App). a.top) explain_is))
+    (λ made adds. adds.shape (search (rules, c.in_ok-explain.ensures.globals, c.in_ok-arg-6.ensures.globals, c.named-5.ensures.local, c.number.ensures.local, c.reason.ensures.local)) ∙ ap₂ with_subcommand with_code (ap (λ (a : App). a.top) explain_is))
     c.subcommand-5.ensures

@@ -6,7 +6,7 @@ use Rattle.doac.proofs.command_line.with_draw.Goals as goal
 
 pub returns : goal.returns
 returns c =
-    let draw_new : app_of c.about.result ≡ new_app (codes "draw") = search (rules, c.about.ensures, c.new.ensures.app) in
+    let draw_new : app_of c.named.result ≡ new_app (codes "draw") = c.named.ensures.app in
     let with_source : app_of c.in_ok-arg.field-0 ≡ with_rule (new_app (codes "draw")) source =
     c.in_ok-arg.ensures.shape c.source.ensures.local ∙ ap₂ with_rule draw_new c.source.ensures.rule in
     let with_out : app_of c.in_ok-arg-2.field-0 ≡ with_rule (with_rule (new_app (codes "draw")) source) out =
@@ -16,5 +16,5 @@ returns c =
     let draw_is : app_of c.in_ok-draw.draw ≡ draw =
     c.in_ok-draw.ensures.shape c.iterations.ensures.local ∙ ap₂ with_rule with_number c.iterations.ensures.rule in
     IfOk-weaker c.subcommand.result _ _
-    (λ made adds. adds.shape (search (rules, c.in_ok-draw.ensures.globals, c.in_ok-arg-3.ensures.globals, c.in_ok-arg-2.ensures.globals, c.in_ok-arg.ensures.globals, c.about.ensures, c.new.ensures.local, c.source.ensures.local, c.picture.ensures.local, c.loop_number.ensures.local, c.iterations.ensures.local)) ∙ ap (λ (a : App). with_subcommand (app_of c.args.app) a.top) draw_is)
+    (λ made adds. adds.shape (search (rules, c.in_ok-draw.ensures.globals, c.in_ok-arg-3.ensures.globals, c.in_ok-arg-2.ensures.globals, c.in_ok-arg.ensures.globals, c.named.ensures.local, c.source.ensures.local, c.picture.ensures.local, c.loop_number.ensures.local, c.iterations.ensures.local)) ∙ ap (λ (a : App). with_subcommand (app_of c.args.app) a.top) draw_is)
     c.subcommand.ensures

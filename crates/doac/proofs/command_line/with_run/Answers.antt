@@ -6,7 +6,7 @@ use Rattle.doac.proofs.command_line.with_run.Goals as goal
 
 pub returns : goal.returns
 returns c =
-    let run_new : app_of c.about.result ≡ new_app (codes "run") = search (rules, c.about.ensures, c.new.ensures.app) in
+    let run_new : app_of c.named.result ≡ new_app (codes "run") = c.named.ensures.app in
     let with_source : app_of c.in_ok-arg.field-0 ≡ with_rule (new_app (codes "run")) source =
     c.in_ok-arg.ensures.shape c.source.ensures.local ∙ ap₂ with_rule run_new c.source.ensures.rule in
     let with_input : app_of c.in_ok-arg-2.field-0 ≡ with_rule (with_rule (new_app (codes "run")) source) input =
@@ -22,5 +22,5 @@ returns c =
     let run_is : app_of c.in_ok-run.run' ≡ run =
     c.in_ok-run.ensures.shape c.tally.ensures.local ∙ ap₂ with_rule with_store c.tally.ensures.rule in
     IfOk-weaker c.subcommand.result _ _
-    (λ made adds. adds.shape (search (rules, c.in_ok-run.ensures.globals, c.in_ok-arg-6.ensures.globals, c.in_ok-arg-5.ensures.globals, c.in_ok-arg-4.ensures.globals, c.in_ok-arg-3.ensures.globals, c.in_ok-arg-2.ensures.globals, c.in_ok-arg.ensures.globals, c.about.ensures, c.new.ensures.local, c.source.ensures.local, c.input.ensures.local, c.processors.ensures.local, c.slots.ensures.local, c.schedule_out.ensures.local, c.store.ensures.local, c.tally.ensures.local)) ∙ ap (λ (a : App). with_subcommand (app_of c.args.app) a.top) run_is)
+    (λ made adds. adds.shape (search (rules, c.in_ok-run.ensures.globals, c.in_ok-arg-6.ensures.globals, c.in_ok-arg-5.ensures.globals, c.in_ok-arg-4.ensures.globals, c.in_ok-arg-3.ensures.globals, c.in_ok-arg-2.ensures.globals, c.in_ok-arg.ensures.globals, c.named.ensures.local, c.source.ensures.local, c.input.ensures.local, c.processors.ensures.local, c.slots.ensures.local, c.schedule_out.ensures.local, c.store.ensures.local, c.tally.ensures.local)) ∙ ap (λ (a : App). with_subcommand (app_of c.args.app) a.top) run_is)
     c.subcommand.ensures

@@ -6,7 +6,7 @@ use Rattle.doac.proofs.command_line.with_upgrade.Goals as goal
 
 pub returns : goal.returns
 returns c =
-    let upgrade_new : app_of c.about.result ≡ new_app (codes "upgrade") = search (rules, c.about.ensures, c.new.ensures.app) in
+    let upgrade_new : app_of c.named.result ≡ new_app (codes "upgrade") = c.named.ensures.app in
     let with_source : app_of c.in_ok-arg.field-0 ≡ with_rule (new_app (codes "upgrade")) source =
     c.in_ok-arg.ensures.shape c.source.ensures.local ∙ ap₂ with_rule upgrade_new c.source.ensures.rule in
     let with_whole_input : app_of c.in_ok-arg-2.field-0 ≡ with_rule (with_rule (new_app (codes "upgrade")) source) whole_input =
@@ -16,5 +16,5 @@ returns c =
     let upgrade_is : app_of c.in_ok-upgrade.upgrade ≡ upgrade =
     c.in_ok-upgrade.ensures.shape c.out.ensures.local ∙ ap₂ with_rule with_schedule c.out.ensures.rule in
     IfOk-weaker c.subcommand.result _ _
-    (λ made adds. adds.shape (search (rules, c.in_ok-upgrade.ensures.globals, c.in_ok-arg-3.ensures.globals, c.in_ok-arg-2.ensures.globals, c.in_ok-arg.ensures.globals, c.about.ensures, c.new.ensures.local, c.source.ensures.local, c.whole_input.ensures.local, c.schedule.ensures.local, c.out.ensures.local)) ∙ ap (λ (a : App). with_subcommand (app_of c.args.app) a.top) upgrade_is)
+    (λ made adds. adds.shape (search (rules, c.in_ok-upgrade.ensures.globals, c.in_ok-arg-3.ensures.globals, c.in_ok-arg-2.ensures.globals, c.in_ok-arg.ensures.globals, c.named.ensures.local, c.source.ensures.local, c.whole_input.ensures.local, c.schedule.ensures.local, c.out.ensures.local)) ∙ ap (λ (a : App). with_subcommand (app_of c.args.app) a.top) upgrade_is)
     c.subcommand.ensures

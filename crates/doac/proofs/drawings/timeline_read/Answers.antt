@@ -18,8 +18,8 @@ returns-in-Ok-Picture g c =
     let allowed : Times t.source.items t.input.items t.schedule.items u =
     subst (λ x. Times x t.input.items t.schedule.items u) first (subst (λ y. Times c.deref.result.now y t.schedule.items u) second (subst (λ z. Times c.deref.result.now c.deref-2.result.now z u) third base)) in
     let text : c.deref-in-Ok-Picture.result.now ≡ c.in-Ok-Picture.picture.items = search rules in
-    of_picture (Times t.source.items t.input.items t.schedule.items) _ c.in-Ok-Picture.picture (g.F.NamedFiles.done c.args.files.now) (g.F.NamedFiles.done c.picture_onto.new.files) (g.W.Write.contents c.args.out.now) c.picture_onto.result allowed
-    (subst (λ b. GivesFile c.args.onto.now b (g.F.NamedFiles.done c.args.files.now) (g.F.NamedFiles.done c.picture_onto.new.files) c.picture_onto.result) text c.picture_onto.ensures)
+    of_picture (Times t.source.items t.input.items t.schedule.items) _ c.in-Ok-Picture.picture (g.F.NamedFiles.done c.args.files.now) (g.F.NamedFiles.done c.give_file.new.files) (g.W.Write.contents c.args.out.now) c.give_file.result allowed
+    (subst (λ b. GivesFile c.args.onto.now b (g.F.NamedFiles.done c.args.files.now) (g.F.NamedFiles.done c.give_file.new.files) c.give_file.result) text c.give_file.ensures)
 
 pub returns-in-Ok-Shown : goal.returns-in-Ok-Shown
 returns-in-Ok-Shown g c =
@@ -32,4 +32,4 @@ returns-in-Ok-Shown g c =
     let third : c.deref-3.result.now ≡ t.schedule.items = search rules in
     let allowed : Times t.source.items t.input.items t.schedule.items u =
     subst (λ x. Times x t.input.items t.schedule.items u) first (subst (λ y. Times c.deref.result.now y t.schedule.items u) second (subst (λ z. Times c.deref.result.now c.deref-2.result.now z u) third base)) in
-    of_page (Times t.source.items t.input.items t.schedule.items) _ c.in-Ok-Shown.page _ _ _ _ allowed c.timeline_shown.ensures
+    of_page (Times t.source.items t.input.items t.schedule.items) _ c.in-Ok-Shown.page _ _ _ _ allowed c.show_page.ensures

@@ -17,8 +17,8 @@ returns-in-Ok-Text g c =
     let allowed : Upgrading t.source.items t.input.items t.schedule.items u =
     subst (λ x. Upgrading x t.input.items t.schedule.items u) first (subst (λ y. Upgrading c.deref.result.now y t.schedule.items u) second (subst (λ z. Upgrading c.deref.result.now c.deref-2.result.now z u) third base)) in
     let text : c.deref-in-Ok-Text.result.now ≡ c.in-Ok-Text.text.items = search rules in
-    of_text _ t.source.items t.input.items t.schedule.items c.in-Ok-Text.text (g.F.NamedFiles.done c.args.files.now) (g.F.NamedFiles.done c.upgrade_onto.new.files) (g.W.Write.contents c.args.out.now) c.upgrade_onto.result allowed
-    (subst (λ b. GivesFile c.args.onto.now b (g.F.NamedFiles.done c.args.files.now) (g.F.NamedFiles.done c.upgrade_onto.new.files) c.upgrade_onto.result) text c.upgrade_onto.ensures)
+    of_text _ t.source.items t.input.items t.schedule.items c.in-Ok-Text.text (g.F.NamedFiles.done c.args.files.now) (g.F.NamedFiles.done c.give_file.new.files) (g.W.Write.contents c.args.out.now) c.give_file.result allowed
+    (subst (λ b. GivesFile c.args.onto.now b (g.F.NamedFiles.done c.args.files.now) (g.F.NamedFiles.done c.give_file.new.files) c.give_file.result) text c.give_file.ensures)
 
 pub returns-in-Ok-Shown : goal.returns-in-Ok-Shown
 returns-in-Ok-Shown g c =
@@ -31,4 +31,4 @@ returns-in-Ok-Shown g c =
     let third : c.deref-3.result.now ≡ t.schedule.items = search rules in
     let allowed : Upgrading t.source.items t.input.items t.schedule.items u =
     subst (λ x. Upgrading x t.input.items t.schedule.items u) first (subst (λ y. Upgrading c.deref.result.now y t.schedule.items u) second (subst (λ z. Upgrading c.deref.result.now c.deref-2.result.now z u) third base)) in
-    of_page _ t.source.items t.input.items t.schedule.items c.in-Ok-Shown.page _ _ _ _ allowed c.upgrade_shown.ensures
+    of_page _ t.source.items t.input.items t.schedule.items c.in-Ok-Shown.page _ _ _ _ allowed c.show_page.ensures

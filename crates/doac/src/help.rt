@@ -1,0 +1,117 @@
+//! What stands at the end of each command's help: its statuses, and an example.
+
+pub const CHECK: &str = "\
+Status:
+  0  the source is accepted
+  1  it is refused
+  3  the command line is wrong
+  4  a file can't be read, or the answer can't be written
+  5  there is no memory
+
+Example:
+  doac check examples/sieve.f";
+
+pub const LIST: &str = "\
+Status:
+  0  each loop is listed
+  1  the source is refused
+  3  the command line is wrong
+  4  a file can't be read, or the answer can't be written
+  5  there is no memory
+
+Example:
+  doac list --why examples/recurrence.f";
+
+pub const CODE: &str = "\
+Status:
+  0  the code is shown
+  1  the source is refused
+  3  the command line is wrong
+  4  a file can't be read, or the answer can't be written
+  5  there is no memory
+
+Example:
+  doac code examples/recurrence.f";
+
+pub const SEQ: &str = "\
+Status:
+  0  the run came to END or to a STOP
+  1  the source is refused
+  2  the run came to a fault
+  3  the command line is wrong
+  4  a file can't be read, or the answer can't be written
+  5  there is no memory
+
+Example:
+  doac seq examples/average.f examples/average.in --store";
+
+pub const RUN: &str = "\
+Status:
+  0  the run came to END or to a STOP
+  1  the source is refused
+  2  the run came to a fault
+  3  the command line is wrong, or a number is out of its range
+  4  a file can't be read, or the answer or OUT can't be written
+  5  there is no memory, or a thread can't be started
+
+Example:
+  doac run examples/overlap.f -p 4 -s 8 --schedule overlap.schedule";
+
+pub const REPLAY: &str = "\
+Status:
+  0  the run came to END or to a STOP
+  1  the source is refused
+  2  the run came to a fault
+  3  the command line is wrong
+  4  a file can't be read, or the answer can't be written
+  5  there is no memory
+  6  the schedule is refused
+
+Example:
+  doac replay examples/overlap.f /dev/null examples/overlap.schedule";
+
+pub const UPGRADE: &str = "\
+Status:
+  0  OUT has the schedule
+  1  the source is refused
+  3  the command line is wrong
+  4  a file can't be read, or OUT can't be written
+  5  there is no memory
+  6  the schedule is refused
+
+Example:
+  doac upgrade examples/overlap.f /dev/null examples/overlap.schedule named.schedule";
+
+pub const DRAW: &str = "\
+Status:
+  0  OUT has the picture
+  1  the source is refused
+  3  the command line is wrong, or there is no such loop
+  4  a file can't be read, or OUT can't be written
+  5  there is no memory
+
+Example:
+  doac draw examples/recurrence.f recurrence.svg --iterations 6";
+
+pub const TIMELINE: &str = "\
+Status:
+  0  OUT has the picture
+  1  the source is refused
+  3  the command line is wrong
+  4  a file can't be read, or OUT can't be written
+  5  there is no memory
+  6  the schedule is refused
+
+Example:
+  doac timeline examples/overlap.f /dev/null examples/overlap.schedule overlap.svg";
+
+pub const EXPLAIN: &str = "\
+Status:
+  0  the number is explained, or all are listed
+  3  the command line is wrong, or the number has no meaning
+  4  the answer can't be written
+  5  there is no memory
+
+Examples:
+  doac explain 25
+  doac explain serial 3";
