@@ -1,5 +1,1 @@
 pub mod CommandLines
-pub mod Delivered
-pub mod Reading
-pub mod Statuses
-pub mod Upgrading

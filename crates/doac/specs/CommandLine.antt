@@ -6,11 +6,11 @@ use Rattle.clap.specs.declared.error.Error.{Error}
 use Rattle.clap.specs.declared.error.kind.ErrorKind.TheVariants.{DisplayHelp, DisplayVersion, OutOfMemory}
 use Rattle.clap.specs.declared.builder.action.ArgAction.TheVariants.{Set, SetTrue}
 use Rattle.engines.specs.Explained.{is_explained, is_within}
-use Rattle.doac.specs.declared.command.Command.{Command}
-use Rattle.doac.specs.declared.command.Command.TheVariants.{Check, ListLoops, ShowCode, Seq, Run, Replay, Upgrade, Draw, Timeline, Explain, ExplainSerial}
+use Rattle.commands.specs.declared.command.Command.{Command}
+use Rattle.commands.specs.declared.command.Command.TheVariants.{Check, ListLoops, ShowCode, Seq, Run, Replay, Upgrade, Draw, Timeline, Explain, ExplainSerial}
 use Rattle.doac.specs.declared.command.LineFault.{LineFault}
 use Rattle.doac.specs.declared.command.LineFault.TheVariants.{Help, Mistake, NoCommand, NoSuchNumber, NoSize, NoPortion, Memory}
-use Rattle.doac.specs.declared.command.Threaded.{Threaded}
+use Rattle.commands.specs.declared.command.Threaded.{Threaded}
 
 -- F, the file of the source
 abbrev pub source : Rule

@@ -1,6 +1,2 @@
-pub mod Commands
 pub mod CommandLine
-pub mod Deeds
-pub mod Pictures
-pub mod Running
-pub mod Statuses
+pub mod Following

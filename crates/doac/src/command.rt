@@ -1,4 +1,4 @@
-//! What a command line asks for.
+//! What the matches of a command line hold.
 
 ghost use Rattle.std.specs.Prelude.{◌≡◌, IfErr, IfOk, codes, option_map, ℕ};
 ghost use Rattle.clap.specs.Words.{first_of, found_of, one_of, rows_of, subcommand_rows_of};
@@ -7,88 +7,10 @@ ghost use Rattle.doac.specs.declared.command.LineFault.TheVariants.{Memory, NoPo
 
 use clap::ArgMatches;
 use clap::error::ErrorKind;
+use commands::{Command, Threaded};
 use engines::explain::{is_explained, is_reason};
 use std::alloc::AllocError;
 use thiserror::Error;
-
-/// What the command line asks for of a run in threads.
-#[derive(Clone, Copy, Debug, PartialEq, Eq)]
-pub struct Threaded<'a> {
-    /// The file of the source.
-    pub source: &'a str,
-    /// The file of the input, if there is one.
-    pub input: Option<&'a str>,
-    /// How many processors there are to be, 2 where none are named.
-    pub processors: u64,
-    /// How many iterations may be open, 4 where none are named.
-    pub slots: u64,
-    /// The file that gets the schedule, if it is wanted.
-    pub schedule: Option<&'a str>,
-    /// Whether the store is wanted.
-    pub store: bool,
-    /// Whether it is wanted how the run went.
-    pub tally: bool,
-}
-
-/// What the command line asks for.
-#[derive(Clone, Copy, Debug, PartialEq, Eq)]
-pub enum Command<'a> {
-    /// `check F`: whether the source of this file is in the profile.
-    Check(&'a str),
-    /// `list F [--why]`: the loops of the source of a file, and which of them may be open; and whether it
-    /// is wanted why.
-    ListLoops {
-        source: &'a str,
-        why: bool,
-    },
-    /// `code F`: the code of the source of this file.
-    ShowCode(&'a str),
-    /// `seq F [INPUT] [--store]`: the run of the source of a file, on the input of another one, if
-    /// there is one; and whether the store is wanted.
-    Seq {
-        source: &'a str,
-        input: Option<&'a str>,
-        store: bool,
-    },
-    /// `run F [INPUT] [-p N] [-s N] [--schedule OUT] [--store] [--tally]`: the run of the code of a
-    /// source in threads.
-    Run(Threaded<'a>),
-    /// `replay F INPUT SCHEDULE`: the run of the code of a source that a schedule describes.
-    Replay {
-        source: &'a str,
-        input: &'a str,
-        schedule: &'a str,
-    },
-    /// `upgrade F INPUT SCHEDULE OUT`: the schedule with its picks named, written to a file.
-    Upgrade {
-        source: &'a str,
-        input: &'a str,
-        schedule: &'a str,
-        out: &'a str,
-    },
-    /// `draw F OUT [--loop N] [--iterations K]`: the picture of a loop of the source of a file, written to
-    /// a file.
-    Draw {
-        source: &'a str,
-        out: &'a str,
-        /// The loop's number, 1 where none is named.
-        number: u64,
-        /// How many iterations are drawn, 1 to 64, and 8 where no number is named.
-        iterations: u64,
-    },
-    /// `timeline F INPUT SCHEDULE OUT`: the picture of the run that a schedule describes, written to a
-    /// file.
-    Timeline {
-        source: &'a str,
-        input: &'a str,
-        schedule: &'a str,
-        out: &'a str,
-    },
-    /// `explain [N]`: what this refusal or fault means; without a number, which numbers there are.
-    Explain(Option<u8>),
-    /// `explain serial N`: for what this reason a loop stays serial.
-    ExplainSerial(u8),
-}
 
 /// Why the words of a command line name no command.
 #[derive(Debug, Drop, Error)]

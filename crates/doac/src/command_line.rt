@@ -8,6 +8,7 @@ ghost use Rattle.doac.specs.CommandLine.{Names, NamesNone, code, doac, draw, inp
 use crate::command::{LineFault, held};
 use crate::help;
 use clap::{Arg, ArgAction};
+use commands::Command;
 use std::alloc::{AllocError, Global};
 use std::convert::AsStr;
 
@@ -322,10 +323,7 @@ fn parser<'a>(alloc: Global) -> Result<clap::Command<'a>, AllocError>
 }
 
 /// Reads a command line, of which the first word is the program's name.
-pub fn command<'a, S: AsStr>(
-    alloc: Global,
-    words: &'a [S],
-) -> Result<crate::command::Command<'a>, LineFault>
+pub fn command<'a, S: AsStr>(alloc: Global, words: &'a [S]) -> Result<Command<'a>, LineFault>
     ensures found { IfOk result (Names (map S.text words.entry.now)) }
     ensures refused { IfErr result (NamesNone (map S.text words.entry.now)) }
 {

@@ -1,21 +1,13 @@
 //! The program: its words, its files, and what it says on standard error.
 
 ghost use Rattle.std.specs.Prelude.{map};
-ghost use Rattle.doac.specs.Commands.{Follows, Obeys};
-ghost use Rattle.doac.specs.Deeds.{OfError};
-ghost use Rattle.doac.specs.Statuses.{EndsLine};
+ghost use Rattle.commands.specs.Deeds.{OfError};
+ghost use Rattle.doac.specs.Following.{EndsLine, Follows};
 
-use crate::code_file::code_file;
-use crate::command::{Command, LineFault};
+use crate::command::LineFault;
 use crate::command_line::command;
-use crate::drawings::{draw_file, timeline_files};
-use crate::files::{NamedFiles, Names};
-use crate::host_files::HostFiles;
-use crate::schedules::{replay_files, upgrade_files};
-use crate::sources::{check_file, list_file, seq_files};
-use crate::threads::run_files;
-use crate::told::status_of_print;
-use engines::{Portion, VisibleLines, explain};
+use commands::{HostFiles, NamedFiles, obey, status_of_print};
+use remarks::VisibleLines;
 use std::convert::AsStr;
 use std::io::Write;
 use std::rt::{Env, Files};
@@ -113,94 +105,5 @@ fn refuse_line<R: Print + Eprint + AllocGlobal>(rt: &R, fault: &LineFault) -> u8
 fn say_line<R: Eprint + AllocGlobal>(rt: &R, fault: &LineFault) {
     if let Ok(text) = format!(in rt.alloc(); "{fault}") {
         let _ = rt.eprint(VisibleLines::new(text.as_str()));
-    }
-}
-
-/// Does what a command asks for. Of a sequential run's records `most` bytes may wait to be written.
-pub fn obey<R: Print + Eprint + AllocGlobal + Threads + Wait + Sync, F: NamedFiles, W: Write>(
-    rt: &R,
-    files: &mut F,
-    out: &mut W,
-    command: Command<'_>,
-    most: usize,
-) -> u8
-    ensures { Obeys command.entry
-        (F.done files.old) (F.done files.new) (W.contents out.old) (W.contents out.new) result }
-{
-    match command {
-        Command::Check(source) => check_file(rt, files, out, source),
-        Command::ListLoops { source, why } => list_file(rt, files, out, source, why),
-        Command::ShowCode(source) => code_file(rt, files, out, source),
-        Command::Seq {
-            source,
-            input,
-            store,
-        } => seq_files(rt, files, out, source, input, store, most),
-        Command::Run(asked) => run_files(rt, files, out, asked),
-        Command::Replay {
-            source,
-            input,
-            schedule,
-        } => replay_files(
-            rt,
-            files,
-            out,
-            Names {
-                source,
-                input,
-                schedule,
-            },
-        ),
-        Command::Upgrade {
-            source,
-            input,
-            schedule,
-            out: onto,
-        } => upgrade_files(
-            rt,
-            files,
-            out,
-            Names {
-                source,
-                input,
-                schedule,
-            },
-            onto,
-        ),
-        Command::Draw {
-            source,
-            out: onto,
-            number,
-            iterations,
-        } => draw_file(
-            rt,
-            files,
-            out,
-            source,
-            onto,
-            Portion {
-                number: number as usize,
-                columns: iterations,
-            },
-        ),
-        Command::Timeline {
-            source,
-            input,
-            schedule,
-            out: onto,
-        } => timeline_files(
-            rt,
-            files,
-            out,
-            Names {
-                source,
-                input,
-                schedule,
-            },
-            onto,
-        ),
-        Command::Explain(Some(number)) => status_of_print(rt, explain::explain(rt, number)),
-        Command::Explain(None) => status_of_print(rt, explain::list(rt)),
-        Command::ExplainSerial(reason) => status_of_print(rt, explain::explain_serial(rt, reason)),
     }
 }

@@ -19,7 +19,7 @@ use Rattle.interpreter.specs.declared.run_end.RunFault.{RunFault}
 use Rattle.interpreter.specs.declared.run_end.RunFault.TheVariants as run_faults
 use Rattle.profile_check.specs.Causes.{Refuses}
 use Rattle.profile_check.specs.Reads.{Reads}
-use Rattle.engines.specs.Engines.{Follows, IsRefusal, IsRun, Runs, ShowsRun, Streams, Works, engine_fault, outcome_of}
+use Rattle.engines.specs.Engines.{FollowsRecords, IsRefusal, IsRun, Runs, ShowsRun, Streaming, Works, engine_fault, outcome_of}
 use Rattle.engines.specs.Shown.{EndShown, Extends, Row, refused, row_of}
 use Rattle.engines.specs.View.{rows_from}
 use Rattle.engines.specs.declared.fault.EngineFault.{EngineFault}
@@ -44,7 +44,7 @@ runs_so store source input (FaultedAt fault line) text h = h
 
 -- what follows the records is shown behind them
 shown_behind : (store : Bool) (source input : List ℕ) (program : ProgramTree) (ended : RunEnd) (old mid : Option (List ℕ)) (outcome : Outcome) (last : List ℕ)
-    → Reads source program → Ended program input old mid (Ok ended) → Follows store program.symbols ended outcome last → Runs store source input outcome ((seq program input).output ++ last)
+    → Reads source program → Ended program input old mid (Ok ended) → FollowsRecords store program.symbols ended outcome last → Runs store source input outcome ((seq program input).output ++ last)
 shown_behind store source input program ended old mid outcome last reads h follows =
     let run = seq program input in
     let rows : rows_from (cells ended.store) 0 program.symbols ≡ map (row_of run.store) program.symbols =
@@ -71,7 +71,7 @@ part_behind old mid new out last h part =
 
 -- the records of a run were written, and then what follows them, or not
 pub streams_on : (store : Bool) (source input : List ℕ) (program : ProgramTree) (ended : RunEnd) (old mid new : Option (List ℕ)) (came : Result Outcome EngineFault)
-    → Reads source program → Ended program input old mid (Ok ended) → Works (Follows store program.symbols ended) mid new came → Streams store source input old new came
+    → Reads source program → Ended program input old mid (Ok ended) → Works (FollowsRecords store program.symbols ended) mid new came → Streaming store source input old new came
 streams_on store source input program ended old mid new (Ok outcome) reads h w = record {
   text = (seq program input).output ++ w.text;
   allowed = shown_behind store source input program ended old mid outcome w.text reads h w.allowed;
@@ -87,7 +87,7 @@ streams_on store source input program ended old mid new (Err Memory) reads h w =
   tree = program;
   reads = reads;
   got = (seq program input).output;
-  begins = ([], sym (append-nil (seq program input).output));
+  so = ([], sym (append-nil (seq program input).output));
   grown = Appends-kept old mid new (seq program input).output h.0 w;
 })
 streams_on store source input program ended old mid new (Err (Source e)) reads h w = w
@@ -99,11 +99,11 @@ streams_on store source input program ended old mid new (Err Stuck) reads h w = 
 
 -- a run came to no end
 pub streams_halted : (store : Bool) (source input : List ℕ) (program : ProgramTree) (fault : RunFault) (old new : Option (List ℕ))
-    → Reads source program → Ended program input old new (Err fault) → Streams store source input old new (Err (engine_fault fault))
+    → Reads source program → Ended program input old new (Err fault) → Streaming store source input old new (Err (engine_fault fault))
 streams_halted store source input program run_faults.Memory old new reads h =
-    inr (record { tree = program; reads = reads; got = h.0; begins = h.2; grown = h.1 })
+    inr (record { tree = program; reads = reads; got = h.0; so = h.2; grown = h.1 })
 streams_halted store source input program (run_faults.Writing e) old new reads h =
-    inr (record { tree = program; reads = reads; got = h.0; begins = (h.2.0 ∷ h.2.1, h.2.2); grown = h.1 })
+    inr (record { tree = program; reads = reads; got = h.0; so = h.2; grown = h.1 })
 
 refused_so : (store : Bool) (source input : List ℕ) (number line : ℕ) (outcome : Outcome) (text : List ℕ) → IsRefusal source number line → (outcome ≡ Refused number line) × (text ≡ refused number line) → Runs store source input outcome text
 refused_so store source input number line outcome text refusal is =
@@ -111,7 +111,7 @@ refused_so store source input number line outcome text refusal is =
 
 -- a source is refused
 pub streams_refused : (store : Bool) (source input : List ℕ) (number line : ℕ) (old new : Option (List ℕ)) (came : Result Outcome EngineFault)
-    → IsRefusal source number line → Works (λ outcome text. (outcome ≡ Refused number line) × (text ≡ refused number line)) old new came → Streams store source input old new came
+    → IsRefusal source number line → Works (λ outcome text. (outcome ≡ Refused number line) × (text ≡ refused number line)) old new came → Streaming store source input old new came
 streams_refused store source input number line old new (Ok outcome) refusal w = record { text = w.text; allowed = refused_so store source input number line outcome w.text refusal w.allowed; grown = w.grown }
 streams_refused store source input number line old new (Err (Writing e)) refusal w = inl (record { outcome = w.outcome; text = w.text; allowed = refused_so store source input number line w.outcome w.text refusal w.allowed; grown = w.grown })
 streams_refused store source input number line old new (Err Memory) refusal w = inl w

@@ -7,7 +7,7 @@ use Rattle.ast.specs.Program.{ProgramTree}
 use Rattle.ast.specs.ProgramView.{program as program_of}
 use Rattle.ast.specs.declared.fault.End.{End}
 use Rattle.ast.specs.declared.fault.End.TheVariants.{Done, Stopped, Fault as FaultedAt}
-use Rattle.interpreter.specs.Handing.{Begins}
+use Rattle.interpreter.specs.Handing.{Begins, FallsShort}
 pub use Rattle.interpreter.specs.Handing.{AppendsPart}
 use Rattle.profile_check.specs.Causes.{Refuses}
 use Rattle.profile_check.specs.Reads.{Reads}
@@ -183,8 +183,8 @@ Works allows old new (Err Memory) = Keeps old new
 Works allows old new (Err _) = ⊥
 
 -- what follows the records of a run with this ending
-abbrev pub Follows : Bool → List Symbol → RunEnd → Outcome → List ℕ → Type 0
-Follows store symbols ended outcome text =
+abbrev pub FollowsRecords : Bool → List Symbol → RunEnd → Outcome → List ℕ → Type 0
+FollowsRecords store symbols ended outcome text =
     (outcome ≡ outcome_of ended.end) × EndShown store (rows_from (cells ended.store) 0 symbols) ended.end text
 
 -- the fault of a run that came to no end
@@ -192,47 +192,54 @@ abbrev pub engine_fault : RunFault → EngineFault
 engine_fault run_faults.Memory = Memory
 engine_fault (run_faults.Writing e) = Writing e
 
--- the source reads as a program, and the writer's bytes grew by a beginning of what its run on the input
--- prints
-pub record Began (source input : List ℕ) (old new : Option (List ℕ)) : Type 0 where
+-- the source reads as a program, and the writer's bytes grew by what is so much of what its run on the
+-- input prints
+pub record Grew (So : List ℕ → List ℕ → Type 0) (source input : List ℕ) (old new : Option (List ℕ)) : Type 0 where
   pub tree : ProgramTree
   pub reads : Reads source tree
   pub got : List ℕ
-  pub begins : Begins got (seq tree input).output
+  pub so : So got (seq tree input).output
   pub grown : Appends old new got
 
+-- by a beginning of it, or all; and by a beginning of which something is missing
+abbrev pub Began : List ℕ → List ℕ → Option (List ℕ) → Option (List ℕ) → Type 0
+Began = Grew Begins
+
+abbrev pub FellShort : List ℕ → List ℕ → Option (List ℕ) → Option (List ℕ) → Type 0
+FellShort = Grew FallsShort
+
 -- What `seq` comes to, whose records are written while the program runs: an outcome with an allowed text
--- written; where writing failed part of one, or a beginning of the records; where memory was refused
+-- written; where writing failed part of one, or not all of the records; where memory was refused
 -- nothing, or a beginning of the records. No fault of reading comes of it.
-abbrev pub Streams : Bool → List ℕ → List ℕ → Option (List ℕ) → Option (List ℕ) → Result Outcome EngineFault → Type 0
-Streams store source input old new (Ok outcome) = Wrote (Runs store source input) old new outcome
-Streams store source input old new (Err (Writing e)) = WrotePart (Runs store source input) old new ⊎ Began source input old new
-Streams store source input old new (Err Memory) = Keeps old new ⊎ Began source input old new
-Streams store source input old new (Err _) = ⊥
+abbrev pub Streaming : Bool → List ℕ → List ℕ → Option (List ℕ) → Option (List ℕ) → Result Outcome EngineFault → Type 0
+Streaming store source input old new (Ok outcome) = Wrote (Runs store source input) old new outcome
+Streaming store source input old new (Err (Writing e)) = WrotePart (Runs store source input) old new ⊎ FellShort source input old new
+Streaming store source input old new (Err Memory) = Keeps old new ⊎ Began source input old new
+Streaming store source input old new (Err _) = ⊥
 
 -- the same of `seq` that reads its input first, of which nothing is written where that fails
-abbrev pub StreamsWith : Option (List ℕ) → Bool → List ℕ → Option (List ℕ) → Option (List ℕ) → Result Outcome EngineFault → Type 0
-StreamsWith input store source old new (Ok outcome) = OfText input (λ given. Wrote (Runs store source given) old new outcome)
-StreamsWith input store source old new (Err (Source e)) = ⊥
-StreamsWith input store source old new (Err (Input e)) = Keeps old new
-StreamsWith input store source old new (Err (Schedule e)) = ⊥
-StreamsWith input store source old new (Err (Writing e)) = OfText input (λ given. WrotePart (Runs store source given) old new ⊎ Began source given old new)
-StreamsWith input store source old new (Err Memory) = Keeps old new ⊎ OfText input (λ given. Began source given old new)
-StreamsWith input store source old new (Err OutOfRange) = ⊥
-StreamsWith input store source old new (Err NotStarted) = ⊥
-StreamsWith input store source old new (Err Stuck) = ⊥
+abbrev pub StreamingWith : Option (List ℕ) → Bool → List ℕ → Option (List ℕ) → Option (List ℕ) → Result Outcome EngineFault → Type 0
+StreamingWith input store source old new (Ok outcome) = OfText input (λ given. Wrote (Runs store source given) old new outcome)
+StreamingWith input store source old new (Err (Source e)) = ⊥
+StreamingWith input store source old new (Err (Input e)) = Keeps old new
+StreamingWith input store source old new (Err (Schedule e)) = ⊥
+StreamingWith input store source old new (Err (Writing e)) = OfText input (λ given. WrotePart (Runs store source given) old new ⊎ FellShort source given old new)
+StreamingWith input store source old new (Err Memory) = Keeps old new ⊎ OfText input (λ given. Began source given old new)
+StreamingWith input store source old new (Err OutOfRange) = ⊥
+StreamingWith input store source old new (Err NotStarted) = ⊥
+StreamingWith input store source old new (Err Stuck) = ⊥
 
--- what a fault of `seq` leaves: part of an allowed text or a beginning of the records where writing failed;
+-- what a fault of `seq` leaves: part of an allowed text or not all of the records where writing failed;
 -- nothing or a beginning of the records where memory was refused; nothing where reading failed
-abbrev pub LeavesRun : EngineFault → Option (List ℕ) → Option (List ℕ) → (part began : Type 0) → Type 0
-LeavesRun (Source e) old new part began = Keeps old new
-LeavesRun (Input e) old new part began = Keeps old new
-LeavesRun (Schedule e) old new part began = ⊥
-LeavesRun (Writing e) old new part began = part
-LeavesRun Memory old new part began = Keeps old new ⊎ began
-LeavesRun OutOfRange old new part began = ⊥
-LeavesRun NotStarted old new part began = ⊥
-LeavesRun Stuck old new part began = ⊥
+abbrev pub LeavesSeq : EngineFault → Option (List ℕ) → Option (List ℕ) → (part began : Type 0) → Type 0
+LeavesSeq (Source e) old new part began = Keeps old new
+LeavesSeq (Input e) old new part began = Keeps old new
+LeavesSeq (Schedule e) old new part began = ⊥
+LeavesSeq (Writing e) old new part began = part
+LeavesSeq Memory old new part began = Keeps old new ⊎ began
+LeavesSeq OutOfRange old new part began = ⊥
+LeavesSeq NotStarted old new part began = ⊥
+LeavesSeq Stuck old new part began = ⊥
 
 -- what comes after a read: where it failed its fault, with nothing written; otherwise what is made
 -- of its bytes

@@ -3,7 +3,7 @@
 
 ghost use Rattle.std.specs.Prelude.{◌≡◌, ◌⊎◌, IfOk, IfErr};
 ghost use Rattle.engines.specs.Coded.{ShowsCode};
-ghost use Rattle.engines.specs.Engines.{AfterRead, Began, Checks, IsJudged, Leaves, LeavesOfSource, LeavesRun, LeavesReader, LeavesReaders, OfText, Runs, Streams, StreamsWith, Tells, Works, WroteAs, WrotePart, of_input, of_source};
+ghost use Rattle.engines.specs.Engines.{AfterRead, Began, Checks, FellShort, IsJudged, Leaves, LeavesOfSource, LeavesSeq, LeavesReader, LeavesReaders, OfText, Runs, Streaming, StreamingWith, Tells, Works, WroteAs, WrotePart, of_input, of_source};
 ghost use Rattle.engines.specs.Lists.{Lists, TellsAs, TellsLoops, TellsWhy};
 ghost use Rattle.engines.specs.Reading.{LeavesThree, OfTexts};
 ghost use Rattle.engines.specs.Schedules.{LeavesBoth, Replaying, UpgradeWorks, Upgrading, WroteUpgraded, WroteUpgradedPart};
@@ -207,7 +207,7 @@ fn seq_given<W: Write>(
     out: &mut W,
 ) -> Result<Outcome, EngineFault>
     ensures { AfterRead input of_input (W.contents out.old) (W.contents out.new) result
-        (λ given. Streams store source.now given (W.contents out.old) (W.contents out.new) result) }
+        (λ given. Streaming store source.now given (W.contents out.old) (W.contents out.new) result) }
 {
     let input = input.map_err(EngineFault::of_input)?;
     seq_texts(alloc, source, &input, store, most, out)
@@ -223,7 +223,7 @@ fn seq_read<I: Read, W: Write>(
     out: &mut W,
 ) -> Result<Outcome, EngineFault>
     ensures work { AfterRead source of_source (W.contents out.old) (W.contents out.new) result
-        (λ text. StreamsWith (I.remaining input.old) store text (W.contents out.old) (W.contents out.new) result) }
+        (λ text. StreamingWith (I.remaining input.old) store text (W.contents out.old) (W.contents out.new) result) }
     ensures untouched { IfErr source (λ _. I.remaining input.new ≡ I.remaining input.old) }
     ensures readers { IfOk source (λ _. IfErr result (λ fault. LeavesReader fault (I.remaining input.new))) }
 {
@@ -318,10 +318,10 @@ pub fn seq<R: Read, I: Read, W: Write>(
 ) -> Result<u8, EngineFault>
     ensures ok { IfOk result (λ status. OfText (R.remaining source.old) (λ text. OfText (I.remaining input.old) (λ given.
         WroteAs (Runs store text given) (W.contents out.old) (W.contents out.new) status))) }
-    ensures err { IfErr result (λ fault. LeavesRun fault (W.contents out.old) (W.contents out.new)
+    ensures err { IfErr result (λ fault. LeavesSeq fault (W.contents out.old) (W.contents out.new)
         (OfText (R.remaining source.old) (λ text. OfText (I.remaining input.old) (λ given.
         WrotePart (Runs store text given) (W.contents out.old) (W.contents out.new)
-        ⊎ Began text given (W.contents out.old) (W.contents out.new))))
+        ⊎ FellShort text given (W.contents out.old) (W.contents out.new))))
         (OfText (R.remaining source.old) (λ text. OfText (I.remaining input.old) (λ given.
         Began text given (W.contents out.old) (W.contents out.new))))) }
     ensures readers { IfErr result (λ fault. LeavesReaders fault (R.remaining source.new) (I.remaining input.old) (I.remaining input.new)) }

@@ -11,9 +11,9 @@ mod schedules;
 mod statements;
 
 use crate::shown::fault_name;
-use crate::visible::Visible;
 use ast::Fault;
 pub use reasons::{Reason, is_reason, serial_reason};
+use remarks::Visible;
 use std::fmt::{Display, Formatter, Result as FmtResult, Write};
 use std::io;
 

@@ -1,12 +1,11 @@
 //! What else is wrong with a source, behind its first refusal.
 
-use crate::columns::{LABEL_COLUMNS, is_blank, is_comment, is_continuation};
 use crate::message::Message;
 use crate::outcome::Outcome;
-use crate::squeezed::{Squeezed, has_outer};
 use crate::verdict::{Verdict, judged};
 use ast::Line;
 use bstr::ByteSlice;
+use remarks::{LABEL_COLUMNS, Squeezed, has_outer, is_blank, is_comment, is_continuation};
 use std::alloc::{AllocError, Global};
 
 /// How many further refusals are told at most.

@@ -2,27 +2,19 @@
 //! is said of them beside it.
 #![tactic(auto)]
 
-mod beyond;
-mod breaks;
-mod caret;
-mod causes;
 mod code_lines;
 mod coded;
-mod columns;
 mod commands;
 mod drawing;
 mod drawn;
 mod driving;
-mod early;
 pub mod explain;
 mod fault;
 mod figures;
 mod further;
 mod given;
-mod hints;
 mod listing;
 mod loops;
-mod mentions;
 mod message;
 mod note;
 mod obstacles;
@@ -39,20 +31,15 @@ mod serial;
 mod shown;
 mod spelled;
 mod spots;
-mod squeezed;
 mod store;
 mod streams;
 mod survey;
 mod texts;
 mod timing;
-mod usage;
 mod verdict;
-mod visible;
-mod warnings;
 mod watching;
 mod why;
 
-pub use beyond::Beyond;
 pub use commands::{
     check, check_text, code, code_text, list, list_text, replay, replay_texts, seq, tell_loops,
     tell_survey, tell_verdict, upgrade,
@@ -63,7 +50,7 @@ pub use fault::{EngineFault, ReadFault};
 pub use figures::{Figures, say_figures};
 pub use further::tell_further;
 pub use given::{Given, Wants};
-pub use message::{Message, Place};
+pub use message::Message;
 pub use note::Note;
 pub use obstacles::Met;
 pub use outcome::Outcome;
@@ -79,5 +66,3 @@ pub use survey::{Survey, surveyed};
 pub use texts::Texts;
 pub use timing::{timeline, timeline_texts};
 pub use verdict::{Verdict, judged};
-pub use visible::VisibleLines;
-pub use warnings::{warn, warn_of_columns};

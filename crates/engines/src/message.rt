@@ -1,17 +1,14 @@
 //! What standard error says of a refusal or a fault.
 
-use crate::breaks::break_place;
-use crate::caret::Caret;
-use crate::causes::{Cause, cause_of};
 use crate::explain::{Explanation, Origin, fault, refusal};
-use crate::hints::{hint, hint_of_schedule};
 use crate::note::Note;
 use crate::outcome::Outcome;
 use crate::shown::fault_number;
-use crate::squeezed::Squeezed;
-use crate::visible::Visible;
 use ast::Line;
 use bstr::ByteSlice;
+use remarks::{
+    Caret, Cause, Place, Squeezed, Visible, break_place, cause_of, hint, hint_of_schedule,
+};
 use std::alloc::Global;
 use std::fmt::{Display, Formatter, Result as FmtResult, Write};
 
@@ -124,23 +121,6 @@ impl<'a> Display for Message<'a> {
             return Ok(());
         }
         writeln!(f, "For what this means, try 'doac explain {number}'.")
-    }
-}
-
-/// A line of a file, as it stands before what is said of it. Line 0 is none.
-#[derive(Drop)]
-pub struct Place<'a> {
-    pub file: &'a str,
-    pub line: Line,
-}
-
-impl<'a> Display for Place<'a> {
-    fn fmt<W: Write>(&self, f: &mut Formatter<W>) -> FmtResult {
-        write!(f, "{}:", Visible::new(self.file.as_bytes()))?;
-        match self.line {
-            0 => f.write_str(" "),
-            line => write!(f, "{line}: "),
-        }
     }
 }
 

@@ -1,7 +1,7 @@
 //! What is known of a fault or of a refused schedule beside its line.
 
-use crate::beyond::Beyond;
 use crate::obstacles::Met;
+use remarks::Beyond;
 use std::fmt::{Display, Formatter, Result as FmtResult, Write};
 
 /// What is known beside the line.

@@ -2,10 +2,10 @@
 
 use crate::driving::{make, new_core};
 use crate::verdict::{Verdict, judged};
-use crate::visible::Visible;
 use ast::Name;
 use codegen::compile;
 use machine::{Code, Done, Frame, Next, stands_local, stands_next};
+use remarks::Visible;
 use replay::{Act, Choice, Core, Entry, Schedule};
 use std::alloc::{AllocError, Global};
 use std::fmt::{Display, Formatter, Result as FmtResult, Write};

@@ -1,11 +1,10 @@
 //! Where in its input a run came to a fault.
 
 use crate::fault::EngineFault;
-use crate::message::Place;
 use crate::outcome::Outcome;
-use crate::visible::Visible;
 use ast::{Fault, Line};
 use bstr::ByteSlice;
+use remarks::{Place, Visible};
 use std::fmt::{Display, Formatter, Result as FmtResult, Write};
 
 /// The record at which a run came to BAD INPUT or END OF INPUT.

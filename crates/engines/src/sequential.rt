@@ -5,11 +5,10 @@ ghost use Rattle.ast.specs.Meaning.{seq};
 ghost use Rattle.ast.specs.ProgramView.{program as program_of};
 ghost use Rattle.ast.specs.View.{cells, symbol as symbol_of};
 ghost use Rattle.profile_check.specs.Reads.{Reads};
-ghost use Rattle.engines.specs.Engines.{Follows, Streams, Works, engine_fault, outcome_of};
+ghost use Rattle.engines.specs.Engines.{FollowsRecords, Streaming, Works, engine_fault, outcome_of};
 ghost use Rattle.engines.specs.Shown.{EndShown, refused};
 ghost use Rattle.engines.specs.View.{rows_from};
 
-use crate::beyond::Beyond;
 use crate::fault::EngineFault;
 use crate::note::Note;
 use crate::outcome::Outcome;
@@ -18,6 +17,7 @@ use crate::rows::rows;
 use crate::verdict::{Verdict, judged};
 use ast::{End, Fault, Line, Program, Store};
 use interpreter::{RunEnd, RunFault, run_onto};
+use remarks::Beyond;
 use std::alloc::{AllocError, Global};
 use std::io::Write;
 
@@ -79,7 +79,7 @@ fn follow<W: Write>(
     out: &mut W,
 ) -> Result<Outcome, EngineFault>
     requires { length (cells ended.now.store) ≡ length program.now.symbols.items }
-    ensures { Works (Follows store (map symbol_of program.now.symbols.items) ended.now) (W.contents out.old) (W.contents out.new) result }
+    ensures { Works (FollowsRecords store (map symbol_of program.now.symbols.items) ended.now) (W.contents out.old) (W.contents out.new) result }
 {
     let page = last_page(alloc, program, ended, store)?;
     page.write(out)
@@ -95,7 +95,7 @@ fn run_program<W: Write>(
     most: usize,
     out: &mut W,
 ) -> Sequential
-    ensures { (source : List ℕ) → Reads source (program_of program.now) → Streams store source input.now (W.contents out.old) (W.contents out.new) result.came }
+    ensures { (source : List ℕ) → Reads source (program_of program.now) → Streaming store source input.now (W.contents out.old) (W.contents out.new) result.came }
 {
     match run_onto(alloc, program, input, most, out) {
         Ok(ended) => Sequential {
@@ -138,7 +138,7 @@ pub fn seq_noted<W: Write>(
     most: usize,
     out: &mut W,
 ) -> Sequential
-    ensures { Streams store source.now input.now (W.contents out.old) (W.contents out.new) result.came }
+    ensures { Streaming store source.now input.now (W.contents out.old) (W.contents out.new) result.came }
 {
     match judged(alloc, source) {
         Ok(Verdict::Accepted(program)) => run_program(alloc, &program, input, store, most, out),
@@ -169,7 +169,7 @@ pub fn seq_texts<W: Write>(
     most: usize,
     out: &mut W,
 ) -> Result<Outcome, EngineFault>
-    ensures { Streams store source.now input.now (W.contents out.old) (W.contents out.new) result }
+    ensures { Streaming store source.now input.now (W.contents out.old) (W.contents out.new) result }
 {
     seq_noted(alloc, source, input, store, most, out).came
 }

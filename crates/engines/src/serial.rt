@@ -1,12 +1,11 @@
 //! What standard error says of loops that stay serial.
 
-use crate::message::Place;
-use crate::visible::Visible;
 use ast::{Arm, DoHead, Kind, Line, Name, Node, Program};
 use codegen::LoopReport;
 use dependence::LoopPlan;
 use loop_tree::{LoopView, loops};
 use privatise::private_scalars;
+use remarks::{Place, Visible};
 use std::alloc::{AllocError, Global};
 use std::fmt::{Display, Formatter, Result as FmtResult, Write};
 

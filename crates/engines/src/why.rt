@@ -1,6 +1,5 @@
 //! Why iterations of a loop wait for one another, or needn't, in words.
 
-use crate::early::early_use;
 use crate::serial::hindrance_of;
 use crate::shown::append_number;
 use crate::spelled::append_reference;
@@ -8,6 +7,7 @@ use ast::{Line, Name, RefId};
 use codegen::LoopReport;
 use dependence::{LoopPlan, Reason, Relation};
 use loop_tree::{LoopTree, LoopView, Occurrence};
+use remarks::early_use;
 use std::alloc::{AllocError, Global};
 
 /// Two references that were looked at, the first in an iteration and the second in a later one.

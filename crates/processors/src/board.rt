@@ -4,7 +4,7 @@ ghost use Rattle.processors.specs.Calls.{IsCoreOf};
 
 use crate::call::Call;
 use crate::report::{Effort, Report, RunRefusal};
-use crate::work::Own;
+use crate::work::{Burst, Own};
 use ast::Answer;
 use machine::Frame;
 use replay::{Core, HandIn, Stepped};
@@ -14,12 +14,20 @@ use std::marker::{Model, PhantomData};
 /// How many shared steps are made in one turn, at most.
 const MOST_STEPS: u32 = 32;
 
-/// So many iterations of a loop are begun before it is asked whether they are long.
+/// So many iterations are begun before it is asked how long they are.
 const FIRST_FEW: u64 = 64;
 
+/// Of how many iterations, at most, it is counted how long they are: behind these each counts for half
+/// as much, so that the loops of before are forgotten little by little.
+const MOST_COUNTED: u64 = 1024;
+
 /// Iterations are long where they do so many local instructions each. A processor that sleeps is
-/// woken for another iteration only where they are: to wake one takes longer than a short iteration.
+/// woken for another iteration only where they are: to wake one takes longer than a shorter iteration.
 const LONG: u64 = 4096;
+
+/// Iterations are short where they do fewer local instructions each. Of several processors one alone
+/// begins them, and the others sleep: to hand the lock from one to another takes longer.
+const SHORT: u64 = 512;
 
 /// How a run stands.
 #[derive(Clone, Copy, Debug, PartialEq, Eq)]
@@ -58,8 +66,7 @@ pub struct Board<'c, C: Call> {
     /// How many processors sleep, or have been woken and have not had their turn yet. Each of them
     /// holds nothing.
     asleep: usize,
-    /// How many iterations of the loop that was opened last have begun, and how many local
-    /// instructions were done since.
+    /// How many iterations have begun of late, and how many local instructions were done in them.
     begun: u64,
     worked: u64,
     overlap: u128,
@@ -132,17 +139,29 @@ impl<'c, C: Call> Board<'c, C> {
         self.standing != Standing::Going || self.core.has_ended()
     }
 
+    /// Whether iterations have done so many local instructions each, or too few have begun to tell.
+    fn have_done(&self, each: u64) -> bool {
+        self.begun < FIRST_FEW || self.begun.saturating_mul(each) <= self.worked
+    }
+
     /// Whether one who sleeps is worth waking: an activity is ready, or an iteration may begin and
     /// iterations are long.
     pub fn wants_another(&self) -> bool {
         if self.asleep == 0 {
             return false;
         }
-        if self.core.has_ready() {
-            return true;
-        }
-        let long = self.begun < FIRST_FEW || self.worked / LONG >= self.begun;
-        long && self.core.has_ticket()
+        self.core.has_ready() || self.have_done(LONG) && self.core.has_ticket()
+    }
+
+    /// Whether all processors but one sleep.
+    fn is_last_awake(&self) -> bool {
+        self.asleep.saturating_add(1) >= self.core.processors()
+    }
+
+    /// Whether a processor that holds nothing leaves what could be taken up to another one: an iteration
+    /// that may begin, where iterations are short.
+    fn leaves_it(&self) -> bool {
+        !self.is_last_awake() && !self.have_done(SHORT) && !self.core.has_ready()
     }
 
     /// Processor `q` made so many steps.
@@ -152,11 +171,21 @@ impl<'c, C: Call> Board<'c, C> {
         }
     }
 
-    fn hand_in(&mut self, q: usize, own: Own<'c, C>) -> Result<(), HandIn> {
-        let made = own.done.made();
-        self.core.hand_in_own(q, Box::into_inner(own.done))?;
+    /// Processor `q` hands in a burst.
+    fn hand_in(&mut self, q: usize, burst: Burst<'c, C>) -> Result<(), HandIn> {
+        let made = burst.done.made();
+        self.core.hand_in_own(q, Box::into_inner(burst.done))?;
         self.worked = self.worked.wrapping_add(u64::from(made));
         self.count(q, made);
+        Ok(())
+    }
+
+    /// Processor `q` hands in its local work.
+    fn hand_in_all(&mut self, q: usize, own: Own<'c, C>) -> Result<(), HandIn> {
+        self.hand_in(q, own.first)?;
+        for burst in own.further {
+            self.hand_in(q, burst)?;
+        }
         Ok(())
     }
 
@@ -166,7 +195,19 @@ impl<'c, C: Call> Board<'c, C> {
         if self.core.holds(q) {
             return self.core.step(q);
         }
+        if self.leaves_it() {
+            return Ok(Stepped::Idle);
+        }
         self.core.pick(q, self.core.least())
+    }
+
+    /// One more iteration has begun.
+    fn count_begun(&mut self) {
+        if self.begun >= MOST_COUNTED {
+            self.begun /= 2;
+            self.worked /= 2;
+        }
+        self.begun = self.begun.wrapping_add(1);
     }
 
     fn no_memory(&mut self) -> Next {
@@ -188,11 +229,7 @@ impl<'c, C: Call> Board<'c, C> {
 
     /// Processor `q` has taken the ticket of iteration `k`.
     fn begin(&mut self, q: usize, k: u128) -> Next {
-        if k == 0 {
-            self.begun = 0;
-            self.worked = 0;
-        }
-        self.begun = self.begun.wrapping_add(1);
+        self.count_begun();
         self.overlap = self.overlap.max(self.core.overlap());
         if self.core.is_local(q) {
             return self.work(q, Some(k));
@@ -202,7 +239,7 @@ impl<'c, C: Call> Board<'c, C> {
 
     /// Processor `q` has no step. Where it holds something, or all others sleep, none will come.
     fn idle(&mut self, q: usize) -> Next {
-        if self.core.holds(q) || self.asleep.saturating_add(1) >= self.core.processors() {
+        if self.core.holds(q) || self.is_last_awake() {
             self.give_up(Standing::Stuck);
             return Next::Leave;
         }
@@ -248,7 +285,7 @@ impl<'c, C: Call> Board<'c, C> {
         }
         match own {
             None => self.steps(q),
-            Some(own) => match self.hand_in(q, own) {
+            Some(own) => match self.hand_in_all(q, own) {
                 Ok(()) | Err(HandIn::Stranger) => self.steps(q),
                 Err(HandIn::Ended) => Next::Leave,
                 Err(HandIn::Memory) => self.no_memory(),

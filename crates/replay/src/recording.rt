@@ -28,8 +28,7 @@ fn is_parked(activities: &Activities<'_>, holder: Holder) -> bool
     match holder {
         Holder::Main => activities.main.wait.is_some(),
         Holder::Iteration(number) => {
-            let place = (number % activities.slots as u128) as usize;
-            match &activities.iterations[place] {
+            match &activities.iterations[activities.place_of(number)] {
                 Some(iteration) => iteration.number == number && iteration.wait.is_some(),
                 None => false,
             }

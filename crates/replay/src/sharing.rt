@@ -137,7 +137,11 @@ impl<'c> Activities<'c> {
         requires { 0 < self.now.slots }
         ensures { result ≡ k % self.now.slots }
     {
-        (k % (self.slots as u128)) as usize
+        // A division of 128 bits takes ten times as long.
+        match u64::try_from(k) {
+            Ok(short) => (short % self.slots as u64) as usize,
+            Err(_) => (k % self.slots as u128) as usize,
+        }
     }
 
     /// The shared step of main, which processor `q` holds.

@@ -1,0 +1,4 @@
+pub mod Delivered
+pub mod Reading
+pub mod Statuses
+pub mod Upgrading

@@ -1,0 +1,131 @@
+-- What the program does with files, one thing after another, by their names.
+use Rattle.std.specs.Prelude.{◌≡◌, ◌≢◌, ◌++◌, ◌⊎◌, ℕ, Bool, true, false, List, [], ◌∷◌, Option, Some, None, Result, Ok, Err, Vec, option_map}
+use Rattle.std.specs.Global.{Global}
+use Rattle.std.specs.IoError.{error_kind}
+use Rattle.std.specs.declared.io.Error.{Error}
+use Rattle.std.specs.declared.io.ErrorKind.TheVariants.{OutOfMemory}
+use Rattle.engines.specs.declared.fault.ReadFault.{ReadFault}
+use Rattle.engines.specs.declared.fault.ReadFault.TheVariants as reading
+use Rattle.engines.specs.declared.texts.Texts.{Texts}
+use Rattle.commands.specs.declared.fault.FileFault.{FileFault}
+use Rattle.commands.specs.declared.fault.FileFault.TheVariants.{Opening, Reading, Memory}
+use Rattle.commands.specs.declared.files.Unread.{Unread}
+
+-- A name is compared with those of other files, whether it is one of theirs; a file is read, and its bytes
+-- were had or not; a file is given bytes, all of them or, by an error, none.
+pub data Deed : Type 0 where
+  Compares : (name : List ℕ) → (others : List (List ℕ)) → Bool → Deed
+  Reads : (name : List ℕ) → Result (List ℕ) FileFault → Deed
+  Replaces : (name bytes : List ℕ) → Option Error → Deed
+
+-- one more thing is done, where it is known what was
+abbrev pub noted : Option (List Deed) → Deed → Option (List Deed)
+noted known deed = option_map (λ deeds. deeds ++ deed ∷ []) known
+
+-- the bytes that were had, or why not
+abbrev pub got : Result (Vec ℕ Global) FileFault → Result (List ℕ) FileFault
+got (Ok bytes) = Ok bytes.items
+got (Err fault) = Err fault
+
+-- the same where the file's name goes with it
+abbrev pub unread : Result (Vec ℕ Global) Unread → Result (List ℕ) FileFault
+unread (Ok bytes) = Ok bytes.items
+unread (Err file) = Err file.fault
+
+-- the error by which none were given, if there was one
+abbrev pub unput : {T : Type 0} → Result T Error → Option Error
+unput (Ok done) = None
+unput (Err error) = Some error
+
+-- what a failed read of an opened file comes to
+abbrev pub of_read : ReadFault → FileFault
+of_read (reading.Reader e) = Reading e
+of_read reading.Memory = Memory
+
+abbrev pub of_reads : Result (Vec ℕ Global) ReadFault → Result (Vec ℕ Global) FileFault
+of_reads (Ok bytes) = Ok bytes
+of_reads (Err fault) = Err (of_read fault)
+
+-- the exit status of a file whose bytes can't be had
+abbrev pub file_status : FileFault → ℕ
+file_status (Opening e) = 4
+file_status (Reading e) = 4
+file_status Memory = 5
+
+-- the exit status of an error: that of want of memory, or another one
+abbrev pub OfError : Error → (other status : ℕ) → Type 0
+OfError error other status = (error_kind error ≡ OutOfMemory → status ≡ 5) × (error_kind error ≢ OutOfMemory → status ≡ other)
+
+-- the exit status of giving a file bytes
+abbrev pub OfWrite : Option Error → ℕ → Type 0
+OfWrite None status = status ≡ 0
+OfWrite (Some error) status = OfError error 4 status
+
+-- ---- What follows says of a command what it does with files, which had done `before` and in the end
+-- `after`; standard output had the bytes `old` and in the end `new`; and its exit status.
+
+-- Where a file's bytes can't be had nothing more is done and nothing is written, and the status is the
+-- fault's. Otherwise `made` says what is made of them.
+abbrev pub AfterFile : Result (List ℕ) FileFault → (before after : Option (List Deed)) → (old new : Option (List ℕ)) → ℕ → (List ℕ → Type 0) → Type 0
+AfterFile (Err fault) before after old new status made = (after ≡ before) × (new ≡ old) × (status ≡ file_status fault)
+AfterFile (Ok text) before after old new status made = made text
+
+-- a file is read, and then `made` says what is made of its bytes
+pub record ReadsFile (name : List ℕ) (before after : Option (List Deed)) (old new : Option (List ℕ)) (status : ℕ) (made : Option (List Deed) → List ℕ → Type 0) : Type 0 where
+  pub given : Result (List ℕ) FileFault
+  pub rest : AfterFile given (noted before (Reads name given)) after old new status (made (noted before (Reads name given)))
+
+-- the same of an input, which is empty where no file is named
+abbrev pub ReadsInput : Option (List ℕ) → (before after : Option (List Deed)) → (old new : Option (List ℕ)) → ℕ → (Option (List Deed) → List ℕ → Type 0) → Type 0
+ReadsInput None before after old new status made = made before []
+ReadsInput (Some name) before after old new status made = ReadsFile name before after old new status made
+
+-- the same of three files, in this order
+abbrev pub ReadsTexts : (source input schedule : List ℕ) → (before after : Option (List Deed)) → (old new : Option (List ℕ)) → ℕ → (Option (List Deed) → List ℕ → List ℕ → List ℕ → Type 0) → Type 0
+ReadsTexts source input schedule before after old new status made =
+    ReadsFile source before after old new status (λ first text.
+    ReadsFile input first after old new status (λ second given.
+    ReadsFile schedule second after old new status (λ third picks. made third text given picks)))
+
+-- the same where they were read before
+abbrev pub AfterTexts : Result Texts Unread → (before after : Option (List Deed)) → (old new : Option (List ℕ)) → ℕ → (List ℕ → List ℕ → List ℕ → Type 0) → Type 0
+AfterTexts (Err file) before after old new status made = (after ≡ before) × (new ≡ old) × (status ≡ file_status file.fault)
+AfterTexts (Ok texts) before after old new status made = made texts.source.items texts.input.items texts.schedule.items
+
+-- three files were read in this order, up to the first whose bytes couldn't be had
+abbrev pub HasRead : (source input schedule : List ℕ) → (before after : Option (List Deed)) → Result Texts Unread → Type 0
+HasRead source input schedule before after (Ok texts) =
+    after ≡ noted (noted (noted before (Reads source (Ok texts.source.items))) (Reads input (Ok texts.input.items))) (Reads schedule (Ok texts.schedule.items))
+HasRead source input schedule before after (Err file) =
+    (after ≡ noted before (Reads source (Err file.fault)))
+    ⊎ (((text : List ℕ) × (after ≡ noted (noted before (Reads source (Ok text))) (Reads input (Err file.fault))))
+    ⊎ ((text : List ℕ) × (given : List ℕ)
+    × (after ≡ noted (noted (noted before (Reads source (Ok text))) (Reads input (Ok given))) (Reads schedule (Err file.fault)))))
+
+-- A file that is to be written may be none of those that are read: then nothing more is done and nothing is
+-- written, and the status is 4.
+abbrev pub AfterCompare : Bool → (before after : Option (List Deed)) → (old new : Option (List ℕ)) → ℕ → Type 0 → Type 0
+AfterCompare true before after old new status rest = (after ≡ before) × (new ≡ old) × (status ≡ 4)
+AfterCompare false before after old new status rest = rest
+
+-- a name is compared with those of files that are read, and only where it is none of theirs the rest is done
+pub record UnlessRead (name : List ℕ) (others : List (List ℕ)) (before after : Option (List Deed)) (old new : Option (List ℕ)) (status : ℕ) (made : Option (List Deed) → Type 0) : Type 0 where
+  pub is_one : Bool
+  pub rest : AfterCompare is_one (noted before (Compares name others is_one)) after old new status (made (noted before (Compares name others is_one)))
+
+-- a file is given bytes, and this is the status of that
+pub record GivesFile (name bytes : List ℕ) (before after : Option (List Deed)) (status : ℕ) : Type 0 where
+  pub put : Option Error
+  pub is : after ≡ noted before (Replaces name bytes put)
+  pub ends : OfWrite put status
+
+-- where a file couldn't be given its bytes nothing is written, and the status is that of the error
+abbrev pub AfterPut : Option Error → (old new : Option (List ℕ)) → ℕ → Type 0 → Type 0
+AfterPut None old new status rest = rest
+AfterPut (Some error) old new status rest = (new ≡ old) × OfError error 4 status
+
+-- a file is given bytes, and only where it has them the rest is done
+pub record GivesFirst (name bytes : List ℕ) (before after : Option (List Deed)) (old new : Option (List ℕ)) (status : ℕ) (rest : Type 0) : Type 0 where
+  pub put : Option Error
+  pub is : after ≡ noted before (Replaces name bytes put)
+  pub then : AfterPut put old new status rest

@@ -1,0 +1,24 @@
+-- What the program makes of its words.
+use Rattle.std.specs.Prelude.{◌≡◌, ◌⊎◌, ⊤, ℕ, List, Option}
+use Rattle.clap.specs.Words.{Text}
+use Rattle.commands.specs.Commands.{Obeys}
+use Rattle.commands.specs.Deeds.{Deed}
+use Rattle.commands.specs.declared.command.Command.{Command}
+use Rattle.doac.specs.CommandLine.{Names, NamesNone, line_status}
+use Rattle.doac.specs.declared.command.LineFault.{LineFault}
+use Rattle.doac.specs.declared.command.LineFault.TheVariants.{Help}
+
+-- it is help, or the version, which is printed
+abbrev pub IsPrinted : LineFault → Type 0
+IsPrinted (Help text) = ⊤
+IsPrinted _ = ⊥
+
+-- the exit status of words that name no command; what is printed may fail to be written
+abbrev pub EndsLine : LineFault → ℕ → Type 0
+EndsLine fault status = (status ≡ line_status fault) ⊎ (IsPrinted fault × (status ≡ 4))
+
+-- the command that clap finds in the words is obeyed, or a fault is told that is true of them
+abbrev pub Follows : List Text → (before after : Option (List Deed)) → (old new : Option (List ℕ)) → ℕ → Type 0
+Follows words before after old new status =
+    ((command : Command) × Names words command × Obeys command before after old new status)
+    ⊎ ((fault : LineFault) × NamesNone words fault × EndsLine fault status × (after ≡ before))

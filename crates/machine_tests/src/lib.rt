@@ -1,0 +1,28 @@
+//! Tests over the public calls of the kernel, the machine, its runs and the compiler, of what no clause says:
+//! worked programs under drivers on one thread, and in threads.
+#![tactic(auto)]
+
+#[cfg(test)]
+mod cores;
+#[cfg(test)]
+mod driven;
+#[cfg(test)]
+mod drivers;
+#[cfg(test)]
+mod endless;
+#[cfg(test)]
+mod gates;
+#[cfg(test)]
+mod held;
+#[cfg(test)]
+mod iterations;
+#[cfg(test)]
+mod kernels;
+#[cfg(test)]
+mod links;
+#[cfg(test)]
+mod sharing;
+#[cfg(test)]
+mod threads;
+#[cfg(test)]
+mod worked;

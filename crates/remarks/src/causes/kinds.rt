@@ -1,0 +1,145 @@
+//! Which operand of a statement is of the wrong kind: an integer where a logical value is wanted, or the
+//! other way round.
+
+use super::Cause;
+use crate::mentions::{LONGEST_NAME, Mention};
+use crate::squeezed::Squeezed;
+use ast::Name;
+use bstr::ByteSlice;
+
+/// The operators that compare integers.
+const RELATIONS: [&[u8]; 6] = [b"EQ.", b"NE.", b"LT.", b"LE.", b"GT.", b"GE."];
+
+/// The operators between logical values, and the one before a logical value.
+const CONNECTIVES: [&[u8]; 5] = [b".AND.", b".OR.", b".EQV.", b".NEQV.", b".NOT."];
+
+/// What is of the wrong kind in a statement of these names, as far as that can be told.
+pub fn wrong_kind(statement: &Squeezed, names: &[Mention]) -> Option<Cause> {
+    let text = statement.text.as_slice();
+    let operand = CONNECTIVES
+        .iter()
+        .find_map(|operator| beside(text, operator));
+    if let Some(name) = operand.or(condition(text)) {
+        return Some(Cause::Integer(name));
+    }
+    match names.first() {
+        Some(mention) if mention.is_given && mention.depth == 0 && text.contains(&b'.') => {
+            Some(Cause::Logical(mention.name))
+        }
+        _ => None,
+    }
+}
+
+/// The integer beside the first of these operators, if there is one.
+fn beside(text: &[u8], operator: &[u8]) -> Option<Name> {
+    let at = text.find(operator)?;
+    let end = at.saturating_add(operator.len());
+    let before = integer_before(text.get(..at)?);
+    before.or(integer_behind(text.get(end..)?))
+}
+
+/// The condition of an IF that is an integer alone.
+fn condition(text: &[u8]) -> Option<Name> {
+    let text = text.strip_prefix(b"ELSE".as_slice()).unwrap_or(text);
+    let text = text.strip_prefix(b"IF(".as_slice())?;
+    let end = first_len(text);
+    match text.get(end) {
+        Some(b')') => name_in(text.get(..end)?),
+        _ => None,
+    }
+}
+
+/// The integer at the end of a text, unless it is compared there.
+fn integer_before(text: &[u8]) -> Option<Name> {
+    let start = text.len().saturating_sub(last_len(text));
+    let is_compared = RELATIONS.iter().any(|relation| text
+        .get(..start)
+        .is_some_and(|before| before.ends_with(relation)));
+    if is_compared {
+        return None;
+    }
+    name_in(text.get(start..)?)
+}
+
+/// The integer at the beginning of a text, unless it is compared there.
+fn integer_behind(text: &[u8]) -> Option<Name> {
+    let end = first_len(text);
+    let behind = text.get(end..)?;
+    let behind = behind.strip_prefix(b".".as_slice()).unwrap_or(b"");
+    if RELATIONS
+        .iter()
+        .any(|relation| behind.starts_with(relation))
+    {
+        return None;
+    }
+    name_in(text.get(..end)?)
+}
+
+/// An operand as far as it was read.
+#[derive(Drop)]
+struct Operand {
+    /// The sign that opens a parenthesis.
+    opening: u8,
+    depth: usize,
+    /// How many bytes it has.
+    len: usize,
+}
+
+impl Operand {
+    fn new(opening: u8) -> Self {
+        Operand {
+            opening,
+            depth: 0,
+            len: 0,
+        }
+    }
+
+    /// Whether a byte belongs to it too; it then has it.
+    fn takes(&mut self, byte: u8) -> bool {
+        match byte {
+            b'(' | b')' if byte == self.opening => self.depth = self.depth.saturating_add(1),
+            b'(' | b')' | b'.' | b'=' | b',' if self.depth == 0 => return false,
+            b'(' | b')' => self.depth = self.depth.saturating_sub(1),
+            _ => {}
+        }
+        self.len = self.len.saturating_add(1);
+        true
+    }
+}
+
+/// How many bytes the operand at the beginning of a text has.
+fn first_len(text: &[u8]) -> usize {
+    let mut operand = Operand::new(b'(');
+    for byte in text {
+        if !operand.takes(*byte) {
+            break;
+        }
+    }
+    operand.len
+}
+
+/// How many bytes the operand at the end of a text has.
+fn last_len(text: &[u8]) -> usize {
+    let mut operand = Operand::new(b')');
+    for byte in text.iter().rev() {
+        if !operand.takes(*byte) {
+            break;
+        }
+    }
+    operand.len
+}
+
+/// The first name in an operand without points.
+fn name_in(operand: &[u8]) -> Option<Name> {
+    if operand.contains(&b'.') {
+        return None;
+    }
+    let start = operand.iter().position(|byte| byte.is_ascii_alphabetic())?;
+    let text = operand.get(start..)?;
+    let end = text.iter().position(|byte| !byte.is_ascii_alphanumeric());
+    let word = text.get(..end.unwrap_or(text.len()))?;
+    match word.first() {
+        Some(b'A'..=b'Z') if word.len() <= LONGEST_NAME => Some(Name::padded(word)),
+        _ => None,
+    }
+}

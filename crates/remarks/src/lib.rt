@@ -1,0 +1,30 @@
+//! Remarks on sources, for standard error: which name is meant, where a statement stops being one, what may
+//! have been wanted in its place, and what is warned of. No clause says what they are, and no answer rests
+//! on them.
+#![tactic(auto)]
+
+mod beyond;
+mod breaks;
+mod caret;
+mod causes;
+mod columns;
+mod early;
+mod hints;
+mod mentions;
+mod place;
+mod squeezed;
+mod usage;
+mod visible;
+mod warnings;
+
+pub use beyond::Beyond;
+pub use breaks::break_place;
+pub use caret::Caret;
+pub use causes::{Cause, cause_of};
+pub use columns::{LABEL_COLUMNS, is_blank, is_comment, is_continuation};
+pub use early::early_use;
+pub use hints::{hint, hint_of_schedule};
+pub use place::Place;
+pub use squeezed::{Squeezed, has_outer};
+pub use visible::{Visible, VisibleLines};
+pub use warnings::{warn, warn_of_columns};

@@ -1,0 +1,22 @@
+//! Places in files.
+
+use crate::visible::Visible;
+use ast::Line;
+use std::fmt::{Display, Formatter, Result as FmtResult, Write};
+
+/// A line of a file, as it stands before what is said of it. Line 0 is none.
+#[derive(Drop)]
+pub struct Place<'a> {
+    pub file: &'a str,
+    pub line: Line,
+}
+
+impl<'a> Display for Place<'a> {
+    fn fmt<W: Write>(&self, f: &mut Formatter<W>) -> FmtResult {
+        write!(f, "{}:", Visible::new(self.file.as_bytes()))?;
+        match self.line {
+            0 => f.write_str(" "),
+            line => write!(f, "{line}: "),
+        }
+    }
+}
