@@ -11,6 +11,9 @@ use std::alloc::{AllocError, Global};
 /// How many further refusals are told at most.
 const MOST: usize = 20;
 
+/// The number of a label that stands twice.
+const LABEL_TWICE: u8 = 41;
+
 /// A source without the statements that were refused.
 #[derive(Drop)]
 struct Rest {
@@ -66,7 +69,11 @@ impl Rest {
             return Ok(false);
         }
         self.is_sure = self.is_sure && is_simple(&statement.text);
-        self.source = without(alloc, &self.source, self.line)?;
+        self.source = if self.number == LABEL_TWICE {
+            unlabelled(alloc, &self.source, self.line)?
+        } else {
+            without(alloc, &self.source, self.line)?
+        };
         match judged(alloc, &self.source)? {
             Verdict::Accepted(_) => Ok(false),
             Verdict::Refused { number, line } => {
@@ -98,6 +105,23 @@ fn is_simple(text: &[u8]) -> bool {
         || text.starts_with(b"READ")
         || text.starts_with(b"WRITE")
         || has_outer(b'=', text) && !has_outer(b',', text)
+}
+
+/// A source in which the statement that begins in a line has lost its label.
+fn unlabelled(alloc: Global, source: &[u8], line: Line) -> Result<Vec<u8>, AllocError> {
+    let mut kept = Vec::with_capacity(alloc, source.len())?;
+    let mut number: Line = 0;
+    for text in source.lines_with_terminator() {
+        number = number.saturating_add(1);
+        match text.get(LABEL_COLUMNS..) {
+            Some(rest) if number == line => {
+                kept.extend_from_slice(b"     ")?;
+                kept.extend_from_slice(rest)?;
+            }
+            _ => kept.extend_from_slice(text)?,
+        }
+    }
+    Ok(kept)
 }
 
 /// A source in which comments stand in the place of the statement that begins in a line; its label

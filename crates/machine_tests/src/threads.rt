@@ -77,6 +77,24 @@ fn many_processors_of_one_iteration(rt: HostRuntime) -> Result<(), Fail> {
     runs_to(&rt, &code, b"", 64, 1, &answer)
 }
 
+/// So many short iterations that one processor alone goes on to begin them.
+const SHORT: &[u8] = b"      INTEGER A(200)
+      DO 10 I=1,200
+   10 A(I)=I
+      PRINT *,A(200)
+      END
+";
+
+#[test]
+fn short_iterations(rt: HostRuntime) -> Result<(), Fail> {
+    let code = compiled(rt.alloc(), SHORT)?;
+    let answer = sequential(rt.alloc(), SHORT, b"")?;
+    for p in [1, 2, 4, 64] {
+        runs_to(&rt, &code, b"", p, 4, &answer)?;
+    }
+    Ok(())
+}
+
 /// The number of a refusal that isn't one of memory.
 pub fn refused(came: Result<Report, RunRefusal>) -> Result<u8, AllocError> {
     match came {

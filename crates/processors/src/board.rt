@@ -158,10 +158,11 @@ impl<'c, C: Call> Board<'c, C> {
         self.asleep.saturating_add(1) >= self.core.processors()
     }
 
-    /// Whether a processor that holds nothing leaves what could be taken up to another one: an iteration
-    /// that may begin, where iterations are short.
+    /// Whether a processor that holds nothing leaves what could be taken up to another one that is awake:
+    /// an iteration that may begin, where iterations are short.
     fn leaves_it(&self) -> bool {
-        !self.is_last_awake() && !self.have_done(SHORT) && !self.core.has_ready()
+        let is_a_ticket = self.core.has_ticket() && !self.core.has_ready();
+        is_a_ticket && !self.have_done(SHORT) && !self.is_last_awake() && !self.core.has_ended()
     }
 
     /// Processor `q` made so many steps.

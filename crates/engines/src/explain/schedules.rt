@@ -157,7 +157,7 @@ const LONG_CODE: Explanation = Explanation {
     number: 61,
     origin: Origin::Refusal,
     sentence: "the program's code would be too long",
-    meaning: "The code of a program has at most 1048576 instructions. Only commands that run its code
+    meaning: "The code of a program has at most 1,048,576 instructions. Only commands that compile it
 refuse a program for this; 'doac seq' runs it all the same. The refusal is of no line: LINE 0.
 ",
     example: Trial {
