@@ -9,7 +9,7 @@ ghost use Rattle.commands.specs.Running.{EndsRun, RunsRead, ShowsRan, Shown, Wri
 use crate::command::Threaded;
 use crate::fault::FileFault;
 use crate::files::NamedFiles;
-use crate::told::{refuse_file, refuse_out, refuse_write, tell_threaded, warn_of_run};
+use crate::told::{refuse_file, refuse_out, refuse_write, tell, warn_of_run};
 use engines::{EngineFault, Outcome, Ran, Wants, Whole, run_texts, say_figures};
 use std::io;
 use std::io::Write;
@@ -161,7 +161,7 @@ fn run_source<R: Eprint + AllocGlobal + Threads + Wait + Sync, F: NamedFiles, W:
         tally: asked.tally,
     };
     let ran = run_texts(rt, rt.alloc(), text, input, wants);
-    write_run(rt, files, out, asked, text, input, &ran)
+    write_run(rt, files, out, asked, text, &ran)
 }
 
 /// The text of a run's schedule, if it has one.
@@ -186,7 +186,6 @@ fn write_run<R: Eprint + AllocGlobal, F: NamedFiles, W: Write>(
     out: &mut W,
     asked: Threaded<'_>,
     text: &[u8],
-    input: &[u8],
     ran: &Ran,
 ) -> u8
     ensures { WritesRun (option_map (λ o. o.now) asked.entry.schedule) ran.now
@@ -195,9 +194,9 @@ fn write_run<R: Eprint + AllocGlobal, F: NamedFiles, W: Write>(
     match (asked.schedule, schedule_text(ran)) {
         (Some(onto), Some(schedule)) => {
             let put = files.replace(onto, schedule);
-            write_behind(rt, out, asked, text, input, ran, onto, put)
+            write_behind(rt, out, asked, text, ran, onto, put)
         }
-        _ => write_shown(rt, out, asked, text, input, ran),
+        _ => write_shown(rt, out, asked, text, ran),
     }
 }
 
@@ -207,7 +206,6 @@ fn write_behind<R: Eprint + AllocGlobal, W: Write>(
     out: &mut W,
     asked: Threaded<'_>,
     text: &[u8],
-    input: &[u8],
     ran: &Ran,
     onto: &str,
     put: io::Result<()>,
@@ -216,7 +214,7 @@ fn write_behind<R: Eprint + AllocGlobal, W: Write>(
         (Shown ran.now (W.contents out.old) (W.contents out.new) result) }
 {
     match put {
-        Ok(()) => write_shown(rt, out, asked, text, input, ran),
+        Ok(()) => write_shown(rt, out, asked, text, ran),
         Err(error) => refuse_write(rt, onto, &error),
     }
 }
@@ -237,7 +235,6 @@ fn write_shown<R: Eprint + AllocGlobal, W: Write>(
     out: &mut W,
     asked: Threaded<'_>,
     text: &[u8],
-    input: &[u8],
     ran: &Ran,
 ) -> u8
     ensures { Shown ran.now (W.contents out.old) (W.contents out.new) result }
@@ -253,5 +250,5 @@ fn write_shown<R: Eprint + AllocGlobal, W: Write>(
         say_figures(rt, figures);
     }
     warn_of_run(rt, asked.source, text, &outcome);
-    tell_threaded(rt, asked.source, text, asked.input, input, outcome)
+    tell(rt, asked.source, text, outcome)
 }

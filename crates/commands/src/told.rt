@@ -6,15 +6,9 @@ ghost use Rattle.commands.specs.Statuses.{Ends, IsPage, OfPrint, exit_of};
 
 use crate::fault::FileFault;
 use crate::files::{NamedFiles, Names};
-use ast::Fault;
-use engines::{
-    EngineFault, LastRecord, Message, Met, Note, Outcome, Page, Sequential, Texts, seq_noted,
-};
+use engines::{EngineFault, LastRecord, Message, Met, Note, Outcome, Page, Sequential, Texts};
 use remarks::{Place, warn_of_columns};
 use std::io::{self, Write};
-
-/// How many bytes of records may wait where none is shown.
-const MOST_UNSHOWN: usize = 65536;
 
 /// Says that writing failed; where nobody reads any more nobody needs to know.
 fn say_unwritten<R: Eprint>(rt: &R, error: &io::Error) {
@@ -175,47 +169,6 @@ pub fn tell_run<R: Eprint + AllocGlobal>(
     status
 }
 
-/// What is known beside the line of a fault that a run in threads, or a replay, has come to: the
-/// sequential run comes to the same one, and is made again to tell it.
-fn known_of<R: AllocGlobal>(
-    rt: &R,
-    text: &[u8],
-    input: &[u8],
-    came: Result<Outcome, EngineFault>,
-) -> Sequential
-    ensures { result.came ≡ came }
-{
-    let (note, left) = match &came {
-        Ok(
-            Outcome::Faulted {
-                fault: Fault::Index | Fault::BadInput | Fault::EndOfInput,
-                ..
-            },
-        ) => {
-            let mut out = io::sink();
-            let again = seq_noted(rt.alloc(), text, input, false, MOST_UNSHOWN, &mut out);
-            (again.note, again.left)
-        }
-        _ => (None, None),
-    };
-    Sequential { came, note, left }
-}
-
-/// The same of a run in threads, or a replay.
-pub fn tell_threaded<R: Eprint + AllocGlobal>(
-    rt: &R,
-    name: &str,
-    text: &[u8],
-    given: Option<&str>,
-    input: &[u8],
-    came: Result<Outcome, EngineFault>,
-) -> u8
-    ensures { result ≡ exit_of came }
-{
-    let run = known_of(rt, text, input, came);
-    tell_run(rt, name, text, given, input, run)
-}
-
 /// Why the entry in a line of a schedule can't be made, where the schedule is refused for that.
 fn obstacle<R: AllocGlobal>(rt: &R, texts: &Texts, number: u8, line: usize) -> Option<Note> {
     let Texts {
@@ -244,14 +197,7 @@ pub fn tell_of<R: Eprint + AllocGlobal>(
             let note = obstacle(rt, texts, number, line);
             tell_noted(rt, names.schedule, &texts.schedule, Ok(outcome), note)
         }
-        outcome => tell_threaded(
-            rt,
-            names.source,
-            &texts.source,
-            Some(names.input),
-            &texts.input,
-            outcome,
-        ),
+        outcome => tell(rt, names.source, &texts.source, outcome),
     }
 }
 
