@@ -6,11 +6,13 @@ ghost use Rattle.interpreter.specs.Handing.{AppendsPart};
 
 use std::io::{Error, ErrorKind, Result, Write};
 
-/// Bytes of whole records that are still to be handed on, and how many of them may wait.
+/// Bytes of whole records that are still to be handed on, how many of them may wait, and why the
+/// writer failed, if it did.
 #[derive(Drop)]
 pub struct Pending {
     pub bytes: Vec<u8>,
     pub most: usize,
+    pub failed: Option<Error>,
 }
 
 /// Writes a whole text. A writer that takes no byte has failed.
