@@ -160,7 +160,15 @@ fn commands_succeed(rt: HostRuntime) {
     for case in &CASES {
         let mut files = TestFiles::new(rt.alloc(), usize::MAX);
         let mut out = Vec::new(rt.alloc());
-        let status = obey(&rt, &mut files, &mut out, case.command, 65_536);
+        let mut nowhere = Vec::new(rt.alloc());
+        let status = obey(
+            &rt,
+            &mut files,
+            &mut out,
+            &mut nowhere,
+            case.command,
+            65_536,
+        );
         assert_eq!(rt; status, 0);
         assert_eq!(rt; files.calls.as_slice(), case.calls);
         assert_eq!(rt; out.as_slice(), case.output);
@@ -182,7 +190,15 @@ fn each_call_fails_in_turn(rt: HostRuntime) {
         for left in 0..lines(case.calls) {
             let mut files = TestFiles::new(rt.alloc(), left);
             let mut out = Vec::new(rt.alloc());
-            let status = obey(&rt, &mut files, &mut out, case.command, 65_536);
+            let mut nowhere = Vec::new(rt.alloc());
+            let status = obey(
+                &rt,
+                &mut files,
+                &mut out,
+                &mut nowhere,
+                case.command,
+                65_536,
+            );
             assert_eq!(rt; status, 4);
             assert!(rt; case.calls.starts_with(&files.calls));
             assert_eq!(rt; lines(&files.calls), left + 1);

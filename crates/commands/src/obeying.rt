@@ -15,11 +15,14 @@ use std::io::Write;
 use std::sync::Wait;
 use std::thread::Threads;
 
-/// Does what a command asks for. Of a sequential run's records `most` bytes may wait to be written.
+/// Does what a command asks for. Of a sequential run's records `most` bytes may wait to be written. What a
+/// sequential run prints that is made for a message alone, at a fault of `run` or `replay`, goes to
+/// `nowhere`, which is to show nothing.
 pub fn obey<R: Print + Eprint + AllocGlobal + Threads + Wait + Sync, F: NamedFiles, W: Write>(
     rt: &R,
     files: &mut F,
     out: &mut W,
+    nowhere: &mut W,
     command: Command<'_>,
     most: usize,
 ) -> u8
@@ -35,7 +38,7 @@ pub fn obey<R: Print + Eprint + AllocGlobal + Threads + Wait + Sync, F: NamedFil
             input,
             store,
         } => seq_files(rt, files, out, source, input, store, most),
-        Command::Run(asked) => run_files(rt, files, out, asked),
+        Command::Run(asked) => run_files(rt, files, out, nowhere, asked),
         Command::Replay {
             source,
             input,
@@ -44,6 +47,7 @@ pub fn obey<R: Print + Eprint + AllocGlobal + Threads + Wait + Sync, F: NamedFil
             rt,
             files,
             out,
+            nowhere,
             Names {
                 source,
                 input,

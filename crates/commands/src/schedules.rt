@@ -6,15 +6,19 @@ ghost use Rattle.commands.specs.Deeds.{AfterCompare, AfterTexts, ReadsTexts};
 ghost use Rattle.commands.specs.Statuses.{Ends, EndsUpgrade};
 
 use crate::files::{NamedFiles, Names, Unread, read_texts};
-use crate::told::{give_file, refuse_file, refuse_out, show_page, tell_of, warn_of_run};
+use crate::told::{
+    give_file, refuse_file, refuse_out, show_page, tell_of, tell_replay, warn_of_run,
+};
 use engines::{EngineFault, Texts, Upgraded, replay_texts, upgrade_texts};
 use std::io::Write;
 
-/// Replays the schedule of a file.
+/// Replays the schedule of a file. Where the sequential run tells more of its fault that is made behind
+/// it, onto `nowhere`.
 pub fn replay_files<R: Eprint + AllocGlobal, F: NamedFiles, W: Write>(
     rt: &R,
     files: &mut F,
     out: &mut W,
+    nowhere: &mut W,
     names: Names<'_>,
 ) -> u8
     ensures { OnTexts Replaying
@@ -22,13 +26,14 @@ pub fn replay_files<R: Eprint + AllocGlobal, F: NamedFiles, W: Write>(
         (F.done files.old) (F.done files.new) (W.contents out.old) (W.contents out.new) result }
 {
     let texts = read_texts(files, names);
-    replay_given(rt, out, names, texts)
+    replay_given(rt, out, nowhere, names, texts)
 }
 
 /// What `replay` makes of the bytes of its files.
 fn replay_given<R: Eprint + AllocGlobal, W: Write>(
     rt: &R,
     out: &mut W,
+    nowhere: &mut W,
     names: Names<'_>,
     texts: Result<Texts, Unread<'_>>,
 ) -> u8
@@ -38,7 +43,7 @@ fn replay_given<R: Eprint + AllocGlobal, W: Write>(
         (W.contents out.old) (W.contents out.new) result) }
 {
     match texts {
-        Ok(texts) => replay_read(rt, out, names, &texts),
+        Ok(texts) => replay_read(rt, out, nowhere, names, &texts),
         Err(Unread { name, fault }) => refuse_file(rt, name, &fault),
     }
 }
@@ -47,6 +52,7 @@ fn replay_given<R: Eprint + AllocGlobal, W: Write>(
 fn replay_read<R: Eprint + AllocGlobal, W: Write>(
     rt: &R,
     out: &mut W,
+    nowhere: &mut W,
     names: Names<'_>,
     texts: &Texts,
 ) -> u8
@@ -62,7 +68,7 @@ fn replay_read<R: Eprint + AllocGlobal, W: Write>(
         out,
     );
     warn_of_run(rt, names.source, &texts.source, &outcome);
-    tell_of(rt, names, texts, outcome)
+    tell_replay(rt, nowhere, names, texts, outcome)
 }
 
 /// Writes the schedule of a file with its picks named to the file `onto`, if that is none of those

@@ -9,7 +9,7 @@ ghost use Rattle.commands.specs.Running.{EndsRun, RunsRead, ShowsRan, Shown, Wri
 use crate::command::Threaded;
 use crate::fault::FileFault;
 use crate::files::NamedFiles;
-use crate::told::{refuse_file, refuse_out, refuse_write, tell, warn_of_run};
+use crate::told::{refuse_file, refuse_out, refuse_write, tell_known, warn_of_run};
 use engines::{EngineFault, Outcome, Ran, Wants, Whole, run_texts, say_figures};
 use std::io;
 use std::io::Write;
@@ -17,21 +17,22 @@ use std::sync::Wait;
 use std::thread::Threads;
 
 /// Runs the source of a file in threads, if its schedule is to go to none of the files that are
-/// read.
+/// read. Where the sequential run tells more of its fault that is made behind it, onto `nowhere`.
 pub fn run_files<R: Eprint + AllocGlobal + Threads + Wait + Sync, F: NamedFiles, W: Write>(
     rt: &R,
     files: &mut F,
     out: &mut W,
+    nowhere: &mut W,
     asked: Threaded<'_>,
 ) -> u8
     ensures { RunsFiles asked.entry
         (F.done files.old) (F.done files.new) (W.contents out.old) (W.contents out.new) result }
 {
     let Some(onto) = asked.schedule else {
-        return run_read(rt, files, out, asked);
+        return run_read(rt, files, out, nowhere, asked);
     };
     let is_read = is_read(files, onto, asked.source, asked.input);
-    run_unless(rt, files, out, asked, onto, is_read)
+    run_unless(rt, files, out, nowhere, asked, onto, is_read)
 }
 
 /// Whether a name is that of the source's file or of the input's.
@@ -50,6 +51,7 @@ fn run_unless<R: Eprint + AllocGlobal + Threads + Wait + Sync, F: NamedFiles, W:
     rt: &R,
     files: &mut F,
     out: &mut W,
+    nowhere: &mut W,
     asked: Threaded<'_>,
     onto: &str,
     is_read: bool,
@@ -62,7 +64,7 @@ fn run_unless<R: Eprint + AllocGlobal + Threads + Wait + Sync, F: NamedFiles, W:
     if is_read {
         return refuse_out(rt, onto);
     }
-    run_read(rt, files, out, asked)
+    run_read(rt, files, out, nowhere, asked)
 }
 
 /// Reads the source of a file and runs it.
@@ -70,13 +72,14 @@ fn run_read<R: Eprint + AllocGlobal + Threads + Wait + Sync, F: NamedFiles, W: W
     rt: &R,
     files: &mut F,
     out: &mut W,
+    nowhere: &mut W,
     asked: Threaded<'_>,
 ) -> u8
     ensures { RunsRead asked.entry
         (F.done files.old) (F.done files.new) (W.contents out.old) (W.contents out.new) result }
 {
     let text = files.read(asked.source);
-    run_given(rt, files, out, asked, text)
+    run_given(rt, files, out, nowhere, asked, text)
 }
 
 /// What `run` makes of the bytes of its source's file: only where they were had is an input read.
@@ -84,6 +87,7 @@ fn run_given<R: Eprint + AllocGlobal + Threads + Wait + Sync, F: NamedFiles, W: 
     rt: &R,
     files: &mut F,
     out: &mut W,
+    nowhere: &mut W,
     asked: Threaded<'_>,
     text: Result<Vec<u8>, FileFault>,
 ) -> u8
@@ -95,7 +99,7 @@ fn run_given<R: Eprint + AllocGlobal + Threads + Wait + Sync, F: NamedFiles, W: 
         done (F.done files.new) (W.contents out.old) (W.contents out.new) result)) }
 {
     match text {
-        Ok(text) => run_file(rt, files, out, asked, &text),
+        Ok(text) => run_file(rt, files, out, nowhere, asked, &text),
         Err(fault) => refuse_file(rt, asked.source, &fault),
     }
 }
@@ -105,6 +109,7 @@ fn run_file<R: Eprint + AllocGlobal + Threads + Wait + Sync, F: NamedFiles, W: W
     rt: &R,
     files: &mut F,
     out: &mut W,
+    nowhere: &mut W,
     asked: Threaded<'_>,
     text: &[u8],
 ) -> u8
@@ -114,10 +119,10 @@ fn run_file<R: Eprint + AllocGlobal + Threads + Wait + Sync, F: NamedFiles, W: W
         done (F.done files.new) (W.contents out.old) (W.contents out.new) result) }
 {
     let Some(input) = asked.input else {
-        return run_source(rt, files, out, asked, text, &[]);
+        return run_source(rt, files, out, nowhere, asked, text, &[]);
     };
     let given = files.read(input);
-    run_on(rt, files, out, asked, text, input, given)
+    run_on(rt, files, out, nowhere, asked, text, input, given)
 }
 
 /// What `run` makes of the bytes of its input's file.
@@ -125,6 +130,7 @@ fn run_on<R: Eprint + AllocGlobal + Threads + Wait + Sync, F: NamedFiles, W: Wri
     rt: &R,
     files: &mut F,
     out: &mut W,
+    nowhere: &mut W,
     asked: Threaded<'_>,
     text: &[u8],
     input: &str,
@@ -136,7 +142,7 @@ fn run_on<R: Eprint + AllocGlobal + Threads + Wait + Sync, F: NamedFiles, W: Wri
         (F.done files.old) (F.done files.new) (W.contents out.old) (W.contents out.new) result) }
 {
     match given {
-        Ok(given) => run_source(rt, files, out, asked, text, &given),
+        Ok(given) => run_source(rt, files, out, nowhere, asked, text, &given),
         Err(fault) => refuse_file(rt, input, &fault),
     }
 }
@@ -146,6 +152,7 @@ fn run_source<R: Eprint + AllocGlobal + Threads + Wait + Sync, F: NamedFiles, W:
     rt: &R,
     files: &mut F,
     out: &mut W,
+    nowhere: &mut W,
     asked: Threaded<'_>,
     text: &[u8],
     input: &[u8],
@@ -161,7 +168,7 @@ fn run_source<R: Eprint + AllocGlobal + Threads + Wait + Sync, F: NamedFiles, W:
         tally: asked.tally,
     };
     let ran = run_texts(rt, rt.alloc(), text, input, wants);
-    write_run(rt, files, out, asked, text, &ran)
+    write_run(rt, files, out, nowhere, asked, text, input, &ran)
 }
 
 /// The text of a run's schedule, if it has one.
@@ -184,8 +191,10 @@ fn write_run<R: Eprint + AllocGlobal, F: NamedFiles, W: Write>(
     rt: &R,
     files: &mut F,
     out: &mut W,
+    nowhere: &mut W,
     asked: Threaded<'_>,
     text: &[u8],
+    input: &[u8],
     ran: &Ran,
 ) -> u8
     ensures { WritesRun (option_map (λ o. o.now) asked.entry.schedule) ran.now
@@ -194,9 +203,9 @@ fn write_run<R: Eprint + AllocGlobal, F: NamedFiles, W: Write>(
     match (asked.schedule, schedule_text(ran)) {
         (Some(onto), Some(schedule)) => {
             let put = files.replace(onto, schedule);
-            write_behind(rt, out, asked, text, ran, onto, put)
+            write_behind(rt, out, nowhere, asked, text, input, ran, onto, put)
         }
-        _ => write_shown(rt, out, asked, text, ran),
+        _ => write_shown(rt, out, nowhere, asked, text, input, ran),
     }
 }
 
@@ -204,8 +213,10 @@ fn write_run<R: Eprint + AllocGlobal, F: NamedFiles, W: Write>(
 fn write_behind<R: Eprint + AllocGlobal, W: Write>(
     rt: &R,
     out: &mut W,
+    nowhere: &mut W,
     asked: Threaded<'_>,
     text: &[u8],
+    input: &[u8],
     ran: &Ran,
     onto: &str,
     put: io::Result<()>,
@@ -214,7 +225,7 @@ fn write_behind<R: Eprint + AllocGlobal, W: Write>(
         (Shown ran.now (W.contents out.old) (W.contents out.new) result) }
 {
     match put {
-        Ok(()) => write_shown(rt, out, asked, text, ran),
+        Ok(()) => write_shown(rt, out, nowhere, asked, text, input, ran),
         Err(error) => refuse_write(rt, onto, &error),
     }
 }
@@ -233,8 +244,10 @@ fn show<W: Write>(ran: &Ran, out: &mut W) -> Result<Outcome, EngineFault>
 fn write_shown<R: Eprint + AllocGlobal, W: Write>(
     rt: &R,
     out: &mut W,
+    nowhere: &mut W,
     asked: Threaded<'_>,
     text: &[u8],
+    input: &[u8],
     ran: &Ran,
 ) -> u8
     ensures { Shown ran.now (W.contents out.old) (W.contents out.new) result }
@@ -250,5 +263,5 @@ fn write_shown<R: Eprint + AllocGlobal, W: Write>(
         say_figures(rt, figures);
     }
     warn_of_run(rt, asked.source, text, &outcome);
-    tell(rt, asked.source, text, outcome)
+    tell_known(rt, nowhere, asked.source, text, asked.input, input, outcome)
 }

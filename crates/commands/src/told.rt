@@ -6,7 +6,9 @@ ghost use Rattle.commands.specs.Statuses.{Ends, IsPage, OfPrint, exit_of};
 
 use crate::fault::FileFault;
 use crate::files::{NamedFiles, Names};
-use engines::{EngineFault, LastRecord, Message, Met, Note, Outcome, Page, Sequential, Texts};
+use engines::{
+    EngineFault, LastRecord, Message, Met, Note, Outcome, Page, Sequential, Texts, known_of,
+};
 use remarks::{Place, warn_of_columns};
 use std::io::{self, Write};
 
@@ -169,6 +171,23 @@ pub fn tell_run<R: Eprint + AllocGlobal>(
     status
 }
 
+/// The same of a run in threads, or a replay, whose answer is written: where the sequential run tells more
+/// of its fault it is made, with its records onto `nowhere`.
+pub fn tell_known<R: Eprint + AllocGlobal, W: Write>(
+    rt: &R,
+    nowhere: &mut W,
+    name: &str,
+    text: &[u8],
+    given: Option<&str>,
+    input: &[u8],
+    came: Result<Outcome, EngineFault>,
+) -> u8
+    ensures { result ≡ exit_of came }
+{
+    let run = known_of(rt.alloc(), text, input, came, nowhere);
+    tell_run(rt, name, text, given, input, run)
+}
+
 /// Why the entry in a line of a schedule can't be made, where the schedule is refused for that.
 fn obstacle<R: AllocGlobal>(rt: &R, texts: &Texts, number: u8, line: usize) -> Option<Note> {
     let Texts {
@@ -198,6 +217,30 @@ pub fn tell_of<R: Eprint + AllocGlobal>(
             tell_noted(rt, names.schedule, &texts.schedule, Ok(outcome), note)
         }
         outcome => tell(rt, names.source, &texts.source, outcome),
+    }
+}
+
+/// The same of a replay, with what is known of its fault beside the line.
+pub fn tell_replay<R: Eprint + AllocGlobal, W: Write>(
+    rt: &R,
+    nowhere: &mut W,
+    names: Names<'_>,
+    texts: &Texts,
+    outcome: Result<Outcome, EngineFault>,
+) -> u8
+    ensures { result ≡ exit_of outcome }
+{
+    match outcome {
+        Ok(Outcome::Faulted { fault, line }) => tell_known(
+            rt,
+            nowhere,
+            names.source,
+            &texts.source,
+            Some(names.input),
+            &texts.input,
+            Ok(Outcome::Faulted { fault, line }),
+        ),
+        outcome => tell_of(rt, names, texts, outcome),
     }
 }
 

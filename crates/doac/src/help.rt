@@ -54,6 +54,9 @@ Status:
   4  a file can't be read, or the answer or OUT can't be written
   5  there is no memory, or a thread can't be started
 
+At a fault of a subscript or of the input the source is then run once more, as
+by seq, to say which subscript or which record it is.
+
 Example:
   doac run examples/overlap.f -p 4 -s 8 --schedule overlap.schedule";
 
@@ -66,6 +69,9 @@ Status:
   4  a file can't be read, or the answer can't be written
   5  there is no memory
   6  the schedule is refused
+
+At a fault of a subscript or of the input the source is then run once more, as
+by seq, to say which subscript or which record it is.
 
 Example:
   doac replay examples/overlap.f /dev/null examples/overlap.schedule";

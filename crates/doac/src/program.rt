@@ -7,6 +7,7 @@ ghost use Rattle.doac.specs.Following.{EndsLine, Follows};
 use crate::command::LineFault;
 use crate::command_line::command;
 use commands::{HostFiles, NamedFiles, obey, status_of_print};
+use either::Either::{Left, Right};
 use remarks::VisibleLines;
 use std::convert::AsStr;
 use std::io::Write;
@@ -19,7 +20,8 @@ use std::{env, io};
 const MOST_WAITING: usize = 65_536;
 
 /// Does what the words of the command line ask for, and gives the exit status. On a terminal each record
-/// of a sequential run is written at once.
+/// of a sequential run is written at once. Standard output and the writer that shows nothing have one type,
+/// so that the sequential run is compiled once.
 pub fn run<R: Env + Files + Input + Print + Eprint + AllocGlobal + Threads + Wait + Sync>(
     rt: &R,
     is_terminal: bool,
@@ -29,7 +31,8 @@ pub fn run<R: Env + Files + Input + Print + Eprint + AllocGlobal + Threads + Wai
         Ok(words) => follow(
             rt,
             &mut HostFiles::new(rt),
-            &mut io::writer(rt),
+            &mut Left(io::writer(rt)),
+            &mut Right(io::sink()),
             words.as_slice(),
             most,
         ),
@@ -43,12 +46,12 @@ fn follow<
     R: Print + Eprint + AllocGlobal + Threads + Wait + Sync,
     F: NamedFiles,
     W: Write,
->(rt: &R, files: &mut F, out: &mut W, words: &[S], most: usize) -> u8
+>(rt: &R, files: &mut F, out: &mut W, nowhere: &mut W, words: &[S], most: usize) -> u8
     ensures { Follows (map S.text words.now)
         (F.done files.old) (F.done files.new) (W.contents out.old) (W.contents out.new) result }
 {
     match command(rt.alloc(), words) {
-        Ok(command) => obey(rt, files, out, command, most),
+        Ok(command) => obey(rt, files, out, nowhere, command, most),
         Err(fault) => refuse_line(rt, &fault),
     }
 }

@@ -1,5 +1,5 @@
 -- What the engines do: which bytes they may write of a source text, and with which outcome.
-use Rattle.std.specs.Prelude.{◌≡◌, ◌⊎◌, ℕ, Bool, IfSome, List, ⊤, Option, Result, Ok, Err, Vec}
+use Rattle.std.specs.Prelude.{◌≡◌, ◌⊎◌, ℕ, Bool, true, false, IfSome, List, ⊤, Option, Result, Ok, Err, Vec}
 use Rattle.std.specs.Global.{Global}
 use Rattle.std.specs.Io.KnownBytes.{Appends, IsAtEnd, Keeps}
 use Rattle.ast.specs.Meaning.{seq}
@@ -7,6 +7,7 @@ use Rattle.ast.specs.Program.{ProgramTree}
 use Rattle.ast.specs.ProgramView.{program as program_of}
 use Rattle.ast.specs.declared.fault.End.{End}
 use Rattle.ast.specs.declared.fault.End.TheVariants.{Done, Stopped, Fault as FaultedAt}
+use Rattle.ast.specs.declared.fault.Fault.TheVariants as kinds
 use Rattle.interpreter.specs.Handing.{Begins, FallsShort}
 pub use Rattle.interpreter.specs.Handing.{AppendsPart}
 use Rattle.profile_check.specs.Causes.{Refuses}
@@ -263,3 +264,10 @@ of_schedule reading.Memory = Memory
 abbrev pub IsWriting : EngineFault → Type 0
 IsWriting (Writing e) = ⊤
 IsWriting fault = ⊥
+
+-- the sequential run tells more of what a run came to: which subscript, or which record of the input
+abbrev pub wants_run : Result Outcome EngineFault → Bool
+wants_run (Ok (Faulted kinds.Index line)) = true
+wants_run (Ok (Faulted kinds.EndOfInput line)) = true
+wants_run (Ok (Faulted kinds.BadInput line)) = true
+wants_run _ = false

@@ -59,7 +59,7 @@ pub use ran::{Ran, Whole};
 pub use records::LastRecord;
 pub use replays::{Upgraded, upgrade_texts};
 pub use running::{run, run_texts};
-pub use sequential::{Sequential, seq_noted, seq_texts};
+pub use sequential::{Sequential, known_of, seq_noted, seq_texts};
 pub use serial::say_why_serial;
 pub use streams::read_all;
 pub use survey::{Survey, surveyed};

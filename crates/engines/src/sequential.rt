@@ -1,11 +1,11 @@
 //! Sequential runs, whose records are written while they run.
 
-ghost use Rattle.std.specs.Prelude.{◌≡◌, IfOk, List, [], length, map, ℕ};
+ghost use Rattle.std.specs.Prelude.{◌≡◌, IfOk, List, [], false, length, map, ℕ};
 ghost use Rattle.ast.specs.Meaning.{seq};
 ghost use Rattle.ast.specs.ProgramView.{program as program_of};
 ghost use Rattle.ast.specs.View.{cells, symbol as symbol_of};
 ghost use Rattle.profile_check.specs.Reads.{Reads};
-ghost use Rattle.engines.specs.Engines.{FollowsRecords, Streaming, Works, engine_fault, outcome_of};
+ghost use Rattle.engines.specs.Engines.{FollowsRecords, Streaming, Works, engine_fault, outcome_of, wants_run};
 ghost use Rattle.engines.specs.Shown.{EndShown, refused};
 ghost use Rattle.engines.specs.View.{rows_from};
 
@@ -21,7 +21,10 @@ use remarks::Beyond;
 use std::alloc::{AllocError, Global};
 use std::io::Write;
 
-/// What a sequential run came to, and what is known of its fault beside the line.
+/// How many bytes of records may wait where nobody reads them.
+const MOST_UNREAD: usize = 65_536;
+
+/// What a run came to, and what the sequential run tells of its fault beside the line.
 #[derive(Drop)]
 pub struct Sequential {
     pub came: Result<Outcome, EngineFault>,
@@ -172,4 +175,47 @@ pub fn seq_texts<W: Write>(
     ensures { Streaming store source.now input.now (W.contents out.old) (W.contents out.new) result }
 {
     seq_noted(alloc, source, input, store, most, out).came
+}
+
+/// Whether the sequential run tells more of what a run came to than its line.
+fn wants_run(came: &Result<Outcome, EngineFault>) -> bool
+    ensures { result ≡ wants_run came.now }
+{
+    match came {
+        Ok(Outcome::Faulted { fault, .. }) => match fault {
+            Fault::Index | Fault::BadInput | Fault::EndOfInput => true,
+            Fault::Overflow | Fault::ZeroDivisor | Fault::ZeroStep => false,
+        },
+        _ => false,
+    }
+}
+
+/// What a run in threads, or a replay, of a text on an input came to, with what is known of its fault
+/// beside the line. Of an INDEX and of a fault of the input the sequential run tells it, which comes to
+/// the same one: so it is made, with its records onto `nowhere`, which is to show nothing. That writer has
+/// the type of the one that `seq` has, since the run is compiled for each type of writer, and is slower
+/// where there are two. Where memory is refused nothing is known.
+pub fn known_of<W: Write>(
+    alloc: Global,
+    source: &[u8],
+    input: &[u8],
+    came: Result<Outcome, EngineFault>,
+    nowhere: &mut W,
+) -> Sequential
+    ensures came { result.came ≡ came }
+    ensures seldom { wants_run came ≡ false → W.contents nowhere.new ≡ W.contents nowhere.old }
+{
+    if !wants_run(&came) {
+        return Sequential {
+            came,
+            note: None,
+            left: None,
+        };
+    }
+    let again = seq_noted(alloc, source, input, false, MOST_UNREAD, nowhere);
+    Sequential {
+        came,
+        note: again.note,
+        left: again.left,
+    }
 }
