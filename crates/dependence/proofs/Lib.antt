@@ -7,4 +7,5 @@ pub mod Fitted
 pub mod Meeting
 pub mod Promise
 pub mod Reformed
+pub mod Runs
 mod Table

@@ -5,4 +5,5 @@ pub mod Kept
 pub mod Meets
 pub mod Plan
 pub mod PlanView
+pub mod Runs
 pub mod Tests

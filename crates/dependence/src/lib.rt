@@ -8,6 +8,7 @@ mod formed;
 mod plan;
 mod relating;
 mod relation;
+mod relations;
 mod verifying;
 
 pub use fitting::{has_name, has_read, hides_inner};
@@ -15,4 +16,5 @@ pub use formed::{forms, is_given, relate_forms, verify_forms};
 pub use plan::{LoopPlan, PlanArm, PlanStmt};
 pub use relating::relate;
 pub use relation::{Reason, Relation};
+pub use relations::{Relations, Run};
 pub use verifying::verify;

@@ -1,7 +1,7 @@
 //! Plans of loops.
 
-use crate::relation::Relation;
-use ast::{DoHead, Expr, Line, RefId, Stmt};
+use crate::relations::Relations;
+use ast::{DoHead, Expr, Line, Stmt};
 use loop_tree::ScalarSet;
 
 /// A statement of a plan's body.
@@ -44,6 +44,6 @@ pub enum LoopPlan {
         privates: ScalarSet,
         /// What is claimed of pairs of references: the first in an iteration, the second in a later
         /// one.
-        relations: Vec<(RefId, RefId, Relation)>,
+        relations: Relations,
     },
 }

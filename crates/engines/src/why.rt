@@ -5,7 +5,7 @@ use crate::shown::append_number;
 use crate::spelled::append_reference;
 use ast::{Line, Name, RefId};
 use codegen::LoopReport;
-use dependence::{LoopPlan, Reason, Relation};
+use dependence::{LoopPlan, Reason, Relation, Relations, Run};
 use loop_tree::{LoopTree, LoopView, Occurrence};
 use remarks::early_use;
 use std::alloc::{AllocError, Global};
@@ -144,18 +144,27 @@ fn is_kept(relation: Relation) -> bool {
     }
 }
 
+/// Appends the lines of the pairs of a run.
+fn append_run(out: &mut Vec<u8>, tree: &LoopTree<'_>, run: &Run) -> Result<(), AllocError> {
+    for place in 0..run.count {
+        let (first, second, relation) = run.pair(place);
+        if let Some(pair) = pair_of(tree, first, second, relation) {
+            append_pair(out, &pair)?;
+        }
+    }
+    Ok(())
+}
+
 /// Appends the lines of the pairs of which something is kept, or of the others.
 fn append_pairs(
     out: &mut Vec<u8>,
     tree: &LoopTree<'_>,
-    relations: &[(RefId, RefId, Relation)],
+    relations: &Relations,
     kept: bool,
 ) -> Result<(), AllocError> {
-    for (first, second, relation) in relations {
-        if is_kept(*relation) == kept {
-            if let Some(pair) = pair_of(tree, *first, *second, *relation) {
-                append_pair(out, &pair)?;
-            }
+    for run in &relations.runs {
+        if is_kept(run.relation) == kept {
+            append_run(out, tree, run)?;
         }
     }
     Ok(())

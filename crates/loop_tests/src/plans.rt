@@ -1,7 +1,7 @@
 //! Plans of loops, and what is said of them where one thing is changed.
 
 use ast::{Access, Expr, Kind, Line, Name, RefId, Reference, Stmt};
-use dependence::{LoopPlan, PlanArm, PlanStmt, Reason, Relation};
+use dependence::{LoopPlan, PlanArm, PlanStmt, Reason, Relation, Relations};
 use loop_tree::{LoopView, ScalarSet, loops};
 use placement::plan;
 use plan_check::{PlanFault, check};
@@ -455,8 +455,28 @@ struct Parts {
     relations: Vec<(RefId, RefId, Relation)>,
 }
 
+/// The pairs of relations one by one.
+fn pairs_of(alloc: Global, relations: &Relations) -> Result<Vec<(RefId, RefId, Relation)>, Fail> {
+    let mut pairs = Vec::new(alloc);
+    for run in &relations.runs {
+        for place in 0..run.count {
+            pairs.push(run.pair(place))?;
+        }
+    }
+    Ok(pairs)
+}
+
+/// The relations of pairs.
+fn relations_of(alloc: Global, pairs: &[(RefId, RefId, Relation)]) -> Result<Relations, Fail> {
+    let mut relations = Relations::new(alloc);
+    for (first, second, relation) in pairs {
+        relations.push(*first, *second, *relation)?;
+    }
+    Ok(relations)
+}
+
 /// The parts of a plan, which has a body.
-fn parts_of(rt: &impl Abort, given: LoopPlan) -> Result<Parts, Fail> {
+fn parts_of(rt: &(impl Abort + AllocGlobal), given: LoopPlan) -> Result<Parts, Fail> {
     match given {
         LoopPlan::Body {
             body,
@@ -465,19 +485,19 @@ fn parts_of(rt: &impl Abort, given: LoopPlan) -> Result<Parts, Fail> {
         } => Ok(Parts {
             body,
             privates,
-            relations,
+            relations: pairs_of(rt.alloc(), &relations)?,
         }),
         LoopPlan::Serial(reason) => panic!(rt; "serial for reason {reason}"),
     }
 }
 
 /// The plan of these parts.
-fn made_of(parts: Parts) -> LoopPlan {
-    LoopPlan::Body {
+fn made_of(alloc: Global, parts: Parts) -> Result<LoopPlan, Fail> {
+    Ok(LoopPlan::Body {
         body: parts.body,
         privates: parts.privates,
-        relations: parts.relations,
-    }
+        relations: relations_of(alloc, &parts.relations)?,
+    })
 }
 
 /// Which one of two elements of a loop's range stands in an iteration, the other one in a later one.
@@ -709,7 +729,7 @@ fn refusal_of_changed(
     let view = tree.view(number);
     let mut parts = parts_of(rt, plan(rt.alloc(), &view)?)?;
     change_all(rt, &view, &mut parts, changes)?;
-    refusal(rt, &view, &made_of(parts))
+    refusal(rt, &view, &made_of(rt.alloc(), parts)?)
 }
 
 /// A source, a loop's number, changes of its plan, and the number of the refusal, if there is one.
@@ -950,7 +970,7 @@ fn refusal_with_body(
 ) -> Result<Option<u8>, Fail> {
     let mut parts = parts_of(rt, plan(rt.alloc(), view)?)?;
     parts.body = parts_of(rt, other)?.body;
-    refusal(rt, view, &made_of(parts))
+    refusal(rt, view, &made_of(rt.alloc(), parts)?)
 }
 
 /// Sources, each with a loop's number: no body of these loops' plans is one of this loop.

@@ -3,6 +3,7 @@ use Rattle.std.proofs.Common.{◌≡◌, ◌∙◌, ◌+◌, ◌<◌, ◌≤◌,
 use Rattle.std.specs.Prelude.{◌↔◌, nat_lt, slice_get}
 use Rattle.std.specs.List.{Contains}
 use Rattle.dependence.specs.Kept.{most_events}
+use Rattle.dependence.specs.Runs.{relations as relations_in}
 use Rattle.loop_tree.specs.Loops.{Loop}
 use Rattle.placement.specs.Analysed.{AreAnalysed, HasManySources, Triple, are_sorted, triple}
 use Rattle.loop_tree.specs.Occurrences.{Occurrence}
@@ -41,7 +42,7 @@ module _ (l : Loop) (ps : List (List ℕ)) (p : Pairs) (are : ArePairs l ps p) w
             (λ k. (same (t, s, d)).1 (subst (λ (ks : List Triple). Contains ks (t, s, d)) (sym kept) (contained (t, s, d) all (kept_whole l ps privates s t d k)))),
           );
         };
-        relations = ap (λ v. map (λ q. (q.0.0, q.1.0, q.2)) v.items) same_relations ∙ ap (λ (f : Found). f.relations) found.0 ∙ found_relations l ps are.told p are;
+        relations = ap relations_in same_relations ∙ ap (λ (f : Found). f.relations) found.0 ∙ found_relations l ps are.told p are;
       }
 
 -- ---- sources are never fewer

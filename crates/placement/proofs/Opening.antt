@@ -6,6 +6,7 @@ use Rattle.dependence.specs.Kept.{Suits}
 use Rattle.dependence.specs.Plan.{PlanTree}
 use Rattle.dependence.specs.PlanView.{plan_of}
 use Rattle.dependence.specs.declared.plan.LoopPlan.TheVariants.{Serial}
+use Rattle.dependence.specs.Runs.{relations as relations_in}
 use Rattle.loop_tree.specs.Loops.{IsWhole, Loop}
 use Rattle.loop_tree.specs.Told.{are_told, known}
 use Rattle.placement.specs.Analysed.{AreAnalysed, AreTriples, triple}
@@ -24,7 +25,7 @@ abbrev pub AreSpots : List ℕ → List Kept → Spots → Type 0
 AreSpots sources kept s = (l : Loop) → AreSources l sources → AreTriples l (map triple kept) → (t : ℕ) → AreAwaits l sources t (awaited s t)
 
 pub placed_body : (l : Loop) (p : PlanTree) (a : Analysis) (s : Spots) (o : ℕ) (b : Block) → IsPlain l p.privates → AreAnalysed l p.privates a → s.sources.items ≡ a.sources.items → AreSpots a.sources.items a.kept.items s
-    → o ≡ l.statement + 1 → b ≡ l.body → p.body ≡ placed_block s.sources.items (awaited s) o b → p.relations ≡ map (λ q. (q.0.0, q.1.0, q.2)) a.relations.items → IsPlacedBody l p
+    → o ≡ l.statement + 1 → b ≡ l.body → p.body ≡ placed_block s.sources.items (awaited s) o b → p.relations ≡ relations_in a.relations → IsPlacedBody l p
 placed_body l p a s o b plain found same spots e f h r = record {
   privates = plain.privates;
   sources = a.sources.items;

@@ -2,6 +2,7 @@
 use Rattle.std.specs.Prelude.{◌≡◌, ◌↔◌, ◌<◌, ◌≤◌, ◌==◌, nat_lt, ℕ, Bool, true, ◌&&◌, ◌||◌, List, [], ◌∷◌, length, map, Option, Some, None}
 use Rattle.std.specs.List.{Contains}
 use Rattle.dependence.specs.Kept.{Kept, most_events}
+use Rattle.dependence.specs.Runs.{relations as relations_in}
 use Rattle.loop_tree.specs.Loops.{Loop}
 use Rattle.placement.specs.Placement.{AreSources, comes_first, relations_of}
 use Rattle.placement.specs.declared.analysis.Analysis.{Analysis}
@@ -32,7 +33,7 @@ pub record AreAnalysed (l : Loop) (privates : List (List ℕ)) (a : Analysis) : 
   pub sources : AreSources l a.sources.items
   pub few : length a.sources.items ≤ most_events
   pub triples : AreTriples l (map triple a.kept.items)
-  pub relations : map (λ p. (p.0.0, p.1.0, p.2)) a.relations.items ≡ relations_of l privates l.references l.references
+  pub relations : relations_in a.relations ≡ relations_of l privates l.references l.references
 
 -- more statements are sources than there may be events
 abbrev pub HasManySources : Loop → Type 0

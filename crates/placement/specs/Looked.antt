@@ -5,6 +5,7 @@ use Rattle.ast.specs.Store.{same_name}
 use Rattle.ast.specs.Tree.{Ref}
 use Rattle.dependence.specs.Formed.{forms_of}
 use Rattle.dependence.specs.Kept.{most_events}
+use Rattle.dependence.specs.Runs.{relations as relations_in}
 use Rattle.dependence.specs.Tests.{relation}
 use Rattle.dependence.specs.declared.relation.Relation.{Relation}
 use Rattle.dependence.specs.declared.relation.Relation.TheVariants.{Apart, Distance, Any}
@@ -84,7 +85,7 @@ abbrev pub found_in : Analysis → Found
 found_in a = record {
   sources = a.sources.items;
   kept = map triple a.kept.items;
-  relations = map (λ p. (p.0.0, p.1.0, p.2)) a.relations.items;
+  relations = relations_in a.relations;
 }
 
 abbrev pub none_found : Found

@@ -12,8 +12,8 @@ ghost use Rattle.placement.specs.Placement.{is_ascending};
 ghost use Rattle.privatise.specs.Privates.{ArePrivate};
 
 use crate::pairs::{Pairs, Shared};
-use ast::{Name, RefId};
-use dependence::{Relation, relate_forms};
+use ast::Name;
+use dependence::{Relation, Relations, relate_forms};
 use loop_tree::LoopView;
 use std::alloc::{AllocError, Global};
 
@@ -37,7 +37,7 @@ pub struct Analysis {
     /// In order, each once.
     pub kept: Vec<Kept>,
     /// The relation of each pair that is looked at, by the first reference and then the second.
-    pub relations: Vec<(RefId, RefId, Relation)>,
+    pub relations: Relations,
 }
 
 /// At which distance a relation is kept, if it is.
@@ -87,7 +87,7 @@ fn look_at(
     let relation = related(view, first, second);
     let id = first.occurrence.reference.id;
     let other = second.occurrence.reference.id;
-    analysis.relations.push((id, other, relation))?;
+    analysis.relations.push(id, other, relation)?;
     if let Some(distance) = distance(relation) {
         analysis.kept.push(Kept {
             sink: second.occurrence.statement,
@@ -170,7 +170,7 @@ fn look_at_each(
     let mut analysis = Analysis {
         sources: Vec::new(alloc),
         kept: Vec::new(alloc),
-        relations: Vec::new(alloc),
+        relations: Relations::new(alloc),
     };
     for first in &pairs.shared {
         look(view, pairs, first, &mut analysis)?;

@@ -1,34 +1,191 @@
--- The claims that are given first.
-use Rattle.std.proofs.Common.{◌≡◌, ◌∙◌, ◌==◌, ◌<◌, ◌≤◌, ℕ, zero, suc, Bool, true, false, ◌&&◌, List, [], ◌∷◌, Option, Some, length, map, drop, get_or, ap, arith, refl, sym}
-use Rattle.std.specs.Prelude.{◌-◌, cond, if◌then◌else◌}
-use Rattle.std.specs.Ordering.{is_eq, nat_cmp, ordering_then}
+-- The claims that are given first, by runs.
+use Rattle.std.proofs.Common.{◌≡◌, ◌∙◌, ◌==◌, ◌+◌, ◌*◌, ◌<◌, ◌≤◌, ℕ, zero, suc, Bool, true, false, ◌&&◌, List, [], ◌∷◌, ◌++◌, Option, Some, None, inl, inr, length, slice_index_or, ap, arith, refl, sym, subst}
+use Rattle.std.proofs.lemmas.Option.{slice_get-get_or}
+use Rattle.std.specs.Prelude.{◌-◌, ◌⊎◌, ◌||◌, nat_lt, nat_le, if◌then◌else◌, slice_get}
 use Rattle.std.proofs.lemmas.Bool.Decides.{nat_tests}
+use Rattle.dependence.specs.Runs.{run, runs, stepped}
 use Rattle.dependence.specs.declared.relation.Relation.{Relation}
+use Rattle.dependence.specs.declared.relations.Run.{Run}
 use Rattle.plan_check.specs.Checking.{claimed}
-use Rattle.plan_check.specs.ClaimsView.{with_claim}
+use Rattle.plan_check.specs.Claiming.{ascend, end, is_behind}
 
-same_pair : (x y a b : ℕ) → is_eq (ordering_then (nat_cmp x a) (nat_cmp y b)) ≡ ((x == a) && (y == b))
-same_pair x y a b = grind (arith, nat_tests)
+abbrev pub Claim : Type 0
+Claim = ℕ × ℕ × Relation
 
-if_cond : {X : Type 0} (b : Bool) (x y : X) → (if b then x else y) ≡ cond b x y
-if_cond true x y = refl
-if_cond false x y = refl
+nat_refl : (a : ℕ) → (a == a) ≡ true
+nat_refl a = grind (arith, nat_tests)
 
-pub added : (c : ℕ × ℕ × Relation) (others : Option Relation) (a b : ℕ) → cond (is_eq (ordering_then (nat_cmp c.0 a) (nat_cmp c.1 b))) (Some c.2) others ≡ with_claim c others a b
-added c others a b = ap (λ q. cond q (Some c.2) others) (same_pair c.0 c.1 a b) ∙ sym (if_cond ((c.0 == a) && (c.1 == b)) (Some c.2) others)
+nat_other : (a b : ℕ) → (a ≡ b → ⊥) → (a == b) ≡ false
+nat_other a b n = grind (arith, nat_tests, n)
 
-claim_more : {X : Type 0} (view : X → ℕ × ℕ × Relation) (xs : List X) (n : ℕ) (d : X) → n < length xs → (a b : ℕ)
-    → with_claim (view (get_or xs n d)) (claimed (map view (drop (suc n) xs)) a b) a b ≡ claimed (map view (drop n xs)) a b
-claim_more view [] n d l a b = absurd (omega (arith, l))
-claim_more view (y ∷ xs) zero d l a b = refl
-claim_more view (y ∷ xs) (suc n) d l a b = claim_more view xs n d (omega (arith, l)) a b
+chosen_yes : {X : Type 0} (b : Bool) (x y : X) → b ≡ true → (if b then x else y) ≡ x
+chosen_yes true x y e = refl
+chosen_yes false x y e = cc
 
--- one claim more in front
-pub claims_more : {X : Type 0} (view : X → ℕ × ℕ × Relation) (xs : List X) (left : ℕ) (d : X) (new old : ℕ → ℕ → Option Relation) → 0 < left → left ≤ length xs
-    → ((a b : ℕ) → new a b ≡ with_claim (view (get_or xs (left - 1) d)) (old a b) a b) → ((a b : ℕ) → old a b ≡ claimed (map view (drop left xs)) a b)
-    → (a b : ℕ) → new a b ≡ claimed (map view (drop (left - 1) xs)) a b
-claims_more view xs left d new old some most is before a b =
-    let next : left ≡ suc (left - 1) = omega (arith, some) in
-    is a b
-    ∙ ap (λ o. with_claim (view (get_or xs (left - 1) d)) o a b) (before a b ∙ ap (λ n. claimed (map view (drop n xs)) a b) next)
-    ∙ claim_more view xs (left - 1) d (omega (arith, some, most)) a b
+chosen_no : {X : Type 0} (b : Bool) (x y : X) → b ≡ false → (if b then x else y) ≡ y
+chosen_no false x y e = refl
+chosen_no true x y e = cc
+
+both : (b c : Bool) → b ≡ true → c ≡ true → (b && c) ≡ true
+both true true p q = refl
+both true false p q = cc
+both false c p q = cc
+
+first_no : (b c : Bool) → b ≡ false → (b && c) ≡ false
+first_no false c p = refl
+first_no true c p = cc
+
+second_no : (b c : Bool) → c ≡ false → (b && c) ≡ false
+second_no false c p = refl
+second_no true false p = refl
+second_no true true p = cc
+
+-- a run of another reference has no claim of a pair
+pub other_first : (a b s n : ℕ) (r : Relation) (rest : List Claim) (x y : ℕ) → (a ≡ x → ⊥) → claimed (stepped a b s n r ++ rest) x y ≡ claimed rest x y
+other_first a b s zero r rest x y o = refl
+other_first a b s (suc n) r rest x y o =
+    chosen_no ((a == x) && (b == y)) (Some r) (claimed (stepped a (b + s) s n r ++ rest) x y) (first_no (a == x) (b == y) (nat_other a x o))
+    ∙ other_first a (b + s) s n r rest x y o
+
+-- nor has one that ends before it
+pub ends_before : (a b s n : ℕ) (r : Relation) (rest : List Claim) (x y : ℕ) → 1 ≤ s → b + s * n ≤ y → claimed (stepped a b s n r ++ rest) x y ≡ claimed rest x y
+ends_before a b s zero r rest x y p q = refl
+ends_before a b s (suc n) r rest x y p q =
+    let next : (b + s) + s * n ≤ y = omega (arith, q) in
+    let before : b ≡ y → ⊥ = λ e. omega (arith, p, next, e) in
+    chosen_no ((a == x) && (b == y)) (Some r) (claimed (stepped a (b + s) s n r ++ rest) x y) (second_no (a == x) (b == y) (nat_other b y before))
+    ∙ ends_before a (b + s) s n r rest x y p next
+
+-- the pair at a place of a run
+pub inside : (a b s n k : ℕ) (r : Relation) (rest : List Claim) → k < n → claimed (stepped a b s n r ++ rest) a (b + s * k) ≡ Some r
+inside a b s zero k r rest l = absurd (omega (arith, l))
+inside a b s (suc n) zero r rest l =
+    let none : b ≡ b + s * 0 = omega (arith) in
+    let here : (b == b + s * 0) ≡ true = subst (λ y. (b == y) ≡ true) none (nat_refl b) in
+    chosen_yes ((a == a) && (b == b + s * 0)) (Some r) (claimed (stepped a (b + s) s n r ++ rest) a (b + s * 0)) (both (a == a) (b == b + s * 0) (nat_refl a) here)
+inside a b s (suc n) (suc k) r rest l =
+    let less : k < n = omega (arith, l) in
+    let same : (b + s) + s * k ≡ b + s * suc k = omega (arith) in
+    by ((a == a) && (b == b + s * suc k)) (subst (λ y. claimed (stepped a (b + s) s n r ++ rest) a y ≡ Some r) same (inside a (b + s) s n k r rest less))
+  where
+    by : (c : Bool) → claimed (stepped a (b + s) s n r ++ rest) a (b + s * suc k) ≡ Some r → (if c then Some r else claimed (stepped a (b + s) s n r ++ rest) a (b + s * suc k)) ≡ Some r
+    by true e = refl
+    by false e = e
+
+split : (b c : Bool) → (b && c) ≡ true → (b ≡ true) × (c ≡ true)
+split true true e = (refl, refl)
+split true false e = cc
+split false c e = cc
+
+less : (a b : ℕ) → nat_lt a b ≡ true → a < b
+less a b e = grind (arith, nat_tests, e)
+
+at_least : (a b : ℕ) → nat_le a b ≡ true → a ≤ b
+at_least a b e = grind (arith, nat_tests, e)
+
+equal : (a b : ℕ) → (a == b) ≡ true → a ≡ b
+equal a b e = grind (arith, nat_tests, e)
+
+abbrev pub NotBefore : (a b : ℕ) → Run → Type 0
+NotBefore a b r = (a < r.first) ⊎ ((a ≡ r.first) × (b ≤ r.second))
+
+not_before : (a b : ℕ) (r : Run) → is_behind a b r ≡ true → NotBefore a b r × (1 ≤ r.step)
+not_before a b r e =
+    let parts = split (nat_lt a r.first || ((a == r.first) && nat_le b r.second)) (nat_le 1 r.step) e in
+    (by (nat_lt a r.first) ((a == r.first) && nat_le b r.second) refl refl parts.0, at_least 1 r.step parts.1)
+  where
+    by : (p q : Bool) → nat_lt a r.first ≡ p → ((a == r.first) && nat_le b r.second) ≡ q → (p || q) ≡ true → NotBefore a b r
+    by true q e f h = inl (less a r.first e)
+    by false true e f h =
+        let two = split (a == r.first) (nat_le b r.second) f in
+        inr (equal a r.first two.0, at_least b r.second two.1)
+    by false false e f h = cc
+
+-- no run is before the pair that the runs begin at
+floor : (a b : ℕ) (rs : List Run) (i : ℕ) (r : Run) → ascend a b rs ≡ true → slice_get rs i ≡ Some r → NotBefore a b r
+floor a b [] i r e g = cc
+floor a b (x ∷ rs) zero r e g =
+    subst (λ (y : Run). NotBefore a b y) (some_is g) (not_before a b x (split (is_behind a b x) (ascend x.first (end x) rs) e).0).0
+  where
+    some_is : Some x ≡ Some r → x ≡ r
+    some_is h = cc
+floor a b (x ∷ rs) (suc i) r e g =
+    let parts = split (is_behind a b x) (ascend x.first (end x) rs) e in
+    joined (not_before a b x parts.0) (floor x.first (end x) rs i r parts.1 g)
+  where
+    joined : NotBefore a b x × (1 ≤ x.step) → NotBefore x.first (end x) r → NotBefore a b r
+    joined (inl p, s) (inl q) = inl (omega (arith, p, q))
+    joined (inl p, s) (inr q) = let e = q.0 in inl (omega (arith, p, e))
+    joined (inr p, s) (inl q) = let e = p.0 in inl (omega (arith, e, q))
+    joined (inr p, s) (inr q) =
+        let e = p.0 in let f = q.0 in let u = p.1 in let v = q.1 in
+        inr (omega (arith, e, f), least x.step x.count u v)
+      where
+        least : (s n : ℕ) → b ≤ x.second → x.second + s * n ≤ r.second → b ≤ r.second
+        least s n u v = omega (arith, u, v)
+
+-- of runs in order, the pair at a place of one of them is claimed by that one
+pub claimed_at : (a b : ℕ) (rs : List Run) (i k : ℕ) (r : Run) → ascend a b rs ≡ true → slice_get rs i ≡ Some r → k < r.count → claimed (runs rs) r.first (r.second + r.step * k) ≡ Some r.relation
+claimed_at a b [] i k r e g l = cc
+claimed_at a b (x ∷ rs) zero k r e g l =
+    subst (λ (y : Run). k < y.count → claimed (run x ++ runs rs) y.first (y.second + y.step * k) ≡ Some y.relation) (some_is g)
+    (λ m. inside x.first x.second x.step x.count k x.relation (runs rs) m) l
+  where
+    some_is : Some x ≡ Some r → x ≡ r
+    some_is h = cc
+claimed_at a b (x ∷ rs) (suc i) k r e g l =
+    let parts = split (is_behind a b x) (ascend x.first (end x) rs) e in
+    behind (not_before a b x parts.0).1 (floor x.first (end x) rs i r parts.1 g) ∙ claimed_at x.first (end x) rs i k r parts.1 g l
+  where
+    behind : 1 ≤ x.step → NotBefore x.first (end x) r → claimed (run x ++ runs rs) r.first (r.second + r.step * k) ≡ claimed (runs rs) r.first (r.second + r.step * k)
+    behind s (inl p) = other_first x.first x.second x.step x.count x.relation (runs rs) r.first (r.second + r.step * k) (λ h. omega (arith, p, h))
+    behind s (inr p) =
+        let q = p.1 in
+        subst (λ z. claimed (run x ++ runs rs) z (r.second + r.step * k) ≡ claimed (runs rs) z (r.second + r.step * k)) p.0
+        (ends_before x.first x.second x.step x.count x.relation (runs rs) x.first (r.second + r.step * k) s (most (x.step * x.count) (r.step * k) q))
+      where
+        most : (m n : ℕ) → x.second + m ≤ r.second → x.second + m ≤ r.second + n
+        most m n q = omega (arith, q)
+
+-- ---- a pass over a run
+
+-- the claims of a run from a place on
+abbrev pub from_place : Run → ℕ → List Claim
+from_place r k = stepped r.first (r.second + r.step * k) r.step (r.count - k) r.relation
+
+pub from_first : (r : Run) → from_place r 0 ≡ run r
+from_first r =
+    let none : r.second + r.step * 0 ≡ r.second = omega (arith) in
+    let all : r.count - 0 ≡ r.count = omega (arith) in
+    ap (λ b. stepped r.first b r.step (r.count - 0) r.relation) none ∙ ap (λ n. stepped r.first r.second r.step n r.relation) all
+
+pub from_end : (r : Run) (k : ℕ) → r.count ≤ k → from_place r k ≡ []
+from_end r k l =
+    let none : r.count - k ≡ 0 = omega (arith, l) in
+    ap (λ n. stepped r.first (r.second + r.step * k) r.step n r.relation) none
+
+from_next : (r : Run) (k : ℕ) → k < r.count → from_place r k ≡ (r.first, r.second + r.step * k, r.relation) ∷ from_place r (k + 1)
+from_next r k l =
+    let more : r.count - k ≡ suc (r.count - (k + 1)) = omega (arith, l) in
+    let next : (r.second + r.step * k) + r.step ≡ r.second + r.step * (k + 1) = omega (arith) in
+    ap (λ n. stepped r.first (r.second + r.step * k) r.step n r.relation) more
+    ∙ ap (λ b. (r.first, r.second + r.step * k, r.relation) ∷ stepped r.first b r.step (r.count - (k + 1)) r.relation) next
+
+pub found_here : (r : Run) (k x y : ℕ) (rest : List Claim) → k < r.count → ((r.first == x) && (r.second + r.step * k == y)) ≡ true → claimed (from_place r k ++ rest) x y ≡ Some r.relation
+found_here r k x y rest l e =
+    ap (λ ps. claimed (ps ++ rest) x y) (from_next r k l)
+    ∙ chosen_yes ((r.first == x) && (r.second + r.step * k == y)) (Some r.relation) (claimed (from_place r (k + 1) ++ rest) x y) e
+
+pub missed_here : (r : Run) (k x y : ℕ) (rest : List Claim) → k < r.count → ((r.first == x) && (r.second + r.step * k == y)) ≡ false → claimed (from_place r k ++ rest) x y ≡ claimed (from_place r (k + 1) ++ rest) x y
+missed_here r k x y rest l e =
+    ap (λ ps. claimed (ps ++ rest) x y) (from_next r k l)
+    ∙ chosen_no ((r.first == x) && (r.second + r.step * k == y)) (Some r.relation) (claimed (from_place r (k + 1) ++ rest) x y) e
+
+-- the same by what stands at a place of runs in order
+pub at_place : (rs : List Run) (i k x y : ℕ) (d : Run) → ascend 0 0 rs ≡ true → i < length rs → k < (slice_index_or rs i d).count
+    → (((slice_index_or rs i d).first == x) && ((slice_index_or rs i d).second + (slice_index_or rs i d).step * k == y)) ≡ true → claimed (runs rs) x y ≡ Some (slice_index_or rs i d).relation
+at_place rs i k x y d e l m h =
+    let r : Run = slice_index_or rs i d in
+    let two = split (r.first == x) (r.second + r.step * k == y) h in
+    subst (λ z. claimed (runs rs) z y ≡ Some r.relation) (equal r.first x two.0)
+    (subst (λ z. claimed (runs rs) r.first z ≡ Some r.relation) (equal (r.second + r.step * k) y two.1) (claimed_at 0 0 rs i k r e (slice_get-get_or rs i d l) m))

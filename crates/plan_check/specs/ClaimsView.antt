@@ -1,13 +1,14 @@
--- What a table of claims has for a pair.
-use Rattle.std.specs.Prelude.{◌==◌, ◌&&◌, if◌then◌else◌, ℕ, Option, Some}
-use Rattle.std.specs.BTreeMap.{get}
-use Rattle.std.specs.Ordering.{nat_cmp, ordering_then}
+-- What is claimed of a pair.
+use Rattle.std.specs.Prelude.{◌≡◌, ℕ, true, Option}
+use Rattle.dependence.specs.Runs.{relations}
 use Rattle.dependence.specs.declared.relation.Relation.{Relation}
+use Rattle.plan_check.specs.Checking.{claimed}
+use Rattle.plan_check.specs.Claiming.{ascend}
 use Rattle.plan_check.specs.declared.claims.Claims.{Claims}
 
--- what is claimed of a pair, with one claim in front of others
-abbrev pub with_claim : ℕ × ℕ × Relation → Option Relation → ℕ → ℕ → Option Relation
-with_claim c others a b = if (c.0 == a) && (c.1 == b) then Some c.2 else others
-
 abbrev pub claim_in : Claims → ℕ → ℕ → Option Relation
-claim_in c a b = get (λ x y. ordering_then (nat_cmp x.0 y.0) (nat_cmp x.1 y.1)) c.table (a, b)
+claim_in c a b = claimed (relations c.relations.now) a b
+
+-- claims that are taken as ordered are
+abbrev pub IsOrdered : Claims → Type 0
+IsOrdered c = c.ordered ≡ true → ascend 0 0 c.relations.now.runs.items ≡ true

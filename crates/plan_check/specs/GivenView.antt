@@ -3,11 +3,12 @@ use Rattle.std.specs.Prelude.{map}
 use Rattle.ast.specs.View.{letters}
 use Rattle.dependence.specs.Plan.{PlanTree}
 use Rattle.dependence.specs.PlanView.{plan_block}
+use Rattle.dependence.specs.Runs.{relations as relations_in}
 use Rattle.plan_check.specs.declared.given.Given.{Given}
 
 abbrev pub given : Given → PlanTree
 given g = record {
   body = plan_block g.body.now;
   privates = map letters g.privates.now;
-  relations = map (λ p. (p.0.0, p.1.0, p.2)) g.relations.now;
+  relations = relations_in g.relations.now;
 }

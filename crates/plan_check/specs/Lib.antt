@@ -1,5 +1,6 @@
 pub mod Checking
 pub mod Checks
+pub mod Claiming
 pub mod ClaimsView
 pub mod Entries
 pub mod EntryView

@@ -92,7 +92,7 @@ fn judge_all(
     ensures { IfOk result (λ verdict. IsJudged (seen view.now) (given plan.now) (verdict_of verdict)) }
 {
     let named = distinct(alloc, events)?;
-    let claims = claims_of(alloc, plan.relations)?;
+    let claims = claims_of(plan.relations);
     let entries = entries_of(alloc, view, view.references(), &walked.seen.notes)?;
     let partners = partners_of(alloc, &entries)?;
     Ok(judge(view, &named, &claims, plan.privates, &entries, &partners))

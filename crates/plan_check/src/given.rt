@@ -1,7 +1,7 @@
 //! A plan that has a body.
 
-use ast::{Name, RefId};
-use dependence::{PlanStmt, Relation};
+use ast::Name;
+use dependence::{PlanStmt, Relations};
 
 /// The parts of a plan with a body.
 #[derive(Clone, Copy)]
@@ -10,5 +10,5 @@ pub struct Given<'a> {
     /// The scalars of which each iteration has one of its own.
     pub privates: &'a [Name],
     /// What is claimed of pairs of references.
-    pub relations: &'a [(RefId, RefId, Relation)],
+    pub relations: &'a Relations,
 }

@@ -5,13 +5,13 @@ ghost use Rattle.ast.specs.View.{letters};
 ghost use Rattle.loop_tree.specs.TreeView.{seen};
 ghost use Rattle.loop_tree.specs.View.{occurrence as occurrence_of};
 ghost use Rattle.plan_check.specs.Checking.{distance_of as distance_in};
-ghost use Rattle.plan_check.specs.ClaimsView.{claim_in};
+ghost use Rattle.plan_check.specs.ClaimsView.{IsOrdered, claim_in};
 ghost use Rattle.plan_check.specs.EntryView.{entry as entry_of, verdict as verdict_of};
 ghost use Rattle.plan_check.specs.Grouping.{with_groups, with_optional, with_places, with_row};
 ghost use Rattle.plan_check.specs.GroupsView.{groups as groups_of};
 ghost use Rattle.plan_check.specs.Judging as spec;
 
-use crate::claims::Claims;
+use crate::claims::{Claims, Cursor};
 use crate::entry::Entry;
 use crate::groups::Partners;
 use crate::lists::{flag_at, has_awaited};
@@ -110,14 +110,17 @@ fn judge_pair(
     verdict: &mut Verdict,
     view: &LoopView<'_, '_>,
     events: &[usize],
-    claims: &Claims,
+    claims: &Claims<'_>,
+    cursor: &mut Cursor,
     first: &Entry<'_, '_>,
     second: &Entry<'_, '_>,
 )
+    requires { IsOrdered claims.now }
     ensures { verdict_of verdict.new ≡ spec.with_pair (seen view.now) events.now (claim_in claims.now) (entry_of first.now) (entry_of second.now) (verdict_of verdict.old) }
 {
     if is_pair(first.occurrence, second.occurrence) {
         let claim = claims.find(
+            cursor,
             first.occurrence.reference.id,
             second.occurrence.reference.id,
         );
@@ -130,15 +133,25 @@ fn judge_at(
     verdict: &mut Verdict,
     view: &LoopView<'_, '_>,
     events: &[usize],
-    claims: &Claims,
+    claims: &Claims<'_>,
+    cursor: &mut Cursor,
     first: &Entry<'_, '_>,
     entries: &[Entry<'_, '_>],
     place: usize,
 )
+    requires { IsOrdered claims.now }
     ensures { verdict_of verdict.new ≡ with_optional (seen view.now) events.now (claim_in claims.now) (entry_of first.now) (slice_get (map entry_of entries.now) place) (verdict_of verdict.old) }
 {
     if place < entries.len() {
-        judge_pair(verdict, view, events, claims, first, &entries[place]);
+        judge_pair(
+            verdict,
+            view,
+            events,
+            claims,
+            cursor,
+            first,
+            &entries[place],
+        );
     }
 }
 
@@ -147,15 +160,19 @@ fn judge_partners(
     verdict: &mut Verdict,
     view: &LoopView<'_, '_>,
     events: &[usize],
-    claims: &Claims,
+    claims: &Claims<'_>,
+    cursor: &mut Cursor,
     first: &Entry<'_, '_>,
     entries: &[Entry<'_, '_>],
     places: &[usize],
 )
+    requires { IsOrdered claims.now }
     ensures { verdict_of verdict.new ≡ with_places (seen view.now) events.now (claim_in claims.now) (entry_of first.now) (map entry_of entries.now) places.now (verdict_of verdict.old) }
 {
     for place in places {
-        judge_at(verdict, view, events, claims, first, entries, *place);
+        judge_at(
+            verdict, view, events, claims, cursor, first, entries, *place,
+        );
     }
 }
 
@@ -171,16 +188,20 @@ fn judge_entry(
     verdict: &mut Verdict,
     view: &LoopView<'_, '_>,
     events: &[usize],
-    claims: &Claims,
+    claims: &Claims<'_>,
+    cursor: &mut Cursor,
     privates: &[Name],
     first: &Entry<'_, '_>,
     entries: &[Entry<'_, '_>],
     places: &[usize],
 )
+    requires { IsOrdered claims.now }
     ensures { verdict_of verdict.new ≡ with_row (seen view.now) events.now (claim_in claims.now) (map letters privates.now) (entry_of first.now) (map entry_of entries.now) places.now (verdict_of verdict.old) }
 {
     if !is_own(view, privates, first.occurrence) {
-        judge_partners(verdict, view, events, claims, first, entries, places);
+        judge_partners(
+            verdict, view, events, claims, cursor, first, entries, places,
+        );
     }
 }
 
@@ -188,11 +209,12 @@ fn judge_entry(
 pub fn judge(
     view: &LoopView<'_, '_>,
     events: &[usize],
-    claims: &Claims,
+    claims: &Claims<'_>,
     privates: &[Name],
     entries: &[Entry<'_, '_>],
     partners: &Partners,
 ) -> Verdict
+    requires { IsOrdered claims.now }
     ensures { verdict_of result ≡ with_groups (seen view.now) events.now (claim_in claims.now) (map letters privates.now) (groups_of partners.now.all) (groups_of partners.now.defining) (map entry_of entries.now) (map entry_of entries.now) spec.best }
 {
     let mut verdict = Verdict {
@@ -200,12 +222,14 @@ pub fn judge(
         held: true,
         claims: true,
     };
+    let mut cursor = Cursor::new();
     for first in entries {
         judge_entry(
             &mut verdict,
             view,
             events,
             claims,
+            &mut cursor,
             privates,
             first,
             entries,

@@ -3,6 +3,7 @@ use Rattle.std.specs.Prelude.{◌+◌}
 use Rattle.ast.specs.View.{block_view, letters}
 use Rattle.dependence.specs.Plan.{PlanTree}
 use Rattle.dependence.specs.PlanView.{plan_block}
+use Rattle.dependence.specs.Runs.{relations as relations_in}
 use Rattle.loop_tree.specs.TreeView.{seen}
 use Rattle.placement.specs.Placement.{AreSources}
 use Rattle.placement.proofs.Opening as opening
@@ -18,7 +19,7 @@ returns c = (
       let p : PlanTree = record {
         body = plan_block c.in_ok-body.body.items;
         privates = map letters c.args.privates.names.items;
-        relations = map (λ p. (p.0.0, p.1.0, p.2)) a.relations.items;
+        relations = relations_in a.relations;
       } in
       let found = judged.2 in
       let body = opening.placed_body l p a spots.spots c.in_ok-first.first (block_view c.body.result.now) judged.0 found spots.ensures.sources (subst (λ ks. opening.AreSpots a.sources.items ks spots.spots) c.deref.ensures.value spots.ensures.awaits)

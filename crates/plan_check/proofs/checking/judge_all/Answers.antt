@@ -20,7 +20,7 @@ returns c =
     let same = c.deref-4.ensures.value ∙ sym c.deref-2.ensures.value in
     judged l (given c.args.plan.now) (known_of c.args.walked.now.known) (seen_of c.args.walked.now.seen) c.requires.walked c.references.ensures.told
     c.deref-3.result.now c.args.events.now (λ test. ap (λ es. list_any test es) c.deref-3.ensures.value ∙ c.in_ok-named.ensures test) c.requires.named
-    (claim_in c.in_ok-claims.claims) c.in_ok-claims.ensures
+    (claim_in c.claims_of-claims.result) c.claims_of-claims.ensures.claims
     (map entry c.deref-4.result.now)
     (ap (λ es. map entry es) c.deref-4.ensures.value ∙ c.in_ok-entries.ensures ∙ ap (λ os. entries_by l os (map note c.deref.result.now)) c.references.ensures.all ∙ ap (λ ns. entries_by l l.references (map note ns)) c.deref.ensures.value)
     all defining

@@ -1,0 +1,14 @@
+use Rattle.std.proofs.Common.{◌≡◌, ◌-◌, ◌≤◌, ◌++◌, List}
+use Rattle.dependence.specs.Runs.{run}
+use Rattle.plan_check.specs.Checking.{claimed}
+use Rattle.plan_check.proofs.Claimed.{Claim, from_place}
+use Rattle.plan_check.proofs.claims.has.Given as goal
+
+abbrev pub invariant-loop-place : goal.invariant-loop-place
+invariant-loop-place l = record {
+  within : l.place ≤ l.run.count;
+  same : (rest : List Claim) → claimed (from_place l.run l.place ++ rest) l.first l.second ≡ claimed (run l.run ++ rest) l.first l.second;
+}
+
+abbrev pub decreases-loop-place : goal.decreases-loop-place
+decreases-loop-place l = l.run.count - l.place
