@@ -1,19 +1,19 @@
 //! Relations of references whose forms are made once for all pairs.
 
-ghost use Rattle.std.specs.Prelude.{◌≡◌, ◌+◌, ◌<◌, ◌^◌, IfOk, length, map};
+ghost use Rattle.std.specs.Prelude.{◌≡◌, ◌+◌, ◌<◌, ◌^◌, IfOk, length, map, true};
 ghost use Rattle.dependence.specs.Formed as spec;
 ghost use Rattle.dependence.specs.Tests.{by_distance, is_only, is_verified, on_forms, relation as relation_of, says_apart};
 ghost use Rattle.loop_tree.specs.Occurrences.{Occurrence as Occurring};
 ghost use Rattle.loop_tree.specs.TreeView.{seen};
 ghost use Rattle.loop_tree.specs.View.{occurrence as occurrence_of};
-ghost use Rattle.subscripts.specs.View.{form_in};
+ghost use Rattle.subscripts.specs.View.{form, form_in};
 
 use crate::relating::{before, by_forms};
 use crate::relation::{Reason, Relation};
 use crate::verifying::{are_apart, are_distant};
 use loop_tree::{LoopView, Occurrence};
 use std::alloc::{AllocError, Global};
-use subscripts::{Affine, affine};
+use subscripts::{Affine, Form, affine};
 
 /// The affine forms of a reference's subscripts, dimension by dimension; none of a scalar.
 pub fn forms(
@@ -28,6 +28,43 @@ pub fn forms(
         forms.push(affine(subscript, view))?;
     }
     Ok(forms)
+}
+
+/// Whether two forms are seen to be the same: those with shares of other scalars aren't compared.
+fn is_same(first: &Affine, second: &Affine) -> bool
+    ensures { result ≡ true → form_in first.now ≡ form_in second.now }
+{
+    match first {
+        Affine::NotAffine => false,
+        Affine::Form(first) => match second {
+            Affine::NotAffine => false,
+            Affine::Form(second) => is_same_line(first, second),
+        },
+    }
+}
+
+/// Whether two forms have the same constant and the same coefficient, and no shares.
+fn is_same_line(first: &Form, second: &Form) -> bool
+    ensures { result ≡ true → form first.now ≡ form second.now }
+{
+    first.shares.is_empty()
+        && second.shares.is_empty()
+        && first.constant == second.constant
+        && first.coefficient == second.coefficient
+}
+
+/// Whether the forms of two references are seen to be the same, dimension by dimension. So they are where
+/// this is true; where they have shares of other scalars it is false.
+pub fn have_same_forms(first: &[Affine], second: &[Affine]) -> bool
+    ensures { result ≡ true → map form_in first.now ≡ map form_in second.now }
+{
+    match first {
+        [] => second.is_empty(),
+        [one, others @ ..] => match second {
+            [] => false,
+            [other, rest @ ..] => is_same(one, other) && have_same_forms(others, rest),
+        },
+    }
 }
 
 /// What the dimensions from one on give.

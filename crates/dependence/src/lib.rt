@@ -12,7 +12,7 @@ mod relations;
 mod verifying;
 
 pub use fitting::{has_name, has_read, hides_inner};
-pub use formed::{forms, is_given, relate_forms, verify_forms};
+pub use formed::{forms, have_same_forms, is_given, relate_forms, verify_forms};
 pub use plan::{LoopPlan, PlanArm, PlanStmt};
 pub use relating::relate;
 pub use relation::{Reason, Relation};

@@ -17,6 +17,7 @@ use Rattle.placement.specs.Analysed.{Triple, triple}
 use Rattle.dependence.specs.Hiding.{has_name}
 use Rattle.placement.specs.Listed.{list_at}
 use Rattle.placement.specs.declared.analysis.Analysis.{Analysis}
+use Rattle.placement.specs.declared.analysis.Last.{Last}
 use Rattle.placement.specs.declared.pairs.Pairs.{Pairs}
 use Rattle.placement.specs.declared.pairs.Shared.{Shared}
 use Rattle.subscripts.specs.View.{form_in}
@@ -100,14 +101,21 @@ abbrev pub triple_of : Occurrence → Occurrence → Option ℕ → List Triple
 triple_of a b None = []
 triple_of a b (Some d) = (b.statement, a.statement, d) ∷ []
 
+-- the relation that was found last is that to each reference with these forms
+abbrev pub Relates : Loop → Occurrence → Last → Type 0
+Relates l a last = (b : Occurrence) → map form_in last.forms.now ≡ forms_of l b.subscripts → last.relation ≡ relation l a b
+
 abbrev pub kept_by : Loop → Occurrence → Occurrence → List Triple
 kept_by l a b = triple_of a b (kept_distance (relation l a b))
 
 abbrev pub relation_by : Loop → Occurrence → Occurrence → ℕ × ℕ × Relation
 relation_by l a b = (a.ref.id, b.ref.id, relation l a b)
 
+abbrev pub with_relation : Occurrence → Occurrence → Relation → Found → Found
+with_relation a b r f = record { sources = f.sources; kept = f.kept ++ triple_of a b (kept_distance r); relations = f.relations ++ (a.ref.id, b.ref.id, r) ∷ [] }
+
 abbrev pub after_pair : Loop → Occurrence → Occurrence → Found → Found
-after_pair l a b f = record { sources = f.sources; kept = f.kept ++ kept_by l a b; relations = f.relations ++ relation_by l a b ∷ [] }
+after_pair l a b f = with_relation a b (relation l a b) f
 
 abbrev pub after_some : Loop → Occurrence → Option Occurrence → Found → Found
 after_some l a None f = f

@@ -1,21 +1,22 @@
 //! What is kept of a loop's dependences.
 
 ghost use Rattle.std.specs.List.{All, Contains};
-ghost use Rattle.std.specs.Prelude.{◌≡◌, ◌↔◌, IfOk, OnOk, map, slice_get, true};
+ghost use Rattle.std.specs.Prelude.{◌≡◌, ◌↔◌, IfOk, IfSome, OnOk, map, slice_get, true};
 ghost use Rattle.ast.specs.View.{letters};
 ghost use Rattle.dependence.specs.Tests.{relation as relation_of};
 ghost use Rattle.loop_tree.specs.TreeView.{seen};
 ghost use Rattle.placement.specs.Analysed.{IsFound, Triple, are_sorted, triple};
 ghost use Rattle.placement.specs.Looked as spec;
-ghost use Rattle.placement.specs.Looked.{HasForms, found_in, occurrence_in};
+ghost use Rattle.placement.specs.Looked.{HasForms, Relates, found_in, occurrence_in};
 ghost use Rattle.placement.specs.Placement.{is_ascending};
 ghost use Rattle.privatise.specs.Privates.{ArePrivate};
 
 use crate::pairs::{Pairs, Shared};
 use ast::Name;
-use dependence::{Relation, Relations, relate_forms};
+use dependence::{Relation, Relations, have_same_forms, relate_forms};
 use loop_tree::LoopView;
 use std::alloc::{AllocError, Global};
+use subscripts::Affine;
 
 /// So many events a loop may have.
 const MOST_EVENTS: usize = 64;
@@ -63,28 +64,47 @@ fn add_source(sources: &mut Vec<usize>, statement: usize) -> Result<(), AllocErr
     }
 }
 
-/// The relation of a reference in one iteration to another in a later one.
-fn related(view: &LoopView<'_, '_>, first: &Shared<'_>, second: &Shared<'_>) -> Relation
-    requires first { HasForms (seen view.now) first.now }
-    requires second { HasForms (seen view.now) second.now }
-    ensures { result ≡ relation_of (seen view.now) (occurrence_in first.now) (occurrence_in second.now) }
-{
-    relate_forms(view, &first.forms, &second.forms)
+/// The relation of a reference to one with these forms, which was found last.
+#[derive(Clone, Copy)]
+pub struct Last<'s> {
+    pub forms: &'s [Affine],
+    pub relation: Relation,
 }
 
-/// Looks at a reference in one iteration and another in a later one.
-fn look_at(
+/// The same, which is found anew only where the forms aren't those of the last one.
+fn related_like<'s>(
     view: &LoopView<'_, '_>,
     first: &Shared<'_>,
-    second: &Shared<'_>,
-    analysis: &mut Analysis,
-) -> Result<(), AllocError>
+    second: &'s Shared<'_>,
+    last: Option<Last<'s>>,
+) -> Last<'s>
     requires first { HasForms (seen view.now) first.now }
     requires second { HasForms (seen view.now) second.now }
-    ensures sources { analysis.new.sources ≡ analysis.old.sources }
-    ensures found { OnOk result (found_in analysis.new ≡ spec.after_pair (seen view.now) (occurrence_in first.now) (occurrence_in second.now) (found_in analysis.old)) }
+    requires last { IfSome last (Relates (seen view.now) (occurrence_in first.now)) }
+    ensures relates { Relates (seen view.now) (occurrence_in first.now) result }
+    ensures relation { result.relation ≡ relation_of (seen view.now) (occurrence_in first.now) (occurrence_in second.now) }
 {
-    let relation = related(view, first, second);
+    if let Some(last) = last {
+        if have_same_forms(last.forms, &second.forms) {
+            return last;
+        }
+    }
+    Last {
+        forms: &second.forms,
+        relation: relate_forms(view, &first.forms, &second.forms),
+    }
+}
+
+/// Looks at a reference in one iteration and another in a later one, to which it has this relation.
+fn look_at(
+    first: &Shared<'_>,
+    second: &Shared<'_>,
+    relation: Relation,
+    analysis: &mut Analysis,
+) -> Result<(), AllocError>
+    ensures sources { analysis.new.sources ≡ analysis.old.sources }
+    ensures found { OnOk result (found_in analysis.new ≡ spec.with_relation (occurrence_in first.now) (occurrence_in second.now) relation (found_in analysis.old)) }
+{
     let id = first.occurrence.reference.id;
     let other = second.occurrence.reference.id;
     analysis.relations.push(id, other, relation)?;
@@ -99,21 +119,28 @@ fn look_at(
 }
 
 /// Looks at a reference in one iteration with the one at a place, if there is one, in a later one.
-fn look_at_place(
+fn look_at_place<'s>(
     view: &LoopView<'_, '_>,
-    shared: &[Shared<'_>],
+    shared: &'s [Shared<'_>],
     first: &Shared<'_>,
     place: usize,
+    last: Option<Last<'s>>,
     analysis: &mut Analysis,
-) -> Result<(), AllocError>
+) -> Result<Option<Last<'s>>, AllocError>
     requires first { HasForms (seen view.now) first.now }
     requires all { All (HasForms (seen view.now)) shared.now }
+    requires last { IfSome last (Relates (seen view.now) (occurrence_in first.now)) }
+    ensures last { IfOk result (λ last. IfSome last (Relates (seen view.now) (occurrence_in first.now))) }
     ensures sources { analysis.new.sources ≡ analysis.old.sources }
     ensures found { OnOk result (found_in analysis.new ≡ spec.after_some (seen view.now) (occurrence_in first.now) (slice_get (map occurrence_in shared.now) place) (found_in analysis.old)) }
 {
     match shared.get(place) {
-        Some(second) => look_at(view, first, second, analysis),
-        None => Ok(()),
+        Some(second) => {
+            let last = related_like(view, first, second, last);
+            look_at(first, second, last.relation, analysis)?;
+            Ok(Some(last))
+        }
+        None => Ok(last),
     }
 }
 
@@ -130,8 +157,9 @@ fn look_at_all(
     ensures sources { OnOk result (analysis.new.sources ≡ analysis.old.sources) }
     ensures found { OnOk result (found_in analysis.new ≡ spec.after_places (seen view.now) (map occurrence_in shared.now) (occurrence_in first.now) places.now (found_in analysis.old)) }
 {
+    let mut last = None;
     for place in places {
-        look_at_place(view, shared, first, *place, analysis)?;
+        last = look_at_place(view, shared, first, *place, last, analysis)?;
     }
     Ok(())
 }

@@ -1,12 +1,12 @@
 //! What is wrong with pairs of references.
 
-ghost use Rattle.std.specs.Prelude.{◌≡◌, ◌&&◌, ◌||◌, map, slice_get};
+ghost use Rattle.std.specs.Prelude.{◌≡◌, ◌&&◌, ◌||◌, IfSome, map, slice_get, true};
 ghost use Rattle.ast.specs.View.{letters};
 ghost use Rattle.loop_tree.specs.TreeView.{seen};
 ghost use Rattle.loop_tree.specs.View.{occurrence as occurrence_of};
 ghost use Rattle.plan_check.specs.Checking.{distance_of as distance_in};
 ghost use Rattle.plan_check.specs.ClaimsView.{IsOrdered, claim_in};
-ghost use Rattle.plan_check.specs.EntryView.{entry as entry_of, verdict as verdict_of};
+ghost use Rattle.plan_check.specs.EntryView.{Tells, entry as entry_of, verdict as verdict_of};
 ghost use Rattle.plan_check.specs.Grouping.{with_groups, with_optional, with_places, with_row};
 ghost use Rattle.plan_check.specs.GroupsView.{groups as groups_of};
 ghost use Rattle.plan_check.specs.Judging as spec;
@@ -16,8 +16,9 @@ use crate::entry::Entry;
 use crate::groups::Partners;
 use crate::lists::{flag_at, has_awaited};
 use ast::Name;
-use dependence::{Relation, has_name, is_given};
+use dependence::{Relation, has_name, have_same_forms, is_given};
 use loop_tree::{LoopView, Occurrence};
+use subscripts::Affine;
 
 /// Whether all pairs so far are ahead of an advance, held by an await, and claimed truly.
 #[derive(Clone, Copy)]
@@ -77,16 +78,64 @@ fn is_true(
     }
 }
 
+/// What was claimed last of a reference and one with these forms, and whether it is true.
+#[derive(Clone, Copy)]
+pub struct Last<'e> {
+    pub forms: &'e [Affine],
+    pub claim: Option<Relation>,
+    pub is_true: bool,
+}
+
+/// Whether a relation is claimed twice.
+fn is_same_claim(one: Option<Relation>, other: Option<Relation>) -> bool
+    ensures { result ≡ true → one ≡ other }
+{
+    match one {
+        None => false,
+        Some(one) => match other {
+            None => false,
+            Some(other) => one == other,
+        },
+    }
+}
+
+/// Whether a claim is true, which is found anew only where claim and forms aren't those of the last one.
+fn judged_like<'e>(
+    view: &LoopView<'_, '_>,
+    first: &Entry<'_, '_>,
+    second: &'e Entry<'_, '_>,
+    claim: Option<Relation>,
+    last: Option<Last<'e>>,
+) -> Last<'e>
+    requires { IfSome last (Tells (seen view.now) (entry_of first.now)) }
+    ensures tells { Tells (seen view.now) (entry_of first.now) result }
+    ensures given { result.is_true ≡ spec.is_given (seen view.now) (entry_of first.now) (entry_of second.now) claim }
+{
+    if let Some(last) = last {
+        if is_same_claim(last.claim, claim) && have_same_forms(last.forms, &second.forms) {
+            return last;
+        }
+    }
+    Last {
+        forms: &second.forms,
+        claim,
+        is_true: is_true(view, first, second, claim),
+    }
+}
+
 /// Judges a pair by what is claimed of it.
-fn judge_claim(
+fn judge_claim<'e>(
     verdict: &mut Verdict,
     view: &LoopView<'_, '_>,
     events: &[usize],
     first: &Entry<'_, '_>,
-    second: &Entry<'_, '_>,
+    second: &'e Entry<'_, '_>,
     claim: Option<Relation>,
-)
-    ensures { verdict_of verdict.new ≡ spec.by_claim (seen view.now) events.now (λ _ _. claim) (entry_of first.now) (entry_of second.now) claim (verdict_of verdict.old) }
+    last: Option<Last<'e>>,
+) -> Last<'e>
+    requires { IfSome last (Tells (seen view.now) (entry_of first.now)) }
+    ensures tells { Tells (seen view.now) (entry_of first.now) result }
+    ensures verdict { verdict_of verdict.new ≡ spec.by_claim (seen view.now) events.now (λ _ _. claim) (entry_of first.now) (entry_of second.now) claim (verdict_of verdict.old) }
 {
     match distance_of(claim) {
         None => {}
@@ -96,7 +145,9 @@ fn judge_claim(
                 && is_held(events, &first.note.free, &second.note.near, distance);
         }
     }
-    verdict.claims = verdict.claims && is_true(view, first, second, claim);
+    let judged = judged_like(view, first, second, claim, last);
+    verdict.claims = verdict.claims && judged.is_true;
+    judged
 }
 
 /// Whether two references are to one variable, and one of them gives it a value.
@@ -106,53 +157,62 @@ fn is_pair(first: &Occurrence<'_>, second: &Occurrence<'_>) -> bool
     first.reference.name == second.reference.name && (first.defines || second.defines)
 }
 
-fn judge_pair(
+fn judge_pair<'e>(
     verdict: &mut Verdict,
     view: &LoopView<'_, '_>,
     events: &[usize],
     claims: &Claims<'_>,
     cursor: &mut Cursor,
     first: &Entry<'_, '_>,
-    second: &Entry<'_, '_>,
-)
-    requires { IsOrdered claims.now }
-    ensures { verdict_of verdict.new ≡ spec.with_pair (seen view.now) events.now (claim_in claims.now) (entry_of first.now) (entry_of second.now) (verdict_of verdict.old) }
+    second: &'e Entry<'_, '_>,
+    last: Option<Last<'e>>,
+) -> Option<Last<'e>>
+    requires ordered { IsOrdered claims.now }
+    requires tells { IfSome last (Tells (seen view.now) (entry_of first.now)) }
+    ensures tells { IfSome result (Tells (seen view.now) (entry_of first.now)) }
+    ensures verdict { verdict_of verdict.new ≡ spec.with_pair (seen view.now) events.now (claim_in claims.now) (entry_of first.now) (entry_of second.now) (verdict_of verdict.old) }
 {
-    if is_pair(first.occurrence, second.occurrence) {
-        let claim = claims.find(
-            cursor,
-            first.occurrence.reference.id,
-            second.occurrence.reference.id,
-        );
-        judge_claim(verdict, view, events, first, second, claim);
+    if !is_pair(first.occurrence, second.occurrence) {
+        return last;
     }
+    let claim = claims.find(
+        cursor,
+        first.occurrence.reference.id,
+        second.occurrence.reference.id,
+    );
+    Some(judge_claim(verdict, view, events, first, second, claim, last))
 }
 
 /// Judges a reference with the one at a place.
-fn judge_at(
+fn judge_at<'e>(
     verdict: &mut Verdict,
     view: &LoopView<'_, '_>,
     events: &[usize],
     claims: &Claims<'_>,
     cursor: &mut Cursor,
     first: &Entry<'_, '_>,
-    entries: &[Entry<'_, '_>],
+    entries: &'e [Entry<'_, '_>],
     place: usize,
-)
-    requires { IsOrdered claims.now }
-    ensures { verdict_of verdict.new ≡ with_optional (seen view.now) events.now (claim_in claims.now) (entry_of first.now) (slice_get (map entry_of entries.now) place) (verdict_of verdict.old) }
+    last: Option<Last<'e>>,
+) -> Option<Last<'e>>
+    requires ordered { IsOrdered claims.now }
+    requires tells { IfSome last (Tells (seen view.now) (entry_of first.now)) }
+    ensures tells { IfSome result (Tells (seen view.now) (entry_of first.now)) }
+    ensures verdict { verdict_of verdict.new ≡ with_optional (seen view.now) events.now (claim_in claims.now) (entry_of first.now) (slice_get (map entry_of entries.now) place) (verdict_of verdict.old) }
 {
-    if place < entries.len() {
-        judge_pair(
-            verdict,
-            view,
-            events,
-            claims,
-            cursor,
-            first,
-            &entries[place],
-        );
+    if place >= entries.len() {
+        return last;
     }
+    judge_pair(
+        verdict,
+        view,
+        events,
+        claims,
+        cursor,
+        first,
+        &entries[place],
+        last,
+    )
 }
 
 /// Judges a reference with those at places.
@@ -169,9 +229,10 @@ fn judge_partners(
     requires { IsOrdered claims.now }
     ensures { verdict_of verdict.new ≡ with_places (seen view.now) events.now (claim_in claims.now) (entry_of first.now) (map entry_of entries.now) places.now (verdict_of verdict.old) }
 {
+    let mut last = None;
     for place in places {
-        judge_at(
-            verdict, view, events, claims, cursor, first, entries, *place,
+        last = judge_at(
+            verdict, view, events, claims, cursor, first, entries, *place, last,
         );
     }
 }
