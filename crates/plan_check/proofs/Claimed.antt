@@ -48,13 +48,13 @@ other_first a b s (suc n) r rest x y o =
     ∙ other_first a (b + s) s n r rest x y o
 
 -- nor has one that ends before it
-pub ends_before : (a b s n : ℕ) (r : Relation) (rest : List Claim) (x y : ℕ) → 1 ≤ s → b + s * n ≤ y → claimed (stepped a b s n r ++ rest) x y ≡ claimed rest x y
-ends_before a b s zero r rest x y p q = refl
-ends_before a b s (suc n) r rest x y p q =
-    let next : (b + s) + s * n ≤ y = omega (arith, q) in
-    let before : b ≡ y → ⊥ = λ e. omega (arith, p, next, e) in
+pub ends_before : (a b s n : ℕ) (r : Relation) (rest : List Claim) (x y : ℕ) → b + s * n < y + s → claimed (stepped a b s n r ++ rest) x y ≡ claimed rest x y
+ends_before a b s zero r rest x y q = refl
+ends_before a b s (suc n) r rest x y q =
+    let next : (b + s) + s * n < y + s = omega (arith, q) in
+    let before : b ≡ y → ⊥ = λ e. omega (arith, next, e) in
     chosen_no ((a == x) && (b == y)) (Some r) (claimed (stepped a (b + s) s n r ++ rest) x y) (second_no (a == x) (b == y) (nat_other b y before))
-    ∙ ends_before a (b + s) s n r rest x y p next
+    ∙ ends_before a (b + s) s n r rest x y next
 
 -- the pair at a place of a run
 pub inside : (a b s n k : ℕ) (r : Relation) (rest : List Claim) → k < n → claimed (stepped a b s n r ++ rest) a (b + s * k) ≡ Some r
@@ -85,6 +85,34 @@ at_least a b e = grind (arith, nat_tests, e)
 
 equal : (a b : ℕ) → (a == b) ≡ true → a ≡ b
 equal a b e = grind (arith, nat_tests, e)
+
+-- a run ends no sooner than it begins
+end_least : (r : Run) → r.second ≤ end r
+end_least r = by (r.count == 0)
+  where
+    by : (b : Bool) → r.second ≤ (if b then r.second else r.second + r.step * (r.count - 1) + 1)
+    by true = omega arith
+    by false = omega arith
+
+-- so what is not before its end is behind all of it
+behind_end : (r : Run) (rest : List Claim) (y : ℕ) → end r ≤ y → claimed (run r ++ rest) r.first y ≡ claimed rest r.first y
+behind_end r rest y l = by (r.count == 0) refl l
+  where
+    by : (b : Bool) → (r.count == 0) ≡ b → (if b then r.second else r.second + r.step * (r.count - 1) + 1) ≤ y → claimed (run r ++ rest) r.first y ≡ claimed rest r.first y
+    by true e h = ap (λ n. claimed (stepped r.first r.second r.step n r.relation ++ rest) r.first y) (equal r.count 0 e)
+    by false e h =
+        let some : r.count ≡ suc (r.count - 1) = more r.count (some_count r.count e) in
+        ap (λ n. claimed (stepped r.first r.second r.step n r.relation ++ rest) r.first y) some
+        ∙ ends_before r.first r.second r.step (suc (r.count - 1)) r.relation rest r.first y (ahead (r.count - 1) h)
+      where
+        ahead : (n : ℕ) → r.second + r.step * n + 1 ≤ y → r.second + r.step * suc n < y + r.step
+        ahead n h = omega (arith, h)
+
+        more : (n : ℕ) → (n ≡ 0 → ⊥) → n ≡ suc (n - 1)
+        more n h = omega (arith, h)
+
+        some_count : (n : ℕ) → (n == 0) ≡ false → n ≡ 0 → ⊥
+        some_count n e z = let one : true ≡ false = sym (ap (λ m. m == 0) z) ∙ e in cc one
 
 abbrev pub NotBefore : (a b : ℕ) → Run → Type 0
 NotBefore a b r = (a < r.first) ⊎ ((a ≡ r.first) × (b ≤ r.second))
@@ -118,11 +146,8 @@ floor a b (x ∷ rs) (suc i) r e g =
     joined (inl p, s) (inr q) = let e = q.0 in inl (omega (arith, p, e))
     joined (inr p, s) (inl q) = let e = p.0 in inl (omega (arith, e, q))
     joined (inr p, s) (inr q) =
-        let e = p.0 in let f = q.0 in let u = p.1 in let v = q.1 in
-        inr (omega (arith, e, f), least x.step x.count u v)
-      where
-        least : (s n : ℕ) → b ≤ x.second → x.second + s * n ≤ r.second → b ≤ r.second
-        least s n u v = omega (arith, u, v)
+        let e = p.0 in let f = q.0 in let u = p.1 in let v = q.1 in let w = end_least x in
+        inr (omega (arith, e, f), omega (arith, u, v, w))
 
 -- of runs in order, the pair at a place of one of them is claimed by that one
 pub claimed_at : (a b : ℕ) (rs : List Run) (i k : ℕ) (r : Run) → ascend a b rs ≡ true → slice_get rs i ≡ Some r → k < r.count → claimed (runs rs) r.first (r.second + r.step * k) ≡ Some r.relation
@@ -142,10 +167,10 @@ claimed_at a b (x ∷ rs) (suc i) k r e g l =
     behind s (inr p) =
         let q = p.1 in
         subst (λ z. claimed (run x ++ runs rs) z (r.second + r.step * k) ≡ claimed (runs rs) z (r.second + r.step * k)) p.0
-        (ends_before x.first x.second x.step x.count x.relation (runs rs) x.first (r.second + r.step * k) s (most (x.step * x.count) (r.step * k) q))
+        (behind_end x (runs rs) (r.second + r.step * k) (most (r.step * k) q))
       where
-        most : (m n : ℕ) → x.second + m ≤ r.second → x.second + m ≤ r.second + n
-        most m n q = omega (arith, q)
+        most : (n : ℕ) → end x ≤ r.second → end x ≤ r.second + n
+        most n q = omega (arith, q)
 
 -- ---- a pass over a run
 

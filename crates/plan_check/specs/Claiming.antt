@@ -1,10 +1,10 @@
 -- Relations in order, run by run.
-use Rattle.std.specs.Prelude.{◌==◌, ◌+◌, ◌*◌, nat_le, nat_lt, ℕ, Bool, true, ◌&&◌, ◌||◌, List, [], ◌∷◌}
+use Rattle.std.specs.Prelude.{◌==◌, ◌+◌, ◌-◌, ◌*◌, nat_le, nat_lt, ℕ, Bool, true, ◌&&◌, ◌||◌, if◌then◌else◌, List, [], ◌∷◌}
 use Rattle.dependence.specs.declared.relations.Run.{Run}
 
--- the number behind the others of a run
+-- the number behind the last of the others of a run
 abbrev pub end : Run → ℕ
-end r = r.second + r.step * r.count
+end r = if r.count == 0 then r.second else r.second + r.step * (r.count - 1) + 1
 
 -- the pairs of a run are not before a pair
 abbrev pub is_behind : (first second : ℕ) → Run → Bool

@@ -25,11 +25,14 @@ pub struct Cursor {
     place: u32,
 }
 
-/// The number behind the others of a run.
+/// The number behind the last of the others of a run.
 fn end(run: &Run) -> usize
     ensures { result ≡ spec.end run.now }
 {
-    run.second as usize + run.step as usize * run.count as usize
+    if run.count == 0 {
+        return run.second as usize;
+    }
+    run.second as usize + run.step as usize * (run.count - 1) as usize + 1
 }
 
 /// Whether the pairs of a run are behind those before a pair.
