@@ -19,6 +19,7 @@ pub mod Onward
 pub mod Placing
 pub mod Reaching
 pub mod Seats
+pub mod Shifts
 pub mod Storing
 pub mod Straight
 pub mod Values

@@ -3,6 +3,7 @@
 
 mod choices;
 mod code;
+mod direct;
 mod elements;
 mod execute;
 mod expressions;
