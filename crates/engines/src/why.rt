@@ -10,6 +10,9 @@ use loop_tree::{LoopTree, LoopView, Occurrence};
 use remarks::early_use;
 use std::alloc::{AllocError, Global};
 
+/// How long a line with two references is at most, with its end.
+const WIDEST: usize = 101;
+
 /// Two references that were looked at, the first in an iteration and the second in a later one.
 #[derive(Clone, Copy)]
 struct Pair<'p> {
@@ -125,13 +128,24 @@ fn append_relation(out: &mut Vec<u8>, pair: &Pair<'_>) -> Result<(), AllocError>
     }
 }
 
-/// Appends the lines of two references.
-fn append_pair(out: &mut Vec<u8>, pair: &Pair<'_>) -> Result<(), AllocError> {
+/// Appends two references, with this between them.
+fn append_both(out: &mut Vec<u8>, pair: &Pair<'_>, between: &[u8]) -> Result<(), AllocError> {
     out.extend_from_slice(b"  ")?;
     append_occurrence(out, &pair.first, pair.first_line)?;
-    out.extend_from_slice(b" and ")?;
+    out.extend_from_slice(between)?;
     append_occurrence(out, &pair.second, pair.second_line)?;
-    out.extend_from_slice(b":\n    ")?;
+    out.extend_from_slice(b":\n")
+}
+
+/// Appends the lines of two references, which have a line each where they are too long for one.
+fn append_pair(out: &mut Vec<u8>, pair: &Pair<'_>) -> Result<(), AllocError> {
+    let start = out.len();
+    append_both(out, pair, b" and ")?;
+    if out.len().saturating_sub(start) > WIDEST {
+        out.truncate(start);
+        append_both(out, pair, b"\n  and ")?;
+    }
+    out.extend_from_slice(b"    ")?;
     append_relation(out, pair)?;
     out.extend_from_slice(b"\n")
 }
