@@ -54,6 +54,14 @@ fn range_of<'p>(tree: &LoopTree<'p>, number: usize) -> &'p [Node] {
     tree.view(number).body()
 }
 
+/// How many iterations the loop of a number has, where that is known.
+fn trips_of(tree: &LoopTree<'_>, number: usize) -> Option<u128> {
+    if number < 1 || number > tree.count() {
+        return None;
+    }
+    tree.view(number).trips()
+}
+
 /// What keeps the loop of a number serial, for a reason.
 fn hindrance(
     alloc: Global,
@@ -83,7 +91,7 @@ fn sentence(alloc: Global, hindrance: Option<Hindrance>) -> Result<Vec<u8>, Allo
 fn serial<'a>(
     alloc: Global,
     source: &'a [u8],
-    program: &Program,
+    tree: &LoopTree<'_>,
     reports: &[LoopReport],
     frame: Frame,
     reason: u8,
@@ -92,15 +100,14 @@ fn serial<'a>(
         (p.columns ≡ frame.columns)) }
     ensures arrows { IfOk result (λ p. p.arrows.items ≡ []) }
 {
-    let tree = loops(alloc, program)?;
-    let found = hindrance(alloc, &tree, frame.number, reason, reports)?;
+    let found = hindrance(alloc, tree, frame.number, reason, reports)?;
     let hindered = match found {
         Some(hindrance) => hindrance.line(frame.line),
         None => None,
     };
     let reason = sentence(alloc, found)?;
     let serial = SerialLoop {
-        range: range_of(&tree, frame.number),
+        range: range_of(tree, frame.number),
         reason: &reason,
         hindered,
     };
@@ -145,13 +152,15 @@ fn picture_of<'a>(
     ensures arrows { IfOk result (λ p. AreArrows report.now.sources.items
         (kept_of report.now report.now.plan) p.arrows.items) }
 {
+    let tree = loops(alloc, program)?;
     let frame = Frame {
         number: portion.number,
         line: report.line,
         columns: portion.columns,
+        trips: trips_of(&tree, portion.number),
     };
     match &report.plan {
-        LoopPlan::Serial(reason) => serial(alloc, source, program, reports, frame, *reason),
+        LoopPlan::Serial(reason) => serial(alloc, source, &tree, reports, frame, *reason),
         LoopPlan::Body { body, privates, .. } => {
             opened(alloc, source, report, frame, body, privates)
         }

@@ -15,19 +15,30 @@ use crate::svg::{Point, Size, append_marks, opening};
 use ast::Name;
 use std::alloc::{AllocError, Global};
 
-/// How many characters of a statement are shown.
+/// How many characters of a statement have room beside the boxes.
 const SHOWN: usize = 36;
+/// How many of them go for each loop or IF around it.
+const INDENT: usize = 2;
+/// At how many loops and IFs it is moved no further to the right.
+const DEEPEST: u64 = 8;
+/// How many private names are shown.
+const NAMED: usize = 10;
+/// How wide a picture is at least, so that what is said above and below has room.
+const NARROWEST: u128 = 800;
 
-/// A text that isn't too long to be shown.
-fn cut(alloc: Global, text: &[u8]) -> Result<Vec<u8>, AllocError> {
-    match text.get(..SHOWN) {
-        Some(front) => {
-            let mut short = Vec::from_slice(alloc, front)?;
-            short.extend_from_slice(b" ..")?;
-            Ok(short)
-        }
-        None => Vec::from_slice(alloc, text),
+/// How many characters of a statement are shown in so many loops and IFs.
+fn room(depth: u64) -> usize {
+    SHOWN.saturating_sub(INDENT.saturating_mul(depth.min(DEEPEST) as usize))
+}
+
+/// A text, of which only so many characters are shown.
+fn cut(alloc: Global, text: &[u8], room: usize) -> Result<Vec<u8>, AllocError> {
+    if text.len() <= room {
+        return Vec::from_slice(alloc, text);
     }
+    let mut short = Vec::from_slice(alloc, text.get(..room).unwrap_or(b""))?;
+    short.extend_from_slice(b" ..")?;
+    Ok(short)
 }
 
 /// Private names, one behind another.
@@ -37,9 +48,14 @@ fn private(alloc: Global, names: &[Name]) -> Result<Vec<u8>, AllocError> {
         return Ok(text);
     }
     text.extend_from_slice(b"each iteration has its own")?;
-    for name in names {
+    for name in names.iter().take(NAMED) {
         text.extend_from_slice(b" ")?;
         text.extend_from_slice(name.trimmed())?;
+    }
+    let more = names.len().saturating_sub(NAMED);
+    if more > 0 {
+        let told = format!(in alloc; " and {more} more")?;
+        text.extend_from_slice(told.as_bytes())?;
     }
     Ok(text)
 }
@@ -70,9 +86,8 @@ fn add_heading(
     let heading = format!(in alloc; "Loop {number}, line {line}: {says}")?;
     let top = Point { x: 20, y: 30 };
     add_words(alloc, marks, b"heading", top, heading.as_bytes())?;
-    let text = cut(alloc, picture.text)?;
     let class = classes(picture.look).1;
-    add_words(alloc, marks, class, Point { x: 20, y: 52 }, &text)?;
+    add_words(alloc, marks, class, Point { x: 20, y: 52 }, picture.text)?;
     let below = Point { x: 20, y: 74 };
     match &picture.serial {
         Some(reason) => add_words(alloc, marks, b"reason", below, reason),
@@ -89,6 +104,7 @@ fn classes(look: Look) -> (&'static [u8], &'static [u8]) {
         Look::Plain => (b"box", b"code"),
         Look::Marked => (b"marked", b"code marked"),
         Look::Made => (b"made", b"code made"),
+        Look::End => (b"box", b"code made"),
     }
 }
 
@@ -100,14 +116,14 @@ fn add_label(
     row: &Row<'_>,
 ) -> Result<(), AllocError> {
     let y = corner(place_in(0, number)).y.saturating_add(13);
-    if row.look != Look::Made {
+    if row.look.is_in_source() {
         let line = format!(in alloc; "{}", row.line)?;
         let at = Point { x: 44, y };
         add_words(alloc, marks, b"faint right", at, line.as_bytes())?;
     }
-    let depth = u128::from(row.depth.min(8));
+    let depth = u128::from(row.depth.min(DEEPEST));
     let x = 56u128.saturating_add(depth.saturating_mul(14));
-    let text = cut(alloc, row.text)?;
+    let text = cut(alloc, row.text, room(row.depth))?;
     add_words(alloc, marks, classes(row.look).1, Point { x, y }, &text)
 }
 
@@ -125,7 +141,10 @@ fn title_of(alloc: Global, row: &Row<'_>, iteration: u64) -> Result<Vec<u8>, All
         Look::Made => {
             format!(in alloc; "iteration {iteration}: ELSE made for the IF of line {line}")?
         }
-        _ => format!(in alloc; "iteration {iteration}: line {line}")?,
+        Look::End => {
+            format!(in alloc; "iteration {iteration}: the end of what begins in line {line}")?
+        }
+        Look::Plain | Look::Marked => format!(in alloc; "iteration {iteration}: line {line}")?,
     };
     Vec::from_slice(alloc, title.as_bytes())
 }
@@ -188,7 +207,7 @@ fn back(alloc: Global, picture: &LoopPicture<'_>) -> Result<Vec<Mark>, AllocErro
 /// How wide and how high the picture of a loop is.
 fn size(picture: &LoopPicture<'_>) -> Size {
     Size {
-        width: width(picture.columns),
+        width: width(picture.columns).max(NARROWEST),
         height: height(picture),
     }
 }

@@ -109,6 +109,32 @@ fn add_all_told(
     Ok(())
 }
 
+/// Whether more iterations are drawn than the loop has.
+fn is_short(picture: &LoopPicture<'_>) -> bool {
+    match picture.trips {
+        Some(trips) => trips < u128::from(picture.columns),
+        None => false,
+    }
+}
+
+/// Adds how many iterations the loop has, where more are drawn.
+fn add_trips(
+    alloc: Global,
+    marks: &mut Vec<Mark>,
+    pen: &mut Pen,
+    picture: &LoopPicture<'_>,
+) -> Result<(), AllocError> {
+    match picture.trips {
+        Some(trips) if is_short(picture) => {
+            let told = format!(in alloc;
+                "iterations of the loop: {trips}; the others show how it would go on"
+            )?;
+            add_words(alloc, marks, b"faint", pen.next(), told.as_bytes())
+        }
+        _ => Ok(()),
+    }
+}
+
 /// Adds what is said below the picture of a loop.
 pub fn add_legend(
     alloc: Global,
@@ -118,6 +144,7 @@ pub fn add_legend(
     let mut pen = Pen {
         y: bottom(picture.rows.len()),
     };
+    add_trips(alloc, marks, &mut pen, picture)?;
     if picture.serial.is_some() {
         let told = b"each iteration begins when the one before has ended";
         return add_words(alloc, marks, b"faint", pen.next(), told);
@@ -137,6 +164,8 @@ pub fn add_legend(
 /// How high the picture of a loop is with what is said below it.
 pub fn height(picture: &LoopPicture<'_>) -> u128 {
     let told = picture.arrows.len().min(TOLD.saturating_add(1)) as u128;
-    let lines = told.saturating_add(3);
+    let lines = told
+        .saturating_add(3)
+        .saturating_add(u128::from(is_short(picture)));
     bottom(picture.rows.len()).saturating_add(PITCH.saturating_mul(lines))
 }

@@ -44,6 +44,8 @@ pub struct Frame {
     pub line: Line,
     /// How many iterations are drawn, 1 to 64.
     pub columns: u64,
+    /// How many iterations the loop has, where that is known.
+    pub trips: Option<u128>,
 }
 
 /// The line of an event's source.
@@ -96,6 +98,7 @@ pub fn open_picture<'a>(
         number,
         line,
         columns,
+        trips,
     } = frame;
     let text = statement_text(&lines, line);
     let mut sketch = Sketch::new(alloc, lines, None);
@@ -113,6 +116,7 @@ pub fn open_picture<'a>(
         privates: in_order(alloc, opened.privates)?,
         serial: None,
         columns,
+        trips,
     })
 }
 
@@ -131,6 +135,7 @@ pub fn serial_picture<'a>(
         number,
         line,
         columns,
+        trips,
     } = frame;
     let text = statement_text(&lines, line);
     let mut sketch = Sketch::new(alloc, lines, serial.hindered);
@@ -147,5 +152,6 @@ pub fn serial_picture<'a>(
         privates: Vec::new(alloc),
         serial: Some(Vec::from_slice(alloc, serial.reason)?),
         columns,
+        trips,
     })
 }

@@ -7,12 +7,61 @@ use crate::style::hue;
 use crate::svg::Point;
 use std::alloc::{AllocError, Global};
 
-/// How far two marks of one box are apart.
+/// How far two marks of one box are apart, and how far a second line of them is below the first.
 const APART: u128 = 15;
 
-/// How far the mark behind so many others of its box stands from its edge.
-fn offset(before: u128) -> u128 {
-    APART.saturating_mul(before.min(2))
+const BELOW: u128 = 16;
+/// How many marks of one box there are in a line, and how many are drawn.
+const ACROSS: u128 = 3;
+
+const DRAWN: u128 = 6;
+
+/// How far the mark behind so many others of its box stands from where the first one is.
+fn offset(before: u128) -> Point {
+    let line = before.min(DRAWN).wrapping_div(ACROSS).min(1);
+    let place = before
+        .min(DRAWN)
+        .saturating_sub(ACROSS.saturating_mul(line));
+    Point {
+        x: APART.saturating_mul(place),
+        y: BELOW.saturating_mul(line),
+    }
+}
+
+/// Where the mark behind so many others of a box stands whose first one is at a point of its left edge.
+fn from_left(edge: Point, before: u128) -> Point {
+    let Point { x, y } = offset(before);
+    Point {
+        x: edge.x.saturating_add(x),
+        y: edge.y.saturating_add(y),
+    }
+}
+
+/// The same, of its right edge.
+fn from_right(edge: Point, before: u128) -> Point {
+    let Point { x, y } = offset(before);
+    Point {
+        x: edge.x.saturating_sub(x),
+        y: edge.y.saturating_add(y),
+    }
+}
+
+/// Adds a disc behind so many others of its box; for those that have no room there are two full stops.
+fn add_disc(
+    alloc: Global,
+    marks: &mut Vec<Mark>,
+    at: Point,
+    disc: Mark,
+    before: u128,
+) -> Result<(), AllocError> {
+    if before < DRAWN {
+        return Ok(marks.push(disc)?);
+    }
+    if before == DRAWN {
+        let words = Vec::from_slice(alloc, b"..")?;
+        marks.push(Mark::Words(Class::plain(b"middle"), at, words))?;
+    }
+    Ok(())
 }
 
 /// The class of an event's marks.
@@ -23,19 +72,16 @@ pub fn class_of(name: &'static [u8], event: usize) -> Class {
     }
 }
 
-/// The mark of what is awaited in a row of an iteration, behind so many others.
-fn awaited(
+/// Adds the mark of what is awaited in a row of an iteration, behind so many others.
+fn add_awaited(
     alloc: Global,
+    marks: &mut Vec<Mark>,
     arrow: &Arrow,
     row: usize,
     before: u128,
     column: u64,
-) -> Result<Mark, AllocError> {
-    let Point { x, y } = entry(place_in(column, row));
-    let at = Point {
-        x: x.saturating_add(offset(before)),
-        y,
-    };
+) -> Result<(), AllocError> {
+    let at = from_left(entry(place_in(column, row)), before);
     let Arrow {
         event,
         distance,
@@ -46,7 +92,8 @@ fn awaited(
         "before line {sink_line} it awaits event {event} of the iteration {distance} before"
     )?;
     let title = Vec::from_slice(alloc, title.as_bytes())?;
-    Ok(Mark::Disc(class_of(b"await", *event), at, *event, title))
+    let disc = Mark::Disc(class_of(b"await", *event), at, *event, title);
+    add_disc(alloc, marks, at, disc, before)
 }
 
 /// Adds what is awaited in an iteration, by the rows of the sinks; what one sink awaits stands together.
@@ -67,28 +114,26 @@ pub fn add_awaits(
                 0
             };
             last = Some(row);
-            marks.push(awaited(alloc, arrow, row, before, column)?)?;
+            add_awaited(alloc, marks, arrow, row, before, column)?;
         }
     }
     Ok(())
 }
 
-/// The mark of an advance in an iteration, behind so many others.
-fn advanced(
+/// Adds the mark of an advance in an iteration, behind so many others.
+fn add_advanced(
     alloc: Global,
+    marks: &mut Vec<Mark>,
     advance: Advance,
     before: u128,
     column: u64,
-) -> Result<Mark, AllocError> {
+) -> Result<(), AllocError> {
     let Advance { event, row } = advance;
-    let Point { x, y } = exit(place_in(column, row));
-    let at = Point {
-        x: x.saturating_sub(offset(before)),
-        y,
-    };
+    let at = from_right(exit(place_in(column, row)), before);
     let title = format!(in alloc; "it advances event {event}")?;
     let title = Vec::from_slice(alloc, title.as_bytes())?;
-    Ok(Mark::Disc(class_of(b"advance", event), at, event, title))
+    let disc = Mark::Disc(class_of(b"advance", event), at, event, title);
+    add_disc(alloc, marks, at, disc, before)
 }
 
 /// Adds what is advanced in an iteration, of which those of one row stand together.
@@ -107,7 +152,7 @@ pub fn add_advances(
             0
         };
         last = Some(advance.row);
-        marks.push(advanced(alloc, *advance, before, column)?)?;
+        add_advanced(alloc, marks, *advance, before, column)?;
     }
     Ok(())
 }

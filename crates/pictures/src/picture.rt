@@ -11,12 +11,24 @@ pub enum Look {
     Marked,
     /// As an ELSE that was made, which isn't in the source.
     Made,
+    /// As the end of a loop or an IF, behind which something is advanced.
+    End,
+}
+
+impl Look {
+    /// Whether the row is a statement of the source.
+    pub fn is_in_source(self) -> bool {
+        match self {
+            Look::Plain | Look::Marked => true,
+            Look::Made | Look::End => false,
+        }
+    }
 }
 
 /// A row: what each iteration has at this height.
 #[derive(Clone, Copy, Debug, PartialEq, Eq)]
 pub struct Row<'a> {
-    /// The line in the source; of a made ELSE, that of its IF.
+    /// The line in the source; of a made ELSE, that of its IF; of an end, that of its DO or IF.
     pub line: Line,
     /// In how many loops and IFs of the range it stands.
     pub depth: u64,
@@ -65,4 +77,6 @@ pub struct LoopPicture<'a> {
     pub serial: Option<Vec<u8>>,
     /// How many iterations are drawn, 1 to 64.
     pub columns: u64,
+    /// How many the loop has, where that is known.
+    pub trips: Option<u128>,
 }

@@ -9,6 +9,19 @@ use std::alloc::{AllocError, Global};
 /// What stands where an ELSE was made.
 const MADE_ELSE: &[u8] = b"(no ELSE: one is made)";
 
+/// What stands where a loop or an IF has ended.
+const END_OF_LOOP: &[u8] = b"(end of the DO)";
+
+const END_OF_IF: &[u8] = b"(end of the IF)";
+
+/// A loop or an IF, behind which no row stands.
+#[derive(Clone, Copy, Debug, PartialEq, Eq)]
+struct Ended {
+    line: Line,
+    depth: u64,
+    text: &'static [u8],
+}
+
 /// The rows of a loop's picture, and where its events are advanced.
 #[derive(Drop)]
 pub struct Sketch<'a> {
@@ -18,6 +31,8 @@ pub struct Sketch<'a> {
     pub advances: Vec<Advance>,
     /// The line of the statement that is in the way, if one is.
     pub hindered: Option<Line>,
+    /// The loop or IF that ended last, while no row stands behind it.
+    ended: Option<Ended>,
 }
 
 impl<'a> Sketch<'a> {
@@ -28,14 +43,16 @@ impl<'a> Sketch<'a> {
             rows: Vec::new(alloc),
             advances: Vec::new(alloc),
             hindered,
+            ended: None,
         }
     }
 
     /// Adds the row of a statement. One on the line of the row above, as behind a logical IF, has
     /// that row.
     fn add_row(&mut self, line: Line, depth: u64) -> Result<(), AllocError> {
+        self.ended = None;
         if let Some(above) = self.rows.last() {
-            if above.line == line && above.look != Look::Made {
+            if above.line == line && above.look.is_in_source() {
                 return Ok(());
             }
         }
@@ -53,6 +70,7 @@ impl<'a> Sketch<'a> {
 
     /// Adds the row of an ELSE that was made for the IF of a line.
     fn add_made(&mut self, line: Line, depth: u64) -> Result<(), AllocError> {
+        self.ended = None;
         Ok(
             self.rows.push(Row {
                 line,
@@ -63,8 +81,28 @@ impl<'a> Sketch<'a> {
         )
     }
 
-    /// Adds an advance behind what stands in the last row.
+    /// Notes that a loop or an IF has ended.
+    fn end(&mut self, line: Line, depth: u64, text: &'static [u8]) {
+        self.ended = Some(Ended { line, depth, text });
+    }
+
+    /// Adds the row of the end of a loop or an IF, if one ended last.
+    fn add_end(&mut self) -> Result<(), AllocError> {
+        if let Some(Ended { line, depth, text }) = self.ended {
+            self.ended = None;
+            self.rows.push(Row {
+                line,
+                depth,
+                text,
+                look: Look::End,
+            })?;
+        }
+        Ok(())
+    }
+
+    /// Adds an advance behind what stands in the last row, or behind the loop or IF that ended last.
     fn add_advance(&mut self, event: usize) -> Result<(), AllocError> {
+        self.add_end()?;
         let row = self.rows.len().saturating_sub(1);
         Ok(self.advances.push(Advance { event, row })?)
     }
@@ -95,17 +133,19 @@ fn add_plan_node(sketch: &mut Sketch<'_>, node: &PlanStmt, depth: u64) -> Result
         PlanStmt::Plain(statement) => sketch.add_row(statement.line, depth),
         PlanStmt::Loop(line, _, range) => {
             sketch.add_row(*line, depth)?;
-            add_plan(sketch, range, depth.saturating_add(1))
+            add_plan(sketch, range, depth.saturating_add(1))?;
+            sketch.end(*line, depth, END_OF_LOOP);
+            Ok(())
         }
         PlanStmt::Choice(arms, made) => {
+            let line = first_line(arms);
             add_plan_arms(sketch, arms, depth)?;
-            match made {
-                Some(body) => {
-                    sketch.add_made(first_line(arms), depth)?;
-                    add_plan(sketch, body, depth.saturating_add(1))
-                }
-                None => Ok(()),
+            if let Some(body) = made {
+                sketch.add_made(line, depth)?;
+                add_plan(sketch, body, depth.saturating_add(1))?;
             }
+            sketch.end(line, depth, END_OF_IF);
+            Ok(())
         }
     }
 }
