@@ -5,16 +5,27 @@ ghost use Rattle.replay.specs.Activities.{AreActivities};
 
 use crate::driving::begun;
 use machine::{Code, Next, stands_next};
-use pictures::{Came, Gathered, Held, Turn};
+use pictures::{Awaited, Came, Gathered, Held, Turn};
 use replay::{Act, Activities, Choice, Entry, Holder, Schedule, Version, upgrade};
 use std::alloc::{AllocError, Global};
+
+/// What stands next in an iteration.
+#[derive(Clone, Copy)]
+enum Stands {
+    /// An advance of an event.
+    Advance,
+    /// An await of an event of the iteration so many before.
+    Await(u32, u128),
+    /// Something else.
+    Other,
+}
 
 /// What is seen of a processor before an entry of its is made.
 #[derive(Clone, Copy)]
 struct Before {
     held: Option<Held>,
-    /// Whether an advance of an event stands next in what it holds.
-    advance: bool,
+    /// What stands next in the iteration that it holds.
+    stands: Stands,
     /// How many iterations are open.
     open: u128,
 }
@@ -28,14 +39,18 @@ fn held_by(activities: &Activities<'_>, q: usize) -> Option<Held> {
     }
 }
 
-/// Whether an advance of an event stands next in what processor `q` holds.
-fn stands_advance(activities: &Activities<'_>, q: usize) -> bool
+/// What stands next in what processor `q` holds.
+fn ahead(activities: &Activities<'_>, q: usize) -> Stands
     requires stand { AreActivities activities.now }
     requires processor { q < length activities.now.held.items }
 {
     match activities.frame(q) {
-        Some(frame) => matches!(stands_next(activities.code, frame), Next::Advance { .. }),
-        None => false,
+        Some(frame) => match stands_next(activities.code, frame) {
+            Next::Advance { .. } => Stands::Advance,
+            Next::Await { event, distance } => Stands::Await(event, distance),
+            _ => Stands::Other,
+        },
+        None => Stands::Other,
     }
 }
 
@@ -46,13 +61,13 @@ fn seen_before(activities: &Activities<'_>, entry: Entry) -> Before
 {
     let q = usize::from(entry.processor);
     let held = held_by(activities, q);
-    let advance = match (entry.act, held) {
-        (Act::Share, Some(Held::Iteration(_))) => stands_advance(activities, q),
-        _ => false,
+    let stands = match (entry.act, held) {
+        (Act::Share, Some(Held::Iteration(_))) => ahead(activities, q),
+        _ => Stands::Other,
     };
     Before {
         held,
-        advance,
+        stands,
         open: activities.overlap(),
     }
 }
@@ -63,8 +78,21 @@ fn came(ended: bool, before: Before, after: Option<Held>, open: u128) -> Came {
         _ if ended => Came::Ended,
         (Some(_), None) if open < before.open => Came::Retired,
         (Some(_), None) => Came::Parked,
-        _ if before.advance => Came::Advanced,
+        _ if matches!(before.stands, Stands::Advance) => Came::Advanced,
         _ => Came::Nothing,
+    }
+}
+
+/// What is awaited by what was parked, if it is an iteration that stood at an await.
+fn awaited(came: Came, before: Before) -> Option<Awaited> {
+    match (came, before.held, before.stands) {
+        (Came::Parked, Some(Held::Iteration(number)), Stands::Await(event, distance)) => {
+            Some(Awaited {
+                event,
+                iteration: number.saturating_sub(distance),
+            })
+        }
+        _ => None,
     }
 }
 
@@ -104,12 +132,14 @@ fn turn(activities: &mut Activities<'_>, entry: Entry) -> Result<Turn, AllocErro
     make(activities, entry)?;
     let after = held_by(activities, q);
     let open = activities.overlap();
+    let came = came(activities.shared.ended.is_some(), before, after, open);
     Ok(Turn {
         processor: q,
         steps: steps_of(entry.act),
         before: before.held,
         after,
-        came: came(activities.shared.ended.is_some(), before, after, open),
+        came,
+        awaited: awaited(came, before),
         open: u64::try_from(open).unwrap_or(u64::MAX),
     })
 }

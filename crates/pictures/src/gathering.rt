@@ -32,6 +32,14 @@ pub enum Came {
     Ended,
 }
 
+/// What an iteration waits for that was parked at an await.
+#[derive(Clone, Copy, Debug, PartialEq, Eq)]
+pub struct Awaited {
+    pub event: u32,
+    /// The number of the iteration that is to advance the event.
+    pub iteration: u128,
+}
+
 /// An entry of a schedule, as it was made.
 #[derive(Clone, Copy, Debug, PartialEq, Eq)]
 pub struct Turn {
@@ -44,6 +52,8 @@ pub struct Turn {
     /// What it held after.
     pub after: Option<Held>,
     pub came: Came,
+    /// What it awaits, where that was why what it held was parked.
+    pub awaited: Option<Awaited>,
     /// How many iterations were open after.
     pub open: u64,
 }
@@ -64,6 +74,8 @@ pub struct Cell {
     pub parked: u64,
     pub retired: u64,
     pub ended: u64,
+    /// What was awaited by the one that was parked last, if it was at an await.
+    pub awaited: Option<Awaited>,
 }
 
 /// In which nothing was done.
@@ -76,6 +88,7 @@ const EMPTY: Cell = Cell {
     parked: 0,
     retired: 0,
     ended: 0,
+    awaited: None,
 };
 
 /// What a processor did in the whole run.
@@ -102,6 +115,8 @@ pub struct Gathered {
     pub open: Vec<u64>,
     /// How many entries were noted.
     pub noted: u64,
+    /// How often what was held was parked at an await.
+    pub awaits: u64,
 }
 
 /// How many columns so many entries of so many processors have: one for each entry, as far as there
@@ -188,6 +203,7 @@ impl Gathered {
             cells,
             open: vec![in alloc; 0; columns as usize]?,
             noted: 0,
+            awaits: 0,
         })
     }
 
@@ -227,6 +243,9 @@ impl Gathered {
             *cell = grown(*cell, turn);
         }
         self.noted = self.noted.saturating_add(1);
+        self.awaits = self
+            .awaits
+            .saturating_add(u64::from(turn.awaited.is_some()));
     }
 }
 
@@ -260,5 +279,10 @@ fn grown(cell: Cell, turn: Turn) -> Cell {
         parked: parked.saturating_add(u64::from(turn.came == Came::Parked)),
         retired: retired.saturating_add(u64::from(turn.came == Came::Retired)),
         ended: ended.saturating_add(u64::from(turn.came == Came::Ended)),
+        awaited: if turn.came == Came::Parked {
+            turn.awaited
+        } else {
+            cell.awaited
+        },
     }
 }

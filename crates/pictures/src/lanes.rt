@@ -5,7 +5,7 @@ ghost use Rattle.pictures.specs.Markup as markup;
 ghost use Rattle.pictures.specs.Runs as spec;
 ghost use Rattle.pictures.specs.Runs.{AreFigures, TellsRun};
 
-use crate::gathering::{Cell, Gathered, Held, Lane};
+use crate::gathering::{Awaited, Cell, Gathered, Held, Lane};
 use crate::mark::Class;
 use crate::style::SHEET;
 use crate::svg::{Point, Size, append_class, append_number, append_tile, append_words, opening};
@@ -16,7 +16,7 @@ const LEFT: u128 = 130;
 
 const TOP: u128 = 172;
 /// How far two lanes are apart, and how high a bar is.
-const PITCH: u128 = 36;
+const PITCH: u128 = 40;
 
 const BAR: u128 = 22;
 /// Where the curve of open iterations stands, and how high it is.
@@ -54,7 +54,13 @@ fn corner(processor: usize, column: u64, wide: u128) -> Point {
 /// How large a mark is.
 const MARK: Size = Size {
     width: 4,
-    height: 6,
+    height: 5,
+};
+
+/// How large the sample of a bar is.
+const SAMPLE: Size = Size {
+    width: 16,
+    height: 12,
 };
 
 /// What marks say.
@@ -134,8 +140,9 @@ fn append_stretch(
 ) -> Result<(), AllocError> {
     let at = corner(processor, stretch.first, wide);
     let length = stretch.last.saturating_sub(stretch.first).saturating_add(1);
+    let all = wide.saturating_mul(u128::from(length));
     let size = Size {
-        width: wide.saturating_mul(u128::from(length)),
+        width: all.saturating_sub(1).max(1),
         height: BAR,
     };
     let title = title_of(alloc, processor, stretch)?;
@@ -183,6 +190,24 @@ fn append_mark(
     append_tile(out, Class::plain(class), at, MARK, title.as_bytes())
 }
 
+/// Appends the mark of a cell in which something was parked, by what it awaits where that is known.
+fn append_parked(
+    alloc: Global,
+    out: &mut Vec<u8>,
+    cell: Cell,
+    at: Point,
+) -> Result<(), AllocError> {
+    match cell.awaited {
+        Some(Awaited { event, iteration }) if cell.parked == 1 => {
+            let title = format!(in alloc;
+                "{PARKED}: it awaits event {event} of iteration {iteration}"
+            )?;
+            append_tile(out, Class::plain(b"parked"), at, MARK, title.as_bytes())
+        }
+        _ => append_mark(alloc, out, b"parked", at, cell.parked, PARKED),
+    }
+}
+
 /// Appends the marks of a cell.
 fn append_marks(
     alloc: Global,
@@ -198,17 +223,26 @@ fn append_marks(
     };
     let below = Point {
         x,
-        y: at.y.saturating_add(BAR).saturating_sub(1),
+        y: at.y.saturating_add(BAR),
+    };
+    let lower = Point {
+        x,
+        y: below.y.saturating_add(MARK.height),
     };
     append_mark(alloc, out, b"advanced", above, cell.advanced, ADVANCED)?;
-    append_mark(alloc, out, b"parked", below, cell.parked, PARKED)?;
-    append_mark(alloc, out, b"retired", below, cell.retired, RETIRED)?;
-    append_mark(alloc, out, b"ended", below, cell.ended, ENDED)
+    append_parked(alloc, out, cell, below)?;
+    append_mark(alloc, out, b"retired", lower, cell.retired, RETIRED)?;
+    append_mark(alloc, out, b"ended", lower, cell.ended, ENDED)
 }
 
 /// What a processor holds in a column, by what it held before it.
 fn held_in(cell: Cell, before: Option<Held>) -> Option<Held> {
     if cell.seen { cell.held } else { before }
+}
+
+/// Whether a stretch goes on in a column in which this is held, and perhaps more.
+fn goes_on(stretch: Stretch, held: Held, several: bool) -> bool {
+    stretch.several == several && (several || stretch.held == held)
 }
 
 /// Appends the lane of a processor.
@@ -225,7 +259,7 @@ fn append_lane(
         let cell = gathered.cell(processor, column);
         let held = held_in(cell, before);
         stretch = match (stretch, held) {
-            (Some(old), Some(held)) if old.held == held && old.several == cell.several => {
+            (Some(old), Some(held)) if goes_on(old, held, cell.several) => {
                 Some(Stretch {
                     last: column,
                     ..old
@@ -276,9 +310,10 @@ fn append_lane_marks(
     Ok(())
 }
 
-/// How high the curve is where so many iterations of at most so many are open.
+/// How high the curve is where so many iterations of at most so many are open; one is seen too.
 fn rise(open: u64, slots: u64) -> u128 {
     RISE.saturating_mul(u128::from(open))
+        .saturating_add(u128::from(slots.saturating_sub(1)))
         .checked_div(u128::from(slots))
         .unwrap_or(0)
 }
@@ -380,6 +415,17 @@ fn append_whole(
     append_words(out, class, Point { x: 20, y }, steps.as_bytes())
 }
 
+/// Appends how often what was held was parked at an await.
+fn append_awaits(alloc: Global, out: &mut Vec<u8>, awaits: u64, y: u128) -> Result<(), AllocError> {
+    let told = format!(in alloc; "awaits that parked an iteration: {awaits}")?;
+    append_words(
+        out,
+        Class::plain(b"awaits"),
+        Point { x: 20, y },
+        told.as_bytes(),
+    )
+}
+
 /// Appends a mark of a kind, and what it means.
 fn append_meaning(
     alloc: Global,
@@ -400,12 +446,50 @@ fn append_meaning(
     append_words(out, Class::plain(b"faint"), words, says.as_bytes())
 }
 
+/// Appends a bar of a kind, and what it means.
+fn append_bar_meaning(
+    out: &mut Vec<u8>,
+    class: &'static [u8],
+    at: Point,
+    says: &[u8],
+) -> Result<(), AllocError> {
+    let corner = Point {
+        x: at.x,
+        y: at.y.saturating_sub(10),
+    };
+    append_tile(out, Class::plain(class), corner, SAMPLE, says)?;
+    let words = Point {
+        x: at.x.saturating_add(22),
+        y: at.y,
+    };
+    append_words(out, Class::plain(b"faint"), words, says)
+}
+
 /// Appends what the marks mean.
-fn append_meanings(alloc: Global, out: &mut Vec<u8>, y: u128) -> Result<(), AllocError> {
+fn append_mark_meanings(alloc: Global, out: &mut Vec<u8>, y: u128) -> Result<(), AllocError> {
     append_meaning(alloc, out, b"advanced", Point { x: 20, y }, ADVANCED)?;
     append_meaning(alloc, out, b"parked", Point { x: 180, y }, PARKED)?;
     append_meaning(alloc, out, b"retired", Point { x: 300, y }, RETIRED)?;
     append_meaning(alloc, out, b"ended", Point { x: 460, y }, ENDED)
+}
+
+/// Appends what the marks and the bars mean.
+fn append_meanings(alloc: Global, out: &mut Vec<u8>, y: u128) -> Result<(), AllocError> {
+    append_mark_meanings(alloc, out, y)?;
+    let y = y.saturating_add(22);
+    append_bar_meaning(
+        out,
+        b"bar colour0",
+        Point { x: 20, y },
+        b"an iteration, by its number from 0",
+    )?;
+    append_bar_meaning(out, b"bar main", Point { x: 300, y }, b"main")?;
+    append_bar_meaning(
+        out,
+        b"bar several",
+        Point { x: 380, y },
+        b"several, too short to be told apart",
+    )
 }
 
 /// Appends what stands above the lanes.
@@ -423,7 +507,7 @@ fn append_heading(
     } = gathered;
     let processors = gathered.lanes.len();
     let heading = format!(in alloc;
-        "A run: {processors} processors, {slots} iterations open at most"
+        "A run; processors: {processors}, iterations open at most: {slots}"
     )?;
     let class = Class::plain(b"heading");
     append_words(out, class, Point { x: 20, y: 30 }, heading.as_bytes())?;
@@ -452,9 +536,14 @@ fn append_lanes(alloc: Global, out: &mut Vec<u8>, gathered: &Gathered) -> Result
     Ok(())
 }
 
-/// What is below the lanes of so many processors.
-fn below(processors: usize) -> u128 {
+/// Where it is said what marks mean, below the lanes of so many processors.
+fn meanings(processors: usize) -> u128 {
     corner(processors, 0, 0).y.saturating_add(16)
+}
+
+/// What is below that.
+fn below(processors: usize) -> u128 {
+    meanings(processors).saturating_add(26)
 }
 
 /// How wide and how high the picture of a run is.
@@ -465,7 +554,7 @@ fn size(gathered: &Gathered) -> Size {
         width: LEFT.saturating_add(all).max(640).saturating_add(20),
         height: below(gathered.lanes.len())
             .saturating_add(lines)
-            .saturating_add(64),
+            .saturating_add(84),
     }
 }
 
@@ -475,7 +564,7 @@ fn front(alloc: Global, gathered: &Gathered, ending: &Ending<'_>) -> Result<Vec<
     append_heading(alloc, &mut out, gathered, ending)?;
     append_curve(alloc, &mut out, gathered)?;
     append_lanes(alloc, &mut out, gathered)?;
-    append_meanings(alloc, &mut out, below(gathered.lanes.len()))?;
+    append_meanings(alloc, &mut out, meanings(gathered.lanes.len()))?;
     Ok(out)
 }
 
@@ -486,7 +575,8 @@ fn back(alloc: Global, gathered: &Gathered, ending: &Ending<'_>) -> Result<Vec<u
         .saturating_add(lines)
         .saturating_add(24);
     let mut out = Vec::new(alloc);
-    append_whole(alloc, &mut out, ending, y)?;
+    append_awaits(alloc, &mut out, gathered.awaits, y)?;
+    append_whole(alloc, &mut out, ending, y.saturating_add(20))?;
     out.extend_from_slice(b"</svg>\n")?;
     Ok(out)
 }

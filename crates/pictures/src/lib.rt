@@ -19,7 +19,7 @@ mod style;
 mod svg;
 
 pub use drawing::draw;
-pub use gathering::{Came, Cell, Gathered, Held, Lane, Turn};
+pub use gathering::{Awaited, Came, Cell, Gathered, Held, Lane, Turn};
 pub use lanes::{Ending, timeline};
 pub use loops::{Frame, OpenLoop, SerialLoop, open_picture, serial_picture};
 pub use picture::{Advance, Arrow, Look, LoopPicture, Row};

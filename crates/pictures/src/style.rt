@@ -33,46 +33,44 @@ text.made{fill:#555;stroke:none;font-style:italic}
 .arrow path,.order path{fill:none;stroke-width:1.8}
 .order path{stroke:#8a949e;stroke-dasharray:5 4;marker-end:url(#tip)}
 #tip{fill:#8a949e}
-.hue0 path{stroke:#a0522d;marker-end:url(#tip0)}
+.hue0 path{stroke:#7a4a2a;marker-end:url(#tip0)}
 .hue1 path{stroke:#0072b2;marker-end:url(#tip1)}
-.hue2 path{stroke:#d55e00;marker-end:url(#tip2)}
-.hue3 path{stroke:#009e73;marker-end:url(#tip3)}
+.hue2 path{stroke:#c25400;marker-end:url(#tip2)}
+.hue3 path{stroke:#008560;marker-end:url(#tip3)}
 .hue4 path{stroke:#b5548c;marker-end:url(#tip4)}
 .hue5 path{stroke:#3b3b98;marker-end:url(#tip5)}
-#tip0,.advance.hue0 circle{fill:#a0522d}
+#tip0,.advance.hue0 circle{fill:#7a4a2a}
 #tip1,.advance.hue1 circle{fill:#0072b2}
-#tip2,.advance.hue2 circle{fill:#d55e00}
-#tip3,.advance.hue3 circle{fill:#009e73}
+#tip2,.advance.hue2 circle{fill:#c25400}
+#tip3,.advance.hue3 circle{fill:#008560}
 #tip4,.advance.hue4 circle{fill:#b5548c}
 #tip5,.advance.hue5 circle{fill:#3b3b98}
 .advance text{fill:#fff}
 .await circle{fill:#fff;stroke-width:2}
-.await.hue0 circle{stroke:#a0522d}
+.await.hue0 circle{stroke:#7a4a2a}
 .await.hue1 circle{stroke:#0072b2}
-.await.hue2 circle{stroke:#d55e00}
-.await.hue3 circle{stroke:#009e73}
+.await.hue2 circle{stroke:#c25400}
+.await.hue3 circle{stroke:#008560}
 .await.hue4 circle{stroke:#b5548c}
 .await.hue5 circle{stroke:#3b3b98}
 .early{fill:#b00020;font-weight:bold}
-.bar{stroke:#fff}
 .main{fill:#c9ced3}
 .several{fill:#8a949e}
 .colour0{fill:#e69f00}
 .colour1{fill:#56b4e9}
 .colour2{fill:#4cc9a0}
 .colour3{fill:#f0e442}
-.colour4{fill:#b3a8f0}
+.colour4{fill:#b86bff}
 .colour5{fill:#f08a4b}
 .colour6{fill:#e0a3c8}
 .label{text-anchor:middle;fill:#111;font-size:12px}
 .curve{fill:#cfe3f3;stroke:#0072b2}
 .advanced{fill:#0072b2}
 .parked{fill:#d55e00}
-.retired{fill:#1a1a1a}
+.retired{fill:#1a1a1a;rx:0}
 .ended{fill:#b00020}
 @media (prefers-color-scheme:dark){
 .early{fill:#ff8a80}
-.bar{stroke:#14181c}
 .main{fill:#8d959d}
 .several{fill:#5d666f}
 .label{fill:#111}
@@ -80,7 +78,7 @@ text.made{fill:#555;stroke:none;font-style:italic}
 .advanced{fill:#56b4e9}
 .parked{fill:#ff9a4d}
 .retired{fill:#eee}
-.ended{fill:#ff8a80}
+.ended{fill:#ff4f86}
 svg{background:#14181c}
 text{fill:#eee}
 .ground{fill:#14181c}
@@ -94,13 +92,13 @@ text.marked{fill:#ffb27a}
 .hue2 path{stroke:#ff9a4d}
 .hue3 path{stroke:#3ecfa3}
 .hue4 path{stroke:#e09cc4}
-.hue5 path{stroke:#a9a9f5}
+.hue5 path{stroke:#f0e442}
 #tip0,.advance.hue0 circle{fill:#d9a07a}
 #tip1,.advance.hue1 circle{fill:#56b4e9}
 #tip2,.advance.hue2 circle{fill:#ff9a4d}
 #tip3,.advance.hue3 circle{fill:#3ecfa3}
 #tip4,.advance.hue4 circle{fill:#e09cc4}
-#tip5,.advance.hue5 circle{fill:#a9a9f5}
+#tip5,.advance.hue5 circle{fill:#f0e442}
 .advance text{fill:#14181c}
 .await circle{fill:#14181c}
 .await.hue0 circle{stroke:#d9a07a}
@@ -108,7 +106,7 @@ text.marked{fill:#ffb27a}
 .await.hue2 circle{stroke:#ff9a4d}
 .await.hue3 circle{stroke:#3ecfa3}
 .await.hue4 circle{stroke:#e09cc4}
-.await.hue5 circle{stroke:#a9a9f5}
+.await.hue5 circle{stroke:#f0e442}
 }
 </style>
 <defs>
