@@ -31,14 +31,13 @@ fn room(depth: u64) -> usize {
     SHOWN.saturating_sub(INDENT.saturating_mul(depth.min(DEEPEST) as usize))
 }
 
-/// A text, of which only so many characters are shown.
-fn cut(alloc: Global, text: &[u8], room: usize) -> Result<Vec<u8>, AllocError> {
-    if text.len() <= room {
-        return Vec::from_slice(alloc, text);
+/// A statement's text, of which so many characters are shown; two full stops say that it goes on.
+fn cut(alloc: Global, text: &[u8], room: usize, goes_on: bool) -> Result<Vec<u8>, AllocError> {
+    let mut shown = Vec::from_slice(alloc, text.get(..room).unwrap_or(text))?;
+    if goes_on || text.len() > room {
+        shown.extend_from_slice(b" ..")?;
     }
-    let mut short = Vec::from_slice(alloc, text.get(..room).unwrap_or(b""))?;
-    short.extend_from_slice(b" ..")?;
-    Ok(short)
+    Ok(shown)
 }
 
 /// Private names, one behind another.
@@ -123,7 +122,7 @@ fn add_label(
     }
     let depth = u128::from(row.depth.min(DEEPEST));
     let x = 56u128.saturating_add(depth.saturating_mul(14));
-    let text = cut(alloc, row.text, room(row.depth))?;
+    let text = cut(alloc, row.text, room(row.depth), row.goes_on)?;
     add_words(alloc, marks, classes(row.look).1, Point { x, y }, &text)
 }
 

@@ -32,8 +32,10 @@ pub struct Row<'a> {
     pub line: Line,
     /// In how many loops and IFs of the range it stands.
     pub depth: u64,
-    /// The text of the statement.
+    /// The text of the statement, as far as it stands in that line.
     pub text: &'a [u8],
+    /// Whether it goes on in the next line.
+    pub goes_on: bool,
     pub look: Look,
 }
 

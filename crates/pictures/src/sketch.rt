@@ -1,7 +1,7 @@
 //! What a loop's picture has from top to bottom.
 
 use crate::picture::{Advance, Look, Row};
-use crate::source_text::statement_text;
+use crate::source_text::{goes_on, statement_text};
 use ast::{Arm, Line, Node};
 use dependence::{PlanArm, PlanStmt};
 use std::alloc::{AllocError, Global};
@@ -58,11 +58,13 @@ impl<'a> Sketch<'a> {
         }
         let look = look_of(line, self.hindered);
         let text = statement_text(&self.lines, line);
+        let goes_on = goes_on(&self.lines, line);
         Ok(
             self.rows.push(Row {
                 line,
                 depth,
                 text,
+                goes_on,
                 look,
             })?,
         )
@@ -76,6 +78,7 @@ impl<'a> Sketch<'a> {
                 line,
                 depth,
                 text: MADE_ELSE,
+                goes_on: false,
                 look: Look::Made,
             })?,
         )
@@ -94,6 +97,7 @@ impl<'a> Sketch<'a> {
                 line,
                 depth,
                 text,
+                goes_on: false,
                 look: Look::End,
             })?;
         }

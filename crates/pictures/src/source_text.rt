@@ -8,6 +8,8 @@ use std::alloc::{AllocError, Global};
 const FIRST: usize = 6;
 
 const LAST: usize = 72;
+/// Where a line has the mark of a continuation line.
+const MARK: usize = 5;
 
 /// The lines of a source, as far as its statements have lines.
 pub fn lines_of<'a>(alloc: Global, source: &'a [u8]) -> Result<Vec<&'a [u8]>, AllocError> {
@@ -27,6 +29,22 @@ fn part(line: &[u8]) -> &[u8] {
     match front.get(FIRST..) {
         Some(text) => text.trim(),
         None => b"",
+    }
+}
+
+/// Whether a line goes on with the statement of the line before.
+fn is_continuation(line: &[u8]) -> bool {
+    match line.get(MARK) {
+        Some(mark) => line.starts_with(b"     ") && *mark != b' ' && *mark != b'0',
+        None => false,
+    }
+}
+
+/// Whether the statement of a line goes on in the next; lines are numbered from 1.
+pub fn goes_on(lines: &[&[u8]], line: Line) -> bool {
+    match lines.get(line as usize) {
+        Some(next) => is_continuation(next),
+        None => false,
     }
 }
 
