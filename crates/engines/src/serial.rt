@@ -49,7 +49,7 @@ impl Display for Hindrance {
             Hindrance::Variable { name, line } => {
                 write!(
                     f,
-                    "{}, the variable of the DO in line {line}, may be used before that DO gives it a value",
+                    "{}, the variable of the DO in line {line}, may be used before that DO sets it",
                     Visible::new(name.trimmed())
                 )
             }
