@@ -9,7 +9,7 @@ use crate::fault::FileFault;
 use crate::files::NamedFiles;
 use engines::{ReadFault, read_all};
 use std::alloc::Global;
-use std::fs::{File, OpenFile};
+use std::fs::{OpenFile, OpenOptions};
 use std::io::{Read, Write};
 use std::rt::Files;
 use std::{fs, io};
@@ -90,22 +90,47 @@ fn is_plain<R: Files>(rt: &R, name: &str) -> bool {
     }
 }
 
-/// Writes a file and sees that its bytes are on the disk.
-fn write_file<R: Files>(rt: &R, name: &str, bytes: &[u8]) -> io::Result<()> {
-    let mut file = File::create(rt, name)?;
+/// How many names are tried for a file beside another one.
+const MOST_NAMES: u32 = 100;
+
+/// A new file, and its name. Where a file of that name is there already, there is none.
+fn new_file<R: Files>(rt: &R, name: String) -> io::Result<(R::File, String)> {
+    let file = OpenOptions::new()
+        .write(true)
+        .create_new(true)
+        .open(rt, name.as_str())?;
+    Ok((file, name))
+}
+
+/// A new file beside the one of this name, and its name: with `.part` behind it, or, where such a file is
+/// there already, with `.part1`, `.part2` and so on. What is there stays as it is.
+fn new_beside<R: Files + AllocGlobal>(rt: &R, name: &str) -> io::Result<(R::File, String)> {
+    let mut made = new_file(rt, format!(in rt.alloc(); "{name}.part")?);
+    for number in 1..MOST_NAMES {
+        match &made {
+            Err(error) if error.kind() == io::ErrorKind::AlreadyExists => {}
+            _ => break,
+        }
+        made = new_file(rt, format!(in rt.alloc(); "{name}.part{number}")?);
+    }
+    made
+}
+
+/// Writes all bytes to a file, sees that they are on the disk, and closes it.
+fn write_down<F: OpenFile + Write + Drop>(mut file: F, bytes: &[u8]) -> io::Result<()> {
     file.write_all(bytes)?;
     file.sync_all()
 }
 
 /// Gives the file of this name these bytes. A plain file has all of them or what it had: they are
-/// written to a file beside it, of its name and `.part`, which then takes its place. To anything else, as
-/// a device or a pipe, they are written as they are.
+/// written to a new file beside it, which then takes its place. To anything else, as a device or a pipe,
+/// they are written as they are.
 fn replace_file<R: Files + AllocGlobal>(rt: &R, name: &str, bytes: &[u8]) -> io::Result<()> {
     if !is_plain(rt, name) {
         return fs::write(rt, name, bytes);
     }
-    let beside = format!(in rt.alloc(); "{name}.part")?;
-    let mut put = write_file(rt, &beside, bytes);
+    let (file, beside) = new_beside(rt, name)?;
+    let mut put = write_down(file, bytes);
     if put.is_ok() {
         put = fs::rename(rt, beside.as_str(), name);
     }
