@@ -181,6 +181,7 @@ fn work_behind_the_end(rt: HostRuntime) -> Result<(), Fail> {
     let late = late_work(&rt, &mut core)?;
     first_alone(&mut core)?;
     is_too_late(&rt, &mut core, late);
+    assert_eq!(rt; core.pick(0, Choice::Main)?, Stepped::Ended);
     is_answered(&rt, &core, &sequential(rt.alloc(), FAULTS, b"")?)
 }
 
