@@ -1,5 +1,5 @@
 -- The tests on forms are those on subscripts.
-use Rattle.std.proofs.Common.{◌≡◌, ◌∙◌, ap, sym, refl, ℕ, zero, suc, List, [], ◌∷◌, ◌+◌, Bool, Option, Some, None, map}
+use Rattle.std.proofs.Common.{◌≡◌, ◌∙◌, ap, refl, ℕ, zero, suc, List, [], ◌∷◌, ◌+◌, Bool, Option, map}
 use Rattle.ast.specs.Tree.{Term, Terms, no_terms, then_term, terms}
 use Rattle.dependence.specs.Formed.{by_forms, forms_of, nth_form, verified_by}
 use Rattle.dependence.specs.Tests.{before, by_distance, dimension, dimensions, form_at, is_only, is_verified, on_forms, relation, says_apart}

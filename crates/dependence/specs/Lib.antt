@@ -5,5 +5,6 @@ pub mod Kept
 pub mod Meets
 pub mod Plan
 pub mod PlanView
+pub mod Related
 pub mod Runs
 pub mod Tests

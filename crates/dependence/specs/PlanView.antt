@@ -4,7 +4,7 @@ use Rattle.ast.specs.Tree.{Term}
 use Rattle.ast.specs.View.{head, letters, optional_term, statement}
 use Rattle.dependence.specs.Plan as plan
 use Rattle.dependence.specs.Plan.{PlanNode, PlanBlock, PlanArms, PlanTree, no_nodes, then_node, no_arms, made_else, then_arm}
-use Rattle.dependence.specs.Runs.{relations as relations_of}
+use Rattle.dependence.specs.Related.{relations as relations_of}
 use Rattle.dependence.specs.declared.plan.LoopPlan.{LoopPlan}
 use Rattle.dependence.specs.declared.plan.LoopPlan.TheVariants.{Serial, Body}
 use Rattle.dependence.specs.declared.plan.PlanArm.{PlanArm, fold-PlanArm}

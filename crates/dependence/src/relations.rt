@@ -1,128 +1,69 @@
 //! Relations of pairs of references.
 
-ghost use Rattle.std.specs.Prelude.{◌≡◌, ◌+◌, ◌*◌, ◌++◌, [], ◌∷◌, IfOk, IfSome, OnOk, true};
-ghost use Rattle.dependence.specs.Runs.{pair_at, run as run_of, runs as runs_of, stepped};
+ghost use Rattle.std.proofs.Props.{props};
+ghost use Rattle.std.specs.Prelude.{◌≡◌, ◌<◌, ◌≤◌, ◌++◌, [], ◌∷◌, IfOk, IfSome, List, length, true};
+ghost use Rattle.dependence.specs.Runs.{are_numbered, relation_at, runs};
+ghost use Rattle.dependence.specs.declared.run.Run.{Run};
 
 use crate::relation::Relation;
+use crate::run::{Run, put};
 use ast::RefId;
 use std::alloc::{AllocError, Global};
 
-/// A reference with others that have one relation to it. The numbers of these go up by a step.
-#[derive(Clone, Copy)]
-pub struct Run {
-    pub first: u32,
-    /// The number of the first of the others.
-    pub second: u32,
-    pub step: u32,
-    /// How many others there are.
-    pub count: u32,
-    pub relation: Relation,
-}
+/// So many of the newest relations are asked whether they are one that is added.
+const ASKED: usize = 8;
 
 /// Relations of pairs, in order: of a reference in an iteration, and of one in a later iteration.
 #[derive(Drop)]
 pub struct Relations {
     pub runs: Vec<Run>,
+    /// The relations that runs name by their numbers, from 0.
+    pub different: Vec<Relation>,
+    ghost numbered: { are_numbered (length different.items) runs.items ≡ true } by { Prim.hlevel props },
 }
 
-impl Run {
-    ghost use Rattle.std.specs.Prelude.{◌≡◌};
-    ghost use Rattle.dependence.specs.Runs.{pair_at};
-
-    /// The pair at a place, from 0, and its relation.
-    pub fn pair(&self, place: u32) -> (RefId, RefId, Relation)
-        ensures { (result.0.0, result.1.0, result.2) ≡ pair_at self.now place }
-    {
-        let second = self.second as usize + self.step as usize * place as usize;
-        (RefId(self.first as usize), RefId(second), self.relation)
-    }
-}
-
-/// A number of a reference. One beyond 32 bits is want of memory: so many references have no place.
-fn number(id: RefId) -> Result<u32, AllocError>
-    ensures { IfOk result (λ number. number ≡ id.0) }
+/// A number in 32 bits. One beyond these is want of memory: so many references have no place.
+fn narrow(number: usize) -> Result<u32, AllocError>
+    ensures { IfOk result (λ narrow. narrow ≡ number) }
 {
-    match u32::try_from(id.0) {
+    match u32::try_from(number) {
         Ok(number) => Ok(number),
         Err(_) => Err(AllocError),
     }
 }
 
-/// The step by which a number is the next of a run, if it is.
-fn step_to(run: &Run, second: u32) -> Option<u32>
-    ensures same { IfSome result (λ step. stepped run.now.first run.now.second step run.now.count run.now.relation ≡ run_of run.now) }
-    ensures next { IfSome result (λ step. second ≡ run.now.second + step * run.now.count) }
+/// The number of a relation, if it is one of the newest.
+fn recent_number(different: &[Relation], relation: Relation) -> Option<usize>
+    ensures number { IfSome result (λ n. relation_at different.now n ≡ relation) }
+    ensures inside { IfSome result (λ n. n < length different.now) }
 {
-    if run.count == 1 {
-        return second.checked_sub(run.second);
+    for number in different.len().saturating_sub(ASKED)..different.len() {
+        if different[number] == relation {
+            return Some(number);
+        }
     }
-    let next = run.second as u64 + run.step as u64 * run.count as u64;
-    if next == second as u64 {
-        Some(run.step)
-    } else {
-        None
+    None
+}
+
+/// The number of a relation, which is added where it isn't one of the newest.
+fn number_of(different: &mut Vec<Relation>, relation: Relation) -> Result<u32, AllocError>
+    ensures kept { (rs : List Run) → are_numbered (length different.old.items) rs ≡ true → runs different.new.items rs ≡ runs different.old.items rs }
+    ensures more { length different.old.items ≤ length different.new.items }
+    ensures number { IfOk result (λ n. relation_at different.new.items n ≡ relation) }
+    ensures inside { IfOk result (λ n. n < length different.new.items) }
+{
+    if let Some(number) = recent_number(different, relation) {
+        return narrow(number);
     }
-}
-
-/// Whether a run is one of a reference and a relation.
-fn is_of(run: &Run, first: u32, relation: Relation) -> bool
-    ensures first { result ≡ true → run.now.first ≡ first }
-    ensures relation { result ≡ true → run.now.relation ≡ relation }
-{
-    run.first == first && run.relation == relation
-}
-
-/// A run with a pair more, if that continues it.
-fn longer(run: &Run, first: u32, second: u32, relation: Relation) -> Option<Run>
-    ensures { IfSome result (λ longer. run_of longer ≡ run_of run.now ++ (first, second, relation) ∷ []) }
-{
-    if !is_of(run, first, relation) {
-        return None;
-    }
-    let step = step_to(run, second)?;
-    let count = run.count.checked_add(1)?;
-    Some(Run {
-        first,
-        second: run.second,
-        step,
-        count,
-        relation,
-    })
-}
-
-/// Adds a run of one pair behind others.
-#[tactic(auto, using(crate::proofs::Runs::runs_more))]
-fn begin(runs: &mut Vec<Run>, first: u32, second: u32, relation: Relation) -> Result<(), AllocError>
-    ensures { OnOk result (runs_of runs.new.items ≡ runs_of runs.old.items ++ (first, second, relation) ∷ []) }
-{
-    runs.push(Run {
-        first,
-        second,
-        step: 1,
-        count: 1,
-        relation,
-    })?;
-    Ok(())
-}
-
-/// Adds a pair behind runs.
-fn put(runs: &mut Vec<Run>, first: u32, second: u32, relation: Relation) -> Result<(), AllocError>
-    ensures { OnOk result (runs_of runs.new.items ≡ runs_of runs.old.items ++ (first, second, relation) ∷ []) }
-{
-    let Some(last) = runs.pop() else {
-        return begin(runs, first, second, relation);
-    };
-    let Some(longer) = longer(&last, first, second, relation) else {
-        runs.push(last)?;
-        return begin(runs, first, second, relation);
-    };
-    runs.push(longer)?;
-    Ok(())
+    let number = narrow(different.len())?;
+    different.push(relation)?;
+    Ok(number)
 }
 
 impl Relations {
     ghost use Rattle.std.specs.Prelude.{◌≡◌, ◌++◌, [], ◌∷◌, OnOk};
-    ghost use Rattle.dependence.specs.Runs.{relations};
+    ghost use Rattle.dependence.specs.Related.{relations};
+    ghost use Rattle.dependence.specs.Runs.{relation_at};
 
     /// No relations.
     pub fn new(alloc: Global) -> Relations
@@ -130,10 +71,22 @@ impl Relations {
     {
         Relations {
             runs: Vec::new(alloc),
+            different: Vec::new(alloc),
+        }
+    }
+
+    /// The relation of a run's pairs.
+    pub fn relation(&self, run: &Run) -> Relation
+        ensures { result ≡ relation_at self.now.different.items run.now.relation }
+    {
+        match self.different.get(run.relation as usize) {
+            Some(relation) => *relation,
+            None => Relation::Any,
         }
     }
 
     /// Adds the relation of a pair behind the others.
+    #[tactic(auto, using(crate::proofs::Runs::still_numbered))]
     pub fn push(
         &mut self,
         first: RefId,
@@ -142,6 +95,9 @@ impl Relations {
     ) -> Result<(), AllocError>
         ensures { OnOk result (relations self.new ≡ relations self.old ++ (first.0, second.0, relation) ∷ []) }
     {
-        put(&mut self.runs, number(first)?, number(second)?, relation)
+        let first = narrow(first.0)?;
+        let second = narrow(second.0)?;
+        let relation = number_of(&mut self.different, relation)?;
+        put(&mut self.runs, first, second, relation)
     }
 }

@@ -158,10 +158,15 @@ fn is_kept(relation: Relation) -> bool {
     }
 }
 
-/// Appends the lines of the pairs of a run.
-fn append_run(out: &mut Vec<u8>, tree: &LoopTree<'_>, run: &Run) -> Result<(), AllocError> {
+/// Appends the lines of the pairs of a run, which have this relation.
+fn append_run(
+    out: &mut Vec<u8>,
+    tree: &LoopTree<'_>,
+    run: &Run,
+    relation: Relation,
+) -> Result<(), AllocError> {
     for place in 0..run.count {
-        let (first, second, relation) = run.pair(place);
+        let (first, second) = run.pair(place);
         if let Some(pair) = pair_of(tree, first, second, relation) {
             append_pair(out, &pair)?;
         }
@@ -177,8 +182,9 @@ fn append_pairs(
     kept: bool,
 ) -> Result<(), AllocError> {
     for run in &relations.runs {
-        if is_kept(run.relation) == kept {
-            append_run(out, tree, run)?;
+        let relation = relations.relation(run);
+        if is_kept(relation) == kept {
+            append_run(out, tree, run, relation)?;
         }
     }
     Ok(())

@@ -460,7 +460,8 @@ fn pairs_of(alloc: Global, relations: &Relations) -> Result<Vec<(RefId, RefId, R
     let mut pairs = Vec::new(alloc);
     for run in &relations.runs {
         for place in 0..run.count {
-            pairs.push(run.pair(place))?;
+            let (first, second) = run.pair(place);
+            pairs.push((first, second, relations.relation(run)))?;
         }
     }
     Ok(pairs)

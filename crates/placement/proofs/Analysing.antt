@@ -3,7 +3,7 @@ use Rattle.std.proofs.Common.{◌≡◌, ◌∙◌, ◌+◌, ◌<◌, ◌≤◌,
 use Rattle.std.specs.Prelude.{◌↔◌, nat_lt, slice_get}
 use Rattle.std.specs.List.{Contains}
 use Rattle.dependence.specs.Kept.{most_events}
-use Rattle.dependence.specs.Runs.{relations as relations_in}
+use Rattle.dependence.specs.Related.{relations as relations_in}
 use Rattle.loop_tree.specs.Loops.{Loop}
 use Rattle.placement.specs.Analysed.{AreAnalysed, HasManySources, Triple, are_sorted, triple}
 use Rattle.loop_tree.specs.Occurrences.{Occurrence}

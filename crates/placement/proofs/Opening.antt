@@ -6,7 +6,7 @@ use Rattle.dependence.specs.Kept.{Suits}
 use Rattle.dependence.specs.Plan.{PlanTree}
 use Rattle.dependence.specs.PlanView.{plan_of}
 use Rattle.dependence.specs.declared.plan.LoopPlan.TheVariants.{Serial}
-use Rattle.dependence.specs.Runs.{relations as relations_in}
+use Rattle.dependence.specs.Related.{relations as relations_in}
 use Rattle.loop_tree.specs.Loops.{IsWhole, Loop}
 use Rattle.loop_tree.specs.Told.{are_told, known}
 use Rattle.placement.specs.Analysed.{AreAnalysed, AreTriples, triple}

@@ -2,7 +2,7 @@
 use Rattle.std.specs.Prelude.{◌≡◌, ◌↔◌, ◌<◌, ◌≤◌, ◌==◌, nat_lt, ℕ, Bool, true, ◌&&◌, ◌||◌, List, [], ◌∷◌, length, map, Option, Some, None}
 use Rattle.std.specs.List.{Contains}
 use Rattle.dependence.specs.Kept.{Kept, most_events}
-use Rattle.dependence.specs.Runs.{relations as relations_in}
+use Rattle.dependence.specs.Related.{relations as relations_in}
 use Rattle.loop_tree.specs.Loops.{Loop}
 use Rattle.placement.specs.Placement.{AreSources, comes_first, relations_of}
 use Rattle.placement.specs.declared.analysis.Analysis.{Analysis}

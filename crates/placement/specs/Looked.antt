@@ -1,12 +1,13 @@
 -- An account of the code: what is found by looking at a reference with its partners, in order.
-use Rattle.std.specs.Prelude.{◌≡◌, ◌<◌, ◌≤◌, ◌==◌, ◌+◌, nat_lt, ℕ, Bool, true, ◌&&◌, ◌||◌, List, [], ◌∷◌, ◌++◌, length, map, Option, Some, None, if◌then◌else◌, slice_get}
+use Rattle.std.specs.Prelude.{◌≡◌, ◌<◌, ◌≤◌, ◌==◌, ◌+◌, nat_lt, ℕ, Bool, true, ◌&&◌, ◌||◌, List, [], ◌∷◌, ◌++◌, length, map, Option, Some, None, if◌then◌else◌, slice_get, IfSome}
 use Rattle.std.specs.List.{All}
 use Rattle.ast.specs.Store.{same_name}
 use Rattle.ast.specs.Tree.{Ref}
 use Rattle.dependence.specs.Formed.{forms_of}
 use Rattle.dependence.specs.Kept.{most_events}
-use Rattle.dependence.specs.Runs.{relations as relations_in}
+use Rattle.dependence.specs.Related.{relations as relations_in}
 use Rattle.dependence.specs.Tests.{relation}
+use Rattle.dependence.specs.declared.recent.Recent.{Recent}
 use Rattle.dependence.specs.declared.relation.Relation.{Relation}
 use Rattle.dependence.specs.declared.relation.Relation.TheVariants.{Apart, Distance, Any}
 use Rattle.loop_tree.specs.Loops.{Loop}
@@ -17,7 +18,7 @@ use Rattle.placement.specs.Analysed.{Triple, triple}
 use Rattle.dependence.specs.Hiding.{has_name}
 use Rattle.placement.specs.Listed.{list_at}
 use Rattle.placement.specs.declared.analysis.Analysis.{Analysis}
-use Rattle.placement.specs.declared.analysis.Last.{Last}
+use Rattle.placement.specs.declared.analysis.Earlier.{Earlier}
 use Rattle.placement.specs.declared.pairs.Pairs.{Pairs}
 use Rattle.placement.specs.declared.pairs.Shared.{Shared}
 use Rattle.subscripts.specs.View.{form_in}
@@ -101,9 +102,14 @@ abbrev pub triple_of : Occurrence → Occurrence → Option ℕ → List Triple
 triple_of a b None = []
 triple_of a b (Some d) = (b.statement, a.statement, d) ∷ []
 
--- the relation that was found last is that to each reference with these forms
-abbrev pub Relates : Loop → Occurrence → Last → Type 0
-Relates l a last = (b : Occurrence) → map form_in last.forms.now ≡ forms_of l b.subscripts → last.relation ≡ relation l a b
+-- the relation that was found is that to each reference with these forms
+abbrev pub Relates : Loop → Occurrence → Earlier → Type 0
+Relates l a earlier = (b : Occurrence) → map form_in earlier.forms.now ≡ forms_of l b.subscripts → earlier.relation ≡ relation l a b
+
+-- so are the newest of what was found
+pub record AllRelate (l : Loop) (a : Occurrence) (recent : Recent Earlier) : Type 0 where
+  pub newest : IfSome recent.newest (Relates l a)
+  pub older : IfSome recent.older (Relates l a)
 
 abbrev pub kept_by : Loop → Occurrence → Occurrence → List Triple
 kept_by l a b = triple_of a b (kept_distance (relation l a b))

@@ -3,17 +3,21 @@
 ghost use Rattle.std.specs.List.{All, Contains};
 ghost use Rattle.std.specs.Prelude.{◌≡◌, ◌↔◌, IfOk, IfSome, OnOk, map, slice_get, true};
 ghost use Rattle.ast.specs.View.{letters};
+ghost use Rattle.dependence.specs.Formed.{forms_of};
 ghost use Rattle.dependence.specs.Tests.{relation as relation_of};
+ghost use Rattle.loop_tree.specs.Loops.{Loop};
+ghost use Rattle.loop_tree.specs.Occurrences.{Occurrence as Occurring};
 ghost use Rattle.loop_tree.specs.TreeView.{seen};
 ghost use Rattle.placement.specs.Analysed.{IsFound, Triple, are_sorted, triple};
 ghost use Rattle.placement.specs.Looked as spec;
-ghost use Rattle.placement.specs.Looked.{HasForms, Relates, found_in, occurrence_in};
+ghost use Rattle.placement.specs.Looked.{AllRelate, HasForms, Relates, found_in, occurrence_in};
 ghost use Rattle.placement.specs.Placement.{is_ascending};
 ghost use Rattle.privatise.specs.Privates.{ArePrivate};
+ghost use Rattle.subscripts.specs.View.{form_in};
 
 use crate::pairs::{Pairs, Shared};
 use ast::Name;
-use dependence::{Relation, Relations, have_same_forms, relate_forms};
+use dependence::{Recent, Relation, Relations, have_same_forms, relate_forms};
 use loop_tree::LoopView;
 use std::alloc::{AllocError, Global};
 use subscripts::Affine;
@@ -64,35 +68,53 @@ fn add_source(sources: &mut Vec<usize>, statement: usize) -> Result<(), AllocErr
     }
 }
 
-/// The relation of a reference to one with these forms, which was found last.
+/// The relation of a reference to an earlier one with these forms.
 #[derive(Clone, Copy)]
-pub struct Last<'s> {
+pub struct Earlier<'s> {
     pub forms: &'s [Affine],
     pub relation: Relation,
 }
 
-/// The same, which is found anew only where the forms aren't those of the last one.
-fn related_like<'s>(
+/// What was found, if these are its forms.
+fn like(earlier: &Option<Earlier<'_>>, forms: &[Affine]) -> Option<Relation>
+    ensures { (l : Loop) (a b : Occurring) → IfSome earlier.now (Relates l a) → map form_in forms.now ≡ forms_of l b.subscripts → IfSome result (λ r. r ≡ relation_of l a b) }
+{
+    match earlier {
+        Some(earlier) if have_same_forms(earlier.forms, forms) => Some(earlier.relation),
+        _ => None,
+    }
+}
+
+/// What was found of the same forms, if it is among the newest.
+fn found_like(recent: &Recent<Earlier<'_>>, forms: &[Affine]) -> Option<Relation>
+    ensures { (l : Loop) (a b : Occurring) → AllRelate l a recent.now → map form_in forms.now ≡ forms_of l b.subscripts → IfSome result (λ r. r ≡ relation_of l a b) }
+{
+    match like(&recent.newest, forms) {
+        Some(relation) => Some(relation),
+        None => like(&recent.older, forms),
+    }
+}
+
+/// The relation of a reference to another, which is found anew only where its forms are none of the newest.
+fn related<'s>(
     view: &LoopView<'_, '_>,
     first: &Shared<'_>,
     second: &'s Shared<'_>,
-    last: Option<Last<'s>>,
-) -> Last<'s>
+    recent: &mut Recent<Earlier<'s>>,
+) -> Relation
     requires first { HasForms (seen view.now) first.now }
     requires second { HasForms (seen view.now) second.now }
-    requires last { IfSome last (Relates (seen view.now) (occurrence_in first.now)) }
-    ensures relates { Relates (seen view.now) (occurrence_in first.now) result }
-    ensures relation { result.relation ≡ relation_of (seen view.now) (occurrence_in first.now) (occurrence_in second.now) }
+    requires recent { AllRelate (seen view.now) (occurrence_in first.now) recent.old }
+    ensures recent { AllRelate (seen view.now) (occurrence_in first.now) recent.new }
+    ensures relation { result ≡ relation_of (seen view.now) (occurrence_in first.now) (occurrence_in second.now) }
 {
-    if let Some(last) = last {
-        if have_same_forms(last.forms, &second.forms) {
-            return last;
-        }
+    if let Some(relation) = found_like(recent, &second.forms) {
+        return relation;
     }
-    Last {
-        forms: &second.forms,
-        relation: relate_forms(view, &first.forms, &second.forms),
-    }
+    let relation = relate_forms(view, &first.forms, &second.forms);
+    let forms = &second.forms;
+    recent.add(Earlier { forms, relation });
+    relation
 }
 
 /// Looks at a reference in one iteration and another in a later one, to which it has this relation.
@@ -124,23 +146,22 @@ fn look_at_place<'s>(
     shared: &'s [Shared<'_>],
     first: &Shared<'_>,
     place: usize,
-    last: Option<Last<'s>>,
+    recent: &mut Recent<Earlier<'s>>,
     analysis: &mut Analysis,
-) -> Result<Option<Last<'s>>, AllocError>
+) -> Result<(), AllocError>
     requires first { HasForms (seen view.now) first.now }
     requires all { All (HasForms (seen view.now)) shared.now }
-    requires last { IfSome last (Relates (seen view.now) (occurrence_in first.now)) }
-    ensures last { IfOk result (λ last. IfSome last (Relates (seen view.now) (occurrence_in first.now))) }
+    requires recent { AllRelate (seen view.now) (occurrence_in first.now) recent.old }
+    ensures recent { AllRelate (seen view.now) (occurrence_in first.now) recent.new }
     ensures sources { analysis.new.sources ≡ analysis.old.sources }
     ensures found { OnOk result (found_in analysis.new ≡ spec.after_some (seen view.now) (occurrence_in first.now) (slice_get (map occurrence_in shared.now) place) (found_in analysis.old)) }
 {
     match shared.get(place) {
         Some(second) => {
-            let last = related_like(view, first, second, last);
-            look_at(first, second, last.relation, analysis)?;
-            Ok(Some(last))
+            let relation = related(view, first, second, recent);
+            look_at(first, second, relation, analysis)
         }
-        None => Ok(last),
+        None => Ok(()),
     }
 }
 
@@ -157,9 +178,9 @@ fn look_at_all(
     ensures sources { OnOk result (analysis.new.sources ≡ analysis.old.sources) }
     ensures found { OnOk result (found_in analysis.new ≡ spec.after_places (seen view.now) (map occurrence_in shared.now) (occurrence_in first.now) places.now (found_in analysis.old)) }
 {
-    let mut last = None;
+    let mut recent = Recent::none();
     for place in places {
-        last = look_at_place(view, shared, first, *place, last, analysis)?;
+        look_at_place(view, shared, first, *place, &mut recent, analysis)?;
     }
     Ok(())
 }

@@ -1,11 +1,11 @@
 -- The claims that are given first, by runs.
-use Rattle.std.proofs.Common.{◌≡◌, ◌∙◌, ◌==◌, ◌+◌, ◌*◌, ◌<◌, ◌≤◌, ℕ, zero, suc, Bool, true, false, ◌&&◌, List, [], ◌∷◌, ◌++◌, Option, Some, None, inl, inr, length, slice_index_or, ap, arith, refl, sym, subst}
+use Rattle.std.proofs.Common.{◌≡◌, ◌∙◌, ◌==◌, ◌+◌, ◌*◌, ◌<◌, ◌≤◌, ℕ, zero, suc, Bool, true, false, ◌&&◌, List, [], ◌∷◌, ◌++◌, Some, inl, inr, length, slice_index_or, ap, arith, refl, sym, subst}
 use Rattle.std.proofs.lemmas.Option.{slice_get-get_or}
 use Rattle.std.specs.Prelude.{◌-◌, ◌⊎◌, ◌||◌, nat_lt, nat_le, if◌then◌else◌, slice_get}
 use Rattle.std.proofs.lemmas.Bool.Decides.{nat_tests}
-use Rattle.dependence.specs.Runs.{run, runs, stepped}
+use Rattle.dependence.specs.Runs.{relation_at, run, runs, stepped}
 use Rattle.dependence.specs.declared.relation.Relation.{Relation}
-use Rattle.dependence.specs.declared.relations.Run.{Run}
+use Rattle.dependence.specs.declared.run.Run.{Run}
 use Rattle.plan_check.specs.Checking.{claimed}
 use Rattle.plan_check.specs.Claiming.{ascend, end, is_behind}
 
@@ -22,7 +22,7 @@ chosen_yes : {X : Type 0} (b : Bool) (x y : X) → b ≡ true → (if b then x e
 chosen_yes true x y e = refl
 chosen_yes false x y e = cc
 
-chosen_no : {X : Type 0} (b : Bool) (x y : X) → b ≡ false → (if b then x else y) ≡ y
+pub chosen_no : {X : Type 0} (b : Bool) (x y : X) → b ≡ false → (if b then x else y) ≡ y
 chosen_no false x y e = refl
 chosen_no true x y e = cc
 
@@ -95,15 +95,15 @@ end_least r = by (r.count == 0)
     by false = omega arith
 
 -- so what is not before its end is behind all of it
-behind_end : (r : Run) (rest : List Claim) (y : ℕ) → end r ≤ y → claimed (run r ++ rest) r.first y ≡ claimed rest r.first y
-behind_end r rest y l = by (r.count == 0) refl l
+behind_end : (ks : List Relation) (r : Run) (rest : List Claim) (y : ℕ) → end r ≤ y → claimed (run ks r ++ rest) r.first y ≡ claimed rest r.first y
+behind_end ks r rest y l = by (r.count == 0) refl l
   where
-    by : (b : Bool) → (r.count == 0) ≡ b → (if b then r.second else r.second + r.step * (r.count - 1) + 1) ≤ y → claimed (run r ++ rest) r.first y ≡ claimed rest r.first y
-    by true e h = ap (λ n. claimed (stepped r.first r.second r.step n r.relation ++ rest) r.first y) (equal r.count 0 e)
+    by : (b : Bool) → (r.count == 0) ≡ b → (if b then r.second else r.second + r.step * (r.count - 1) + 1) ≤ y → claimed (run ks r ++ rest) r.first y ≡ claimed rest r.first y
+    by true e h = ap (λ n. claimed (stepped r.first r.second r.step n (relation_at ks r.relation) ++ rest) r.first y) (equal r.count 0 e)
     by false e h =
         let some : r.count ≡ suc (r.count - 1) = more r.count (some_count r.count e) in
-        ap (λ n. claimed (stepped r.first r.second r.step n r.relation ++ rest) r.first y) some
-        ∙ ends_before r.first r.second r.step (suc (r.count - 1)) r.relation rest r.first y (ahead (r.count - 1) h)
+        ap (λ n. claimed (stepped r.first r.second r.step n (relation_at ks r.relation) ++ rest) r.first y) some
+        ∙ ends_before r.first r.second r.step (suc (r.count - 1)) (relation_at ks r.relation) rest r.first y (ahead (r.count - 1) h)
       where
         ahead : (n : ℕ) → r.second + r.step * n + 1 ≤ y → r.second + r.step * suc n < y + r.step
         ahead n h = omega (arith, h)
@@ -150,24 +150,24 @@ floor a b (x ∷ rs) (suc i) r e g =
         inr (omega (arith, e, f), omega (arith, u, v, w))
 
 -- of runs in order, the pair at a place of one of them is claimed by that one
-pub claimed_at : (a b : ℕ) (rs : List Run) (i k : ℕ) (r : Run) → ascend a b rs ≡ true → slice_get rs i ≡ Some r → k < r.count → claimed (runs rs) r.first (r.second + r.step * k) ≡ Some r.relation
-claimed_at a b [] i k r e g l = cc
-claimed_at a b (x ∷ rs) zero k r e g l =
-    subst (λ (y : Run). k < y.count → claimed (run x ++ runs rs) y.first (y.second + y.step * k) ≡ Some y.relation) (some_is g)
-    (λ m. inside x.first x.second x.step x.count k x.relation (runs rs) m) l
+pub claimed_at : (ks : List Relation) (a b : ℕ) (rs : List Run) (i k : ℕ) (r : Run) → ascend a b rs ≡ true → slice_get rs i ≡ Some r → k < r.count → claimed (runs ks rs) r.first (r.second + r.step * k) ≡ Some (relation_at ks r.relation)
+claimed_at ks a b [] i k r e g l = cc
+claimed_at ks a b (x ∷ rs) zero k r e g l =
+    subst (λ (y : Run). k < y.count → claimed (run ks x ++ runs ks rs) y.first (y.second + y.step * k) ≡ Some (relation_at ks y.relation)) (some_is g)
+    (λ m. inside x.first x.second x.step x.count k (relation_at ks x.relation) (runs ks rs) m) l
   where
     some_is : Some x ≡ Some r → x ≡ r
     some_is h = cc
-claimed_at a b (x ∷ rs) (suc i) k r e g l =
+claimed_at ks a b (x ∷ rs) (suc i) k r e g l =
     let parts = split (is_behind a b x) (ascend x.first (end x) rs) e in
-    behind (not_before a b x parts.0).1 (floor x.first (end x) rs i r parts.1 g) ∙ claimed_at x.first (end x) rs i k r parts.1 g l
+    behind (not_before a b x parts.0).1 (floor x.first (end x) rs i r parts.1 g) ∙ claimed_at ks x.first (end x) rs i k r parts.1 g l
   where
-    behind : 1 ≤ x.step → NotBefore x.first (end x) r → claimed (run x ++ runs rs) r.first (r.second + r.step * k) ≡ claimed (runs rs) r.first (r.second + r.step * k)
-    behind s (inl p) = other_first x.first x.second x.step x.count x.relation (runs rs) r.first (r.second + r.step * k) (λ h. omega (arith, p, h))
+    behind : 1 ≤ x.step → NotBefore x.first (end x) r → claimed (run ks x ++ runs ks rs) r.first (r.second + r.step * k) ≡ claimed (runs ks rs) r.first (r.second + r.step * k)
+    behind s (inl p) = other_first x.first x.second x.step x.count (relation_at ks x.relation) (runs ks rs) r.first (r.second + r.step * k) (λ h. omega (arith, p, h))
     behind s (inr p) =
         let q = p.1 in
-        subst (λ z. claimed (run x ++ runs rs) z (r.second + r.step * k) ≡ claimed (runs rs) z (r.second + r.step * k)) p.0
-        (behind_end x (runs rs) (r.second + r.step * k) (most (r.step * k) q))
+        subst (λ z. claimed (run ks x ++ runs ks rs) z (r.second + r.step * k) ≡ claimed (runs ks rs) z (r.second + r.step * k)) p.0
+        (behind_end ks x (runs ks rs) (r.second + r.step * k) (most (r.step * k) q))
       where
         most : (n : ℕ) → end x ≤ r.second → end x ≤ r.second + n
         most n q = omega (arith, q)
@@ -175,42 +175,42 @@ claimed_at a b (x ∷ rs) (suc i) k r e g l =
 -- ---- a pass over a run
 
 -- the claims of a run from a place on
-abbrev pub from_place : Run → ℕ → List Claim
-from_place r k = stepped r.first (r.second + r.step * k) r.step (r.count - k) r.relation
+abbrev pub from_place : List Relation → Run → ℕ → List Claim
+from_place ks r k = stepped r.first (r.second + r.step * k) r.step (r.count - k) (relation_at ks r.relation)
 
-pub from_first : (r : Run) → from_place r 0 ≡ run r
-from_first r =
+pub from_first : (ks : List Relation) (r : Run) → from_place ks r 0 ≡ run ks r
+from_first ks r =
     let none : r.second + r.step * 0 ≡ r.second = omega (arith) in
     let all : r.count - 0 ≡ r.count = omega (arith) in
-    ap (λ b. stepped r.first b r.step (r.count - 0) r.relation) none ∙ ap (λ n. stepped r.first r.second r.step n r.relation) all
+    ap (λ b. stepped r.first b r.step (r.count - 0) (relation_at ks r.relation)) none ∙ ap (λ n. stepped r.first r.second r.step n (relation_at ks r.relation)) all
 
-pub from_end : (r : Run) (k : ℕ) → r.count ≤ k → from_place r k ≡ []
-from_end r k l =
+pub from_end : (ks : List Relation) (r : Run) (k : ℕ) → r.count ≤ k → from_place ks r k ≡ []
+from_end ks r k l =
     let none : r.count - k ≡ 0 = omega (arith, l) in
-    ap (λ n. stepped r.first (r.second + r.step * k) r.step n r.relation) none
+    ap (λ n. stepped r.first (r.second + r.step * k) r.step n (relation_at ks r.relation)) none
 
-from_next : (r : Run) (k : ℕ) → k < r.count → from_place r k ≡ (r.first, r.second + r.step * k, r.relation) ∷ from_place r (k + 1)
-from_next r k l =
+from_next : (ks : List Relation) (r : Run) (k : ℕ) → k < r.count → from_place ks r k ≡ (r.first, r.second + r.step * k, relation_at ks r.relation) ∷ from_place ks r (k + 1)
+from_next ks r k l =
     let more : r.count - k ≡ suc (r.count - (k + 1)) = omega (arith, l) in
     let next : (r.second + r.step * k) + r.step ≡ r.second + r.step * (k + 1) = omega (arith) in
-    ap (λ n. stepped r.first (r.second + r.step * k) r.step n r.relation) more
-    ∙ ap (λ b. (r.first, r.second + r.step * k, r.relation) ∷ stepped r.first b r.step (r.count - (k + 1)) r.relation) next
+    ap (λ n. stepped r.first (r.second + r.step * k) r.step n (relation_at ks r.relation)) more
+    ∙ ap (λ b. (r.first, r.second + r.step * k, relation_at ks r.relation) ∷ stepped r.first b r.step (r.count - (k + 1)) (relation_at ks r.relation)) next
 
-pub found_here : (r : Run) (k x y : ℕ) (rest : List Claim) → k < r.count → ((r.first == x) && (r.second + r.step * k == y)) ≡ true → claimed (from_place r k ++ rest) x y ≡ Some r.relation
-found_here r k x y rest l e =
-    ap (λ ps. claimed (ps ++ rest) x y) (from_next r k l)
-    ∙ chosen_yes ((r.first == x) && (r.second + r.step * k == y)) (Some r.relation) (claimed (from_place r (k + 1) ++ rest) x y) e
+pub found_here : (ks : List Relation) (r : Run) (k x y : ℕ) (rest : List Claim) → k < r.count → ((r.first == x) && (r.second + r.step * k == y)) ≡ true → claimed (from_place ks r k ++ rest) x y ≡ Some (relation_at ks r.relation)
+found_here ks r k x y rest l e =
+    ap (λ ps. claimed (ps ++ rest) x y) (from_next ks r k l)
+    ∙ chosen_yes ((r.first == x) && (r.second + r.step * k == y)) (Some (relation_at ks r.relation)) (claimed (from_place ks r (k + 1) ++ rest) x y) e
 
-pub missed_here : (r : Run) (k x y : ℕ) (rest : List Claim) → k < r.count → ((r.first == x) && (r.second + r.step * k == y)) ≡ false → claimed (from_place r k ++ rest) x y ≡ claimed (from_place r (k + 1) ++ rest) x y
-missed_here r k x y rest l e =
-    ap (λ ps. claimed (ps ++ rest) x y) (from_next r k l)
-    ∙ chosen_no ((r.first == x) && (r.second + r.step * k == y)) (Some r.relation) (claimed (from_place r (k + 1) ++ rest) x y) e
+pub missed_here : (ks : List Relation) (r : Run) (k x y : ℕ) (rest : List Claim) → k < r.count → ((r.first == x) && (r.second + r.step * k == y)) ≡ false → claimed (from_place ks r k ++ rest) x y ≡ claimed (from_place ks r (k + 1) ++ rest) x y
+missed_here ks r k x y rest l e =
+    ap (λ ps. claimed (ps ++ rest) x y) (from_next ks r k l)
+    ∙ chosen_no ((r.first == x) && (r.second + r.step * k == y)) (Some (relation_at ks r.relation)) (claimed (from_place ks r (k + 1) ++ rest) x y) e
 
 -- the same by what stands at a place of runs in order
-pub at_place : (rs : List Run) (i k x y : ℕ) (d : Run) → ascend 0 0 rs ≡ true → i < length rs → k < (slice_index_or rs i d).count
-    → (((slice_index_or rs i d).first == x) && ((slice_index_or rs i d).second + (slice_index_or rs i d).step * k == y)) ≡ true → claimed (runs rs) x y ≡ Some (slice_index_or rs i d).relation
-at_place rs i k x y d e l m h =
+pub at_place : (ks : List Relation) (rs : List Run) (i k x y : ℕ) (d : Run) → ascend 0 0 rs ≡ true → i < length rs → k < (slice_index_or rs i d).count
+    → (((slice_index_or rs i d).first == x) && ((slice_index_or rs i d).second + (slice_index_or rs i d).step * k == y)) ≡ true → claimed (runs ks rs) x y ≡ Some (relation_at ks (slice_index_or rs i d).relation)
+at_place ks rs i k x y d e l m h =
     let r : Run = slice_index_or rs i d in
     let two = split (r.first == x) (r.second + r.step * k == y) h in
-    subst (λ z. claimed (runs rs) z y ≡ Some r.relation) (equal r.first x two.0)
-    (subst (λ z. claimed (runs rs) r.first z ≡ Some r.relation) (equal (r.second + r.step * k) y two.1) (claimed_at 0 0 rs i k r e (slice_get-get_or rs i d l) m))
+    subst (λ z. claimed (runs ks rs) z y ≡ Some (relation_at ks r.relation)) (equal r.first x two.0)
+    (subst (λ z. claimed (runs ks rs) r.first z ≡ Some (relation_at ks r.relation)) (equal (r.second + r.step * k) y two.1) (claimed_at ks 0 0 rs i k r e (slice_get-get_or rs i d l) m))

@@ -1,6 +1,6 @@
 -- What is claimed of a pair.
 use Rattle.std.specs.Prelude.{◌≡◌, ℕ, true, Option}
-use Rattle.dependence.specs.Runs.{relations}
+use Rattle.dependence.specs.Related.{relations}
 use Rattle.dependence.specs.declared.relation.Relation.{Relation}
 use Rattle.plan_check.specs.Checking.{claimed}
 use Rattle.plan_check.specs.Claiming.{ascend}

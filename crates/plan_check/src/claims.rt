@@ -1,7 +1,8 @@
 //! What a plan claims of pairs of references.
 
 ghost use Rattle.std.specs.Prelude.{◌≡◌, ◌==◌, ◌&&◌, ◌+◌, ◌*◌, ◌++◌, IfSome, List, Some, if◌then◌else◌, true, ℕ};
-ghost use Rattle.dependence.specs.Runs.{relations as relations_of, run as run_of, runs as runs_of};
+ghost use Rattle.dependence.specs.Related.{relations as relations_of};
+ghost use Rattle.dependence.specs.Runs.{relation_at, run as run_of, runs as runs_of};
 ghost use Rattle.dependence.specs.declared.relation.Relation.{Relation};
 ghost use Rattle.plan_check.specs.Checking.{claimed};
 ghost use Rattle.plan_check.specs.ClaimsView.{IsOrdered, claim_in};
@@ -68,7 +69,7 @@ fn is_at(run: &Run, place: u32, first: usize, second: usize) -> bool
 
 /// Whether a run has a pair.
 fn has(run: &Run, first: usize, second: usize) -> bool
-    ensures { (rest : List (ℕ × ℕ × Relation)) → claimed (run_of run.now ++ rest) first second ≡ (if result then Some run.now.relation else claimed rest first second) }
+    ensures { (different : List Relation) (rest : List (ℕ × ℕ × Relation)) → claimed (run_of different run.now ++ rest) first second ≡ (if result then Some (relation_at different run.now.relation) else claimed rest first second) }
 {
     if run.first as usize != first {
         return false;
@@ -84,21 +85,28 @@ fn has(run: &Run, first: usize, second: usize) -> bool
 }
 
 /// The relation of a pair by the first run that has it.
-fn scan(runs: &[Run], first: usize, second: usize) -> Option<Relation>
-    ensures { result ≡ claimed (runs_of runs.now) first second }
+fn scan(relations: &Relations, runs: &[Run], first: usize, second: usize) -> Option<Relation>
+    ensures { result ≡ claimed (runs_of relations.now.different.items runs.now) first second }
 {
     for run in runs {
         if has(run, first, second) {
-            return Some(run.relation);
+            return Some(relations.relation(run));
         }
     }
     None
 }
 
 /// The relation of a pair at a place of runs in order, if it stands there.
-fn at(runs: &[Run], run: usize, place: u32, first: usize, second: usize) -> Option<Relation>
+fn at(
+    relations: &Relations,
+    runs: &[Run],
+    run: usize,
+    place: u32,
+    first: usize,
+    second: usize,
+) -> Option<Relation>
     requires { spec.ascend 0 0 runs.now ≡ true }
-    ensures { IfSome result (λ r. claimed (runs_of runs.now) first second ≡ Some r) }
+    ensures { IfSome result (λ r. claimed (runs_of relations.now.different.items runs.now) first second ≡ Some r) }
 {
     if run >= runs.len() {
         return None;
@@ -107,7 +115,7 @@ fn at(runs: &[Run], run: usize, place: u32, first: usize, second: usize) -> Opti
     if place >= one.count || !is_at(&one, place, first, second) {
         return None;
     }
-    Some(one.relation)
+    Some(relations.relation(&one))
 }
 
 /// The claims of a plan.
@@ -147,13 +155,15 @@ impl Claims<'_> {
         requires { IsOrdered self.now }
         ensures { result ≡ claim_in self.now first.0 second.0 }
     {
-        let runs = &self.relations.runs;
+        let relations = self.relations;
+        let runs = &relations.runs;
         if self.ordered {
-            if let Some(relation) = at(runs, cursor.run, cursor.place, first.0, second.0) {
+            let found = at(relations, runs, cursor.run, cursor.place, first.0, second.0);
+            if let Some(relation) = found {
                 cursor.step(runs);
                 return Some(relation);
             }
         }
-        scan(runs, first.0, second.0)
+        scan(relations, runs, first.0, second.0)
     }
 }

@@ -2,21 +2,23 @@
 
 ghost use Rattle.std.specs.Prelude.{◌≡◌, ◌&&◌, ◌||◌, IfSome, map, slice_get, true};
 ghost use Rattle.ast.specs.View.{letters};
+ghost use Rattle.loop_tree.specs.Loops.{Loop};
 ghost use Rattle.loop_tree.specs.TreeView.{seen};
 ghost use Rattle.loop_tree.specs.View.{occurrence as occurrence_of};
 ghost use Rattle.plan_check.specs.Checking.{distance_of as distance_in};
 ghost use Rattle.plan_check.specs.ClaimsView.{IsOrdered, claim_in};
-ghost use Rattle.plan_check.specs.EntryView.{Tells, entry as entry_of, verdict as verdict_of};
+ghost use Rattle.plan_check.specs.EntryView.{AllTell, Tells, entry as entry_of, verdict as verdict_of};
 ghost use Rattle.plan_check.specs.Grouping.{with_groups, with_optional, with_places, with_row};
 ghost use Rattle.plan_check.specs.GroupsView.{groups as groups_of};
 ghost use Rattle.plan_check.specs.Judging as spec;
+ghost use Rattle.subscripts.specs.View.{form_in};
 
 use crate::claims::{Claims, Cursor};
 use crate::entry::Entry;
 use crate::groups::Partners;
 use crate::lists::{flag_at, has_awaited};
 use ast::Name;
-use dependence::{Relation, has_name, have_same_forms, is_given};
+use dependence::{Recent, Relation, has_name, have_same_forms, is_given};
 use loop_tree::{LoopView, Occurrence};
 use subscripts::Affine;
 
@@ -78,9 +80,9 @@ fn is_true(
     }
 }
 
-/// What was claimed last of a reference and one with these forms, and whether it is true.
+/// What was claimed of a reference and an earlier one with these forms, and whether it is true.
 #[derive(Clone, Copy)]
-pub struct Last<'e> {
+pub struct Earlier<'e> {
     pub forms: &'e [Affine],
     pub claim: Option<Relation>,
     pub is_true: bool,
@@ -99,28 +101,56 @@ fn is_same_claim(one: Option<Relation>, other: Option<Relation>) -> bool
     }
 }
 
-/// Whether a claim is true, which is found anew only where claim and forms aren't those of the last one.
-fn judged_like<'e>(
+/// Whether a claim is true, if that was found of the same claim and the same forms.
+fn like(earlier: &Option<Earlier<'_>>, claim: Option<Relation>, forms: &[Affine]) -> Option<bool>
+    ensures { (l : Loop) (x y : spec.Entry) → IfSome earlier.now (Tells l x) → map form_in forms.now ≡ y.forms → IfSome result (λ t. t ≡ spec.is_given l x y claim) }
+{
+    match earlier {
+        Some(earlier)
+            if is_same_claim(earlier.claim, claim) && have_same_forms(earlier.forms, forms) => {
+            Some(earlier.is_true)
+        }
+        _ => None,
+    }
+}
+
+/// The same, if it is among the newest that was found.
+fn found_like(
+    recent: &Recent<Earlier<'_>>,
+    claim: Option<Relation>,
+    forms: &[Affine],
+) -> Option<bool>
+    ensures { (l : Loop) (x y : spec.Entry) → AllTell l x recent.now → map form_in forms.now ≡ y.forms → IfSome result (λ t. t ≡ spec.is_given l x y claim) }
+{
+    match like(&recent.newest, claim, forms) {
+        Some(is_true) => Some(is_true),
+        None => like(&recent.older, claim, forms),
+    }
+}
+
+/// Whether a claim is true, which is found anew only where claim and forms are none of the newest.
+fn judged<'e>(
     view: &LoopView<'_, '_>,
     first: &Entry<'_, '_>,
     second: &'e Entry<'_, '_>,
     claim: Option<Relation>,
-    last: Option<Last<'e>>,
-) -> Last<'e>
-    requires { IfSome last (Tells (seen view.now) (entry_of first.now)) }
-    ensures tells { Tells (seen view.now) (entry_of first.now) result }
-    ensures given { result.is_true ≡ spec.is_given (seen view.now) (entry_of first.now) (entry_of second.now) claim }
+    recent: &mut Recent<Earlier<'e>>,
+) -> bool
+    requires { AllTell (seen view.now) (entry_of first.now) recent.old }
+    ensures tells { AllTell (seen view.now) (entry_of first.now) recent.new }
+    ensures given { result ≡ spec.is_given (seen view.now) (entry_of first.now) (entry_of second.now) claim }
 {
-    if let Some(last) = last {
-        if is_same_claim(last.claim, claim) && have_same_forms(last.forms, &second.forms) {
-            return last;
-        }
+    if let Some(is_true) = found_like(recent, claim, &second.forms) {
+        return is_true;
     }
-    Last {
-        forms: &second.forms,
+    let is_true = is_true(view, first, second, claim);
+    let forms = &second.forms;
+    recent.add(Earlier {
+        forms,
         claim,
-        is_true: is_true(view, first, second, claim),
-    }
+        is_true,
+    });
+    is_true
 }
 
 /// Judges a pair by what is claimed of it.
@@ -131,10 +161,10 @@ fn judge_claim<'e>(
     first: &Entry<'_, '_>,
     second: &'e Entry<'_, '_>,
     claim: Option<Relation>,
-    last: Option<Last<'e>>,
-) -> Last<'e>
-    requires { IfSome last (Tells (seen view.now) (entry_of first.now)) }
-    ensures tells { Tells (seen view.now) (entry_of first.now) result }
+    recent: &mut Recent<Earlier<'e>>,
+)
+    requires { AllTell (seen view.now) (entry_of first.now) recent.old }
+    ensures tells { AllTell (seen view.now) (entry_of first.now) recent.new }
     ensures verdict { verdict_of verdict.new ≡ spec.by_claim (seen view.now) events.now (λ _ _. claim) (entry_of first.now) (entry_of second.now) claim (verdict_of verdict.old) }
 {
     match distance_of(claim) {
@@ -145,9 +175,8 @@ fn judge_claim<'e>(
                 && is_held(events, &first.note.free, &second.note.near, distance);
         }
     }
-    let judged = judged_like(view, first, second, claim, last);
-    verdict.claims = verdict.claims && judged.is_true;
-    judged
+    let is_true = judged(view, first, second, claim, recent);
+    verdict.claims = verdict.claims && is_true;
 }
 
 /// Whether two references are to one variable, and one of them gives it a value.
@@ -165,22 +194,22 @@ fn judge_pair<'e>(
     cursor: &mut Cursor,
     first: &Entry<'_, '_>,
     second: &'e Entry<'_, '_>,
-    last: Option<Last<'e>>,
-) -> Option<Last<'e>>
+    recent: &mut Recent<Earlier<'e>>,
+)
     requires ordered { IsOrdered claims.now }
-    requires tells { IfSome last (Tells (seen view.now) (entry_of first.now)) }
-    ensures tells { IfSome result (Tells (seen view.now) (entry_of first.now)) }
+    requires tells { AllTell (seen view.now) (entry_of first.now) recent.old }
+    ensures tells { AllTell (seen view.now) (entry_of first.now) recent.new }
     ensures verdict { verdict_of verdict.new ≡ spec.with_pair (seen view.now) events.now (claim_in claims.now) (entry_of first.now) (entry_of second.now) (verdict_of verdict.old) }
 {
     if !is_pair(first.occurrence, second.occurrence) {
-        return last;
+        return;
     }
     let claim = claims.find(
         cursor,
         first.occurrence.reference.id,
         second.occurrence.reference.id,
     );
-    Some(judge_claim(verdict, view, events, first, second, claim, last))
+    judge_claim(verdict, view, events, first, second, claim, recent);
 }
 
 /// Judges a reference with the one at a place.
@@ -193,26 +222,17 @@ fn judge_at<'e>(
     first: &Entry<'_, '_>,
     entries: &'e [Entry<'_, '_>],
     place: usize,
-    last: Option<Last<'e>>,
-) -> Option<Last<'e>>
+    recent: &mut Recent<Earlier<'e>>,
+)
     requires ordered { IsOrdered claims.now }
-    requires tells { IfSome last (Tells (seen view.now) (entry_of first.now)) }
-    ensures tells { IfSome result (Tells (seen view.now) (entry_of first.now)) }
+    requires tells { AllTell (seen view.now) (entry_of first.now) recent.old }
+    ensures tells { AllTell (seen view.now) (entry_of first.now) recent.new }
     ensures verdict { verdict_of verdict.new ≡ with_optional (seen view.now) events.now (claim_in claims.now) (entry_of first.now) (slice_get (map entry_of entries.now) place) (verdict_of verdict.old) }
 {
-    if place >= entries.len() {
-        return last;
+    if place < entries.len() {
+        let second = &entries[place];
+        judge_pair(verdict, view, events, claims, cursor, first, second, recent);
     }
-    judge_pair(
-        verdict,
-        view,
-        events,
-        claims,
-        cursor,
-        first,
-        &entries[place],
-        last,
-    )
 }
 
 /// Judges a reference with those at places.
@@ -229,10 +249,18 @@ fn judge_partners(
     requires { IsOrdered claims.now }
     ensures { verdict_of verdict.new ≡ with_places (seen view.now) events.now (claim_in claims.now) (entry_of first.now) (map entry_of entries.now) places.now (verdict_of verdict.old) }
 {
-    let mut last = None;
+    let mut recent = Recent::none();
     for place in places {
-        last = judge_at(
-            verdict, view, events, claims, cursor, first, entries, *place, last,
+        judge_at(
+            verdict,
+            view,
+            events,
+            claims,
+            cursor,
+            first,
+            entries,
+            *place,
+            &mut recent,
         );
     }
 }

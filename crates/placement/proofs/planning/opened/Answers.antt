@@ -3,7 +3,7 @@ use Rattle.std.specs.Prelude.{◌+◌}
 use Rattle.ast.specs.View.{block_view, letters}
 use Rattle.dependence.specs.Plan.{PlanTree}
 use Rattle.dependence.specs.PlanView.{plan_block}
-use Rattle.dependence.specs.Runs.{relations as relations_in}
+use Rattle.dependence.specs.Related.{relations as relations_in}
 use Rattle.loop_tree.specs.TreeView.{seen}
 use Rattle.placement.specs.Placement.{AreSources}
 use Rattle.placement.proofs.Opening as opening
