@@ -1,0 +1,185 @@
+//! Expressions of the worked programs: their texts, and their code.
+
+use crate::programs::program_of;
+use crate::rows::{AGAIN, ROWS};
+use ast::{Expr, Kind, Node, Operator, Program, Refusal};
+use expr_code::{Places, emit};
+use expressions::expr;
+use loop_tree::{ScalarSet, loops};
+use machine::{Act as Does, Axis, Instr};
+use std::alloc::AllocError;
+use std::process::Abort;
+use std::test::Fail;
+
+/// The line of each text.
+const LINE: u32 = 9;
+
+/// Texts, and their values where I is 5 and each element is its subscript.
+const TEXTS: [(&[u8], i64); 6] = [
+    (b"I*I", 25),
+    (b"A(I-2)+1", 4),
+    (b"A(I-1)+1", 5),
+    (b"10/(2-I)", -3),
+    (b"1+MOD(I*I,3)", 2),
+    (b"A(IX(I))+1", 6),
+];
+
+/// What an operator of these texts makes of two values.
+fn made_of(operator: Operator, left: i64, right: i64) -> Option<i64> {
+    match operator {
+        Operator::Add => left.checked_add(right),
+        Operator::Subtract => left.checked_sub(right),
+        Operator::Multiply => left.checked_mul(right),
+        Operator::Divide => left.checked_div(right),
+        _ => None,
+    }
+}
+
+/// The value of an expression where I is 5 and each element is its subscript.
+fn value_of(expression: &Expr) -> Option<i64> {
+    match expression {
+        Expr::Constant(value) => Some(*value),
+        Expr::Element(access) => match access.subscripts.as_slice() {
+            [] => Some(5),
+            [subscript] => value_of(subscript),
+            // MOD, which a text alone doesn't tell from an array.
+            [left, right] => value_of(left)?.checked_rem(value_of(right)?),
+            _ => None,
+        },
+        Expr::Parentheses(inner) => value_of(inner),
+        Expr::Binary(operator, left, right) => {
+            made_of(*operator, value_of(left)?, value_of(right)?)
+        }
+        _ => None,
+    }
+}
+
+#[test]
+fn want_of_memory_in_texts(rt: HostRuntime) {
+    for (text, value) in TEXTS {
+        let read = match expr(rt.alloc(), text, LINE) {
+            Ok(read) => read,
+            Err(refusal) => {
+                assert_eq!(&rt; refusal, Refusal::Memory);
+                expr(rt.alloc(), text, LINE).expect(&rt, AGAIN)
+            }
+        };
+        assert_eq!(&rt; value_of(&read), Some(value));
+    }
+}
+
+/// The code of what the first loop of each row that has one assigns first: I*I, A(I-2)+1, A(I-1)+1 and
+/// 1+MOD(I*I,3).
+const CODE: [&[Does]; 4] = [
+    &[Does::Index, Does::Index, Does::Binary(Operator::Multiply)],
+    &[
+        Does::Index,
+        Does::Constant(2),
+        Does::Binary(Operator::Subtract),
+        Does::Check(
+            0,
+            Axis {
+                lower: 1,
+                width: 8,
+                stride: 1,
+            },
+        ),
+        Does::LoadElement(0),
+        Does::Constant(1),
+        Does::Binary(Operator::Add),
+    ],
+    &[
+        Does::Index,
+        Does::Constant(1),
+        Does::Binary(Operator::Subtract),
+        Does::Check(
+            0,
+            Axis {
+                lower: 0,
+                width: 5,
+                stride: 1,
+            },
+        ),
+        Does::LoadElement(0),
+        Does::Constant(1),
+        Does::Binary(Operator::Add),
+    ],
+    &[
+        Does::Constant(1),
+        Does::Index,
+        Does::Index,
+        Does::Binary(Operator::Multiply),
+        Does::Constant(3),
+        Does::Modulo,
+        Does::Binary(Operator::Add),
+    ],
+];
+
+/// The expression that is assigned first in a body.
+fn assigned(body: &[Node]) -> Option<&Expr> {
+    match body {
+        [Node::Plain(first), ..] => match &first.kind {
+            Kind::Assign(_, value) => Some(value),
+            _ => None,
+        },
+        _ => None,
+    }
+}
+
+/// The code of an expression stands behind what was there. So does, where memory was refused, what was
+/// there before.
+fn has_code(
+    rt: &(impl Abort + AllocGlobal),
+    value: &Expr,
+    places: &Places<'_>,
+    wanted: &[Does],
+) -> Result<(), AllocError> {
+    let before = Instr {
+        line: 1,
+        act: Does::Halt,
+    };
+    let mut code = vec![in rt.alloc(); before]?;
+    if emit(value, places, &mut code).is_err() {
+        assert_eq!(*rt; code.first(), Some(&before));
+        code.truncate(1);
+        emit(value, places, &mut code).expect(rt, AGAIN);
+    }
+    assert_eq!(*rt; code.first(), Some(&before));
+    assert_eq!(*rt; code.len(), wanted.len().wrapping_add(1));
+    for (instruction, act) in code.iter().skip(1).zip(wanted) {
+        assert_eq!(*rt; instruction.act, *act);
+        assert_eq!(*rt; instruction.line, LINE);
+    }
+    Ok(())
+}
+
+/// The code of what a program's first loop assigns first.
+fn first_has_code(
+    rt: &(impl Abort + AllocGlobal),
+    program: &Program,
+    wanted: &[Does],
+) -> Result<(), AllocError> {
+    let tree = loops(rt.alloc(), program)?;
+    assert!(*rt; 1 <= tree.count());
+    let view = tree.view(1);
+    let places = Places {
+        program,
+        privates: &ScalarSet {
+            names: Vec::new(rt.alloc()),
+        },
+        loop_name: Some(view.head().variable.name),
+        line: LINE,
+    };
+    match assigned(view.body()) {
+        Some(value) => has_code(rt, value, &places, wanted),
+        None => panic!(*rt; "an assignment begins the loop"),
+    }
+}
+
+#[test]
+fn want_of_memory_in_code_of_expressions(rt: HostRuntime) -> Result<(), Fail> {
+    for (row, wanted) in ROWS.iter().zip(CODE) {
+        first_has_code(&rt, &program_of(&rt, row), wanted)?;
+    }
+    Ok(())
+}

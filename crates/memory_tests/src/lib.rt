@@ -1,0 +1,16 @@
+//! Tests over the public calls below the engines with an allocation refused. Over worked programs a call that
+//! finds no memory says so, leaves what it was given as it was, and is right when it is made again.
+#![tactic(auto)]
+
+#[cfg(test)]
+mod cores;
+#[cfg(test)]
+mod expressions_of;
+#[cfg(test)]
+mod loops_of;
+#[cfg(test)]
+mod programs;
+#[cfg(test)]
+mod rows;
+#[cfg(test)]
+mod runs;

@@ -1,0 +1,95 @@
+//! Loops, their private scalars, their plans and the check of these.
+
+use crate::programs::program_of;
+use crate::rows::{AGAIN, Mark, ROWS, Range};
+use ast::{Name, Program};
+use dependence::{LoopPlan, PlanStmt};
+use loop_tree::{LoopTree, LoopView, loops};
+use placement::plan;
+use plan_check::{PlanFault, check};
+use privatise::private_scalars;
+use std::process::Abort;
+
+/// The loops of a program.
+fn tree_of<'p>(rt: &(impl Abort + AllocGlobal), program: &'p Program) -> LoopTree<'p> {
+    match loops(rt.alloc(), program) {
+        Ok(tree) => tree,
+        Err(_) => loops(rt.alloc(), program).expect(rt, AGAIN),
+    }
+}
+
+/// Names are these, in this order.
+fn are_named(rt: &impl Abort, names: &[Name], wanted: &[&[u8]]) {
+    assert_eq!(*rt; names.len(), wanted.len());
+    for (name, wanted) in names.iter().zip(wanted) {
+        assert_eq!(*rt; name.trimmed(), *wanted);
+    }
+}
+
+/// The private scalars of a loop are the wanted ones.
+fn has_privates(rt: &(impl Abort + AllocGlobal), view: &LoopView<'_, '_>, wanted: &Range) {
+    let found = match private_scalars(rt.alloc(), view) {
+        Ok(found) => found,
+        Err(_) => private_scalars(rt.alloc(), view).expect(rt, AGAIN),
+    };
+    are_named(rt, &found.names, wanted.privates);
+}
+
+/// What a part of a body is that holds no others.
+fn mark_of(part: &PlanStmt) -> Option<Mark> {
+    match part {
+        PlanStmt::Await(event, distance) => Some(Mark::Await(*event, *distance)),
+        PlanStmt::Advance(event) => Some(Mark::Advance(*event)),
+        PlanStmt::Plain(statement) => Some(Mark::Plain(statement.line)),
+        _ => None,
+    }
+}
+
+/// A plan is the wanted one.
+fn is_planned(rt: &impl Abort, found: &LoopPlan, wanted: &Range) {
+    match found {
+        LoopPlan::Body { body, privates, .. } => {
+            are_named(rt, &privates.names, wanted.privates);
+            assert_eq!(*rt; body.len(), wanted.body.len());
+            for (part, mark) in body.iter().zip(wanted.body) {
+                assert_eq!(*rt; mark_of(part), Some(*mark));
+            }
+        }
+        LoopPlan::Serial(_) => panic!(*rt; "the loop may be open"),
+    }
+}
+
+/// A loop's plan is the wanted one, and is accepted.
+fn has_plan(rt: &(impl Abort + AllocGlobal), view: &LoopView<'_, '_>, wanted: &Range) {
+    let found = match plan(rt.alloc(), view) {
+        Ok(found) => found,
+        Err(_) => plan(rt.alloc(), view).expect(rt, AGAIN),
+    };
+    is_planned(rt, &found, wanted);
+    if let Err(fault) = check(rt.alloc(), view, &found) {
+        assert_eq!(*rt; fault, PlanFault::Memory);
+        check(rt.alloc(), view, &found).expect(rt, AGAIN);
+    }
+}
+
+/// The loops of a program are these.
+fn are_loops(rt: &(impl Abort + AllocGlobal), tree: &LoopTree<'_>, wanted: &[Range]) {
+    assert_eq!(*rt; tree.count(), wanted.len());
+    let mut number: usize = 0;
+    for range in wanted {
+        number = number.wrapping_add(1);
+        assert!(*rt; 1 <= number && number <= tree.count());
+        let view = tree.view(number);
+        assert_eq!(*rt; view.line(), range.first);
+        has_privates(rt, &view, range);
+        has_plan(rt, &view, range);
+    }
+}
+
+#[test]
+fn want_of_memory_in_loops(rt: HostRuntime) {
+    for row in &ROWS {
+        let program = program_of(&rt, row);
+        are_loops(&rt, &tree_of(&rt, &program), row.loops);
+    }
+}
