@@ -80,7 +80,10 @@ fn want_of_memory_in_lines_of_code(rt: HostRuntime) -> Result<(), Fail> {
     let first = code_into(rt.alloc(), &mut out);
     if let Err(EngineFault::Memory) = &first {
         assert!(rt; out.taken.is_empty());
-        assert_eq!(rt; code_into(rt.alloc(), &mut out)?, 0);
+        assert_eq!(rt;
+            code_into(rt.alloc(), &mut out).expect(&rt, "there is memory"),
+            0
+        );
     }
     assert_eq!(rt; out.taken.as_slice(), LINES);
     assert_eq!(rt; first?, 0);

@@ -43,7 +43,8 @@ fn want_of_memory_in_drawings(rt: HostRuntime) -> Result<(), Fail> {
     match draw_text(rt.alloc(), LOOP, FIRST) {
         Ok(drawn) => has(&rt, &drawn, words),
         Err(AllocError) => {
-            has(&rt, &draw_text(rt.alloc(), LOOP, FIRST)?, words);
+            let again = draw_text(rt.alloc(), LOOP, FIRST).expect(&rt, "there is memory");
+            has(&rt, &again, words);
             return Err(AllocError.into());
         }
     }
@@ -56,11 +57,8 @@ fn want_of_memory_in_timelines(rt: HostRuntime) -> Result<(), Fail> {
     match timeline_texts(rt.alloc(), END, b"", TO_THE_END) {
         Ok(drawn) => has(&rt, &drawn, words),
         Err(AllocError) => {
-            has(
-                &rt,
-                &timeline_texts(rt.alloc(), END, b"", TO_THE_END)?,
-                words,
-            );
+            let again = timeline_texts(rt.alloc(), END, b"", TO_THE_END);
+            has(&rt, &again.expect(&rt, "there is memory"), words);
             return Err(AllocError.into());
         }
     }

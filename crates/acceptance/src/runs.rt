@@ -209,7 +209,10 @@ fn want_of_memory_in_runs(rt: HostRuntime) -> Result<(), Fail> {
     if let Err(EngineFault::Memory) = &first {
         assert!(rt; b" -7A\n".starts_with(out.taken.as_slice()));
         out.taken.clear();
-        assert_eq!(rt; run_into(rt.alloc(), &mut out)?, 0);
+        assert_eq!(rt;
+            run_into(rt.alloc(), &mut out).expect(&rt, "there is memory"),
+            0
+        );
     }
     assert_eq!(rt; out.taken.as_slice(), b" -7A\nK = -7\n".as_slice());
     assert_eq!(rt; first?, 0);
@@ -227,7 +230,10 @@ fn want_of_memory_in_checks(rt: HostRuntime) -> Result<(), Fail> {
     let first = check_into(rt.alloc(), &mut out);
     if let Err(EngineFault::Memory) = &first {
         assert!(rt; out.taken.is_empty());
-        assert_eq!(rt; check_into(rt.alloc(), &mut out)?, 1);
+        assert_eq!(rt;
+            check_into(rt.alloc(), &mut out).expect(&rt, "there is memory"),
+            1
+        );
     }
     assert_eq!(rt; out.taken.as_slice(), b"REFUSED 25 LINE 1\n".as_slice());
     assert_eq!(rt; first?, 1);

@@ -294,7 +294,8 @@ fn want_of_memory_in_the_engine_of_runs(rt: HostRuntime) -> Result<(), Fail> {
         is_beginning(&rt, &schedule, &out);
         let mut schedule = with_room(rt.alloc(), 4096)?;
         let mut out = with_room(rt.alloc(), 64)?;
-        assert_eq!(rt; faults_into(&rt, &mut schedule, &mut out)?, 2);
+        let again = faults_into(&rt, &mut schedule, &mut out);
+        assert_eq!(rt; again.expect(&rt, "there is memory"), 2);
         assert_eq!(rt; out.taken.as_slice(), FAULT_SHOWN);
         return Err(AllocError.into());
     }

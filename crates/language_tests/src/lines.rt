@@ -287,7 +287,8 @@ fn want_of_memory(rt: HostRuntime) -> Result<(), Fail> {
     let wanted: &[Wanted] = &[(Some(10), 1, &[b"K=1", b"+2"]), (None, 3, &[b"END"])];
     match statements(rt.alloc(), text) {
         Err(Refusal::Memory) => {
-            gives(&rt, &statements(rt.alloc(), text)?, wanted);
+            let again = statements(rt.alloc(), text).expect(&rt, "there is memory");
+            gives(&rt, &again, wanted);
             Err(AllocError)?
         }
         given => gives(&rt, &given?, wanted),

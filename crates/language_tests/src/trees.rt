@@ -103,7 +103,7 @@ fn want_of_memory_in_expressions(rt: HostRuntime) -> Result<(), Fail> {
     match expr.try_copy(alloc) {
         Ok(copy) => assert!(rt; is_comparison(&copy)),
         Err(error) => {
-            assert!(rt; is_comparison(&expr.try_copy(alloc)?));
+            assert!(rt; is_comparison(&expr.try_copy(alloc).expect(&rt, "there is memory")));
             return Err(error.into());
         }
     }
@@ -216,7 +216,8 @@ fn copy_each(rt: &impl Abort, alloc: Global, list: &[Stmt]) -> Result<(), Fail> 
     match copies(alloc, list) {
         Ok(made) => assert!(rt; are_right(&made, list.len())),
         Err(error) => {
-            assert!(rt; are_right(&copies(alloc, list)?, list.len()));
+            let again = copies(alloc, list).expect(rt, "there is memory");
+            assert!(rt; are_right(&again, list.len()));
             return Err(error.into());
         }
     }
@@ -446,7 +447,7 @@ fn want_of_memory_in_programs(rt: HostRuntime) -> Result<(), Fail> {
     match given.try_copy() {
         Ok(copy) => assert!(rt; is_program(&copy)),
         Err(error) => {
-            assert!(rt; is_program(&given.try_copy()?));
+            assert!(rt; is_program(&given.try_copy().expect(&rt, "there is memory")));
             return Err(error.into());
         }
     }
@@ -469,7 +470,9 @@ fn want_of_memory_in_stores(rt: HostRuntime) -> Result<(), Fail> {
     match Store::zeros(alloc, &given.symbols) {
         Ok(store) => assert!(rt; is_store(&store)),
         Err(error) => {
-            assert!(rt; is_store(&Store::zeros(alloc, &given.symbols)?));
+            assert!(rt;
+                is_store(&Store::zeros(alloc, &given.symbols).expect(&rt, "there is memory"))
+            );
             return Err(error.into());
         }
     }

@@ -114,7 +114,8 @@ fn want_of_memory_in_loops(rt: HostRuntime) -> Result<(), Fail> {
     match loops(rt.alloc(), &program) {
         Ok(tree) => is_nest(&rt, &tree),
         Err(error) => {
-            is_nest(&rt, &loops(rt.alloc(), &program)?)?;
+            let again = loops(rt.alloc(), &program).expect(&rt, "there is memory");
+            is_nest(&rt, &again)?;
             Err(error.into())
         }
     }
@@ -807,7 +808,8 @@ fn want_of_memory_in_private_scalars(rt: HostRuntime) -> Result<(), Fail> {
     match private_scalars(rt.alloc(), &view) {
         Ok(found) => assert_eq!(rt; found.names.len(), 2),
         Err(error) => {
-            has_privates(&rt, &view, &[b"K", b"L"])?;
+            let again = private_scalars(rt.alloc(), &view).expect(&rt, "there is memory");
+            assert_eq!(rt; again.names.len(), 2);
             return Err(error.into());
         }
     }

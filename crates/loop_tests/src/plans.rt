@@ -422,7 +422,8 @@ fn want_of_memory_in_plans(rt: HostRuntime) -> Result<(), Fail> {
     match plan(rt.alloc(), &view) {
         Ok(found) => looks_as(&rt, &found, wanted),
         Err(error) => {
-            looks_as(&rt, &plan(rt.alloc(), &view)?, wanted)?;
+            let again = plan(rt.alloc(), &view).expect(&rt, "there is memory");
+            looks_as(&rt, &again, wanted)?;
             Err(error.into())
         }
     }
@@ -439,7 +440,7 @@ fn want_of_memory_in_the_check(rt: HostRuntime) -> Result<(), Fail> {
         Ok(()) => Ok(()),
         Err(fault) => {
             assert_eq!(rt; fault, PlanFault::Memory);
-            check(rt.alloc(), &view, &found)?;
+            check(rt.alloc(), &view, &found).expect(&rt, "there is memory");
             Err(fault.into())
         }
     }

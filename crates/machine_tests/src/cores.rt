@@ -73,10 +73,10 @@ fn drive(core: &mut Core<'_>) -> Result<(), AllocError> {
 }
 
 /// The text of a run's schedule. With memory refused nothing has changed, and the run goes on.
-fn run(alloc: Global, code: &Code) -> Result<Vec<u8>, CoreRefusal> {
-    let mut core = Core::new(alloc, code, b"", 1, 1)?;
+fn run(rt: &(impl Abort + AllocGlobal), code: &Code) -> Result<Vec<u8>, CoreRefusal> {
+    let mut core = Core::new(rt.alloc(), code, b"", 1, 1)?;
     if drive(&mut core).is_err() {
-        drive(&mut core)?;
+        drive(&mut core).expect(rt, "there is memory");
     }
     Ok(core.schedule().text()?)
 }
@@ -91,7 +91,7 @@ fn upgraded(alloc: Global, code: &Code, text: &[u8]) -> Result<Vec<u8>, ReplayRe
 #[test]
 fn want_of_memory_in_cores(rt: HostRuntime) -> Result<(), Fail> {
     let code = assembled(&rt, &LOOP)?;
-    let text = run(rt.alloc(), &code)?;
+    let text = run(&rt, &code)?;
     assert_eq!(rt;
         text.as_slice(),
         b"DOACROSS SCHEDULE 2\n1 1\n0 M\n0 2\n0 0\n0 0\n0 T\n0 0\n0 T\n0 0\n0 M\n0 0\n0 0\n".as_slice()
@@ -104,7 +104,7 @@ fn want_of_memory_in_cores(rt: HostRuntime) -> Result<(), Fail> {
 fn end_alone(rt: HostRuntime) -> Result<(), Fail> {
     let code = assembled(&rt, &[Does::Halt])?;
     let text = b"DOACROSS SCHEDULE 2\n1 1\n0 M\n0 0\n".as_slice();
-    assert_eq!(rt; run(rt.alloc(), &code)?.as_slice(), text);
+    assert_eq!(rt; run(&rt, &code)?.as_slice(), text);
     let first = b"DOACROSS SCHEDULE 1\n1 1\n0 0\n0 0\n".as_slice();
     assert_eq!(rt; upgraded(rt.alloc(), &code, first)?.as_slice(), text);
     Ok(())

@@ -167,10 +167,11 @@ fn first_alone(core: &mut Core<'_>) -> Result<(), HandIn> {
 }
 
 /// Work that comes behind the end isn't taken, and the schedule stays as it was.
-fn is_too_late(rt: &impl Abort, core: &mut Core<'_>, late: Done<'_>) {
-    let entries = core.schedule().len();
+fn is_too_late(rt: &impl Abort, core: &mut Core<'_>, late: Done<'_>) -> Result<(), AllocError> {
+    let before = core.schedule().text()?;
     assert_eq!(*rt; core.hand_in(1, late), Err(HandIn::Ended));
-    assert_eq!(*rt; core.schedule().len(), entries);
+    assert_eq!(*rt; core.schedule().text()?, before);
+    Ok(())
 }
 
 /// Work of iteration 2 that was done before iteration 1 faults, and is handed in behind the end.
@@ -180,7 +181,7 @@ fn work_behind_the_end(rt: HostRuntime) -> Result<(), Fail> {
     let mut core = Core::new(rt.alloc(), &code, b"", 2, 2)?;
     let late = late_work(&rt, &mut core)?;
     first_alone(&mut core)?;
-    is_too_late(&rt, &mut core, late);
+    is_too_late(&rt, &mut core, late)?;
     assert_eq!(rt; core.pick(0, Choice::Main)?, Stepped::Ended);
     is_answered(&rt, &core, &sequential(rt.alloc(), FAULTS, b"")?)
 }

@@ -358,16 +358,24 @@ fn worked<'c>(rt: &impl Abort, core: &Core<'c>, processor: usize) -> Result<Done
     }
 }
 
-/// What comes of work from one processor's frame that is handed in by another.
-fn hands_in(
+/// Processor 0's own work is taken.
+fn is_taken(rt: &impl Abort, core: &mut Core<'_>) -> Result<(), AllocError> {
+    let done = worked(rt, core, 0)?;
+    assert_eq!(*rt; core.hand_in(0, done), Ok(()));
+    Ok(())
+}
+
+/// Work that a processor hands in isn't taken, for this reason, and the schedule stays as it was.
+fn is_left(
     rt: &impl Abort,
     core: &mut Core<'_>,
-    from: usize,
-    to: usize,
-    wanted: Result<(), HandIn>,
+    processor: usize,
+    done: Done<'_>,
+    why: HandIn,
 ) -> Result<(), AllocError> {
-    let done = worked(rt, core, from)?;
-    assert_eq!(*rt; core.hand_in(to, done), wanted);
+    let before = core.schedule().text()?;
+    assert_eq!(*rt; core.hand_in(processor, done), Err(why));
+    assert_eq!(*rt; core.schedule().text()?, before);
     Ok(())
 }
 
@@ -376,12 +384,13 @@ fn hands_in(
 fn handed_in(rt: &impl Abort, core: &mut Core<'_>) -> Result<(), AllocError> {
     picks(rt, core, 0, Choice::Ticket, Stepped::Went(Some(0)))?;
     picks(rt, core, 1, Choice::Ticket, Stepped::Went(Some(1)))?;
-    hands_in(rt, core, 0, 1, Err(HandIn::Stranger))?;
-    hands_in(rt, core, 0, 2, Err(HandIn::Stranger))?;
+    for processor in [1, 2] {
+        let done = worked(rt, core, 0)?;
+        is_left(rt, core, processor, done, HandIn::Stranger)?;
+    }
     let again = worked(rt, core, 0)?;
-    hands_in(rt, core, 0, 0, Ok(()))?;
-    assert_eq!(*rt; core.hand_in(0, again), Err(HandIn::Stranger));
-    Ok(())
+    is_taken(rt, core)?;
+    is_left(rt, core, 0, again, HandIn::Stranger)
 }
 
 /// Work that was done before the end is handed in behind it.
@@ -391,8 +400,7 @@ fn handed_in_late(rt: &impl Abort, core: &mut Core<'_>) -> Result<(), AllocError
         turn(rt, core, 0, 8)?;
         turn(rt, core, 1, 8)?;
     }
-    assert_eq!(*rt; core.hand_in(1, late), Err(HandIn::Ended));
-    Ok(())
+    is_left(rt, core, 1, late, HandIn::Ended)
 }
 
 #[test]
@@ -401,14 +409,6 @@ fn work_is_handed_in_once(rt: HostRuntime) -> Result<(), Fail> {
     let mut core = opened(&rt, &code)?;
     handed_in(&rt, &mut core)?;
     handed_in_late(&rt, &mut core)?;
-    Ok(())
-}
-
-/// Work that isn't of what processor 0 holds isn't taken, and the schedule stays as it was.
-fn is_strange(rt: &impl Abort, core: &mut Core<'_>, done: Done<'_>) -> Result<(), Fail> {
-    let before = core.schedule().text()?;
-    assert_eq!(*rt; core.hand_in(0, done), Err(HandIn::Stranger));
-    assert_eq!(*rt; core.schedule().text()?, before);
     Ok(())
 }
 
@@ -425,8 +425,9 @@ fn work_of_another_frame_of_another_core(rt: HostRuntime) -> Result<(), Fail> {
     let mut core = holding(&rt, &code)?;
     let mut other = holding(&rt, &code)?;
     picks(&rt, &mut other, 1, Choice::Ticket, Stepped::Went(Some(1)))?;
-    is_strange(&rt, &mut core, worked(&rt, &other, 1)?)?;
-    hands_in(&rt, &mut core, 0, 0, Ok(()))?;
+    let strange = worked(&rt, &other, 1)?;
+    is_left(&rt, &mut core, 0, strange, HandIn::Stranger)?;
+    is_taken(&rt, &mut core)?;
     Ok(())
 }
 
@@ -436,7 +437,8 @@ fn work_of_another_code(rt: HostRuntime) -> Result<(), Fail> {
     let code = of_two_records(&rt)?;
     let mut core = holding(&rt, &code)?;
     let other = of_two(&rt, &[&RECORD, &QUOTIENT])?;
-    is_strange(&rt, &mut core, worked(&rt, &holding(&rt, &other)?, 0)?)?;
-    hands_in(&rt, &mut core, 0, 0, Ok(()))?;
+    let strange = worked(&rt, &holding(&rt, &other)?, 0)?;
+    is_left(&rt, &mut core, 0, strange, HandIn::Stranger)?;
+    is_taken(&rt, &mut core)?;
     Ok(())
 }

@@ -74,7 +74,7 @@ fn want_of_memory_in_kernels(rt: HostRuntime) -> Result<(), Fail> {
     match has_a_slot(&rt) {
         Ok(has) => assert!(rt; has),
         Err(error) => {
-            assert!(rt; has_a_slot(&rt)?);
+            assert!(rt; has_a_slot(&rt).expect(&rt, "there is memory"));
             return Err(error.into());
         }
     }

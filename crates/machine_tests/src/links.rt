@@ -71,7 +71,7 @@ fn want_of_memory_in_links(rt: HostRuntime) -> Result<(), Fail> {
     match holds_a_slot(&rt) {
         Ok(holds) => assert!(rt; holds),
         Err(error) => {
-            assert!(rt; holds_a_slot(&rt)?);
+            assert!(rt; holds_a_slot(&rt).expect(&rt, "there is memory"));
             return Err(error.into());
         }
     }

@@ -1,5 +1,6 @@
 //! Cores, of which any call may find no memory, and the schedules that they leave.
 
+use crate::loops_of::is_planned;
 use crate::programs::{is_answer, program_of};
 use crate::rows::{AGAIN, ROWS, Row};
 use ast::{Answer, Refusal};
@@ -76,7 +77,10 @@ fn copy(rt: &impl Abort, frame: &Frame) -> Frame {
 /// Local work that leads from a frame, if any stands next.
 fn worked<'c>(rt: &impl Abort, code: &'c Code, from: Frame) -> Option<Done<'c>> {
     let spare = copy(rt, &from);
-    if !stands_local(code, &from) || !stands_local(code, &spare) {
+    if !stands_local(code, &from) {
+        return None;
+    }
+    if !stands_local(code, &spare) {
         return None;
     }
     match Done::work(code, from, 8) {
@@ -232,7 +236,7 @@ fn leaves(rt: &(impl Abort + AllocGlobal), core: &Core<'_>, row: &Row) -> Vec<u8
     text
 }
 
-/// The code of a row.
+/// The code of a row, each of whose loops has its plan.
 pub fn code_of(rt: &(impl Abort + AllocGlobal), row: &Row) -> Code {
     let program = program_of(rt, row);
     let Compiled { code, reports } = match compile(rt.alloc(), &program) {
@@ -243,6 +247,10 @@ pub fn code_of(rt: &(impl Abort + AllocGlobal), row: &Row) -> Code {
         }
     };
     assert_eq!(*rt; reports.len(), row.loops.len());
+    for (report, range) in reports.iter().zip(row.loops) {
+        assert_eq!(*rt; report.line, range.first);
+        is_planned(rt, &report.plan, range);
+    }
     code
 }
 

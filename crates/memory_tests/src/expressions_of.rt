@@ -126,27 +126,35 @@ fn assigned(body: &[Node]) -> Option<&Expr> {
     }
 }
 
-/// The code of an expression stands behind what was there. So does, where memory was refused, what was
-/// there before.
+/// What stands in code behind the halt that was there.
+fn behind_halt(code: &[Instr]) -> Option<&[Instr]> {
+    match code {
+        [first, rest @ ..] if first.act == Does::Halt => Some(rest),
+        _ => None,
+    }
+}
+
+/// The code of an expression stands behind what was there, which stays where memory is refused.
 fn has_code(
     rt: &(impl Abort + AllocGlobal),
     value: &Expr,
     places: &Places<'_>,
     wanted: &[Does],
 ) -> Result<(), AllocError> {
-    let before = Instr {
+    let halt = Instr {
         line: 1,
         act: Does::Halt,
     };
-    let mut code = vec![in rt.alloc(); before]?;
+    let alloc = rt.alloc();
+    let mut code = vec![in alloc; halt]?;
     if emit(value, places, &mut code).is_err() {
-        assert_eq!(*rt; code.first(), Some(&before));
+        assert!(*rt; behind_halt(&code).is_some());
         code.truncate(1);
         emit(value, places, &mut code).expect(rt, AGAIN);
     }
-    assert_eq!(*rt; code.first(), Some(&before));
-    assert_eq!(*rt; code.len(), wanted.len().wrapping_add(1));
-    for (instruction, act) in code.iter().skip(1).zip(wanted) {
+    let added = behind_halt(&code).expect(rt, "what was there stays");
+    assert_eq!(*rt; added.len(), wanted.len());
+    for (instruction, act) in added.iter().zip(wanted) {
         assert_eq!(*rt; instruction.act, *act);
         assert_eq!(*rt; instruction.line, LINE);
     }
@@ -178,7 +186,7 @@ fn first_has_code(
 
 #[test]
 fn want_of_memory_in_code_of_expressions(rt: HostRuntime) -> Result<(), Fail> {
-    for (row, wanted) in ROWS.iter().zip(CODE) {
+    for (row, wanted) in ROWS.iter().zip(&CODE) {
         first_has_code(&rt, &program_of(&rt, row), wanted)?;
     }
     Ok(())

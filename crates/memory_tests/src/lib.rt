@@ -1,9 +1,11 @@
-//! Tests over the public calls below the engines with an allocation refused. Over worked programs a call that
-//! finds no memory says so, leaves what it was given as it was, and is right when it is made again.
+//! Tests over the public calls with an allocation refused, up to the engines. Over worked programs each call
+//! that finds no memory says so, leaves what it was given as it was, and is right when it is made again.
 #![tactic(auto)]
 
 #[cfg(test)]
 mod cores;
+#[cfg(test)]
+mod engines_of;
 #[cfg(test)]
 mod expressions_of;
 #[cfg(test)]

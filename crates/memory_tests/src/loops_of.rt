@@ -1,7 +1,7 @@
 //! Loops, their private scalars, their plans and the check of these.
 
 use crate::programs::program_of;
-use crate::rows::{AGAIN, Mark, ROWS, Range};
+use crate::rows::{AGAIN, Mark, Planned, ROWS, Range};
 use ast::{Name, Program};
 use dependence::{LoopPlan, PlanStmt};
 use loop_tree::{LoopTree, LoopView, loops};
@@ -35,27 +35,34 @@ fn has_privates(rt: &(impl Abort + AllocGlobal), view: &LoopView<'_, '_>, wanted
     are_named(rt, &found.names, wanted.privates);
 }
 
-/// What a part of a body is that holds no others.
+/// What a part of a body is, IFs aside.
 fn mark_of(part: &PlanStmt) -> Option<Mark> {
     match part {
         PlanStmt::Await(event, distance) => Some(Mark::Await(*event, *distance)),
         PlanStmt::Advance(event) => Some(Mark::Advance(*event)),
         PlanStmt::Plain(statement) => Some(Mark::Plain(statement.line)),
+        PlanStmt::Loop(line, _, _) => Some(Mark::Loop(*line)),
         _ => None,
     }
 }
 
+/// The parts of a body are these.
+fn are_parts(rt: &impl Abort, body: &[PlanStmt], wanted: &[Mark]) {
+    assert_eq!(*rt; body.len(), wanted.len());
+    for (part, mark) in body.iter().zip(wanted) {
+        assert_eq!(*rt; mark_of(part), Some(*mark));
+    }
+}
+
 /// A plan is the wanted one.
-fn is_planned(rt: &impl Abort, found: &LoopPlan, wanted: &Range) {
-    match found {
-        LoopPlan::Body { body, privates, .. } => {
+pub fn is_planned(rt: &impl Abort, found: &LoopPlan, wanted: &Range) {
+    match (found, &wanted.plan) {
+        (LoopPlan::Serial(reason), Planned::Serial(number)) => assert_eq!(*rt; reason, number),
+        (LoopPlan::Body { body, privates, .. }, Planned::Body(marks)) => {
             are_named(rt, &privates.names, wanted.privates);
-            assert_eq!(*rt; body.len(), wanted.body.len());
-            for (part, mark) in body.iter().zip(wanted.body) {
-                assert_eq!(*rt; mark_of(part), Some(*mark));
-            }
+            are_parts(rt, body, marks);
         }
-        LoopPlan::Serial(_) => panic!(*rt; "the loop may be open"),
+        _ => panic!(*rt; "a serial loop in place of an open one, or the other way round"),
     }
 }
 
@@ -78,7 +85,8 @@ fn are_loops(rt: &(impl Abort + AllocGlobal), tree: &LoopTree<'_>, wanted: &[Ran
     let mut number: usize = 0;
     for range in wanted {
         number = number.wrapping_add(1);
-        assert!(*rt; 1 <= number && number <= tree.count());
+        assert!(*rt; 1 <= number);
+        assert!(*rt; number <= tree.count());
         let view = tree.view(number);
         assert_eq!(*rt; view.line(), range.first);
         has_privates(rt, &view, range);

@@ -1,0 +1,223 @@
+//! The engines, over texts.
+
+use crate::rows::{AGAIN, ROWS, Row};
+use engines::{EngineFault, Wants, check, list, replay, run, seq, upgrade};
+use std::alloc::AllocError;
+use std::process::Abort;
+use std::sync::Wait;
+use std::test::Fail;
+use std::thread::Threads;
+
+/// More than each of these writes, so that a writer takes no memory.
+const ROOM: usize = 4_096;
+
+/// Whether an engine found no memory; it met no other fault.
+fn is_refused(rt: &impl Abort, given: &Result<u8, EngineFault>) -> bool {
+    match given {
+        Ok(_) => false,
+        Err(fault) => {
+            assert!(*rt; matches!(fault, EngineFault::Memory));
+            true
+        }
+    }
+}
+
+/// The status of a run that shows its faults.
+fn status_of(row: &Row) -> u8 {
+    if row.told.is_empty() { 0 } else { 2 }
+}
+
+/// Two texts, one behind the other.
+fn are(text: &[u8], first: &[u8], second: &[u8]) -> bool {
+    text.strip_prefix(first) == Some(second)
+}
+
+fn is_checked(rt: &(impl Abort + AllocGlobal), row: &Row) -> Result<(), AllocError> {
+    let mut out = Vec::with_capacity(rt.alloc(), ROOM)?;
+    let mut source = row.source;
+    let mut given = check(rt.alloc(), &mut source, &mut out);
+    if is_refused(rt, &given) {
+        assert!(*rt; out.is_empty());
+        let mut source = row.source;
+        given = check(rt.alloc(), &mut source, &mut out);
+    }
+    assert_eq!(*rt; given.expect(rt, AGAIN), 0);
+    assert_eq!(*rt; out.as_slice(), row.accepted);
+    Ok(())
+}
+
+fn is_listed(rt: &(impl Abort + AllocGlobal), row: &Row) -> Result<(), AllocError> {
+    let mut out = Vec::with_capacity(rt.alloc(), ROOM)?;
+    let mut source = row.source;
+    let mut given = list(rt.alloc(), &mut source, &mut out);
+    if is_refused(rt, &given) {
+        assert!(*rt; out.is_empty());
+        let mut source = row.source;
+        given = list(rt.alloc(), &mut source, &mut out);
+    }
+    assert_eq!(*rt; given.expect(rt, AGAIN), 0);
+    assert_eq!(*rt; out.as_slice(), row.listing);
+    Ok(())
+}
+
+fn seq_into(
+    rt: &(impl Abort + AllocGlobal),
+    row: &Row,
+    out: &mut Vec<u8>,
+) -> Result<u8, EngineFault> {
+    let mut source = row.source;
+    let mut input = row.input;
+    seq(rt.alloc(), &mut source, &mut input, true, 65_536, out)
+}
+
+fn runs_alone(rt: &(impl Abort + AllocGlobal), row: &Row) -> Result<(), AllocError> {
+    let mut out = Vec::with_capacity(rt.alloc(), ROOM)?;
+    let mut given = seq_into(rt, row, &mut out);
+    if is_refused(rt, &given) {
+        assert!(*rt; row.output.starts_with(&out));
+        out.clear();
+        given = seq_into(rt, row, &mut out);
+    }
+    assert_eq!(*rt; given.expect(rt, AGAIN), status_of(row));
+    let behind = out.strip_prefix(row.output).unwrap_or(&[]);
+    assert!(*rt; are(behind, row.told, row.stored));
+    Ok(())
+}
+
+#[test]
+fn want_of_memory_in_texts_of_programs(rt: HostRuntime) -> Result<(), Fail> {
+    for row in &ROWS {
+        is_checked(&rt, row)?;
+        is_listed(&rt, row)?;
+        runs_alone(&rt, row)?;
+    }
+    Ok(())
+}
+
+const WANTS: Wants = Wants {
+    processors: 2,
+    slots: 2,
+    store: true,
+    schedule: true,
+    tally: false,
+};
+
+fn run_into<R: Abort + AllocGlobal + Threads + Wait + Sync>(
+    rt: &R,
+    row: &Row,
+    schedule: &mut Vec<u8>,
+    out: &mut Vec<u8>,
+) -> Result<u8, EngineFault> {
+    let mut source = row.source;
+    let mut input = row.input;
+    run(
+        rt,
+        rt.alloc(),
+        &mut source,
+        &mut input,
+        WANTS,
+        schedule,
+        out,
+    )
+}
+
+/// Whether a run gave up: for want of memory, or as a thread couldn't be started. It met no other fault.
+fn gave_up(rt: &impl Abort, given: &Result<u8, EngineFault>) -> bool {
+    match given {
+        Ok(_) => false,
+        Err(fault) => {
+            assert!(*rt; fault.status() == 5 || fault.status() == 58);
+            true
+        }
+    }
+}
+
+/// The schedule of a run of a row in threads.
+fn runs<R: Abort + AllocGlobal + Threads + Wait + Sync>(
+    rt: &R,
+    row: &Row,
+) -> Result<Vec<u8>, AllocError> {
+    let mut schedule = Vec::with_capacity(rt.alloc(), ROOM)?;
+    let mut out = Vec::with_capacity(rt.alloc(), ROOM)?;
+    let mut given = run_into(rt, row, &mut schedule, &mut out);
+    if gave_up(rt, &given) {
+        assert!(*rt; schedule.is_empty());
+        assert!(*rt; row.output.starts_with(&out));
+        out.clear();
+        given = run_into(rt, row, &mut schedule, &mut out);
+    }
+    assert_eq!(*rt; given.expect(rt, AGAIN), status_of(row));
+    let behind = out.strip_prefix(row.output).unwrap_or(&[]);
+    assert!(*rt; are(behind, row.told, row.stored));
+    Ok(schedule)
+}
+
+fn replay_into(
+    rt: &(impl Abort + AllocGlobal),
+    row: &Row,
+    schedule: &[u8],
+    out: &mut Vec<u8>,
+) -> Result<u8, EngineFault> {
+    let mut source = row.source;
+    let mut input = row.input;
+    let mut schedule = schedule;
+    replay(rt.alloc(), &mut source, &mut input, &mut schedule, out)
+}
+
+/// A schedule leads to what the row shows, the store aside.
+fn replays(rt: &(impl Abort + AllocGlobal), row: &Row, schedule: &[u8]) -> Result<(), AllocError> {
+    let mut out = Vec::with_capacity(rt.alloc(), ROOM)?;
+    let mut given = replay_into(rt, row, schedule, &mut out);
+    if is_refused(rt, &given) {
+        assert!(*rt; out.is_empty());
+        given = replay_into(rt, row, schedule, &mut out);
+    }
+    assert_eq!(*rt; given.expect(rt, AGAIN), status_of(row));
+    assert!(*rt; are(&out, row.output, row.told));
+    Ok(())
+}
+
+fn upgrade_into(
+    rt: &(impl Abort + AllocGlobal),
+    row: &Row,
+    schedule: &[u8],
+    out: &mut Vec<u8>,
+    upgraded: &mut Vec<u8>,
+) -> Result<u8, EngineFault> {
+    let mut source = row.source;
+    let mut input = row.input;
+    let mut schedule = schedule;
+    upgrade(
+        rt.alloc(),
+        &mut source,
+        &mut input,
+        &mut schedule,
+        out,
+        upgraded,
+    )
+}
+
+/// A schedule of the second version is given back.
+fn is_kept(rt: &(impl Abort + AllocGlobal), row: &Row, schedule: &[u8]) -> Result<(), AllocError> {
+    let mut out = Vec::new(rt.alloc());
+    let mut upgraded = Vec::with_capacity(rt.alloc(), ROOM)?;
+    let mut given = upgrade_into(rt, row, schedule, &mut out, &mut upgraded);
+    if is_refused(rt, &given) {
+        assert!(*rt; upgraded.is_empty());
+        given = upgrade_into(rt, row, schedule, &mut out, &mut upgraded);
+    }
+    assert_eq!(*rt; given.expect(rt, AGAIN), 0);
+    assert_eq!(*rt; upgraded.as_slice(), schedule);
+    assert!(*rt; out.is_empty());
+    Ok(())
+}
+
+#[test]
+fn want_of_memory_in_texts_of_schedules(rt: HostRuntime) -> Result<(), Fail> {
+    for row in &ROWS {
+        let schedule = runs(&rt, row)?;
+        replays(&rt, row, &schedule)?;
+        is_kept(&rt, row, &schedule)?;
+    }
+    Ok(())
+}
