@@ -1,6 +1,6 @@
 //! Cores, of which any call may find no memory, and the schedules that they leave.
 
-use crate::loops_of::is_planned;
+use crate::plans::is_planned;
 use crate::programs::{is_answer, program_of};
 use crate::rows::{AGAIN, ROWS, Row};
 use ast::{Answer, Refusal};

@@ -5,14 +5,14 @@
 #[cfg(test)]
 mod cores;
 #[cfg(test)]
-mod engines_of;
+mod formulas;
 #[cfg(test)]
-mod expressions_of;
-#[cfg(test)]
-mod loops_of;
+mod plans;
 #[cfg(test)]
 mod programs;
 #[cfg(test)]
 mod rows;
 #[cfg(test)]
 mod runs;
+#[cfg(test)]
+mod texts;

@@ -5,7 +5,7 @@ use ast::{Answer, Kind, Line, Program, Refusal, Stmt};
 use fixed_form::{Labelled, statements};
 use interpreter::run_seq;
 use profile_check::program;
-use std::alloc::Global;
+use std::alloc::AllocError;
 use std::process::Abort;
 use std::test::Fail;
 use structure::{Blocks, blocks};
@@ -55,13 +55,25 @@ fn read(rt: &(impl Abort + AllocGlobal), row: &Row, line: &Labelled) -> Stmt {
     read
 }
 
+fn trees_of(
+    rt: &(impl Abort + AllocGlobal),
+    row: &Row,
+    lines: &[Labelled],
+) -> Result<Vec<Stmt>, AllocError> {
+    let mut trees = Vec::with_capacity(rt.alloc(), lines.len())?;
+    for line in lines {
+        trees.push(read(rt, row, line))?;
+    }
+    Ok(trees)
+}
+
 /// Where the ranges of statements stand.
-fn ranges_of(alloc: Global, rt: &impl Abort, lines: &[Labelled], trees: &[Stmt]) -> Blocks {
-    match blocks(alloc, lines, trees) {
+fn ranges_of(rt: &(impl Abort + AllocGlobal), lines: &[Labelled], trees: &[Stmt]) -> Blocks {
+    match blocks(rt.alloc(), lines, trees) {
         Ok(found) => found,
         Err(refusal) => {
             assert_eq!(*rt; refusal, Refusal::Memory);
-            blocks(alloc, lines, trees).expect(rt, AGAIN)
+            blocks(rt.alloc(), lines, trees).expect(rt, AGAIN)
         }
     }
 }
@@ -79,11 +91,8 @@ fn are_ranges(rt: &impl Abort, found: &Blocks, wanted: &[Range]) {
 fn want_of_memory_in_statements(rt: HostRuntime) -> Result<(), Fail> {
     for row in &ROWS {
         let lines = lines_of(&rt, row);
-        let mut trees = Vec::with_capacity(rt.alloc(), lines.len())?;
-        for line in &lines {
-            trees.push(read(&rt, row, line))?;
-        }
-        are_ranges(&rt, &ranges_of(rt.alloc(), &rt, &lines, &trees), row.loops);
+        let trees = trees_of(&rt, row, &lines)?;
+        are_ranges(&rt, &ranges_of(&rt, &lines, &trees), row.loops);
     }
     Ok(())
 }

@@ -55,7 +55,7 @@ fn value_of(expression: &Expr) -> Option<i64> {
 }
 
 #[test]
-fn want_of_memory_in_texts(rt: HostRuntime) {
+fn want_of_memory_in_formulas(rt: HostRuntime) {
     for (text, value) in TEXTS {
         let read = match expr(rt.alloc(), text, LINE) {
             Ok(read) => read,
@@ -185,7 +185,7 @@ fn first_has_code(
 }
 
 #[test]
-fn want_of_memory_in_code_of_expressions(rt: HostRuntime) -> Result<(), Fail> {
+fn want_of_memory_in_code(rt: HostRuntime) -> Result<(), Fail> {
     for (row, wanted) in ROWS.iter().zip(&CODE) {
         first_has_code(&rt, &program_of(&rt, row), wanted)?;
     }

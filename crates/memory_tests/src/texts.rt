@@ -85,7 +85,7 @@ fn runs_alone(rt: &(impl Abort + AllocGlobal), row: &Row) -> Result<(), AllocErr
 }
 
 #[test]
-fn want_of_memory_in_texts_of_programs(rt: HostRuntime) -> Result<(), Fail> {
+fn want_of_memory_in_sources(rt: HostRuntime) -> Result<(), Fail> {
     for row in &ROWS {
         is_checked(&rt, row)?;
         is_listed(&rt, row)?;
@@ -213,7 +213,7 @@ fn is_kept(rt: &(impl Abort + AllocGlobal), row: &Row, schedule: &[u8]) -> Resul
 }
 
 #[test]
-fn want_of_memory_in_texts_of_schedules(rt: HostRuntime) -> Result<(), Fail> {
+fn want_of_memory_in_schedules(rt: HostRuntime) -> Result<(), Fail> {
     for row in &ROWS {
         let schedule = runs(&rt, row)?;
         replays(&rt, row, &schedule)?;
