@@ -11,6 +11,7 @@ pub mod Lowered
 pub mod Lowering
 pub mod Placed
 pub mod Printing
+pub mod Reached
 pub mod Runs
 pub mod Running
 pub mod Shapes
