@@ -62,22 +62,8 @@ fn trips_of(tree: &LoopTree<'_>, number: usize) -> Option<u128> {
     tree.view(number).trips()
 }
 
-/// What keeps the loop of a number serial, for a reason.
-fn hindrance(
-    alloc: Global,
-    tree: &LoopTree<'_>,
-    number: usize,
-    reason: u8,
-    reports: &[LoopReport],
-) -> Result<Option<Hindrance>, AllocError> {
-    if number < 1 || number > tree.count() {
-        return Ok(None);
-    }
-    hindrance_of(alloc, reason, &tree.view(number), reports)
-}
-
 /// A hindrance as a sentence.
-fn sentence(alloc: Global, hindrance: Option<Hindrance>) -> Result<Vec<u8>, AllocError> {
+fn sentence(alloc: Global, hindrance: Option<&Hindrance>) -> Result<Vec<u8>, AllocError> {
     match hindrance {
         Some(hindrance) => {
             let told = format!(in alloc; "{hindrance}")?;
@@ -100,16 +86,15 @@ fn serial<'a>(
         (p.columns ≡ frame.columns)) }
     ensures arrows { IfOk result (λ p. p.arrows.items ≡ []) }
 {
-    let found = hindrance(alloc, tree, frame.number, reason, reports)?;
-    let hindered = match found {
-        Some(hindrance) => hindrance.line(frame.line),
-        None => None,
-    };
+    let found = hindrance_of(alloc, tree, frame.number, reason, reports)?;
+    let found = found.as_ref();
     let reason = sentence(alloc, found)?;
     let serial = SerialLoop {
         range: range_of(tree, frame.number),
         reason: &reason,
-        hindered,
+        hindered: found.and_then(|hindrance| hindrance.line(frame.line)),
+        around: found.and_then(|hindrance| hindrance.around()),
+        sources: found.map_or(&[], |hindrance| hindrance.sources()),
     };
     serial_picture(alloc, lines_of(alloc, source)?, frame, serial)
 }

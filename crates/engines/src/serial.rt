@@ -1,16 +1,16 @@
 //! What standard error says of loops that stay serial.
 
-use ast::{Arm, DoHead, Kind, Line, Name, Node, Program};
+use ast::{Line, Name, Program};
 use codegen::LoopReport;
 use dependence::LoopPlan;
-use loop_tree::{LoopView, loops};
-use privatise::private_scalars;
+use loop_tree::{LoopTree, LoopView, loops};
+use placement::{MOST_EVENTS, first_read, first_shared, first_sources};
 use remarks::{Place, Visible};
 use std::alloc::{AllocError, Global};
 use std::fmt::{Display, Formatter, Result as FmtResult, Write};
 
 /// What keeps a loop serial.
-#[derive(Clone, Copy, Debug, PartialEq, Eq)]
+#[derive(Drop)]
 pub enum Hindrance {
     /// The step is 0.
     ZeroStep,
@@ -20,8 +20,9 @@ pub enum Hindrance {
     Read(Line),
     /// The variable of the DO in this line isn't private.
     Variable { name: Name, line: Line },
-    /// More statements are sources than there may be events.
-    Sources,
+    /// More statements are sources than there may be events: the lines of the first ones, one more than
+    /// there may be events.
+    Sources(Vec<Line>),
     /// The loop whose DO is in this line may be open.
     Outer(Line),
     /// The check refused the plan.
@@ -29,13 +30,32 @@ pub enum Hindrance {
 }
 
 impl Hindrance {
-    /// The line of the statement that is in the way, if one is: in the range of the loop, or its own DO,
-    /// which stands in this line.
-    pub fn line(self, own: Line) -> Option<Line> {
+    /// The line of the statement that is in the way, if one is: in the range of the loop; its own DO, which
+    /// stands in this line; or the DO of a loop around it.
+    pub fn line(&self, own: Line) -> Option<Line> {
         match self {
             Hindrance::ZeroStep | Hindrance::NoConstant => Some(own),
-            Hindrance::Read(line) | Hindrance::Variable { line, .. } => Some(line),
-            Hindrance::Sources | Hindrance::Outer(_) | Hindrance::Refused => None,
+            Hindrance::Read(line) | Hindrance::Variable { line, .. } | Hindrance::Outer(line) => {
+                Some(*line)
+            }
+            Hindrance::Sources(lines) => lines.last().copied(),
+            Hindrance::Refused => None,
+        }
+    }
+
+    /// The line of the DO around it that is in the way, if one is.
+    pub fn around(&self) -> Option<Line> {
+        match self {
+            Hindrance::Outer(line) => Some(*line),
+            _ => None,
+        }
+    }
+
+    /// The lines of its first sources, if there are too many.
+    pub fn sources(&self) -> &[Line] {
+        match self {
+            Hindrance::Sources(lines) => lines,
+            _ => &[],
         }
     }
 }
@@ -53,9 +73,7 @@ impl Display for Hindrance {
                     Visible::new(name.trimmed())
                 )
             }
-            Hindrance::Sources => {
-                f.write_str("later iterations wait for more than 64 of its statements")
-            }
+            Hindrance::Sources(lines) => write_sources(f, lines),
             Hindrance::Outer(line) => {
                 write!(
                     f,
@@ -67,91 +85,14 @@ impl Display for Hindrance {
     }
 }
 
-#[cycle(reads)]
-fn read_in_arms(arms: &[Arm]) -> Option<Line> {
-    for arm in arms {
-        let found = read_in(&arm.body);
-        if found.is_some() {
-            return found;
-        }
-    }
-    None
-}
-
-#[cycle(reads)]
-fn read_in_node(node: &Node) -> Option<Line> {
-    match node {
-        Node::Plain(statement) => match &statement.kind {
-            Kind::Read(_) => Some(statement.line),
-            _ => None,
-        },
-        Node::Loop(_, _, range) => read_in(range),
-        Node::Choice(arms) => read_in_arms(arms),
-    }
-}
-
-/// The line of the first READ among statements.
-#[cycle(reads)]
-fn read_in(nodes: &[Node]) -> Option<Line> {
-    for node in nodes {
-        let found = read_in_node(node);
-        if found.is_some() {
-            return found;
-        }
-    }
-    None
-}
-
-/// The variable of a DO, if it isn't among names.
-fn unless_among(names: &[Name], line: Line, head: &DoHead) -> Option<(Name, Line)> {
-    let name = head.variable.name;
-    if names.contains(&name) {
-        None
-    } else {
-        Some((name, line))
-    }
-}
-
-#[cycle(variables)]
-fn shared_in_arms(names: &[Name], arms: &[Arm]) -> Option<(Name, Line)> {
-    for arm in arms {
-        let found = shared_in(names, &arm.body);
-        if found.is_some() {
-            return found;
-        }
-    }
-    None
-}
-
-#[cycle(variables)]
-fn shared_in_node(names: &[Name], node: &Node) -> Option<(Name, Line)> {
-    match node {
-        Node::Plain(_) => None,
-        Node::Loop(line, head, range) => match unless_among(names, *line, head) {
-            Some(found) => Some(found),
-            None => shared_in(names, range),
-        },
-        Node::Choice(arms) => shared_in_arms(names, arms),
-    }
-}
-
-/// The first variable of a DO that isn't among names, and the line of the DO.
-#[cycle(variables)]
-fn shared_in(names: &[Name], nodes: &[Node]) -> Option<(Name, Line)> {
-    for node in nodes {
-        let found = shared_in_node(names, node);
-        if found.is_some() {
-            return found;
-        }
-    }
-    None
-}
-
-fn variable_of(alloc: Global, view: &LoopView<'_, '_>) -> Result<Option<Hindrance>, AllocError> {
-    let privates = private_scalars(alloc, view)?;
-    match shared_in(&privates.names, view.body()) {
-        Some((name, line)) => Ok(Some(Hindrance::Variable { name, line })),
-        None => Ok(None),
+fn write_sources<W: Write>(f: &mut Formatter<W>, lines: &[Line]) -> FmtResult {
+    write!(
+        f,
+        "later iterations wait for more than {MOST_EVENTS} of its statements"
+    )?;
+    match lines.last() {
+        Some(line) => write!(f, "; the {}th is in line {line}", lines.len()),
+        None => Ok(()),
     }
 }
 
@@ -174,11 +115,12 @@ fn outer_of(view: &LoopView<'_, '_>, reports: &[LoopReport]) -> Option<Hindrance
     None
 }
 
-/// What keeps the loop of a view serial, for the reason of a number.
-pub fn hindrance_of(
+/// What keeps the loop of a view serial, for the reason of a number, by the lines of the program's statements.
+fn hindrance_in(
     alloc: Global,
     reason: u8,
     view: &LoopView<'_, '_>,
+    lines: &[Line],
     reports: &[LoopReport],
 ) -> Result<Option<Hindrance>, AllocError> {
     Ok(match reason {
@@ -186,25 +128,43 @@ pub fn hindrance_of(
             Some(_) => Some(Hindrance::ZeroStep),
             None => Some(Hindrance::NoConstant),
         },
-        2 => read_in(view.body()).map(Hindrance::Read),
-        3 => variable_of(alloc, view)?,
-        4 => Some(Hindrance::Sources),
+        2 => first_read(view).map(Hindrance::Read),
+        3 => first_shared(alloc, view)?.map(|(name, line)| Hindrance::Variable { name, line }),
+        4 => Some(Hindrance::Sources(first_sources(alloc, view, lines)?)),
         5 => outer_of(view, reports),
         6 => Some(Hindrance::Refused),
         _ => None,
     })
 }
 
+/// What keeps the loop of a number serial, for a reason; the reports are those of the program's loops.
+pub fn hindrance_of(
+    alloc: Global,
+    tree: &LoopTree<'_>,
+    number: usize,
+    reason: u8,
+    reports: &[LoopReport],
+) -> Result<Option<Hindrance>, AllocError> {
+    if number < 1 || number > tree.count() {
+        return Ok(None);
+    }
+    hindrance_in(alloc, reason, &tree.view(number), tree.lines(), reports)
+}
+
 /// Says of a loop on standard error what keeps it serial.
 fn say<R: Eprint + AllocGlobal>(
     rt: &R,
     file: &str,
-    reason: u8,
-    view: &LoopView<'_, '_>,
+    tree: &LoopTree<'_>,
+    number: usize,
+    report: &LoopReport,
     reports: &[LoopReport],
 ) {
-    if let Ok(Some(hindrance)) = hindrance_of(rt.alloc(), reason, view, reports) {
-        let line = view.line();
+    let LoopPlan::Serial(reason) = report.plan else {
+        return;
+    };
+    if let Ok(Some(hindrance)) = hindrance_of(rt.alloc(), tree, number, reason, reports) {
+        let line = report.line;
         let _ = eprintln!(rt; "{}serial: {hindrance}", Place { file, line });
     }
 }
@@ -218,12 +178,8 @@ pub fn say_why_serial<R: Eprint + AllocGlobal>(
     reports: &[LoopReport],
 ) {
     if let Ok(tree) = loops(rt.alloc(), program) {
-        for place in 0..tree.count() {
-            if let Some(report) = reports.get(place) {
-                if let LoopPlan::Serial(reason) = report.plan {
-                    say(rt, file, reason, &tree.view(place + 1), reports);
-                }
-            }
+        for (place, report) in reports.iter().enumerate() {
+            say(rt, file, &tree, place.saturating_add(1), report, reports);
         }
     }
 }

@@ -144,6 +144,18 @@ fn turn(activities: &mut Activities<'_>, entry: Entry) -> Result<Turn, AllocErro
     })
 }
 
+/// How many of a schedule's processors have an entry.
+fn busy(alloc: Global, schedule: &Schedule) -> Result<u64, AllocError> {
+    let mut seen = vec![in alloc; false; usize::from(schedule.processors())]?;
+    let mut entries = schedule.entries();
+    while let Some(entry) = entries.next() {
+        if let Some(seen) = seen.get_mut(usize::from(entry.processor)) {
+            *seen = true;
+        }
+    }
+    Ok(seen.iter().filter(|seen| **seen).count() as u64)
+}
+
 /// Makes the entries of a schedule whose picks are named, and gathers what its processors do.
 fn gather(
     alloc: Global,
@@ -154,7 +166,8 @@ fn gather(
 {
     let processors = usize::from(schedule.processors());
     let slots = u64::from(schedule.slots());
-    let mut gathered = Gathered::new(alloc, schedule.len() as u64, processors, slots)?;
+    let busy = busy(alloc, schedule)?;
+    let mut gathered = Gathered::new(alloc, schedule.len() as u64, processors, busy, slots)?;
     let mut entries = schedule.entries();
     while let Some(entry) = entries.next() {
         if usize::from(entry.processor) < activities.held.len() {
@@ -175,7 +188,7 @@ fn watched_named(
     let slots = usize::from(schedule.slots());
     match begun(alloc, code, input, processors, slots)? {
         Some(mut activities) => gather(alloc, &mut activities, schedule),
-        None => Gathered::new(alloc, 0, 0, 0),
+        None => Gathered::new(alloc, 0, 0, 0, 0),
     }
 }
 

@@ -220,29 +220,30 @@ fn append_all_shared(
 fn append_serial(
     alloc: Global,
     out: &mut Vec<u8>,
+    tree: &LoopTree<'_>,
+    number: usize,
     reason: u8,
-    view: &LoopView<'_, '_>,
     reports: &[LoopReport],
 ) -> Result<(), AllocError> {
-    let Some(hindrance) = hindrance_of(alloc, reason, view, reports)? else {
+    let Some(hindrance) = hindrance_of(alloc, tree, number, reason, reports)? else {
         return Ok(());
     };
     let told = format!(in alloc; "  it stays serial: {hindrance}\n")?;
     out.extend_from_slice(told.as_bytes())
 }
 
-/// Appends the lines that say why iterations of the loop of a view wait for one another, or needn't, or
+/// Appends the lines that say why iterations of the loop of a number wait for one another, or needn't, or
 /// why it stays serial.
 fn append_why_of(
     alloc: Global,
     out: &mut Vec<u8>,
     tree: &LoopTree<'_>,
-    view: &LoopView<'_, '_>,
+    number: usize,
     report: &LoopReport,
     reports: &[LoopReport],
 ) -> Result<(), AllocError> {
     match &report.plan {
-        LoopPlan::Serial(reason) => append_serial(alloc, out, *reason, view, reports),
+        LoopPlan::Serial(reason) => append_serial(alloc, out, tree, number, *reason, reports),
         LoopPlan::Body {
             privates,
             relations,
@@ -250,7 +251,10 @@ fn append_why_of(
         } => {
             append_pairs(out, tree, relations, true)?;
             append_pairs(out, tree, relations, false)?;
-            append_all_shared(out, view, &privates.names)
+            if 1 <= number && number <= tree.count() {
+                append_all_shared(out, &tree.view(number), &privates.names)?;
+            }
+            Ok(())
         }
     }
 }
@@ -264,9 +268,6 @@ pub fn why(
     reports: &[LoopReport],
 ) -> Result<Vec<u8>, AllocError> {
     let mut lines = Vec::new(alloc);
-    if number < 1 || number > tree.count() {
-        return Ok(lines);
-    }
-    append_why_of(alloc, &mut lines, tree, &tree.view(number), report, reports)?;
+    append_why_of(alloc, &mut lines, tree, number, report, reports)?;
     Ok(lines)
 }

@@ -5,6 +5,8 @@
 #[cfg(test)]
 mod meeting;
 #[cfg(test)]
+mod obstacles;
+#[cfg(test)]
 mod overlap;
 #[cfg(test)]
 mod plans;

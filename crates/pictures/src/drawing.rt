@@ -8,8 +8,8 @@ use crate::arrows::{arrows, sinks};
 use crate::legend::{add_legend, height};
 use crate::mark::{Class, Mark};
 use crate::marks::{add_advances, add_awaits};
-use crate::picture::{Look, LoopPicture, Row};
-use crate::places::{BOX, corner, place_in, width};
+use crate::picture::{Counted, Look, LoopPicture, Row, Statement};
+use crate::places::{BOX, Place, corner, exit, place_in, width};
 use crate::style::SHEET;
 use crate::svg::{Point, Size, append_marks, opening};
 use ast::Name;
@@ -17,6 +17,8 @@ use std::alloc::{AllocError, Global};
 
 /// How many characters of a statement have room beside the boxes.
 const SHOWN: usize = 36;
+/// How many characters of a statement a line has at most.
+const WHOLE: usize = 66;
 /// How many of them go for each loop or IF around it.
 const INDENT: usize = 2;
 /// At how many loops and IFs it is moved no further to the right.
@@ -59,6 +61,13 @@ fn private(alloc: Global, names: &[Name]) -> Result<Vec<u8>, AllocError> {
     Ok(text)
 }
 
+/// How wide so many iterations are, or as far as the narrowest picture has room.
+fn across(columns: u64) -> u128 {
+    let left = corner(place_in(0, 0)).x;
+    let right = exit(place_in(columns.saturating_sub(1), 0)).x;
+    right.max(NARROWEST.saturating_sub(20)).saturating_sub(left)
+}
+
 /// Adds words at a point.
 pub fn add_words(
     alloc: Global,
@@ -69,6 +78,67 @@ pub fn add_words(
 ) -> Result<(), AllocError> {
     let words = Vec::from_slice(alloc, words)?;
     Ok(marks.push(Mark::Words(Class::plain(class), at, words))?)
+}
+
+/// Adds a statement's text, as far as it has room beside the boxes.
+fn add_statement(
+    alloc: Global,
+    marks: &mut Vec<Mark>,
+    class: &'static [u8],
+    at: Point,
+    statement: &Statement<'_>,
+    room: usize,
+) -> Result<(), AllocError> {
+    let text = cut(alloc, statement.text, room, statement.goes_on)?;
+    add_words(alloc, marks, class, at, &text)
+}
+
+/// Adds the DO of the loop around it that is in the way, the whole of whose iteration a box shows.
+fn add_around(
+    alloc: Global,
+    marks: &mut Vec<Mark>,
+    picture: &LoopPicture<'_>,
+    around: &Statement<'_>,
+    reason: &[u8],
+) -> Result<(), AllocError> {
+    let top = Point { x: 20, y: 52 };
+    add_statement(alloc, marks, b"code marked", top, around, SHOWN)?;
+    let inner = Point { x: 38, y: 74 };
+    add_statement(alloc, marks, b"code", inner, &picture.head, SHOWN)?;
+    let at = corner(place_in(0, 0));
+    let corner = Point { x: at.x, y: 39 };
+    let size = Size {
+        width: across(picture.columns),
+        height: BOX.height,
+    };
+    let Statement { line, .. } = around;
+    let title = format!(in alloc; "each iteration of the loop in line {line} has all of these")?;
+    let title = Vec::from_slice(alloc, title.as_bytes())?;
+    marks.push(Mark::Tile(Class::plain(b"marked"), corner, size, title))?;
+    let inside = Point {
+        x: at.x.saturating_add(10),
+        y: 52,
+    };
+    add_words(alloc, marks, b"reason", inside, reason)
+}
+
+/// Adds the DO of a loop, and below it why it stays serial or what each iteration has of its own.
+fn add_head(
+    alloc: Global,
+    marks: &mut Vec<Mark>,
+    picture: &LoopPicture<'_>,
+) -> Result<(), AllocError> {
+    let class = classes(picture.look).1;
+    let top = Point { x: 20, y: 52 };
+    add_statement(alloc, marks, class, top, &picture.head, WHOLE)?;
+    let below = Point { x: 20, y: 74 };
+    match &picture.serial {
+        Some(reason) => add_words(alloc, marks, b"reason", below, reason),
+        None => {
+            let names = private(alloc, &picture.privates)?;
+            add_words(alloc, marks, b"private", below, &names)
+        }
+    }
 }
 
 /// Adds what is said above the rows.
@@ -85,15 +155,9 @@ fn add_heading(
     let heading = format!(in alloc; "Loop {number}, line {line}: {says}")?;
     let top = Point { x: 20, y: 30 };
     add_words(alloc, marks, b"heading", top, heading.as_bytes())?;
-    let class = classes(picture.look).1;
-    add_words(alloc, marks, class, Point { x: 20, y: 52 }, picture.text)?;
-    let below = Point { x: 20, y: 74 };
-    match &picture.serial {
-        Some(reason) => add_words(alloc, marks, b"reason", below, reason),
-        None => {
-            let names = private(alloc, &picture.privates)?;
-            add_words(alloc, marks, b"private", below, &names)
-        }
+    match (&picture.around, &picture.serial) {
+        (Some(around), Some(reason)) => add_around(alloc, marks, picture, around, reason),
+        _ => add_head(alloc, marks, picture),
     }
 }
 
@@ -133,6 +197,29 @@ fn add_labels(alloc: Global, marks: &mut Vec<Mark>, rows: &[Row<'_>]) -> Result<
     Ok(())
 }
 
+/// Adds to the box of a row the numbers of the sources in it, where they are counted.
+fn add_numbers(
+    alloc: Global,
+    marks: &mut Vec<Mark>,
+    row: &Row<'_>,
+    place: Place,
+) -> Result<(), AllocError> {
+    let Some(Counted { first, last }) = row.counted else {
+        return Ok(());
+    };
+    let numbers = if first < last {
+        format!(in alloc; "{first}, {last}")?
+    } else {
+        format!(in alloc; "{last}")?
+    };
+    let Point { x, y } = corner(place);
+    let at = Point {
+        x: x.saturating_add(BOX.width.wrapping_div(2)),
+        y: y.saturating_add(13),
+    };
+    add_words(alloc, marks, b"count", at, numbers.as_bytes())
+}
+
 /// What the box of a row in an iteration says of itself.
 fn title_of(alloc: Global, row: &Row<'_>, iteration: u64) -> Result<Vec<u8>, AllocError> {
     let Row { line, .. } = row;
@@ -148,19 +235,38 @@ fn title_of(alloc: Global, row: &Row<'_>, iteration: u64) -> Result<Vec<u8>, All
     Vec::from_slice(alloc, title.as_bytes())
 }
 
-/// Adds the boxes of an iteration.
+/// How the box of a row looks in an iteration that the loop has, or has not.
+fn box_class(look: Look, has: bool) -> Class {
+    if has {
+        Class::plain(classes(look).0)
+    } else {
+        Class::plain(b"beyond")
+    }
+}
+
+/// Adds the boxes of an iteration, which the loop has or has not.
 fn add_boxes(
     alloc: Global,
     marks: &mut Vec<Mark>,
     rows: &[Row<'_>],
     column: u64,
+    has: bool,
 ) -> Result<(), AllocError> {
     for (number, row) in rows.iter().enumerate() {
         let title = title_of(alloc, row, column.saturating_add(1))?;
-        let class = Class::plain(classes(row.look).0);
+        let class = box_class(row.look, has);
         marks.push(Mark::Tile(class, corner(place_in(column, number)), BOX, title))?;
+        add_numbers(alloc, marks, row, place_in(column, number))?;
     }
     Ok(())
+}
+
+/// Whether the loop has an iteration behind so many, as far as that is known.
+fn has_iteration(picture: &LoopPicture<'_>, column: u64) -> bool {
+    match picture.trips {
+        Some(trips) => u128::from(column) < trips,
+        None => true,
+    }
 }
 
 /// Adds an iteration.
@@ -175,9 +281,15 @@ fn add_column(
         x: head.x.saturating_add(BOX.width.wrapping_div(2)),
         y: head.y.saturating_sub(14),
     };
-    let number = format!(in alloc; "iteration {}", column.saturating_add(1))?;
-    add_words(alloc, marks, b"faint middle", at, number.as_bytes())?;
-    add_boxes(alloc, marks, &picture.rows, column)
+    let number = column.saturating_add(1);
+    let has = has_iteration(picture, column);
+    let told = if has {
+        format!(in alloc; "iteration {number}")?
+    } else {
+        format!(in alloc; "(iteration {number})")?
+    };
+    add_words(alloc, marks, b"faint middle", at, told.as_bytes())?;
+    add_boxes(alloc, marks, &picture.rows, column, has)
 }
 
 /// What stands in a picture under its arrows.

@@ -119,10 +119,10 @@ pub struct Gathered {
     pub awaits: u64,
 }
 
-/// How many columns so many entries of so many processors have: one for each entry, as far as there
-/// are not too many.
-fn columns(entries: u64, processors: u64) -> u64 {
-    let room = CELLS.checked_div(processors).unwrap_or(CELLS);
+/// How many columns so many entries have, which so many processors made: one for each entry, as far as
+/// there are not too many.
+fn columns(entries: u64, busy: u64) -> u64 {
+    let room = CELLS.checked_div(busy).unwrap_or(CELLS);
     entries.min(MOST).min(room).max(1)
 }
 
@@ -182,17 +182,18 @@ fn count(lanes: &mut [Lane], turn: Turn)
 }
 
 impl Gathered {
-    /// Nothing yet, of a run of so many entries.
+    /// Nothing yet, of a run of so many entries; of its processors so many are busy.
     pub fn new(
         alloc: Global,
         entries: u64,
         processors: usize,
+        busy: u64,
         slots: u64,
     ) -> Result<Gathered, AllocError>
         ensures lanes { IfOk result
             (λ gathered. gathered.lanes.items ≡ replicate processors spec.nothing) }
     {
-        let columns = columns(entries, processors as u64);
+        let columns = columns(entries, busy);
         let lanes = no_lanes(alloc, processors)?;
         let cells = no_cells(alloc, columns.saturating_mul(processors as u64))?;
         Ok(Gathered {

@@ -310,20 +310,26 @@ fn append_lane_marks(
     Ok(())
 }
 
-/// How high the curve is where so many iterations of at most so many are open; one is seen too.
-fn rise(open: u64, slots: u64) -> u128 {
+/// How many iterations were open at most, or one.
+fn highest(gathered: &Gathered) -> u64 {
+    gathered.open.iter().copied().max().unwrap_or(0).max(1)
+}
+
+/// How high the curve is where so many iterations are open, and so many at most; one is seen too.
+fn rise(open: u64, highest: u64) -> u128 {
     RISE.saturating_mul(u128::from(open))
-        .saturating_add(u128::from(slots.saturating_sub(1)))
-        .checked_div(u128::from(slots))
+        .saturating_add(u128::from(highest.saturating_sub(1)))
+        .checked_div(u128::from(highest))
         .unwrap_or(0)
 }
 
 /// Appends the line of the curve of open iterations.
 fn append_line(out: &mut Vec<u8>, gathered: &Gathered) -> Result<(), AllocError> {
     let wide = wide(gathered.columns);
+    let highest = highest(gathered);
     for open in &gathered.open {
         out.extend_from_slice(b"V")?;
-        append_number(out, BASE.saturating_sub(rise(*open, gathered.slots)))?;
+        append_number(out, BASE.saturating_sub(rise(*open, highest)))?;
         out.extend_from_slice(b"h")?;
         append_number(out, wide)?;
     }
@@ -341,9 +347,9 @@ fn append_curve(alloc: Global, out: &mut Vec<u8>, gathered: &Gathered) -> Result
     out.extend_from_slice(b"V")?;
     append_number(out, BASE)?;
     out.extend_from_slice(b"Z\"><title>open iterations</title></path>\n")?;
-    let slots = format!(in alloc; "{}", gathered.slots)?;
+    let highest = format!(in alloc; "{}", highest(gathered))?;
     let class = Class::plain(b"faint right");
-    append_words(out, class, Point { x: 122, y: 94 }, slots.as_bytes())?;
+    append_words(out, class, Point { x: 122, y: 94 }, highest.as_bytes())?;
     append_words(out, class, Point { x: 122, y: 122 }, b"iterations open")?;
     append_words(out, class, Point { x: 122, y: 148 }, b"0")
 }
@@ -507,7 +513,7 @@ fn append_heading(
     } = gathered;
     let processors = gathered.lanes.len();
     let heading = format!(in alloc;
-        "A run; processors: {processors}, iterations open at most: {slots}"
+        "A run; processors: {processors}, iterations that may be open: {slots}"
     )?;
     let class = Class::plain(b"heading");
     append_words(out, class, Point { x: 20, y: 30 }, heading.as_bytes())?;

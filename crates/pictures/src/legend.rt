@@ -135,6 +135,27 @@ fn add_trips(
     }
 }
 
+/// Whether sources are counted.
+fn is_counted(picture: &LoopPicture<'_>) -> bool {
+    picture.rows.iter().any(|row| row.counted.is_some())
+}
+
+/// Adds what is said below the picture of a loop that stays serial.
+fn add_serial(
+    alloc: Global,
+    marks: &mut Vec<Mark>,
+    pen: &mut Pen,
+    picture: &LoopPicture<'_>,
+) -> Result<(), AllocError> {
+    if is_counted(picture) {
+        let told =
+            b"the numbers count the statements that later iterations wait for, up to the one too many";
+        add_words(alloc, marks, b"faint", pen.next(), told)?;
+    }
+    let told = b"each iteration begins when the one before has ended";
+    add_words(alloc, marks, b"faint", pen.next(), told)
+}
+
 /// Adds what is said below the picture of a loop.
 pub fn add_legend(
     alloc: Global,
@@ -146,8 +167,7 @@ pub fn add_legend(
     };
     add_trips(alloc, marks, &mut pen, picture)?;
     if picture.serial.is_some() {
-        let told = b"each iteration begins when the one before has ended";
-        return add_words(alloc, marks, b"faint", pen.next(), told);
+        return add_serial(alloc, marks, &mut pen, picture);
     }
     if picture.arrows.is_empty() {
         let told = b"no iteration waits for another one";

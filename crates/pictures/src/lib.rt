@@ -22,5 +22,5 @@ pub use drawing::draw;
 pub use gathering::{Awaited, Came, Cell, Gathered, Held, Lane, Turn};
 pub use lanes::{Ending, timeline};
 pub use loops::{Frame, OpenLoop, SerialLoop, open_picture, serial_picture};
-pub use picture::{Advance, Arrow, Look, LoopPicture, Row};
+pub use picture::{Advance, Arrow, Counted, Look, LoopPicture, Row, Statement};
 pub use source_text::lines_of;

@@ -1,12 +1,13 @@
 //! What there is to draw of a loop, by its source, its plan and what is reported of it.
 
-ghost use Rattle.std.specs.Prelude.{◌≡◌, [], IfOk};
+ghost use Rattle.std.specs.Prelude.{◌≡◌, [], IfOk, Some, option_map};
 ghost use Rattle.pictures.specs.Dependences as spec;
 ghost use Rattle.pictures.specs.Dependences.{AreArrows};
+ghost use Rattle.pictures.specs.Looks.{AreMarked, Marks};
 
-use crate::picture::{Arrow, Look, LoopPicture};
+use crate::picture::{Arrow, Look, LoopPicture, Statement};
 use crate::sketch::{Sketch, add_plan, add_range, look_of};
-use crate::source_text::statement_text;
+use crate::source_text::statement_of;
 use ast::{Line, Name, Node};
 use dependence::PlanStmt;
 use std::alloc::{AllocError, Global};
@@ -31,8 +32,12 @@ pub struct SerialLoop<'r> {
     pub range: &'r [Node],
     /// What keeps it serial, as a sentence.
     pub reason: &'r [u8],
-    /// The line of the statement that does, if one does: of its range, or its own DO.
+    /// The line of the statement that does, if one does: of its range, its own DO, or one around it.
     pub hindered: Option<Line>,
+    /// The line of the DO around it that does, if one does.
+    pub around: Option<Line>,
+    /// The lines of its first sources, where there are too many.
+    pub sources: &'r [Line],
 }
 
 /// Which loop is drawn, and how much of it.
@@ -100,16 +105,17 @@ pub fn open_picture<'a>(
         columns,
         trips,
     } = frame;
-    let text = statement_text(&lines, line);
-    let mut sketch = Sketch::new(alloc, lines, None);
+    let head = statement_of(&lines, line);
+    let mut sketch = Sketch::new(alloc, lines, None, Vec::new(alloc));
     add_plan(&mut sketch, opened.body, 0)?;
     let Sketch { rows, advances, .. } = sketch;
     let arrows = arrows(alloc, opened.sources, opened.kept)?;
     Ok(LoopPicture {
         number,
         line,
-        text,
+        head,
         look: Look::Plain,
+        around: None,
         rows,
         arrows,
         advances,
@@ -118,6 +124,31 @@ pub fn open_picture<'a>(
         columns,
         trips,
     })
+}
+
+/// The DO of the line of a loop around, if there is one.
+fn around<'a>(lines: &[&'a [u8]], line: Option<Line>) -> Option<Statement<'a>>
+    ensures { option_map (λ s. s.line) result ≡ line }
+{
+    match line {
+        Some(line) => Some(statement_of(lines, line)),
+        None => None,
+    }
+}
+
+/// The rows of a loop that stays serial.
+fn serial_sketch<'a>(
+    alloc: Global,
+    lines: Vec<&'a [u8]>,
+    serial: SerialLoop<'_>,
+) -> Result<Sketch<'a>, AllocError>
+    ensures { IfOk result (λ sketch.
+        AreMarked serial.entry.hindered serial.entry.sources.now sketch.rows.items) }
+{
+    let sources = Vec::from_slice(alloc, serial.sources)?;
+    let mut sketch = Sketch::new(alloc, lines, serial.hindered, sources);
+    add_range(&mut sketch, serial.range, 0)?;
+    Ok(sketch)
 }
 
 /// What there is to draw of a loop that stays serial, by the lines of its source.
@@ -130,6 +161,10 @@ pub fn serial_picture<'a>(
     ensures frame { IfOk result (λ p. (p.number ≡ frame.number) × (p.line ≡ frame.line) ×
         (p.columns ≡ frame.columns)) }
     ensures arrows { IfOk result (λ p. p.arrows.items ≡ []) }
+    ensures marks { IfOk result
+        (Marks serial.entry.hindered serial.entry.around serial.entry.sources.now) }
+    ensures reason { IfOk result
+        (λ p. option_map (λ v. v.items) p.serial ≡ Some serial.entry.reason.now) }
 {
     let Frame {
         number,
@@ -137,15 +172,15 @@ pub fn serial_picture<'a>(
         columns,
         trips,
     } = frame;
-    let text = statement_text(&lines, line);
-    let mut sketch = Sketch::new(alloc, lines, serial.hindered);
-    add_range(&mut sketch, serial.range, 0)?;
-    let Sketch { rows, advances, .. } = sketch;
+    let head = statement_of(&lines, line);
+    let around = around(&lines, serial.around);
+    let Sketch { rows, advances, .. } = serial_sketch(alloc, lines, serial)?;
     Ok(LoopPicture {
         number,
         line,
-        text,
+        head,
         look: look_of(line, serial.hindered),
+        around,
         rows,
         arrows: Vec::new(alloc),
         advances,

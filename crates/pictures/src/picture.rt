@@ -25,6 +25,23 @@ impl Look {
     }
 }
 
+/// The statement of a line.
+#[derive(Clone, Copy, Debug, PartialEq, Eq)]
+pub struct Statement<'a> {
+    pub line: Line,
+    /// The text of the statement, as far as it stands in that line.
+    pub text: &'a [u8],
+    /// Whether it goes on in the next line.
+    pub goes_on: bool,
+}
+
+/// The numbers of the sources that stand in a row, which are counted where there are too many.
+#[derive(Clone, Copy, Debug, PartialEq, Eq)]
+pub struct Counted {
+    pub first: usize,
+    pub last: usize,
+}
+
 /// A row: what each iteration has at this height.
 #[derive(Clone, Copy, Debug, PartialEq, Eq)]
 pub struct Row<'a> {
@@ -37,6 +54,7 @@ pub struct Row<'a> {
     /// Whether it goes on in the next line.
     pub goes_on: bool,
     pub look: Look,
+    pub counted: Option<Counted>,
 }
 
 /// A dependence that is kept.
@@ -66,9 +84,11 @@ pub struct LoopPicture<'a> {
     pub number: usize,
     /// The line of its DO.
     pub line: Line,
-    /// The text of its DO, and how it looks.
-    pub text: &'a [u8],
+    /// Its DO, and how that looks.
+    pub head: Statement<'a>,
     pub look: Look,
+    /// The DO of the loop around it that may be open, where that is in the way.
+    pub around: Option<Statement<'a>>,
     /// What its range has, from top to bottom.
     pub rows: Vec<Row<'a>>,
     pub arrows: Vec<Arrow>,

@@ -1,13 +1,17 @@
 //! What a loop's picture has from top to bottom.
 
-use crate::picture::{Advance, Look, Row};
-use crate::source_text::{goes_on, statement_text};
+ghost use Rattle.std.specs.Prelude.{◌≡◌, OnOk};
+ghost use Rattle.pictures.specs.Looks as looks;
+ghost use Rattle.pictures.specs.Sketches.{HasSameMarks, KeepsMarks};
+
+use crate::picture::{Advance, Counted, Look, Row, Statement};
+use crate::source_text::statement_of;
 use ast::{Arm, Line, Node};
 use dependence::{PlanArm, PlanStmt};
 use std::alloc::{AllocError, Global};
 
 /// What stands where an ELSE was made.
-const MADE_ELSE: &[u8] = b"(no ELSE: one is made)";
+const MADE_ELSE: &[u8] = b"(an ELSE is made)";
 
 /// What stands where a loop or an IF has ended.
 const END_OF_LOOP: &[u8] = b"(end of the DO)";
@@ -31,41 +35,58 @@ pub struct Sketch<'a> {
     pub advances: Vec<Advance>,
     /// The line of the statement that is in the way, if one is.
     pub hindered: Option<Line>,
+    /// The lines of the sources that are counted, in order.
+    pub sources: Vec<Line>,
     /// The loop or IF that ended last, while no row stands behind it.
     ended: Option<Ended>,
 }
 
 impl<'a> Sketch<'a> {
+    ghost use Rattle.std.specs.Prelude.{◌≡◌, [], OnOk};
+    ghost use Rattle.pictures.specs.Sketches.{HasSameMarks, KeepsMarks};
+
     /// The beginning of a picture by these lines of a source.
-    pub fn new(alloc: Global, lines: Vec<&'a [u8]>, hindered: Option<Line>) -> Self {
+    pub fn new(
+        alloc: Global,
+        lines: Vec<&'a [u8]>,
+        hindered: Option<Line>,
+        sources: Vec<Line>,
+    ) -> Self
+        ensures rows { result.rows.items ≡ [] }
+        ensures hindered { result.hindered ≡ hindered }
+        ensures sources { result.sources ≡ sources }
+    {
         Sketch {
             lines,
             rows: Vec::new(alloc),
             advances: Vec::new(alloc),
             hindered,
+            sources,
             ended: None,
         }
     }
 
     /// Adds the row of a statement. One on the line of the row above, as behind a logical IF, has
     /// that row.
-    fn add_row(&mut self, line: Line, depth: u64) -> Result<(), AllocError> {
+    fn add_row(&mut self, line: Line, depth: u64) -> Result<(), AllocError>
+        ensures same { HasSameMarks self.old self.new }
+        ensures marked { OnOk result (KeepsMarks self.old self.new) }
+    {
         self.ended = None;
         if let Some(above) = self.rows.last() {
             if above.line == line && above.look.is_in_source() {
                 return Ok(());
             }
         }
-        let look = look_of(line, self.hindered);
-        let text = statement_text(&self.lines, line);
-        let goes_on = goes_on(&self.lines, line);
+        let Statement { text, goes_on, .. } = statement_of(&self.lines, line);
         Ok(
             self.rows.push(Row {
                 line,
                 depth,
                 text,
                 goes_on,
-                look,
+                look: look_of(line, self.hindered),
+                counted: counted_in(&self.sources, line),
             })?,
         )
     }
@@ -80,6 +101,7 @@ impl<'a> Sketch<'a> {
                 text: MADE_ELSE,
                 goes_on: false,
                 look: Look::Made,
+                counted: None,
             })?,
         )
     }
@@ -99,6 +121,7 @@ impl<'a> Sketch<'a> {
                 text,
                 goes_on: false,
                 look: Look::End,
+                counted: None,
             })?;
         }
         Ok(())
@@ -113,11 +136,42 @@ impl<'a> Sketch<'a> {
 }
 
 /// How the statement of a line looks, by the line of the one that is in the way.
-pub fn look_of(line: Line, hindered: Option<Line>) -> Look {
+pub fn look_of(line: Line, hindered: Option<Line>) -> Look
+    ensures { result ≡ looks.look_of line hindered }
+{
     match hindered {
         Some(hindered) if hindered == line => Look::Marked,
         _ => Look::Plain,
     }
+}
+
+/// A number more of what is counted.
+fn with_number(number: usize, found: Option<Counted>) -> Counted
+    ensures { result ≡ looks.with_number number found }
+{
+    match found {
+        Some(counted) => Counted {
+            first: counted.first,
+            last: number,
+        },
+        None => Counted {
+            first: number,
+            last: number,
+        },
+    }
+}
+
+/// The numbers of the sources in a line, by the lines of all.
+fn counted_in(sources: &[Line], line: Line) -> Option<Counted>
+    ensures { result ≡ looks.counted_in sources.now line }
+{
+    let mut found = None;
+    for (place, source) in sources.iter().enumerate() {
+        if *source == line {
+            found = Some(with_number(place + 1, found));
+        }
+    }
+    found
 }
 
 #[cycle(plans)]
@@ -172,7 +226,10 @@ fn first_line(arms: &[PlanArm]) -> Line {
 }
 
 #[cycle(ranges)]
-fn add_arms(sketch: &mut Sketch<'_>, arms: &[Arm], depth: u64) -> Result<(), AllocError> {
+fn add_arms(sketch: &mut Sketch<'_>, arms: &[Arm], depth: u64) -> Result<(), AllocError>
+    ensures same { OnOk result (HasSameMarks sketch.old sketch.new) }
+    ensures marked { OnOk result (KeepsMarks sketch.old sketch.new) }
+{
     for arm in arms {
         sketch.add_row(arm.line, depth)?;
         add_range(sketch, &arm.body, depth.saturating_add(1))?;
@@ -181,7 +238,10 @@ fn add_arms(sketch: &mut Sketch<'_>, arms: &[Arm], depth: u64) -> Result<(), All
 }
 
 #[cycle(ranges)]
-fn add_node(sketch: &mut Sketch<'_>, node: &Node, depth: u64) -> Result<(), AllocError> {
+fn add_node(sketch: &mut Sketch<'_>, node: &Node, depth: u64) -> Result<(), AllocError>
+    ensures same { OnOk result (HasSameMarks sketch.old sketch.new) }
+    ensures marked { OnOk result (KeepsMarks sketch.old sketch.new) }
+{
     match node {
         Node::Plain(statement) => sketch.add_row(statement.line, depth),
         Node::Loop(line, _, range) => {
@@ -194,7 +254,10 @@ fn add_node(sketch: &mut Sketch<'_>, node: &Node, depth: u64) -> Result<(), Allo
 
 /// Adds the rows of statements of a loop that has no plan.
 #[cycle(ranges)]
-pub fn add_range(sketch: &mut Sketch<'_>, nodes: &[Node], depth: u64) -> Result<(), AllocError> {
+pub fn add_range(sketch: &mut Sketch<'_>, nodes: &[Node], depth: u64) -> Result<(), AllocError>
+    ensures same { OnOk result (HasSameMarks sketch.old sketch.new) }
+    ensures marked { OnOk result (KeepsMarks sketch.old sketch.new) }
+{
     for node in nodes {
         add_node(sketch, node, depth)?;
     }

@@ -1,5 +1,8 @@
 //! Lines of a source, and the statements in them.
 
+ghost use Rattle.std.specs.Prelude.{◌≡◌};
+
+use crate::picture::Statement;
 use ast::Line;
 use bstr::ByteSlice;
 use std::alloc::{AllocError, Global};
@@ -41,7 +44,7 @@ fn is_continuation(line: &[u8]) -> bool {
 }
 
 /// Whether the statement of a line goes on in the next; lines are numbered from 1.
-pub fn goes_on(lines: &[&[u8]], line: Line) -> bool {
+fn goes_on(lines: &[&[u8]], line: Line) -> bool {
     match lines.get(line as usize) {
         Some(next) => is_continuation(next),
         None => false,
@@ -49,9 +52,20 @@ pub fn goes_on(lines: &[&[u8]], line: Line) -> bool {
 }
 
 /// What the initial line of a statement has of it; lines are numbered from 1.
-pub fn statement_text<'a>(lines: &[&'a [u8]], line: Line) -> &'a [u8] {
+fn statement_text<'a>(lines: &[&'a [u8]], line: Line) -> &'a [u8] {
     match lines.get((line as usize).saturating_sub(1)) {
         Some(text) => part(text),
         None => b"",
+    }
+}
+
+/// The statement whose initial line has a number; lines are numbered from 1.
+pub fn statement_of<'a>(lines: &[&'a [u8]], line: Line) -> Statement<'a>
+    ensures { result.line ≡ line }
+{
+    Statement {
+        line,
+        text: statement_text(lines, line),
+        goes_on: goes_on(lines, line),
     }
 }

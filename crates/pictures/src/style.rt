@@ -23,10 +23,12 @@ text{fill:#1a1a1a}
 .code{font-family:monospace;white-space:pre}
 .faint{fill:#555}
 .right{text-anchor:end}
-.middle,.number{text-anchor:middle}
+.middle,.number,.count{text-anchor:middle}
+.count{font-size:12px}
 .number{font-size:9px;font-weight:bold}
 .box{fill:#e6eaee;stroke:#8a949e}
 .made{fill:#fff;stroke:#8a949e;stroke-dasharray:4 3}
+.beyond{fill:#fff;stroke:#a3abb3;stroke-dasharray:2 3}
 .marked{fill:#f6c9a8;stroke:#d55e00;stroke-width:2}
 text.marked{fill:#a34700;stroke:none;font-weight:bold}
 text.made{fill:#555;stroke:none;font-style:italic}
@@ -85,6 +87,7 @@ text{fill:#eee}
 .faint,text.made{fill:#b5bcc3}
 .box{fill:#2a323a;stroke:#7d8893}
 .made{fill:#14181c;stroke:#7d8893}
+.beyond{fill:#14181c;stroke:#77828d}
 .marked{fill:#6b3a17;stroke:#ff9a4d}
 text.marked{fill:#ffb27a}
 .hue0 path{stroke:#d9a07a}

@@ -11,6 +11,7 @@ use Rattle.placement.specs.Looked.{ArePairs, Found, IsAllFound, after_all, after
 use Rattle.placement.specs.declared.analysis.Analysis.{Analysis}
 use Rattle.placement.specs.declared.pairs.Pairs.{Pairs}
 use Rattle.placement.specs.declared.pairs.Shared.{Shared}
+use Rattle.placement.specs.Placement.{AreSources}
 use Rattle.placement.proofs.Insertion.{with_longer}
 use Rattle.placement.proofs.Seconds.{Sourced, found_kept, found_relations, found_sourced, kept_of}
 use Rattle.placement.proofs.Triples.{kept_sound, kept_whole, sources_kept}
@@ -26,6 +27,9 @@ module _ (l : Loop) (ps : List (List ℕ)) (p : Pairs) (are : ArePairs l ps p) w
 
   pub is_none : IsAllFound (all_found l p) None → ArePrivate l ps → HasManySources l
   is_none many privates = ((all_found l p).sources, sources_kept l ps privates (all_found l p).sources sourced, many)
+
+  pub is_sources : (ss : List ℕ) → ss ≡ (all_found l p).sources → ArePrivate l ps → AreSources l ss
+  is_sources ss is privates = sources_kept l ps privates ss (subst (λ (rs : List ℕ). Sourced rs all) (sym is) sourced)
 
   pub is_analysed : (a b : Analysis) → IsAllFound (all_found l p) (Some a) → b.sources ≡ a.sources → b.relations ≡ a.relations → are_sorted (map triple b.kept.items) ≡ true
       → ((k : Triple) → Contains (map triple b.kept.items) k ↔ Contains (map triple a.kept.items) k) → ArePrivate l ps → AreAnalysed l ps b
@@ -51,7 +55,7 @@ same_at : (l : Loop) (a : Occurrence) (o : Option Occurrence) (f : Found) → (a
 same_at l a None f = refl
 same_at l a (Some b) f = refl
 
-same_sources : (l : Loop) (os : List Occurrence) (a : Occurrence) (ns : List ℕ) (f : Found) → (after_places l os a ns f).sources ≡ f.sources
+pub same_sources : (l : Loop) (os : List Occurrence) (a : Occurrence) (ns : List ℕ) (f : Found) → (after_places l os a ns f).sources ≡ f.sources
 same_sources l os a [] f = refl
 same_sources l os a (n ∷ ns) f = same_sources l os a ns (after_some l a (slice_get os n) f) ∙ same_at l a (slice_get os n) f
 

@@ -10,6 +10,7 @@ pub mod Entries
 pub mod Few
 pub mod Going
 pub mod Grouping
+pub mod Hindered
 pub mod Holding
 pub mod Inner
 pub mod Insertion
@@ -17,6 +18,7 @@ pub mod Judging
 pub mod Keeping
 pub mod Listings
 pub mod Lists
+pub mod Many
 pub mod Naming
 pub mod Opening
 pub mod Ordering

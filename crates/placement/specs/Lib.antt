@@ -1,6 +1,7 @@
 pub mod Acceptance
 pub mod Analysed
 pub mod Awaiting
+pub mod Hindering
 pub mod Judged
 pub mod Listed
 pub mod Looked

@@ -1,5 +1,5 @@
 -- An account of the code: what is found by looking at a reference with its partners, in order.
-use Rattle.std.specs.Prelude.{◌≡◌, ◌<◌, ◌≤◌, ◌==◌, ◌+◌, nat_lt, ℕ, Bool, true, ◌&&◌, ◌||◌, List, [], ◌∷◌, ◌++◌, length, map, Option, Some, None, if◌then◌else◌, slice_get, IfSome}
+use Rattle.std.specs.Prelude.{◌≡◌, ◌<◌, ◌≤◌, ◌==◌, ◌+◌, nat_lt, ℕ, Bool, true, false, ◌&&◌, ◌||◌, List, [], ◌∷◌, ◌++◌, length, map, Option, Some, None, is_some, if◌then◌else◌, slice_get, IfSome}
 use Rattle.std.specs.List.{All}
 use Rattle.ast.specs.Store.{same_name}
 use Rattle.ast.specs.Tree.{Ref}
@@ -156,3 +156,25 @@ all_found l p = after_all l p (shared_in p) none_found
 abbrev pub IsAllFound : Found → Option Analysis → Type 0
 IsAllFound f None = most_events < length f.sources
 IsAllFound f (Some a) = (found_in a ≡ f) × (length f.sources ≤ most_events)
+
+-- ---- sources, however many
+
+-- something is kept of a relation
+abbrev pub is_kept_by : Relation → Bool
+is_kept_by r = is_some (kept_distance r)
+
+abbrev pub keeps_at : Loop → Occurrence → Option Occurrence → Bool
+keeps_at l a None = false
+keeps_at l a (Some b) = is_kept_by (relation l a b)
+
+-- something is kept of a reference and one of those at places
+abbrev pub keeps : Loop → List Occurrence → Occurrence → List ℕ → Bool
+keeps l os a [] = false
+keeps l os a (n ∷ ns) = keeps_at l a (slice_get os n) || keeps l os a ns
+
+abbrev pub sources_with : Loop → Pairs → Occurrence → List ℕ → List ℕ
+sources_with l p a ss = if keeps l (shared_in p) a (partners_of p a) then with_source a.statement ss else ss
+
+abbrev pub sources_after : Loop → Pairs → List Occurrence → List ℕ → List ℕ
+sources_after l p [] ss = ss
+sources_after l p (a ∷ more) ss = sources_after l p more (sources_with l p a ss)

@@ -23,7 +23,7 @@ use std::alloc::{AllocError, Global};
 use subscripts::Affine;
 
 /// So many events a loop may have.
-const MOST_EVENTS: usize = 64;
+pub const MOST_EVENTS: usize = 64;
 
 /// A dependence that the tests don't refute: the numbers of its statements, and over how many
 /// iterations it goes. They are ordered by the sink, then by the source.
@@ -46,7 +46,7 @@ pub struct Analysis {
 }
 
 /// At which distance a relation is kept, if it is.
-fn distance(relation: Relation) -> Option<u128>
+pub fn distance(relation: Relation) -> Option<u128>
     ensures { result ≡ spec.kept_distance relation }
 {
     match relation {
@@ -57,7 +57,7 @@ fn distance(relation: Relation) -> Option<u128>
 }
 
 /// Adds a statement to others in order, if it isn't among them.
-fn add_source(sources: &mut Vec<usize>, statement: usize) -> Result<(), AllocError>
+pub fn add_source(sources: &mut Vec<usize>, statement: usize) -> Result<(), AllocError>
     requires { is_ascending sources.old.items ≡ true }
     ensures added { OnOk result (sources.new.items ≡ spec.with_source statement sources.old.items) }
     ensures ascending { OnOk result (is_ascending sources.new.items ≡ true) }
@@ -96,7 +96,7 @@ fn found_like(recent: &Recent<Earlier<'_>>, forms: &[Affine]) -> Option<Relation
 }
 
 /// The relation of a reference to another, which is found anew only where its forms are none of the newest.
-fn related<'s>(
+pub fn related<'s>(
     view: &LoopView<'_, '_>,
     first: &Shared<'_>,
     second: &'s Shared<'_>,
