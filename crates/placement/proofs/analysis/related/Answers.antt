@@ -16,9 +16,9 @@ returns-clause-recent c = record {
   newest =
       subst (λ (o : Option Earlier). IfSome o (Relates (seen c.args.view.now) (occurrence_in c.args.first.now))) (sym c.add.ensures.newest)
       (λ b is.
-        c.relate_forms-relation.ensures (occurrence_in c.args.first.now) b
-        (ap (λ fs. map form_in fs) c.deref-2.ensures.value ∙ c.requires.first)
-        (ap (λ fs. map form_in fs) (c.deref-3.ensures.value ∙ sym c.deref-4.ensures.value) ∙ is));
+      c.relate_forms-relation.ensures (occurrence_in c.args.first.now) b
+      (ap (λ fs. map form_in fs) c.deref-2.ensures.value ∙ c.requires.first)
+      (ap (λ fs. map form_in fs) (c.deref-3.ensures.value ∙ sym c.deref-4.ensures.value) ∙ is));
   older = subst (λ (o : Option Earlier). IfSome o (Relates (seen c.args.view.now) (occurrence_in c.args.first.now))) (sym c.add.ensures.older) c.requires.recent.newest;
 }
 
