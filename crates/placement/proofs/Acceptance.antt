@@ -1,8 +1,7 @@
 -- The check accepts each plan that is placed.
-use Rattle.std.proofs.Common.{◌≡◌, ◌∙◌, ◌+◌, ◌<◌, ◌≤◌, inl, inr, ℕ, ℤ, Bool, true, false, not, List, length, refl, ap, sym, subst, Option, Some, None, true≢false, arith}
-use Rattle.std.specs.Prelude.{◌==◌}
+use Rattle.std.proofs.Common.{◌≡◌, ◌∙◌, ◌+◌, ◌<◌, ◌≤◌, inl, ℕ, ℤ, Bool, true, false, not, List, length, refl, ap, sym, subst, Option, Some, None, true≢false, arith}
 use Rattle.std.specs.List.{list_all}
-use Rattle.std.proofs.lemmas.Bool.{and_from, and_parts, eqb-true}
+use Rattle.std.proofs.lemmas.Bool.{and_from, and_parts}
 use Rattle.ast.specs.Store.{same_name}
 use Rattle.ast.specs.Tree.{Ref, Block}
 use Rattle.dependence.specs.Kept.{EligibleIn, IsNonzero, Kept, KeptAt, Suits, block_reads, block_variables, most_events}
@@ -14,8 +13,7 @@ use Rattle.dependence.proofs.Agreed.{agreed}
 use Rattle.loop_tree.specs.Loops.{IsWhole, Loop, has_cell}
 use Rattle.loop_tree.specs.Occurrences.{Occurrence, block_occurrences}
 use Rattle.loop_tree.specs.Paths.{uses}
-use Rattle.loop_tree.specs.Private.{Private}
-use Rattle.loop_tree.specs.Told.{are_in_turn, are_told, iff, is_told, known, references}
+use Rattle.loop_tree.specs.Told.{are_in_turn, are_told, known, references}
 use Rattle.placement.specs.Acceptance.{IsAccepted}
 use Rattle.placement.specs.Placement.{IsEvent, IsPlacedBody}
 use Rattle.placement.specs.Placing.{block_size}
@@ -31,9 +29,9 @@ use Rattle.placement.proofs.Ordering.{event, has_below, ordered, proper, room, s
 use Rattle.placement.proofs.Positive.{kept_positive}
 use Rattle.placement.proofs.Privates.{name_of, scalar_of}
 use Rattle.placement.proofs.Ranges.{block_within}
-use Rattle.plan_check.proofs.Members.{In, among, contained, in_left, in_right}
+use Rattle.plan_check.proofs.Members.{In, among, contained}
 use Rattle.plan_check.proofs.Parallel.{block_are}
-use Rattle.plan_check.proofs.Sound.{all_in, any_in, at_point, in_any, in_entries, in_map, is_same, not_false, ref_of, same_is, told_same}
+use Rattle.plan_check.proofs.Sound.{at_point, in_any, in_entries, is_same, not_false, ref_of}
 use Rattle.plan_check.specs.Checking.{Checked, all_ahead, all_held, all_true, at_references, claimed, distance_of, first, fits, has_name, has_named, is_looked_at, is_proper, is_step, never_early, reference_tokens, tokens_of}
 use Rattle.plan_check.specs.Flow.{Known, block_points}
 use Rattle.plan_check.specs.GoodPlan.{SameBody, named}

@@ -1,11 +1,11 @@
 -- Whether a loop around a loop may be open, one loop further out after another.
-use Rattle.std.proofs.Common.{◌≡◌, inl, inr, ℕ, zero, suc, Bool, true, false, List, [], ◌∷◌, Option, Some, None, ◌∙◌, ◌<◌, ◌≤◌, refl, ap, arith, subst, sym}
+use Rattle.std.proofs.Common.{◌≡◌, inl, inr, ℕ, zero, suc, Bool, true, false, List, [], ◌∷◌, Option, Some, None, ◌∙◌, ◌≤◌, refl, ap, arith, subst, sym}
 use Rattle.std.specs.Prelude.{◌-◌}
 use Rattle.dependence.specs.Kept.{Suits}
 use Rattle.dependence.specs.PlanView.{plan_of}
 use Rattle.dependence.specs.declared.plan.LoopPlan.{LoopPlan}
 use Rattle.dependence.specs.declared.plan.LoopPlan.TheVariants.{Serial, Body}
-use Rattle.loop_tree.specs.Loops.{AreWhole, IsWhole, Loop, loop_around, loop_numbered}
+use Rattle.loop_tree.specs.Loops.{AreWhole, IsWhole, Loop, loop_around}
 use Rattle.loop_tree.specs.Told.{are_told, known}
 use Rattle.placement.specs.Judged.{IsInside, IsOpened, IsPlaced, IsSuiting}
 use Rattle.placement.specs.Opening.{NoneSuits}

@@ -1,10 +1,10 @@
 -- What the code finds of a loop tells whether it suits, and the lowest reason why it doesn't.
-use Rattle.std.proofs.Common.{◌≡◌, ◌∙◌, ◌<◌, ◌≤◌, ◌⊎◌, inl, inr, ℕ, Bool, true, false, List, [], ◌∷◌, length, map, refl, ap, sym, subst, true≢false, ⊎_elim, arith}
+use Rattle.std.proofs.Common.{◌≡◌, ◌∙◌, ◌<◌, ◌≤◌, inl, inr, ℕ, Bool, true, false, List, [], ◌∷◌, length, map, refl, sym, true≢false, arith}
 use Rattle.std.specs.Prelude.{◌&&◌}
 use Rattle.std.specs.List.{Contains, list_all}
 use Rattle.ast.specs.Tree.{Ref}
 use Rattle.ast.specs.View.{letters}
-use Rattle.dependence.specs.Kept.{IsNonzero, Kept, Suits, block_reads, block_variables, most_events}
+use Rattle.dependence.specs.Kept.{IsNonzero, Kept, Suits, block_reads, block_variables}
 use Rattle.loop_tree.specs.Loops.{IsWhole, Loop}
 use Rattle.loop_tree.specs.Private.{Private}
 use Rattle.loop_tree.specs.Told.{are_told, known}

@@ -4,7 +4,6 @@ use Rattle.ast.specs.Tree.{Block}
 use Rattle.dependence.specs.Hiding.{hides}
 use Rattle.dependence.specs.Kept.{Suits}
 use Rattle.dependence.specs.Plan.{PlanTree}
-use Rattle.dependence.specs.PlanView.{plan_of}
 use Rattle.dependence.specs.declared.plan.LoopPlan.TheVariants.{Serial}
 use Rattle.dependence.specs.Related.{relations as relations_in}
 use Rattle.loop_tree.specs.Loops.{IsWhole, Loop}

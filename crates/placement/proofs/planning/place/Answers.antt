@@ -1,10 +1,9 @@
-use Rattle.std.proofs.Common.{◌∙◌, ap, subst, sym}
+use Rattle.std.proofs.Common.{subst, sym}
 use Rattle.std.proofs.lemmas.Result.{IfOk-weaker}
 use Rattle.ast.specs.View.{letters}
 use Rattle.loop_tree.specs.TreeView.{seen}
 use Rattle.std.specs.Prelude.{map}
 use Rattle.placement.specs.Judged.{IsJudged, IsPlaced}
-use Rattle.placement.specs.declared.planning.Judged.TheVariants as judged
 use Rattle.placement.proofs.Opening.{is_open, stays_inside, stays_serial}
 use Rattle.placement.proofs.planning.place.Goals as goal
 
