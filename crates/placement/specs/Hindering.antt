@@ -1,5 +1,5 @@
 -- What is in the way of opening a loop that doesn't suit.
-use Rattle.std.specs.Prelude.{◌≡◌, ◌+◌, ℕ, Bool, true, false, List, [], ◌∷◌, map, take, get_or, Option, Some, None, if◌then◌else◌, option_map}
+use Rattle.std.specs.Prelude.{◌≡◌, ◌+◌, ℕ, List, map, take, get_or, Option, Some, None, if◌then◌else◌, option_map}
 use Rattle.ast.specs.Tree.{Statement, Node, plain, loop, choose, Block, no_nodes, then_node, Arms, no_arms, then_arm}
 use Rattle.ast.specs.declared.name.Name.{Name}
 use Rattle.dependence.specs.Hiding.{has_name}
