@@ -3,7 +3,7 @@
 ghost use Rattle.std.specs.Prelude.{IfOk, IfSome};
 ghost use Rattle.replay.specs.Activities.{AreActivities};
 
-use machine::{Code, Done, Frame, stands_local};
+use machine::{Code, Frame, Stretch, stands_local};
 use replay::{Act, Activities, Choice, Core, CoreRefusal, Entry, HandIn, Stepped};
 use std::alloc::{AllocError, Global};
 
@@ -38,8 +38,8 @@ fn work_from(
     if count < 1 || count > BURST || !stands_local(code, &frame) {
         return Ok(Stepped::Idle);
     }
-    let done = Done::work(code, frame, count)?;
-    match core.hand_in_own(q, done) {
+    let stretch = Stretch::work(code, frame, count)?;
+    match core.hand_in_own(q, stretch) {
         Ok(()) => Ok(Stepped::Went(None)),
         Err(HandIn::Memory) => Err(AllocError),
         Err(_) => Ok(Stepped::Idle),

@@ -15,6 +15,7 @@ mod same;
 mod shortcut;
 mod shortening;
 mod stack;
+mod stretch;
 mod taking;
 mod working;
 
@@ -24,4 +25,5 @@ pub use frame::{Counter, Frame};
 pub use instr::{Act, Axis, Instr};
 pub use next::{Next, stands_next};
 pub use shortcut::{Entry, Shortcut};
+pub use stretch::Stretch;
 pub use working::{Stop, local, stands_local};

@@ -4,18 +4,18 @@ use Rattle.machine.specs.Code.{Code}
 use Rattle.machine.specs.Frame.{Frame}
 use Rattle.machine.specs.State.{AreSizes, Choice, Machine}
 use Rattle.ast.specs.declared.answer.Answer.{Answer}
-use Rattle.replay.specs.CoreView.{CoreView, IsAfter, IsNew, point_at}
+use Rattle.replay.specs.CoreView.{CoreView, IsFurther, IsNew, point_at}
 use Rattle.replay.specs.Replayed.{IsAnswer}
 use Rattle.replay.specs.Replays.{Point, Replays, beginning}
 use Rattle.replay.specs.Schedules.{Entry, IsSchedule, Schedule}
-use Rattle.replay.specs.Stepping.{HandsIn, PicksUp, Steps}
+use Rattle.replay.specs.Stepping.{HandsInAll, PicksUp, Steps}
 use Rattle.replay.specs.declared.stepped.Stepped.{Stepped}
 use Rattle.replay.specs.declared.stepped.Stepped.TheVariants.{Went, Idle, Ended}
 use Rattle.replay.specs.declared.entry.Version.TheVariants.{Second}
 use Rattle.processors.specs.Calls.{IsCoreOf, IsOutputOf, IsRunOf, IsStateOf}
 
-after : (code : Code) (input : List ℕ) (p s : ℕ) (x y : CoreView) (e : Entry) → IsCoreOf code input p s x → IsAfter x e y → IsCoreOf code input p s y
-after code input p s x y e o a = record {
+after : (code : Code) (input : List ℕ) (p s : ℕ) (x y : CoreView) (es : List Entry) → IsCoreOf code input p s x → IsFurther x es y → IsCoreOf code input p s y
+after code input p s x y es o a = record {
   sizes = o.sizes;
   code_is = a.code_is ∙ o.code_is;
   input_is = a.input_is ∙ o.input_is;
@@ -37,7 +37,7 @@ stays_by_picks code input p s x y q c (Went t) o a = after code input p s x y _ 
 stays_by_picks code input p s x y q c Idle o a = same code input p s x y o a.0
 stays_by_picks code input p s x y q c Ended o a = same code input p s x y o a.0
 
-pub stays_by_work : (code : Code) (input : List ℕ) (p s : ℕ) (x y : CoreView) (q : ℕ) (k : Code) (f : Frame) (n : ℕ) → IsCoreOf code input p s x → HandsIn x q k f n y → IsCoreOf code input p s y
+pub stays_by_work : (code : Code) (input : List ℕ) (p s : ℕ) (x y : CoreView) (q : ℕ) (k : Code) (f : Frame) (n : ℕ) → IsCoreOf code input p s x → HandsInAll x q k f n y → IsCoreOf code input p s y
 stays_by_work code input p s x y q k f n o a = after code input p s x y _ o a.after
 
 pub new_is_of : (code : Code) (input : List ℕ) (p s : ℕ) (x : CoreView) → IsNew code input p s x → IsCoreOf code input p s x

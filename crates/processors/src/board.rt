@@ -4,7 +4,7 @@ ghost use Rattle.processors.specs.Calls.{IsCoreOf};
 
 use crate::call::Call;
 use crate::report::{Effort, Report, RunRefusal};
-use crate::work::{Burst, Own};
+use crate::work::Own;
 use ast::Answer;
 use machine::Frame;
 use replay::{Core, HandIn, Stepped};
@@ -172,21 +172,12 @@ impl<'c, C: Call> Board<'c, C> {
         }
     }
 
-    /// Processor `q` hands in a burst.
-    fn hand_in(&mut self, q: usize, burst: Burst<'c, C>) -> Result<(), HandIn> {
-        let made = burst.done.made();
-        self.core.hand_in_own(q, Box::into_inner(burst.done))?;
+    /// Processor `q` hands in its local work.
+    fn hand_in(&mut self, q: usize, own: Own<'c, C>) -> Result<(), HandIn> {
+        let made = own.stretch.made();
+        self.core.hand_in_own(q, Box::into_inner(own.stretch))?;
         self.worked = self.worked.wrapping_add(u64::from(made));
         self.count(q, made);
-        Ok(())
-    }
-
-    /// Processor `q` hands in its local work.
-    fn hand_in_all(&mut self, q: usize, own: Own<'c, C>) -> Result<(), HandIn> {
-        self.hand_in(q, own.first)?;
-        for burst in own.further {
-            self.hand_in(q, burst)?;
-        }
         Ok(())
     }
 
@@ -286,7 +277,7 @@ impl<'c, C: Call> Board<'c, C> {
         }
         match own {
             None => self.steps(q),
-            Some(own) => match self.hand_in_all(q, own) {
+            Some(own) => match self.hand_in(q, own) {
                 Ok(()) | Err(HandIn::Stranger) => self.steps(q),
                 Err(HandIn::Ended) => Next::Leave,
                 Err(HandIn::Memory) => self.no_memory(),

@@ -36,3 +36,4 @@ pub mod Picks
 pub mod Labour
 pub mod Beginning
 pub mod Leasts
+pub mod Bursts

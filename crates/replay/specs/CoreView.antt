@@ -1,9 +1,9 @@
 -- A core as its callers see it.
-use Rattle.std.specs.Prelude.{◌≡◌, ℕ, List, []}
+use Rattle.std.specs.Prelude.{◌≡◌, ℕ, List, [], ◌∷◌}
 use Rattle.machine.specs.Code.{Code}
 use Rattle.replay.specs.Parts.{Kept, point_of}
 use Rattle.replay.specs.Replays.{Point, beginning}
-use Rattle.replay.specs.Schedules.{Entry, Schedule, with_entry}
+use Rattle.replay.specs.Schedules.{Entry, Schedule, with_entries}
 use Rattle.machine.specs.State.{AreSizes}
 use Rattle.replay.specs.declared.entry.Version.TheVariants.{Second}
 
@@ -26,8 +26,11 @@ pub record IsNew (code : Code) (input : List ℕ) (p s : ℕ) (x : CoreView) : T
   pub schedule : x.schedule ≡ record { version = Second; processors = p; slots = s; entries = [] }
   pub point : point_at x ≡ beginning code input s
 
--- one entry was made
-pub record IsAfter (x : CoreView) (e : Entry) (y : CoreView) : Type 0 where
+-- so many entries were made, and one was
+pub record IsFurther (x : CoreView) (es : List Entry) (y : CoreView) : Type 0 where
   pub code_is : y.code ≡ x.code
   pub input_is : y.input ≡ x.input
-  pub schedule : y.schedule ≡ with_entry x.schedule e
+  pub schedule : y.schedule ≡ with_entries x.schedule es
+
+abbrev pub IsAfter : CoreView → Entry → CoreView → Type 0
+IsAfter x e y = IsFurther x (e ∷ []) y

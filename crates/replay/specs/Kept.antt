@@ -1,7 +1,7 @@
 -- How the entries of a schedule are kept: each in a few bytes, and the numbers of the iterations that
 -- are picked beside them, in order.
-use Rattle.std.specs.Prelude.{◌≡◌, ℕ, ◌+◌, List, [], ◌∷◌, length, drop, get_or}
-use Rattle.replay.specs.Schedules.{Entry, Schedule, IsSchedule, works, shares, picks_main, picks, takes_ticket}
+use Rattle.std.specs.Prelude.{◌≡◌, ℕ, zero, suc, ◌+◌, ◌/◌, ◌%◌, List, [], ◌∷◌, ◌++◌, length, drop, get_or, replicate}
+use Rattle.replay.specs.Schedules.{Entry, Schedule, IsSchedule, longest_burst, works, shares, picks_main, picks, takes_ticket}
 use Rattle.replay.specs.declared.entry.Version.{Version}
 use Rattle.replay.specs.declared.short.Short.{Short}
 use Rattle.replay.specs.declared.short.Short.TheVariants.{Work, Share, PickMain, PickIteration, TakeTicket}
@@ -26,6 +26,14 @@ entries_of (s ∷ ss) ks = entry_of s ks ∷ entries_of ss (drop (taken s) ks)
 abbrev pub all_taken : List Short → ℕ
 all_taken [] = 0
 all_taken (s ∷ ss) = taken s + all_taken ss
+
+-- so many local instructions, as `bursts` has them
+abbrev pub last_short : ℕ → ℕ → List Short
+last_short q zero = []
+last_short q (suc n) = Work q (suc n) ∷ []
+
+abbrev pub short_bursts : ℕ → ℕ → List Short
+short_bursts q n = replicate (n / longest_burst) (Work q longest_burst) ++ last_short q (n % longest_burst)
 
 abbrev pub seen : Version → ℕ → ℕ → List Short → List ℕ → Schedule
 seen v p s ss ks = record { version = v; processors = p; slots = s; entries = entries_of ss ks }

@@ -1,5 +1,5 @@
 -- Schedules: what each processor did, turn by turn, and how that is written.
-use Rattle.std.specs.Prelude.{◌≡◌, ◌≤◌, ◌<◌, ◌^◌, ℕ, codes, decimal, List, [], ◌∷◌, ◌++◌, ⊤}
+use Rattle.std.specs.Prelude.{◌≡◌, ◌≤◌, ◌<◌, ◌^◌, ◌/◌, ◌%◌, ℕ, zero, suc, codes, decimal, List, [], ◌∷◌, ◌++◌, replicate, ⊤}
 use Rattle.machine.specs.State.{AreSizes}
 use Rattle.replay.specs.declared.entry.Version.{Version}
 use Rattle.replay.specs.declared.entry.Version.TheVariants.{First, Second}
@@ -46,9 +46,21 @@ AreEntries v p (e ∷ es) = ((e.processor < p) × IsAct v e.act) × AreEntries v
 abbrev pub IsSchedule : Schedule → Type 0
 IsSchedule x = AreSizes x.processors x.slots × AreEntries x.version x.processors x.entries
 
--- a schedule with one entry more
+-- a schedule with so many entries more, and with one
+abbrev pub with_entries : Schedule → List Entry → Schedule
+with_entries x es = record x { entries = x.entries ++ es }
+
 abbrev pub with_entry : Schedule → Entry → Schedule
-with_entry x e = record x { entries = x.entries ++ e ∷ [] }
+with_entry x e = with_entries x (e ∷ [])
+
+-- what is left behind the longest bursts, if anything is
+abbrev pub last_burst : ℕ → ℕ → List Entry
+last_burst q zero = []
+last_burst q (suc n) = record { processor = q; act = works (suc n) } ∷ []
+
+-- So many local instructions of a processor, in entries as long as they may be.
+abbrev pub bursts : ℕ → ℕ → List Entry
+bursts q n = replicate (n / longest_burst) (record { processor = q; act = works longest_burst }) ++ last_burst q (n % longest_burst)
 
 -- ---- the text. Each line ends in LF, numbers are in shortest decimal, parted by one blank.
 

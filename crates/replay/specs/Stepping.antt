@@ -5,10 +5,10 @@ use Rattle.machine.specs.Code.{Code}
 use Rattle.machine.specs.Frame.{Frame}
 use Rattle.machine.specs.State.{Choice, take_ticket, CodeStep, Machine, AreSizes}
 use Rattle.replay.specs.Activities.{frame_at}
-use Rattle.replay.specs.CoreView.{CoreView, IsAfter, point_at}
+use Rattle.replay.specs.CoreView.{CoreView, IsAfter, IsFurther, point_at}
 use Rattle.replay.specs.Making.{pick_of}
 use Rattle.replay.specs.Replays.{Point, ByRule, Moves, Picks, Works, local_in}
-use Rattle.replay.specs.Schedules.{works, shares}
+use Rattle.replay.specs.Schedules.{bursts, works, shares}
 use Rattle.replay.specs.declared.stepped.CoreRefusal.{CoreRefusal}
 use Rattle.replay.specs.declared.stepped.CoreRefusal.TheVariants as refusals
 use Rattle.replay.specs.declared.stepped.HandIn.{HandIn}
@@ -103,6 +103,13 @@ pub record HandsIn (x : CoreView) (q : ℕ) (code : Code) (from : Frame) (made :
   pub going : IsGoing x
   pub is_from : IsFrom x q code from
   pub after : IsAfter x (record { processor = q; act = works made }) y
+  pub step : Works x.code x.schedule.slots made (point_at x) q (point_at y)
+
+-- Local work of any length was handed in, in as many entries as it takes.
+pub record HandsInAll (x : CoreView) (q : ℕ) (code : Code) (from : Frame) (made : ℕ) (y : CoreView) : Type 0 where
+  pub going : IsGoing x
+  pub is_from : IsFrom x q code from
+  pub after : IsFurther x (bursts q made) y
   pub step : Works x.code x.schedule.slots made (point_at x) q (point_at y)
 
 abbrev pub CannotHandIn : CoreView → ℕ → Code → Frame → HandIn → Type 0

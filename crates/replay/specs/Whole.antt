@@ -2,8 +2,8 @@
 use Rattle.std.specs.Prelude.{◌≡◌, ◌+◌, ◌*◌, ◌≤◌, ℕ, Bool, true, false, List, length}
 use Rattle.replay.specs.Activities.{AreActivities, AreOf, code_in, kept_in, point_in}
 use Rattle.replay.specs.CoreView.{CoreView}
-use Rattle.replay.specs.Replays.{Point, Replays, beginning}
-use Rattle.replay.specs.Schedules.{Entry, IsSchedule, Schedule, with_entry}
+use Rattle.replay.specs.Replays.{Point, Replays, Works, beginning}
+use Rattle.replay.specs.Schedules.{Entry, IsSchedule, Schedule, bursts, with_entries, with_entry}
 use Rattle.replay.specs.Tallies.{Again, Tallies, steps}
 use Rattle.replay.specs.declared.activities.Activities.{Activities}
 use Rattle.replay.specs.declared.entry.Version.TheVariants.{Second}
@@ -46,6 +46,13 @@ pub record IsMore (e : Entry) (Step : Point → Point → Type 0) (a : Activitie
   pub step : Step (point_in a) (point_in b)
   pub schedule : y ≡ with_entry x e
   pub tally : Counted e (point_in a) (point_in b) t u
+
+-- So many local instructions were made, and their entries added.
+pub record IsWorked (q made : ℕ) (a : Activities) (x : Schedule) (t : Tally) (b : Activities) (y : Schedule) (u : Tally) : Type 0 where
+  pub step : Works (code_in a) x.slots made (point_in a) q (point_in b)
+  pub schedule : y ≡ with_entries x (bursts q made)
+  pub counted : u.made ≡ t.made + made
+  pub parked : u.again ≡ t.again
 
 -- The step was made, or it can't be made and nothing has changed.
 abbrev pub Entered : Bool → Entry → (Point → Point → Type 0) → Activities → Schedule → Tally → Activities → Schedule → Tally → Type 0

@@ -10,7 +10,7 @@ ghost use Rattle.replay.specs.Parts.{held_of};
 ghost use Rattle.replay.specs.Replays.{Moves, Picks, Works, wait_of};
 ghost use Rattle.replay.specs.Schedules.{shares, works};
 ghost use Rattle.replay.specs.Tallies.{takes_parked};
-ghost use Rattle.replay.specs.Whole.{AreParts, Entered, IsMore, IsSame};
+ghost use Rattle.replay.specs.Whole.{AreParts, Entered, IsMore, IsSame, IsWorked};
 
 use crate::activities::{Activities, Choice, Holder};
 use crate::entry::{Act, Entry};
@@ -149,6 +149,33 @@ pub fn put(
         processor: q as u8,
         act: Act::Work(made as u16),
     })?;
+    activities.put(q, to);
+    tally.count(made, false);
+    Ok(())
+}
+
+/// The same of local work of any length, with as many entries as it takes.
+pub fn put_all(
+    activities: &mut Activities<'_>,
+    schedule: &mut Schedule,
+    tally: &mut Tally,
+    q: usize,
+    to: Frame,
+    made: u32,
+) -> Result<(), AllocError>
+    requires parts { AreParts activities.old schedule.old tally.old }
+    requires processor { q < schedule.old.processors }
+    requires going { activities.old.shared.ended ≡ None }
+    requires some { 1 ≤ made }
+    requires leads { (from : PlainFrame) → frame_at q (point_in activities.old) ≡ Some from → locals (code_in activities.old).instructions made from ≡ Some (frame_of to) }
+    requires holds { is_some (frame_at q (point_in activities.old)) ≡ true }
+    ensures did { OnOk result (IsWorked q made activities.old schedule.old tally.old activities.new schedule.new tally.new) }
+    ensures err { OnErr result (IsSame activities.old schedule.old tally.old activities.new schedule.new tally.new) }
+    ensures parts { AreParts activities.new schedule.new tally.new }
+    ensures stays { Stays activities.old activities.new }
+{
+    let _ = schedule.len();
+    schedule.push_work(q as u8, made)?;
     activities.put(q, to);
     tally.count(made, false);
     Ok(())

@@ -1,9 +1,9 @@
 //! Schedules.
 
 ghost use Rattle.std.specs.Prelude.{◌≡◌, ◌≢◌, ◌<◌, ◌^◌, ◌++◌, ◌∷◌, [], IfOk, IfErr, OnOk, OnErr, length};
-ghost use Rattle.replay.specs.Kept.{entries_of, entry_of, taken};
+ghost use Rattle.replay.specs.Kept.{entries_of, entry_of, short_bursts, taken};
 ghost use Rattle.replay.specs.Refusals.{Explains, IsHeaded, Refuses, WantsMemory, number_of};
-ghost use Rattle.replay.specs.Schedules.{Entry as EntryOf, IsAct, IsSchedule, SchedText, Schedule as ScheduleOf, text_before, text_of, picks, with_entry};
+ghost use Rattle.replay.specs.Schedules.{Entry as EntryOf, IsAct, IsSchedule, SchedText, Schedule as ScheduleOf, bursts, text_before, text_of, picks, with_entries, with_entry};
 ghost use Rattle.machine.specs.State.{AreSizes};
 ghost use Rattle.replay.specs.View.{act as act_view, entry as entry_view};
 
@@ -14,6 +14,9 @@ use crate::short::{Entries, Short};
 use crate::writing::{append_entries, append_header, append_sizes};
 use std::alloc::{AllocError, Global};
 use std::marker::Model;
+
+/// How many local instructions an entry holds at most.
+const LONGEST: u32 = 1024;
 
 /// What each processor of a run did, turn by turn.
 #[derive(Drop)]
@@ -45,6 +48,28 @@ fn number_of(fault: NoEntry) -> u8
         NoEntry::Form => 52,
         NoEntry::Processor => 53,
     }
+}
+
+/// Appends entries of so many local instructions, each as long as it may be.
+fn append_bursts(shorts: &mut Vec<Short>, processor: u8, made: u32) -> Result<(), AllocError>
+    ensures ok { OnOk result (shorts.new.items ≡ shorts.old.items ++ short_bursts processor made) }
+    ensures err { OnErr result (shorts.new.items ≡ shorts.old.items) }
+{
+    let whole = (made / LONGEST) as usize;
+    let rest = (made % LONGEST) as u16;
+    shorts.reserve(whole + 1)?;
+    let longest = Short::Work {
+        processor,
+        count: LONGEST as u16,
+    };
+    shorts.resize(shorts.len() + whole, longest)?;
+    if rest > 0 {
+        shorts.push_reserved(Short::Work {
+            processor,
+            count: rest,
+        });
+    }
+    Ok(())
 }
 
 impl Schedule {
@@ -162,6 +187,18 @@ impl Schedule {
         ensures err { OnErr result (self.new ≡ self.old) }
     {
         self.shorts.push(short)?;
+        Ok(())
+    }
+
+    /// Adds entries of so many local instructions of a processor, each as long as it may be. Where
+    /// memory is refused nothing has changed.
+    pub fn push_work(&mut self, processor: u8, made: u32) -> Result<(), AllocError>
+        requires below { processor < self.old.processors }
+        ensures ok { OnOk result (self.new ≡ with_entries self.old (bursts processor made)) }
+        ensures kept { IsSchedule self.new }
+        ensures err { OnErr result (self.new ≡ self.old) }
+    {
+        append_bursts(&mut self.shorts, processor, made)?;
         Ok(())
     }
 

@@ -12,7 +12,7 @@ use crate::recording;
 use crate::schedule::Schedule;
 use crate::stepped::{CoreRefusal, HandIn, Stepped, Tally};
 use ast::Answer;
-use machine::{Code, Done, Frame, stands_local};
+use machine::{Code, Done, Frame, Stretch, stands_local};
 use std::alloc::{AllocError, Global};
 use std::marker::Model;
 
@@ -68,7 +68,7 @@ impl<'c> Core<'c> {
     ghost use Rattle.replay.specs.Parts.{held_of};
     ghost use Rattle.replay.specs.Replayed.{IsAnswer};
     ghost use Rattle.replay.specs.Replays.{Replays, beginning, local_in};
-    ghost use Rattle.replay.specs.Stepping.{CannotHandIn, HandsIn, IsFrom, IsGoing, HasEnded, KeepsGoing, MayTry, NoCore, PicksUp, Steps, WentOrLocal};
+    ghost use Rattle.replay.specs.Stepping.{CannotHandIn, HandsIn, HandsInAll, IsFrom, IsGoing, HasEnded, KeepsGoing, MayTry, NoCore, PicksUp, Steps, WentOrLocal};
     ghost use Rattle.replay.specs.Tallies.{Tallies};
     ghost use Rattle.replay.specs.declared.entry.Version.TheVariants.{Second};
 
@@ -255,11 +255,11 @@ impl<'c> Core<'c> {
     }
 
     /// Whether local work leads from the frame of what processor `q` holds.
-    fn is_at(&self, q: usize, done: &Done<'_>) -> bool
-        ensures { Decides result (frame_at q (point_at self.now) ≡ Some (frame_of done.now.from)) }
+    fn is_at(&self, q: usize, stretch: &Stretch<'_>) -> bool
+        ensures { Decides result (frame_at q (point_at self.now) ≡ Some (frame_of stretch.now.from)) }
     {
         match self.held_frame(q) {
-            Some(frame) => frame.is_same(done.from()),
+            Some(frame) => frame.is_same(stretch.from()),
             None => false,
         }
     }
@@ -310,23 +310,49 @@ impl<'c> Core<'c> {
         self.put(q, done)
     }
 
-    /// As `hand_in`, of work of which the caller knows that it is of the core's own code: codes are not
-    /// compared, so that it takes no longer where the code is longer.
+    /// What processor `q` holds gets the frame to which a stretch of local work of the core's own code
+    /// leads from its own.
+    fn put_stretch(&mut self, q: usize, stretch: Stretch<'_>) -> Result<(), HandIn>
+        requires going { IsGoing self.old }
+        requires from { IsFrom self.old q (code_of stretch.code.now) (frame_of stretch.from) }
+        ensures ok { OnOk result (HandsInAll self.old q (code_of stretch.entry.code.now) (frame_of stretch.entry.from) stretch.entry.made self.new) }
+        ensures frame { OnOk result (frame_at q (point_at self.new) ≡ Some (frame_of stretch.entry.to)) }
+        ensures refused { IfErr result (CannotHandIn self.old q (code_of stretch.entry.code.now) (frame_of stretch.entry.from)) }
+        ensures err { OnErr result (self.new ≡ self.old) }
+    {
+        let made = stretch.made();
+        let to = stretch.into_frame();
+        if let Err(error) = recording::put_all(
+            &mut self.activities,
+            &mut self.schedule,
+            &mut self.tally,
+            q,
+            to,
+            made,
+        ) {
+            return Err(error.into());
+        }
+        Ok(())
+    }
+
+    /// As `hand_in`, of local work of any length of which the caller knows that it is of the core's own
+    /// code: codes are not compared, so that it takes no longer where the code is longer. The schedule
+    /// grows by as many entries as it takes, each as long as it may be.
     ///
     /// # Errors
     ///
     /// Those of `hand_in`.
-    pub fn hand_in_own(&mut self, q: usize, done: Done<'_>) -> Result<(), HandIn>
-        requires own { code_of done.code.now ≡ self.old.code }
-        ensures ok { OnOk result (HandsIn self.old q (code_of done.entry.code.now) (frame_of done.entry.from) done.entry.made self.new) }
-        ensures frame { OnOk result (frame_at q (point_at self.new) ≡ Some (frame_of done.entry.to)) }
-        ensures refused { IfErr result (CannotHandIn self.old q (code_of done.entry.code.now) (frame_of done.entry.from)) }
+    pub fn hand_in_own(&mut self, q: usize, stretch: Stretch<'_>) -> Result<(), HandIn>
+        requires own { code_of stretch.code.now ≡ self.old.code }
+        ensures ok { OnOk result (HandsInAll self.old q (code_of stretch.entry.code.now) (frame_of stretch.entry.from) stretch.entry.made self.new) }
+        ensures frame { OnOk result (frame_at q (point_at self.new) ≡ Some (frame_of stretch.entry.to)) }
+        ensures refused { IfErr result (CannotHandIn self.old q (code_of stretch.entry.code.now) (frame_of stretch.entry.from)) }
         ensures err { OnErr result (self.new ≡ self.old) }
     {
         if self.has_ended() {
             Err(HandIn::Ended)
-        } else if self.is_at(q, &done) {
-            self.put(q, done)
+        } else if self.is_at(q, &stretch) {
+            self.put_stretch(q, stretch)
         } else {
             Err(HandIn::Stranger)
         }

@@ -1,0 +1,71 @@
+//! Local work of any length that has been done.
+
+ghost use Rattle.std.specs.Prelude.{◌≡◌, ◌≤◌, Some};
+ghost use Rattle.std.proofs.Props.{props};
+ghost use Rattle.machine.specs.CodeView.{code_of};
+ghost use Rattle.machine.specs.FrameView.{frame_of};
+ghost use Rattle.machine.specs.Local.{locals};
+
+use crate::code::Code;
+use crate::frame::Frame;
+use crate::working::local;
+use std::alloc::AllocError;
+
+/// Local work as `Done` is, but of any length: more than one entry of a schedule may hold it.
+#[derive(Drop)]
+pub struct Stretch<'c> {
+    code: &'c Code,
+    from: Frame,
+    to: Frame,
+    made: u32,
+    ghost leads: { locals (code_of code.now).instructions made (frame_of from) ≡ Some (frame_of to) } by { Prim.hlevel props },
+    ghost some: { 1 ≤ made },
+}
+
+impl<'c> Stretch<'c> {
+    ghost use Rattle.std.specs.Prelude.{◌≡◌, ◌≤◌, IfOk, Some, true};
+    ghost use Rattle.machine.specs.CodeView.{code_of};
+    ghost use Rattle.machine.specs.FrameView.{frame_of};
+    ghost use Rattle.machine.specs.Local.{Works, is_local, locals};
+
+    /// Takes the local instructions that stand next, at least one and at most `n`.
+    pub fn work(code: &'c Code, from: Frame, n: u32) -> Result<Stretch<'c>, AllocError>
+        requires stands { is_local (code_of code.now).instructions (frame_of from) ≡ true }
+        requires some { 1 ≤ n }
+        ensures code { IfOk result (λ s. code_of s.code.now ≡ code_of code.now) }
+        ensures from { IfOk result (λ s. frame_of s.from ≡ frame_of from) }
+        ensures works { IfOk result (λ s. Works (code_of code.now).instructions n (frame_of from) s.made (frame_of s.to)) }
+    {
+        let mut to = from.try_copy()?;
+        let stop = local(code, &mut to, n);
+        Ok(Stretch {
+            code,
+            from,
+            to,
+            made: stop.made,
+        })
+    }
+
+    /// The frame from which it leads.
+    pub fn from(&self) -> &Frame
+        ensures { frame_of result.now ≡ frame_of self.now.from }
+    {
+        &self.from
+    }
+
+    /// The number of instructions.
+    pub fn made(&self) -> u32
+        ensures number { result ≡ self.now.made }
+        ensures some { 1 ≤ result }
+        ensures leads { locals (code_of self.now.code.now).instructions result (frame_of self.now.from) ≡ Some (frame_of self.now.to) }
+    {
+        self.made
+    }
+
+    /// The frame to which it leads.
+    pub fn into_frame(self) -> Frame
+        ensures { frame_of result ≡ frame_of self.entry.to }
+    {
+        self.to
+    }
+}

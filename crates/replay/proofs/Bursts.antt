@@ -1,0 +1,201 @@
+-- Local work in as many entries as it takes.
+use Rattle.std.proofs.Common.{inl, ◌≡◌, ◌∙◌, ℕ, zero, suc, ◌+◌, ◌<◌, ◌≤◌, true, List, [], ◌∷◌, ◌++◌, length, refl, sym, ap, subst, arith}
+use Rattle.std.specs.Prelude.{◌*◌, ◌/◌, ◌%◌, Some, is_some, replicate}
+use Rattle.machine.specs.Code.{Code}
+use Rattle.machine.specs.Frame.{Frame}
+use Rattle.machine.specs.Local.{locals}
+use Rattle.replay.specs.Activities.{Stays, code_in, frame_at, point_in}
+use Rattle.replay.specs.Kept.{IsKept, all_taken, entries_of, entry_of, last_short, seen, short_bursts, taken}
+use Rattle.replay.specs.Replays.{Point, Leads, Replays, Works, beginning}
+use Rattle.replay.specs.Schedules.{AreEntries, Entry, IsAct, IsSchedule, Schedule, bursts, last_burst, longest_burst, with_entries, works}
+use Rattle.replay.specs.Tallies.{Tallies}
+use Rattle.replay.specs.Whole.{AreParts, IsWhole, IsWorked}
+use Rattle.replay.specs.declared.activities.Activities.{Activities}
+use Rattle.replay.specs.declared.entry.Version.{Version}
+use Rattle.replay.specs.declared.entry.Version.TheVariants.{First, Second}
+use Rattle.replay.specs.declared.short.Short.{Short}
+use Rattle.replay.specs.declared.short.Short.TheVariants.{Work, Share, PickMain, PickIteration, TakeTicket}
+use Rattle.replay.specs.declared.stepped.Tally.{Tally}
+use Rattle.replay.proofs.Parking.{works_still}
+use Rattle.replay.proofs.Recorded.{here}
+
+abbrev burst : ℕ → ℕ → Entry
+burst q n = record { processor = q; act = works n }
+
+-- so many times a number
+abbrev times : ℕ → ℕ → ℕ
+times zero l = 0
+times (suc k) l = l + times k l
+
+times_longest : (k : ℕ) → times k longest_burst ≡ k * longest_burst
+times_longest zero = refl
+times_longest (suc k) = omega (arith, times_longest k)
+
+-- ---- entries as they are kept
+
+entries_added : (ss ws : List Short) (ks : List ℕ) → all_taken ss ≡ length ks → entries_of (ss ++ ws) ks ≡ entries_of ss ks ++ entries_of ws []
+entries_added [] ws [] h = refl
+entries_added [] ws (k ∷ ks) h = absurd (omega (arith, h))
+entries_added (Work q n ∷ ss) ws ks h = ap (λ (es : List Entry). entry_of (Work q n) ks ∷ es) (entries_added ss ws ks (omega (arith, h)))
+entries_added (Share q ∷ ss) ws ks h = ap (λ (es : List Entry). entry_of (Share q) ks ∷ es) (entries_added ss ws ks (omega (arith, h)))
+entries_added (PickMain q ∷ ss) ws ks h = ap (λ (es : List Entry). entry_of (PickMain q) ks ∷ es) (entries_added ss ws ks (omega (arith, h)))
+entries_added (TakeTicket q ∷ ss) ws ks h = ap (λ (es : List Entry). entry_of (TakeTicket q) ks ∷ es) (entries_added ss ws ks (omega (arith, h)))
+entries_added (PickIteration q ∷ ss) ws [] h = absurd (omega (arith, h))
+entries_added (PickIteration q ∷ ss) ws (k ∷ ks) h = ap (λ (es : List Entry). entry_of (PickIteration q) (k ∷ ks) ∷ es) (entries_added ss ws ks (omega (arith, h)))
+
+taken_added : (ss ws : List Short) → all_taken (ss ++ ws) ≡ all_taken ss + all_taken ws
+taken_added [] ws = omega arith
+taken_added (s ∷ ss) ws = omega (arith, taken_added ss ws)
+
+repeated_entries : (k q l : ℕ) (ws : List Short) → entries_of (replicate k (Work q l) ++ ws) [] ≡ replicate k (burst q l) ++ entries_of ws []
+repeated_entries zero q l ws = refl
+repeated_entries (suc k) q l ws = ap (λ (es : List Entry). burst q l ∷ es) (repeated_entries k q l ws)
+
+last_entries : (q n : ℕ) → entries_of (last_short q n) [] ≡ last_burst q n
+last_entries q zero = refl
+last_entries q (suc n) = refl
+
+bursts_entries : (q n : ℕ) → entries_of (short_bursts q n) [] ≡ bursts q n
+bursts_entries q n =
+    repeated_entries (n / longest_burst) q longest_burst (last_short q (n % longest_burst))
+    ∙ ap (λ (es : List Entry). replicate (n / longest_burst) (burst q longest_burst) ++ es) (last_entries q (n % longest_burst))
+
+repeated_taken : (k q l : ℕ) (ws : List Short) → all_taken (replicate k (Work q l) ++ ws) ≡ all_taken ws
+repeated_taken zero q l ws = refl
+repeated_taken (suc k) q l ws = omega (arith, repeated_taken k q l ws)
+
+last_taken : (q n : ℕ) → all_taken (last_short q n) ≡ 0
+last_taken q zero = refl
+last_taken q (suc n) = refl
+
+bursts_taken : (q n : ℕ) → all_taken (short_bursts q n) ≡ 0
+bursts_taken q n = repeated_taken (n / longest_burst) q longest_burst (last_short q (n % longest_burst)) ∙ last_taken q (n % longest_burst)
+
+-- ---- they may stand in a schedule
+
+are_added : (v : Version) (p : ℕ) (es fs : List Entry) → AreEntries v p es → AreEntries v p fs → AreEntries v p (es ++ fs)
+are_added v p [] fs a b = b
+are_added v p (e ∷ es) fs a b = (a.0, are_added v p es fs a.1 b)
+
+is_act : (v : Version) (n : ℕ) → 1 ≤ n → n ≤ longest_burst → IsAct v (works n)
+is_act First n low high = (low, high)
+is_act Second n low high = (low, high)
+
+are_repeated : (v : Version) (p k q l : ℕ) → q < p → 1 ≤ l → l ≤ longest_burst → AreEntries v p (replicate k (burst q l))
+are_repeated v p zero q l below low high = tt
+are_repeated v p (suc k) q l below low high = ((below, is_act v l low high), are_repeated v p k q l below low high)
+
+is_last : (v : Version) (p q n : ℕ) → q < p → n ≤ longest_burst → AreEntries v p (last_burst q n)
+is_last v p q zero below high = tt
+is_last v p q (suc n) below high = ((below, is_act v (suc n) (omega arith) high), tt)
+
+pub are_bursts : (v : Version) (p q n : ℕ) → q < p → AreEntries v p (bursts q n)
+are_bursts v p q n below =
+    are_added v p (replicate (n / longest_burst) (burst q longest_burst)) (last_burst q (n % longest_burst))
+    (are_repeated v p (n / longest_burst) q longest_burst below (omega arith) (omega arith)) (is_last v p q (n % longest_burst) below (omega arith))
+
+-- ---- a schedule that grows by them
+
+module _ (v : Version) (p n : ℕ) (ss : List Short) (ks : List ℕ) (x : Schedule) (kept : IsKept v p n ss ks) (is : seen v p n ss ks ≡ x) (q made : ℕ) (new : List Short) (grown : new ≡ ss ++ short_bursts q made) where
+  entries_grown : entries_of new ks ≡ entries_of ss ks ++ bursts q made
+  entries_grown =
+      ap (λ (ts : List Short). entries_of ts ks) grown ∙ entries_added ss (short_bursts q made) ks kept.all
+      ∙ ap (λ (es : List Entry). entries_of ss ks ++ es) (bursts_entries q made)
+
+  pub keeps_bursts : q < x.processors → IsKept v p n new ks
+  keeps_bursts below =
+      let here : q < p = subst (λ (y : Schedule). q < y.processors) (sym is) below in
+      record {
+        all = omega (arith, ap all_taken grown, taken_added ss (short_bursts q made), bursts_taken q made, kept.all);
+        schedule = (kept.schedule.0, subst (λ (es : List Entry). AreEntries v p es) (sym entries_grown) (are_added v p (entries_of ss ks) (bursts q made) kept.schedule.1 (are_bursts v p q made here)));
+      }
+
+  pub sees_bursts : seen v p n new ks ≡ with_entries x (bursts q made)
+  sees_bursts =
+      ap (λ (es : List Entry). record { version = v; processors = p; slots = n; entries = es }) entries_grown
+      ∙ ap (λ (y : Schedule). with_entries y (bursts q made)) is
+
+-- ---- what they do
+
+-- so many instructions are made in two parts
+works_parts : (code : Code) (s m n k : ℕ) (a : Point) (q : ℕ) (b : Point) → k ≡ m + n → Works code s k a q b → (x : Point) × Works code s m a q x × Works code s n x q b
+works_parts code s zero n k a q b e w = (a, refl, subst (λ (i : ℕ). Works code s i a q b) (let z : k ≡ n = omega (arith, e) in z) w)
+works_parts code s (suc m) n zero a q b e w = absurd (omega (arith, e))
+works_parts code s (suc m) n (suc k) a q b e w =
+    let r = works_parts code s m n k w.0 q b (omega (arith, e)) w.2 in
+    (r.0, (w.0, w.1, r.1), r.2)
+
+-- entries lead so far, by so many local instructions
+abbrev Does : Code → ℕ → Point → List Entry → Point → ℕ → Type 0
+Does code s a es b n = Leads Second code s a es b × Tallies Second code s a es b n 0
+
+repeated_do : (code : Code) (s k l n m : ℕ) (a : Point) (q : ℕ) (b : Point) → m ≡ times k l + n → Works code s m a q b → (x : Point) × Does code s a (replicate k (burst q l)) x (times k l) × Works code s n x q b
+repeated_do code s zero l n m a q b e w = (a, (refl, (refl, refl, refl)), subst (λ (i : ℕ). Works code s i a q b) (let z : m ≡ n = omega (arith, e) in z) w)
+repeated_do code s (suc k) l n m a q b e w =
+    let one = works_parts code s l (times k l + n) m a q b (omega (arith, e)) w in
+    let more = repeated_do code s k l n (times k l + n) one.0 q b refl one.2 in (
+      more.0,
+      ((one.0, one.1, more.1.0), (one.0, times k l, 0, 0, one.1, inl (refl, works_still code s l a q one.0 one.1), more.1.1, refl, refl)),
+      more.2,
+    )
+
+last_does : (code : Code) (s n : ℕ) (a : Point) (q : ℕ) (b : Point) → Works code s n a q b → Does code s a (last_burst q n) b n
+last_does code s zero a q b w = (w, (w, refl, refl))
+last_does code s (suc n) a q b w = ((b, w, refl), (b, 0, 0, 0, w, inl (refl, works_still code s (suc n) a q b w), (refl, refl, refl), omega arith, refl))
+
+leads_on : (v : Version) (code : Code) (s : ℕ) (a b c : Point) (es fs : List Entry) → Leads v code s a es b → Leads v code s b fs c → Leads v code s a (es ++ fs) c
+leads_on v code s a b c [] fs l k = subst (λ (x : Point). Leads v code s x fs c) (sym l) k
+leads_on v code s a b c (e ∷ es) fs l k = (l.0, l.1, leads_on v code s l.0 b c es fs l.2 k)
+
+tallies_on : (v : Version) (code : Code) (s : ℕ) (a b c : Point) (es fs : List Entry) (m n i j : ℕ) → Tallies v code s a es b m i → Tallies v code s b fs c n j → Tallies v code s a (es ++ fs) c (m + n) (i + j)
+tallies_on v code s a b c [] fs m n i j t u =
+    let start = subst (λ (x : Point). Tallies v code s x fs c n j) (sym t.0) u in
+    subst (λ (k : ℕ). Tallies v code s a fs c k (i + j)) (let z : n ≡ m + n = omega (arith, t.1) in z)
+    (subst (λ (k : ℕ). Tallies v code s a fs c n k) (let z : j ≡ i + j = omega (arith, t.2) in z) start)
+tallies_on v code s a b c (e ∷ es) fs m n i j t u =
+    (t.0, t.1 + n, t.2 + j, t.3, t.4, t.5, tallies_on v code s t.0 b c es fs t.1 n t.2 j t.6 u, omega (arith, t.7), omega (arith, t.8))
+
+pub bursts_do : (code : Code) (s n : ℕ) (a : Point) (q : ℕ) (b : Point) → Works code s n a q b → Does code s a (bursts q n) b n
+bursts_do code s n a q b w =
+    let all = replicate (n / longest_burst) (burst q longest_burst) in
+    let left = n % longest_burst in
+    let first = repeated_do code s (n / longest_burst) longest_burst left n a q b (omega (arith, times_longest (n / longest_burst))) w in
+    let last = last_does code s left first.0 q b first.2 in
+    let count : times (n / longest_burst) longest_burst + left ≡ n = omega (arith, times_longest (n / longest_burst)) in (
+      leads_on Second code s a first.0 b all (last_burst q left) first.1.0 last.0,
+      subst (λ (k : ℕ). Tallies Second code s a (bursts q n) b k 0) count
+          (tallies_on Second code s a first.0 b all (last_burst q left) (times (n / longest_burst) longest_burst) left 0 0 first.1.1 last.1),
+    )
+
+-- ---- a core that has them behind its entries
+
+-- what follows from its schedule
+abbrev Follows : List ℕ → Code → Schedule → Point → ℕ → ℕ → Type 0
+Follows input k z p made again = Replays k input z p × Tallies Second k z.slots (beginning k input z.slots) z.entries p made again
+
+pub whole_worked : (input : List ℕ) (a b : Activities) (x y : Schedule) (t u : Tally) (q made : ℕ) → IsWhole input a x t → AreParts b y u → Stays a b → IsWorked q made a x t b y u → IsWhole input b y u
+whole_worked input a b x y t u q made w parts stays did =
+    let more = bursts_do (code_in a) x.slots made (point_in a) q (point_in b) did.step in
+    let start = beginning (code_in a) input x.slots in
+    let led = leads_on x.version (code_in a) x.slots start (point_in a) (point_in b) x.entries (bursts q made) w.replays.leads
+    (subst (λ (v : Version). Leads v (code_in a) x.slots (point_in a) (bursts q made) (point_in b)) (sym w.parts.version) more.0) in
+    let counts = tallies_on Second (code_in a) x.slots start (point_in a) (point_in b) x.entries (bursts q made) t.made made t.again 0 w.tallies more.1 in
+    let one : Follows input (code_in a) (with_entries x (bursts q made)) (point_in b) (t.made + made) (t.again + 0) = (record { leads = led }, counts) in
+    let two = subst (λ (z : Schedule). Follows input (code_in a) z (point_in b) (t.made + made) (t.again + 0)) (sym did.schedule) one in
+    let three = subst (λ (k : Code). Follows input k y (point_in b) (t.made + made) (t.again + 0)) (sym stays.code_is) two in
+    let four = subst (λ (m : ℕ). Follows input (code_in b) y (point_in b) m (t.again + 0)) (sym did.counted) three in
+    let five = subst (λ (m : ℕ). Follows input (code_in b) y (point_in b) u.made m) (let z : t.again + 0 ≡ u.again = omega (arith, did.parked) in z) four in
+    record { parts = parts; replays = five.0; tallies = five.1 }
+
+pub put_worked : (a b : Activities) (x y : Schedule) (t u : Tally) (q made : ℕ) (to : Frame) → AreParts a x t → is_some (frame_at q (point_in a)) ≡ true
+    → ((from : Frame) → frame_at q (point_in a) ≡ Some from → locals (code_in a).instructions made from ≡ Some to)
+    → ((n : ℕ) (from : Frame) → frame_at q (point_in a) ≡ Some from → locals (code_in a).instructions n from ≡ Some to → Works (code_in a) a.slots n (point_in a) q (point_in b))
+    → y ≡ with_entries x (bursts q made) → u.made ≡ t.made + made → u.again ≡ t.again + 0 → IsWorked q made a x t b y u
+put_worked a b x y t u q made to parts holds leads does e n m =
+    let f = here (frame_at q (point_in a)) holds in
+    record {
+      step = subst (λ (s : ℕ). Works (code_in a) s made (point_in a) q (point_in b)) parts.are.slots (does made f.0 f.1 (leads f.0 f.1));
+      schedule = e;
+      counted = n;
+      parked = omega (arith, m);
+    }
