@@ -5,9 +5,9 @@ use Rattle.machine.specs.Code.{Code}
 use Rattle.machine.specs.Frame.{Frame}
 use Rattle.machine.specs.Local.{locals}
 use Rattle.replay.specs.Activities.{Stays, code_in, frame_at, point_in}
-use Rattle.replay.specs.Kept.{IsKept, all_taken, entries_of, entry_of, last_short, seen, short_bursts, taken}
+use Rattle.replay.specs.Kept.{IsKept, all_taken, entries_of, entry_of, last_short, seen, short_bursts}
 use Rattle.replay.specs.Replays.{Point, Leads, Replays, Works, beginning}
-use Rattle.replay.specs.Schedules.{AreEntries, Entry, IsAct, IsSchedule, Schedule, bursts, last_burst, longest_burst, with_entries, works}
+use Rattle.replay.specs.Schedules.{AreEntries, Entry, IsAct, Schedule, bursts, last_burst, longest_burst, with_entries, works}
 use Rattle.replay.specs.Tallies.{Tallies}
 use Rattle.replay.specs.Whole.{AreParts, IsWhole, IsWorked}
 use Rattle.replay.specs.declared.activities.Activities.{Activities}
