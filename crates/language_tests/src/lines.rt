@@ -8,10 +8,12 @@ use std::test::Fail;
 
 /// Some characters, and blanks behind them.
 fn is_filled(text: &[u8], characters: &[u8]) -> bool {
-    match text.strip_prefix(characters) {
-        Some(rest) => rest.iter().all(|c| *c == b' '),
-        None => false,
+    for (place, byte) in text.iter().enumerate() {
+        if *byte != *characters.get(place).unwrap_or(&b' ') {
+            return false;
+        }
     }
+    characters.len() <= text.len()
 }
 
 /// A label, a line, and the text by its lines, without the blanks behind each.

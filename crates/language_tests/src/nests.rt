@@ -1,6 +1,6 @@
 //! Where DO ranges and IF blocks stand.
 
-use ast::Refusal;
+use ast::{Refusal, Stmt};
 use fixed_form::statements;
 use std::alloc::{AllocError, Global};
 use std::process::Abort;
@@ -8,14 +8,20 @@ use std::test::Fail;
 use structure::{Blocks, Span, blocks};
 use syntax::statement;
 
-/// The ranges and blocks of a source's statements.
-fn blocks_of(alloc: Global, source: &[u8]) -> Result<Blocks, Refusal> {
+/// The trees of a source's statements.
+pub fn trees_of(alloc: Global, source: &[u8]) -> Result<Vec<Stmt>, Refusal> {
     let labelled = statements(alloc, source)?;
     let mut trees = Vec::with_capacity(alloc, labelled.len())?;
     for one in &labelled {
         trees.push(statement(alloc, one)?)?;
     }
-    blocks(alloc, &labelled, &trees)
+    Ok(trees)
+}
+
+/// The ranges and blocks of a source's statements.
+fn blocks_of(alloc: Global, source: &[u8]) -> Result<Blocks, Refusal> {
+    let labelled = statements(alloc, source)?;
+    blocks(alloc, &labelled, &trees_of(alloc, source)?)
 }
 
 /// Two ranges that end together, a block in them, and a range in its first arm

@@ -2,10 +2,12 @@
 
 ghost use Rattle.std.specs.Prelude.{◌≡◌, ◌∷◌, codes};
 
+use crate::nests::trees_of;
 use ast::{
     Access, Arm, Bounds, Declarator, Definition, Dimension, DoHead, Expr, Intrinsic, Item, Kind,
     Line, Name, Node, Operator, Prefix, Program, RefId, Reference, Stmt, Store, Symbol, SymbolKind,
 };
+use expressions::reference_to;
 use std::alloc::{AllocError, Global};
 use std::process::Abort;
 use std::test::Fail;
@@ -61,8 +63,8 @@ fn comparison(alloc: Global) -> Result<Expr, AllocError> {
     ))
 }
 
-fn is_element(access: &Access) -> bool {
-    access.reference == reference(b'A')
+fn is_element(access: &Access, reference: Reference) -> bool {
+    access.reference == reference
         && match access.subscripts.as_slice() {
             [subscript] => is_minus_nine(subscript),
             _ => false,
@@ -72,7 +74,7 @@ fn is_element(access: &Access) -> bool {
 fn is_left(expr: &Expr) -> bool {
     match expr {
         Expr::Parentheses(inner) => match &**inner {
-            Expr::Element(access) => is_element(access),
+            Expr::Element(access) => is_element(access, reference(b'A')),
             _ => false,
         },
         _ => false,
@@ -112,15 +114,24 @@ fn want_of_memory_in_expressions(rt: HostRuntime) -> Result<(), Fail> {
 
 // ---- statements, each on a line of its own, and labelled by twice that
 
-fn statement(line: Line, kind: Kind) -> Stmt
-    ensures { result.kind ≡ kind }
-{
-    Stmt {
-        line,
-        label: Some(line.wrapping_mul(2)),
-        kind,
-    }
-}
+/// A statement of each kind. Those that begin and end ranges and blocks stand alone, as copies do.
+const STATEMENTS: &[u8] = b"    2 PROGRAM P
+    4 INTEGER A(-9:1)
+    6 DIMENSION A(-9:1)
+    8 PARAMETER (N=-9)
+   10 A(-9)=-9
+   12 DO 30 K=-9,3,-9
+   14 CONTINUE
+   16 IF (-9) THEN
+   18 ELSE IF (-9) THEN
+   20 ELSE
+   22 END IF
+   24 IF (-9) STOP
+   26 PRINT *,-9,'OK'
+   28 READ *,A(-9)
+   30 STOP
+   32 END
+";
 
 /// A(-9:1)
 fn is_declarator(declared: &[Declarator]) -> bool {
@@ -148,7 +159,7 @@ fn is_definition(defined: &[Definition]) -> bool {
 
 fn is_head(head: &DoHead) -> bool {
     head.terminal == 30
-        && head.variable == reference(b'K')
+        && head.variable == reference_to(name(b'K'))
         && is_minus_nine(&head.first)
         && matches!(&head.last, Expr::Constant(3))
         && match &head.step {
@@ -167,7 +178,7 @@ fn are_items(items: &[Item]) -> bool {
 
 fn are_elements(elements: &[Access]) -> bool {
     match elements {
-        [element] => is_element(element),
+        [element] => is_element(element, reference_to(name(b'A'))),
         _ => false,
     }
 }
@@ -179,7 +190,9 @@ fn is_kind(line: Line, kind: &Kind) -> bool {
         (2, Kind::Integer(declared)) => is_declarator(declared),
         (3, Kind::Dimension(declared)) => is_declarator(declared),
         (4, Kind::Parameter(defined)) => is_definition(defined),
-        (5, Kind::Assign(target, value)) => is_element(target) && is_minus_nine(value),
+        (5, Kind::Assign(target, value)) => {
+            is_element(target, reference_to(name(b'A'))) && is_minus_nine(value)
+        }
         (6, Kind::Do(head)) => is_head(head),
         (7, Kind::Continue) => true,
         (8, Kind::If(condition)) => is_minus_nine(condition),
@@ -224,101 +237,11 @@ fn copy_each(rt: &impl Abort, alloc: Global, list: &[Stmt]) -> Result<(), Fail> 
     Ok(())
 }
 
-fn bounds(alloc: Global) -> Result<Vec<Declarator>, AllocError> {
-    let given = Bounds {
-        lower: Some(minus_nine(alloc)?),
-        upper: Expr::Constant(1),
-    };
-    Ok(Vec::from_array(
-        alloc,
-        [Declarator {
-            name: name(b'A'),
-            bounds: Vec::from_array(alloc, [given])?,
-        }],
-    )?)
-}
-
 #[test]
-fn want_of_memory_in_declarations(rt: HostRuntime) -> Result<(), Fail> {
-    let alloc = rt.alloc();
-    let list = [
-        statement(1, Kind::Program(name(b'P'))),
-        statement(2, Kind::Integer(bounds(alloc)?)),
-    ];
-    copy_each(&rt, alloc, &list)
-}
-
-#[test]
-fn want_of_memory_in_constants(rt: HostRuntime) -> Result<(), Fail> {
-    let alloc = rt.alloc();
-    let definition = Definition {
-        name: name(b'N'),
-        value: minus_nine(alloc)?,
-    };
-    let list = [
-        statement(3, Kind::Dimension(bounds(alloc)?)),
-        statement(4, Kind::Parameter(Vec::from_array(alloc, [definition])?)),
-    ];
-    copy_each(&rt, alloc, &list)
-}
-
-#[test]
-fn want_of_memory_in_assignments(rt: HostRuntime) -> Result<(), Fail> {
-    let alloc = rt.alloc();
-    let list = [
-        statement(5, Kind::Assign(element(alloc)?, minus_nine(alloc)?)),
-        statement(7, Kind::Continue),
-        statement(15, Kind::Stop),
-        statement(16, Kind::End),
-    ];
-    copy_each(&rt, alloc, &list)
-}
-
-fn head(alloc: Global) -> Result<DoHead, AllocError> {
-    Ok(DoHead {
-        terminal: 30,
-        variable: reference(b'K'),
-        first: minus_nine(alloc)?,
-        last: Expr::Constant(3),
-        step: Some(minus_nine(alloc)?),
-    })
-}
-
-#[test]
-fn want_of_memory_in_ranges_and_blocks(rt: HostRuntime) -> Result<(), Fail> {
-    let alloc = rt.alloc();
-    let list = [
-        statement(6, Kind::Do(head(alloc)?)),
-        statement(8, Kind::If(minus_nine(alloc)?)),
-        statement(9, Kind::ElseIf(minus_nine(alloc)?)),
-        statement(10, Kind::Else),
-        statement(11, Kind::EndIf),
-    ];
-    copy_each(&rt, alloc, &list)
-}
-
-#[test]
-fn want_of_memory_in_logical_ifs(rt: HostRuntime) -> Result<(), Fail> {
-    let alloc = rt.alloc();
-    let inner = Box::new(alloc, Kind::Stop)?;
-    copy_each(
-        &rt,
-        alloc,
-        &[statement(12, Kind::LogicalIf(minus_nine(alloc)?, inner))],
-    )
-}
-
-#[test]
-fn want_of_memory_in_lists(rt: HostRuntime) -> Result<(), Fail> {
-    let alloc = rt.alloc();
-    let text = Item::Text(Vec::from_slice(alloc, b"OK")?);
-    let items = Vec::from_array(alloc, [Item::Value(minus_nine(alloc)?), text])?;
-    let elements = Vec::from_array(alloc, [element(alloc)?])?;
-    let list = [
-        statement(13, Kind::Print(items)),
-        statement(14, Kind::Read(elements)),
-    ];
-    copy_each(&rt, alloc, &list)
+fn want_of_memory_in_statements(rt: HostRuntime) -> Result<(), Fail> {
+    let list = trees_of(rt.alloc(), STATEMENTS)?;
+    assert_eq!(&rt; list.len(), 16);
+    copy_each(&rt, rt.alloc(), &list)
 }
 
 // ---- programs and stores
@@ -337,11 +260,21 @@ fn program(alloc: Global) -> Result<Program, AllocError> {
         last: Expr::Constant(3),
         step: None,
     };
-    let range = Vec::from_array(alloc, [Node::Plain(statement(15, Kind::Stop))])?;
+    let stop = Stmt {
+        line: 15,
+        label: Some(30),
+        kind: Kind::Stop,
+    };
+    let range = Vec::from_array(alloc, [Node::Plain(stop)])?;
+    let next = Stmt {
+        line: 7,
+        label: Some(14),
+        kind: Kind::Continue,
+    };
     let taken = Arm {
         line: 8,
         condition: Some(Expr::Truth(false)),
-        body: Vec::from_array(alloc, [Node::Plain(statement(7, Kind::Continue))])?,
+        body: Vec::from_array(alloc, [Node::Plain(next)])?,
     };
     let other = Arm {
         line: 10,
