@@ -48,15 +48,6 @@ const LINES: &[u8] = b"LOOP 0 PLACE 5 VARIABLE I STEP 1 PRIVATE K
 ";
 
 #[test]
-fn shows_code(rt: HostRuntime) -> Result<(), Fail> {
-    let mut source = WAITING;
-    let mut out = Vec::new(rt.alloc());
-    assert_eq!(rt; code(rt.alloc(), &mut source, &mut out)?, 0);
-    assert_eq!(rt; out.as_slice(), LINES);
-    Ok(())
-}
-
-#[test]
 fn streams_that_fail_under_code(rt: HostRuntime) -> Result<(), Fail> {
     let mut source = WAITING;
     let mut out = with_room(rt.alloc(), 20)?;

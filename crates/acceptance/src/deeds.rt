@@ -4,6 +4,7 @@
 use commands::{Command, FileFault, NamedFiles, Threaded, obey};
 use std::alloc::{AllocError, Global};
 use std::io::{Error, ErrorKind, Result as IoResult};
+use std::process::Abort;
 
 /// The bytes of the files that are there.
 fn held(name: &str) -> Option<&'static [u8]> {
@@ -155,39 +156,43 @@ const CASES: [Case; 6] = [
     },
 ];
 
-#[test]
-fn commands_succeed(rt: HostRuntime) {
-    for case in &CASES {
-        let mut files = TestFiles::new(rt.alloc(), usize::MAX);
-        let mut out = Vec::new(rt.alloc());
-        let mut nowhere = Vec::new(rt.alloc());
-        let status = obey(
-            &rt,
-            &mut files,
-            &mut out,
-            &mut nowhere,
-            case.command,
-            65_536,
-        );
-        assert_eq!(rt; status, 0);
-        assert_eq!(rt; files.calls.as_slice(), case.calls);
-        assert_eq!(rt; out.as_slice(), case.output);
-        match case.put {
-            Some(put) => assert_eq!(rt; files.put.as_slice(), put),
-            None => assert!(rt; !files.put.is_empty()),
-        }
-    }
-}
-
 /// How many lines these bytes are.
 fn lines(bytes: &[u8]) -> usize {
     bytes.iter().filter(|&&byte| byte == b'\n').count()
 }
 
+/// What came of a command whose calls all went well.
+fn has_succeeded(rt: &impl Abort, case: &Case, files: &TestFiles, out: &[u8], status: u8) {
+    assert_eq!(*rt; status, 0);
+    assert_eq!(*rt; files.calls.as_slice(), case.calls);
+    assert_eq!(*rt; out, case.output);
+    match case.put {
+        Some(put) => assert_eq!(*rt; files.put.as_slice(), put),
+        None => assert!(*rt; !files.put.is_empty()),
+    }
+}
+
+/// What came of a command of which so many calls went well, and the next one failed.
+fn has_failed(
+    rt: &impl Abort,
+    case: &Case,
+    left: usize,
+    files: &TestFiles,
+    out: &[u8],
+    status: u8,
+) {
+    assert_eq!(*rt; status, 4);
+    assert!(*rt; case.calls.starts_with(&files.calls));
+    assert_eq!(*rt; lines(&files.calls), left.wrapping_add(1));
+    assert!(*rt; out.is_empty());
+    assert!(*rt; files.put.is_empty());
+}
+
 #[test]
 fn each_call_fails_in_turn(rt: HostRuntime) {
     for case in &CASES {
-        for left in 0..lines(case.calls) {
+        let calls = lines(case.calls);
+        for left in 0..=calls {
             let mut files = TestFiles::new(rt.alloc(), left);
             let mut out = Vec::new(rt.alloc());
             let mut nowhere = Vec::new(rt.alloc());
@@ -199,11 +204,11 @@ fn each_call_fails_in_turn(rt: HostRuntime) {
                 case.command,
                 65_536,
             );
-            assert_eq!(rt; status, 4);
-            assert!(rt; case.calls.starts_with(&files.calls));
-            assert_eq!(rt; lines(&files.calls), left + 1);
-            assert!(rt; out.is_empty());
-            assert!(rt; files.put.is_empty());
+            if left < calls {
+                has_failed(&rt, case, left, &files, &out, status);
+            } else {
+                has_succeeded(&rt, case, &files, &out, status);
+            }
         }
     }
 }

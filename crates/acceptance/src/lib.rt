@@ -9,11 +9,7 @@ mod deeds;
 #[cfg(test)]
 mod drawings;
 #[cfg(test)]
-mod explanations;
-#[cfg(test)]
 mod listings;
-#[cfg(test)]
-mod mistakes;
 #[cfg(test)]
 mod replaying;
 #[cfg(test)]

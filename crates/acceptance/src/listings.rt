@@ -25,15 +25,6 @@ const LINES: &[u8] = b"LOOP 1 LINE 2 DOACROSS EVENTS 1
 ";
 
 #[test]
-fn lists(rt: HostRuntime) -> Result<(), Fail> {
-    let mut source = BRANCH;
-    let mut out = Vec::new(rt.alloc());
-    assert_eq!(rt; list(rt.alloc(), &mut source, &mut out)?, 0);
-    assert_eq!(rt; out.as_slice(), LINES);
-    Ok(())
-}
-
-#[test]
 fn streams_that_fail_in_lists(rt: HostRuntime) -> Result<(), Fail> {
     let mut source = BRANCH;
     let mut out = with_room(rt.alloc(), 20)?;

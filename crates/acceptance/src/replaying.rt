@@ -1,7 +1,7 @@
-//! Replays and upgrades.
+//! Replays and upgrades where readers, writers or memory fail.
 
 use crate::streams::{Interrupted, Narrow, status_of};
-use engines::{EngineFault, Outcome, Upgraded, replay, replay_texts, upgrade, upgrade_texts};
+use engines::{EngineFault, Outcome, Upgraded, replay, replay_texts, upgrade_texts};
 use std::alloc::{AllocError, Global};
 use std::process::Abort;
 use std::test::Fail;
@@ -27,136 +27,12 @@ const ELEMENTS: &[u8] =
 const TO_ITS_END: &[u8] =
     b"DOACROSS SCHEDULE 2\n1 1\n0 M\n0 0\n0 0\n0 2\n0 0\n0 0\n0 2\n0 0\n0 2\n0 0\n0 0\n";
 
-/// Two trips, whose records are printed in turn.
-const TRIPS: &[u8] = b"      DO 10 I=1,2\n   10 PRINT *,I\n      END\n";
-
-/// Both are open; the second prints first, and holds its record until the first has retired.
-const OVERLAPPING: &[u8] =
-    b"DOACROSS SCHEDULE 1\n2 2\n0 0\n0 2\n0 0\n1 0\n0 0\n0 0\n0 1\n0 0\n0 0\n1 1\n1 0\n1 0\n1 0\n1 0\n0 0\n0 0\n0 0\n";
-
-/// Two trips that store.
-const STORING: &[u8] =
-    b"      INTEGER A(2)\n      DO 10 I=1,2\n   10 A(I)=I\n      PRINT *,A(2),I\n      END\n";
-
-/// The second stores first. Behind the loop an element and the DO variable are printed.
-const STORED_AHEAD: &[u8] =
-    b"DOACROSS SCHEDULE 2\n2 2\n0 M\n0 2\n0 0\n1 T\n0 0\n0 T\n0 3\n0 0\n0 0\n1 3\n1 0\n1 0\n1 I 1\n1 0\n0 M\n0 0\n0 2\n0 0\n0 0\n0 0\n0 0\n";
-
-#[test]
-fn iterations_that_overlap(rt: HostRuntime) -> Result<(), Fail> {
-    let rows: [(&[u8], &[u8], &[u8]); 2] = [
-        (TRIPS, OVERLAPPING, b" 1\n 2\n"),
-        (STORING, STORED_AHEAD, b" 2 3\n"),
-    ];
-    for (source, schedule, shown) in rows {
-        let mut out = Vec::new(rt.alloc());
-        replay_texts(rt.alloc(), source, b"", schedule, &mut out)?;
-        assert_eq!(rt; out.as_slice(), shown);
-    }
-    Ok(())
-}
-
-#[test]
-fn schedules_of_the_end_alone(rt: HostRuntime) -> Result<(), Fail> {
-    let rows: [(&[u8], &[u8]); 8] = [
-        (WHOLE, b""),
-        (NAMED, b""),
-        (b"DOACROSS SCHEDULE 1\n1 1\n0 0\n", b"SCHEDULE 55 LINE 3\n"),
-        (
-            b"DOACROSS SCHEDULE 1\n1 1\n0 0\n0 0\n0 0\n",
-            b"SCHEDULE 56 LINE 5\n",
-        ),
-        (
-            b"DOACROSS SCHEDULE 1\n1 1\n0 0\n0 ",
-            b"SCHEDULE 52 LINE 4\n",
-        ),
-        (
-            b"DOACROSS SCHEDULE 1\n1 1\n0 0\n1 0\n",
-            b"SCHEDULE 53 LINE 4\n",
-        ),
-        (
-            b"DOACROSS SCHEDULE 1\n1 1\n0 0\n0 1\n",
-            b"SCHEDULE 54 LINE 4\n",
-        ),
-        (
-            b"DOACROSS SCHEDULE 1\n2 1\n0 0\n1 0\n",
-            b"SCHEDULE 54 LINE 4\n",
-        ),
-    ];
-    for (schedule, shown) in rows {
-        let mut out = Vec::new(rt.alloc());
-        let outcome = replay_texts(rt.alloc(), END, b"", schedule, &mut out)?;
-        assert_eq!(rt; out.as_slice(), shown);
-        assert_eq!(rt; outcome.status(), if shown.is_empty() { 0 } else { 6 });
-    }
-    Ok(())
-}
-
-#[test]
-fn ends_of_replays(rt: HostRuntime) -> Result<(), Fail> {
-    let mut out = Vec::new(rt.alloc());
-    let outcome = replay_texts(rt.alloc(), DIVIDES, b"", TO_ITS_FAULT, &mut out)?;
-    assert_eq!(rt;
-        out.as_slice(),
-        b" 1\nFAULT 3 ZERO DIVISOR LINE 2\n".as_slice()
-    );
-    assert_eq!(rt; outcome.status(), 2);
-    let mut out = Vec::new(rt.alloc());
-    let outcome = replay_texts(rt.alloc(), b"      K=(1\n      END\n", b"", b"", &mut out)?;
-    assert_eq!(rt; out.as_slice(), b"REFUSED 25 LINE 1\n".as_slice());
-    assert_eq!(rt; outcome.status(), 1);
-    Ok(())
-}
-
 /// What the schedule of the end alone is upgraded to.
 fn is_named(rt: &impl Abort, upgraded: &Upgraded) {
     match upgraded {
         Upgraded::Text(text) => assert_eq!(*rt; text.as_slice(), NAMED),
         Upgraded::Shown(_) => panic!(*rt; "a schedule that replays"),
     }
-}
-
-#[test]
-fn upgrades(rt: HostRuntime) -> Result<(), Fail> {
-    is_named(&rt, &upgrade_texts(rt.alloc(), END, b"", WHOLE)?);
-    is_named(&rt, &upgrade_texts(rt.alloc(), END, b"", NAMED)?);
-    match upgrade_texts(
-        rt.alloc(),
-        END,
-        b"",
-        b"DOACROSS SCHEDULE 1\n1 1\n0 0\n0 1\n",
-    )? {
-        Upgraded::Shown(page) => assert_eq!(rt;
-            page.outcome,
-            Outcome::NoSchedule {
-                number: 54,
-                line: 4
-            }
-        ),
-        Upgraded::Text(_) => panic!(rt; "a schedule that can't be"),
-    }
-    Ok(())
-}
-
-#[test]
-fn upgrades_of_readers(rt: HostRuntime) -> Result<(), Fail> {
-    let mut source = END;
-    let mut input: &[u8] = b"";
-    let mut schedule = WHOLE;
-    let mut out = Vec::new(rt.alloc());
-    let mut named = Vec::new(rt.alloc());
-    let status = upgrade(
-        rt.alloc(),
-        &mut source,
-        &mut input,
-        &mut schedule,
-        &mut out,
-        &mut named,
-    )?;
-    assert_eq!(rt; status, 0);
-    assert!(rt; out.is_empty());
-    assert_eq!(rt; named.as_slice(), NAMED);
-    Ok(())
 }
 
 fn replay_into(alloc: Global, out: &mut Vec<u8>) -> Result<Outcome, EngineFault> {

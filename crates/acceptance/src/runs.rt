@@ -1,4 +1,4 @@
-//! What `check` and `seq` write, and how they end where a reader or a writer fails.
+//! How `check` and `seq` end where a reader, a writer or memory fails.
 
 use crate::streams::{Full, Interrupted, Narrow, Unreadable, status_of, with_room};
 use engines::{EngineFault, check, seq};
@@ -8,104 +8,6 @@ use std::test::Fail;
 
 const DIVIDES: &[u8] = b"      PRINT *,1\n      PRINT *,2,1/0\n      END\n";
 
-/// Runs a source on an input, the store wanted; its output and its status.
-fn runs(
-    rt: &(impl Abort + AllocGlobal),
-    source: &[u8],
-    input: &[u8],
-    output: &[u8],
-    status: u8,
-) -> Result<(), Fail> {
-    let mut source = source;
-    let mut input = input;
-    let mut out = Vec::new(rt.alloc());
-    let given = seq(rt.alloc(), &mut source, &mut input, true, 65_536, &mut out)?;
-    assert_eq!(rt; out.as_slice(), output);
-    assert_eq!(rt; given, status);
-    Ok(())
-}
-
-#[test]
-fn stores(rt: HostRuntime) -> Result<(), Fail> {
-    runs(
-        &rt,
-        b"      INTEGER B(0:1,-1:0),A(3),Z\n      PARAMETER (N=2)\n      B(0,0)=5\n      A(N)=-4\n      END\n",
-        b"",
-        b"A(1) = 0\nA(2) = -4\nA(3) = 0\nB(0,-1) = 0\nB(1,-1) = 0\nB(0,0) = 5\nB(1,0) = 0\nZ = 0\n",
-        0,
-    )?;
-    runs(
-        &rt,
-        b"      READ *,I\n      DO 10 J=1,I\n   10 K=K+J\n      PRINT *,'SUM',K\n      STOP\n      END\n",
-        b"4\n",
-        b" SUM 10\nI = 4\nJ = 5\nK = 10\n",
-        0,
-    )
-}
-
-#[test]
-fn ends(rt: HostRuntime) -> Result<(), Fail> {
-    let stops: &[u8] = b"      PRINT *,1\n      IF (K.EQ.0) STOP\n      PRINT *,2\n      END\n";
-    runs(&rt, stops, b"", b" 1\nSTOPPED LINE 2\n", 0)?;
-    runs(&rt, DIVIDES, b"", b" 1\nFAULT 3 ZERO DIVISOR LINE 2\n", 2)?;
-    let rows: [(&[u8], &[u8], &[u8]); 5] = [
-        (
-            b"      K=-9223372036854775807-2\n      END\n",
-            b"",
-            b"FAULT 1 OVERFLOW LINE 1\n",
-        ),
-        (
-            b"      INTEGER A(2)\n      A(3)=1\n      END\n",
-            b"",
-            b"FAULT 2 INDEX LINE 2\n",
-        ),
-        (
-            b"      DO 1 I=1,2,K\n    1 CONTINUE\n      END\n",
-            b"",
-            b"FAULT 4 ZERO STEP LINE 1\n",
-        ),
-        (
-            b"      READ *\n      READ *,K\n      END\n",
-            b"7\n",
-            b"FAULT 5 END OF INPUT LINE 2\n",
-        ),
-        (
-            b"      READ *\n      READ *,K\n      END\n",
-            b"7\n7.5\n",
-            b"FAULT 6 BAD INPUT LINE 2\n",
-        ),
-    ];
-    for (source, input, output) in rows {
-        runs(&rt, source, input, output, 2)?;
-    }
-    Ok(())
-}
-
-#[test]
-fn checks(rt: HostRuntime) -> Result<(), Fail> {
-    let nested: &[u8] =
-        b"      DO 10 I=1,2\n      IF (I.EQ.1) THEN\n      DO 20 J=1,2\n   20 PRINT *,J\n      ELSE\n      K=1\n      END IF\n   10 CONTINUE\n      END\n";
-    let rows: [(&[u8], &[u8], u8); 4] = [
-        (DIVIDES, b"ACCEPTED STATEMENTS 3 LOOPS 0\n", 0),
-        (nested, b"ACCEPTED STATEMENTS 9 LOOPS 2\n", 0),
-        (b"", b"REFUSED 7 LINE 0\n", 1),
-        (
-            b"      K=1\n      TOTAL=1\n      END\n",
-            b"REFUSED 31 LINE 2\n",
-            1,
-        ),
-    ];
-    for (source, output, status) in rows {
-        let mut source = source;
-        let mut out = Vec::new(rt.alloc());
-        let given = check(rt.alloc(), &mut source, &mut out)?;
-        assert_eq!(rt; out.as_slice(), output);
-        assert_eq!(rt; given, status);
-    }
-    Ok(())
-}
-
-/// A refusal of each rule of the profile, and of two rules of lines, by its number and its line.
 #[test]
 fn writers_that_fail(rt: HostRuntime) -> Result<(), Fail> {
     let whole: &[u8] = b" 1\nFAULT 3 ZERO DIVISOR LINE 2\n";

@@ -1,20 +1,12 @@
-//! What the engine of `run` writes, and how it ends where readers, writers or memory fail.
+//! How the engine of `run` ends where readers, writers or memory fail.
 
 use crate::streams::{Interrupted, Narrow, Unreadable, status_of, with_room};
-use engines::{EngineFault, Wants, replay, run};
-use std::alloc::{AllocError, Global};
+use engines::{EngineFault, Wants, run};
+use std::alloc::AllocError;
 use std::process::Abort;
 use std::sync::Wait;
 use std::test::Fail;
 use std::thread::Threads;
-
-/// Squares, of which none waits for another.
-const SQUARES: &[u8] = b"      INTEGER A(10)
-      DO 10 I=1,10
-   10 A(I)=I*I
-      PRINT *, A(10)
-      END
-";
 
 /// Records, and a fault in the second iteration.
 const FAULTS: &[u8] = b"      INTEGER A(0:4)
@@ -37,169 +29,15 @@ const CHAIN: &[u8] = b"      INTEGER A(0:9)
       END
 ";
 
-const CHAIN_STORED: &[u8] = b" 10
-A(0) = 0
-A(1) = 1
-A(2) = 3
-A(3) = 6
-A(4) = 10
-A(5) = 0
-A(6) = 0
-A(7) = 0
-A(8) = 0
-A(9) = 0
-I = 5
-N = 4
-";
-
-const STOPS: &[u8] = b"      INTEGER A(0:6)
-      DO 10 I=1,6
-      A(I)=A(I-1)+I
-      PRINT *,A(I)
-      IF (A(I).GT.5) STOP
-   10 CONTINUE
-      END
-";
-
 /// With these numbers, and a schedule.
-fn wants(processors: u64, slots: u64, store: bool) -> Wants {
+fn wants(processors: u64, slots: u64) -> Wants {
     Wants {
         processors,
         slots,
-        store,
+        store: false,
         schedule: true,
         tally: false,
     }
-}
-
-/// A source on an input, what is shown of it, and its status.
-struct Row {
-    source: &'static [u8],
-    input: &'static [u8],
-    store: bool,
-    shown: &'static [u8],
-    status: u8,
-}
-
-const ROWS: [Row; 4] = [
-    Row {
-        source: FAULTS,
-        input: b"",
-        store: true,
-        shown: FAULT_SHOWN,
-        status: 2,
-    },
-    Row {
-        source: CHAIN,
-        input: b"4\n",
-        store: true,
-        shown: CHAIN_STORED,
-        status: 0,
-    },
-    Row {
-        source: SQUARES,
-        input: b"",
-        store: false,
-        shown: b" 100\n",
-        status: 0,
-    },
-    Row {
-        source: STOPS,
-        input: b"",
-        store: true,
-        shown: b" 1\n 3\n 6\nSTOPPED LINE 5\n",
-        status: 0,
-    },
-];
-
-/// What a schedule of a row shows when it is replayed, and its status.
-fn replayed(
-    alloc: Global,
-    row: &Row,
-    schedule: &[u8],
-    out: &mut Vec<u8>,
-) -> Result<u8, EngineFault> {
-    let mut source = row.source;
-    let mut input = row.input;
-    let mut schedule = schedule;
-    replay(alloc, &mut source, &mut input, &mut schedule, out)
-}
-
-/// A run of a row: what is shown, the status, and that the schedule leads there.
-fn row_runs<R: Abort + AllocGlobal + Threads + Wait + Sync>(
-    rt: &R,
-    row: &Row,
-    p: u64,
-    s: u64,
-) -> Result<(), Fail> {
-    let mut source = row.source;
-    let mut input = row.input;
-    let mut schedule = Vec::new(rt.alloc());
-    let mut out = Vec::new(rt.alloc());
-    let status = run(
-        rt,
-        rt.alloc(),
-        &mut source,
-        &mut input,
-        wants(p, s, row.store),
-        &mut schedule,
-        &mut out,
-    )?;
-    assert_eq!(*rt; out.as_slice(), row.shown, "p {p}, s {s}");
-    assert_eq!(*rt; status, row.status, "p {p}, s {s}");
-    let mut again = Vec::new(rt.alloc());
-    let status = replayed(rt.alloc(), row, &schedule, &mut again)?;
-    assert_eq!(*rt; status, row.status, "p {p}, s {s}");
-    assert!(*rt; row.shown.starts_with(&again), "p {p}, s {s}");
-    Ok(())
-}
-
-#[test]
-fn rows_of_the_engine(rt: HostRuntime) -> Result<(), Fail> {
-    for row in &ROWS {
-        for (p, s) in [(1, 1), (2, 4), (3, 2), (4, 256)] {
-            row_runs(&rt, row, p, s)?;
-        }
-    }
-    Ok(())
-}
-
-/// Runs a source on an empty input with these numbers; the status, with nothing written but what is
-/// given back.
-fn written<R: Abort + AllocGlobal + Threads + Wait + Sync>(
-    rt: &R,
-    source: &[u8],
-    p: u64,
-    s: u64,
-) -> Result<(u8, Vec<u8>), Fail> {
-    let mut source = source;
-    let mut input: &[u8] = b"";
-    let mut schedule = Vec::new(rt.alloc());
-    let mut out = Vec::new(rt.alloc());
-    let given = run(
-        rt,
-        rt.alloc(),
-        &mut source,
-        &mut input,
-        wants(p, s, true),
-        &mut schedule,
-        &mut out,
-    );
-    assert!(*rt; schedule.is_empty());
-    Ok((status_of(given), out))
-}
-
-#[test]
-fn refusals_of_the_engine(rt: HostRuntime) -> Result<(), Fail> {
-    let (status, out) = written(&rt, b"      K=1.5\n      END\n", 0, 0)?;
-    assert_eq!(rt; status, 1);
-    assert_eq!(rt; out.as_slice(), b"REFUSED 22 LINE 1\n".as_slice());
-    for (p, s) in [(0, 1), (65, 1), (1, 0), (1, 257), (257, 1), (u64::MAX, 1)] {
-        let (status, out) = written(&rt, SQUARES, p, s)?;
-        assert_eq!(rt; status, 3, "p {p}, s {s}");
-        assert!(rt; out.is_empty());
-    }
-    Ok(())
 }
 
 #[test]
@@ -212,7 +50,7 @@ fn readers_that_fail_in_a_run(rt: HostRuntime) -> Result<(), Fail> {
         rt.alloc(),
         &mut Unreadable,
         &mut input,
-        wants(2, 4, false),
+        wants(2, 4),
         &mut schedule,
         &mut out,
     );
@@ -225,7 +63,7 @@ fn readers_that_fail_in_a_run(rt: HostRuntime) -> Result<(), Fail> {
         rt.alloc(),
         &mut source,
         &mut cut,
-        wants(2, 4, false),
+        wants(2, 4),
         &mut schedule,
         &mut out,
     );
@@ -249,7 +87,7 @@ fn faults_into<R: AllocGlobal + Threads + Wait + Sync>(
         rt.alloc(),
         &mut source,
         &mut input,
-        wants(1, 1, false),
+        wants(1, 1),
         schedule,
         out,
     )
