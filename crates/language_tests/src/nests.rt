@@ -50,10 +50,10 @@ fn want_of_memory_in_nests(rt: HostRuntime) -> Result<(), Fail> {
     match blocks_of(rt.alloc(), NEST) {
         Err(Refusal::Memory) => {
             let again = blocks_of(rt.alloc(), NEST).expect(&rt, "there is memory");
-            assert_eq!(rt; again.spans.as_slice(), SPANS.as_slice());
+            assert!(rt; again.spans.as_slice() == SPANS.as_slice());
             Err(AllocError)?
         }
-        given => assert_eq!(rt; given?.spans.as_slice(), SPANS.as_slice()),
+        given => assert!(rt; given?.spans.as_slice() == SPANS.as_slice()),
     }
     Ok(())
 }
@@ -66,10 +66,10 @@ fn many_blocks(rt: HostRuntime) -> Result<(), Fail> {
     }
     source.extend_from_slice(b"      END\n")?;
     let made = blocks_of(rt.alloc(), &source)?;
-    assert_eq!(&rt; made.spans.len(), 600);
+    assert!(&rt; made.spans.len() == 600);
     for (number, span) in made.spans.iter().enumerate() {
-        assert_eq!(&rt; span.first, 2 * number);
-        assert_eq!(&rt; span.last, 2 * number + 1);
+        assert!(&rt; span.first == 2 * number);
+        assert!(&rt; span.last == 2 * number + 1);
     }
     Ok(())
 }
@@ -86,6 +86,6 @@ fn broken_nests(rt: HostRuntime) {
     ];
     for (source, number, line) in broken {
         let wanted = Refusal::Refused { number, line };
-        assert_eq!(&rt; blocks_of(rt.alloc(), source).err(), Some(wanted));
+        assert!(&rt; blocks_of(rt.alloc(), source).err() == Some(wanted));
     }
 }
