@@ -1,13 +1,13 @@
 //! PRINT.
 
-ghost use Rattle.std.specs.Prelude.{◌≡◌, ◌++◌, ◌∷◌, [], OnOk, map};
+ghost use Rattle.std.specs.Prelude.{◌≡◌, ◌++◌, ◌∷◌, [], OnOk, map, true};
 ghost use Rattle.ast.specs.Meaning.{exec_plain};
 ghost use Rattle.ast.specs.Record.{number};
 ghost use Rattle.ast.specs.Tree.{print};
 ghost use Rattle.ast.specs.View.{item as item_of};
 ghost use Rattle.ast.specs.declared.fault.End.TheVariants.{Done};
 ghost use Rattle.interpreter.specs.Placed.{PlacedItems};
-ghost use Rattle.interpreter.specs.Printing.{Keeps, item_onto, record_onto, shown};
+ghost use Rattle.interpreter.specs.Printing.{Keeps, item_onto, items_onto, record_onto, shown};
 ghost use Rattle.interpreter.specs.Runs.{Gives, Reaches, run_of, symbols_of};
 ghost use Rattle.interpreter.specs.View.{look, symbols_in};
 
@@ -53,8 +53,27 @@ fn append_item(
     Ok(())
 }
 
-/// Appends the record of a PRINT; where an item faults, a beginning of it.
+/// Appends what the items of a PRINT print; where one faults, a beginning of it.
 #[tactic(auto, using(crate::proofs::Items::placed_first, crate::proofs::Items::placed_rest))]
+fn append_items(
+    memory: &Memory<'_>,
+    line: Line,
+    items: &[Item],
+    output: &mut Vec<u8>,
+) -> Result<(), Stop>
+    requires placed { PlacedItems (symbols_in memory.now) (map item_of items.now) }
+    ensures appended { Gives result line output.new.items (items_onto output.old.items true (map item_of items.now) (look memory.now)) }
+    ensures kept { Keeps output.old.items output.new.items }
+{
+    let mut is_first = true;
+    for item in items {
+        append_item(memory, line, item, is_first, output)?;
+        is_first = false;
+    }
+    Ok(())
+}
+
+/// Appends the record of a PRINT; where an item faults, a beginning of it.
 fn append_record(
     memory: &Memory<'_>,
     line: Line,
@@ -66,11 +85,7 @@ fn append_record(
     ensures kept { Keeps output.old.items output.new.items }
 {
     output.push(b' ')?;
-    let mut is_first = true;
-    for item in items {
-        append_item(memory, line, item, is_first, output)?;
-        is_first = false;
-    }
+    append_items(memory, line, items, output)?;
     output.push(b'\n')?;
     Ok(())
 }

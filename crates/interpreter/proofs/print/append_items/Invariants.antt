@@ -1,13 +1,13 @@
-use Rattle.std.proofs.Common.{◌≡◌, ◌++◌, ◌∷◌, [], true, map, drop}
+use Rattle.std.proofs.Common.{◌≡◌, true, map, drop}
 use Rattle.ast.specs.View.{item as item_of}
 use Rattle.interpreter.specs.Placed.{PlacedItems}
 use Rattle.interpreter.specs.Printing.{Keeps, items_onto}
 use Rattle.interpreter.specs.View.{look, symbols_in}
-use Rattle.interpreter.proofs.print.append_record.Given as goal
+use Rattle.interpreter.proofs.print.append_items.Given as goal
 
 abbrev pub invariant-loop-item : goal.invariant-loop-item
 invariant-loop-item l = record {
   placed : PlacedItems (symbols_in l.memory) (map item_of (drop l.item-index l.items));
-  onto : items_onto l.output.items l.is_first (map item_of (drop l.item-index l.items)) (look l.memory) ≡ items_onto (l.fn.output.items ++ 32 ∷ []) true (map item_of l.items) (look l.memory);
+  onto : items_onto l.output.items l.is_first (map item_of (drop l.item-index l.items)) (look l.memory) ≡ items_onto l.fn.output.items true (map item_of l.items) (look l.memory);
   kept : Keeps l.fn.output.items l.output.items;
 }
