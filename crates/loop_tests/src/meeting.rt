@@ -498,10 +498,10 @@ fn try_beside(
 fn try_source(rt: &(impl Abort + AllocGlobal), text: &[u8], tally: &mut Tally) -> Result<(), Fail> {
     let program = program(rt.alloc(), text)?;
     let tree = loops(rt.alloc(), &program)?;
-    assert_eq!(rt; tree.count(), 1);
+    assert!(rt; tree.count() == 1);
     let view = tree.view(1);
     let elements = assigned_elements(rt.alloc(), &view)?;
-    assert_eq!(rt; elements.len(), ELEMENTS as usize);
+    assert!(rt; elements.len() == ELEMENTS as usize);
     for a in &elements {
         try_beside(rt, &view, a, &elements, tally)?;
     }

@@ -57,21 +57,21 @@ fn looks_as(
     wanted: Wanted<'_>,
 ) -> Result<(), Fail> {
     let (line, around, step, trips, assigned, lines) = wanted;
-    assert_eq!(rt; view.line(), line);
-    assert_eq!(rt; view.around().map(|view| view.line()), around);
-    assert_eq!(rt; view.step(), step);
-    assert_eq!(rt; view.trips(), trips);
-    assert_eq!(rt; view.assigned().len(), assigned.len());
+    assert!(rt; view.line() == line);
+    assert!(rt; view.around().map(|view| view.line()) == around);
+    assert!(rt; view.step() == step);
+    assert!(rt; view.trips() == trips);
+    assert!(rt; view.assigned().len() == assigned.len());
     for (reference, name) in view.assigned().iter().zip(assigned) {
-        assert_eq!(rt; reference.name.trimmed(), *name);
+        assert!(rt; reference.name.trimmed() == *name);
     }
     let found = lines_of(rt.alloc(), tree, view)?;
-    assert_eq!(rt; found.as_slice(), lines);
+    assert!(rt; found.as_slice() == lines);
     Ok(())
 }
 
 fn is_nest(rt: &(impl Abort + AllocGlobal), tree: &LoopTree<'_>) -> Result<(), Fail> {
-    assert_eq!(rt; tree.count(), 4);
+    assert!(rt; tree.count() == 4);
     let wanted: [Wanted<'_>; 4] = [
         (
             2,
@@ -133,20 +133,20 @@ fn joined(alloc: Global, parts: &[&[u8]]) -> Result<Vec<u8>, AllocError> {
 /// form of a subscript has, if it has one.
 fn has_form(
     rt: &(impl Abort + AllocGlobal),
-    subscript: &[u8],
+    text: &[u8],
     wanted: Option<(i64, i64, &[i64])>,
 ) -> Result<(), Fail> {
     let source = joined(
         rt.alloc(),
         &[
             b"      PARAMETER (N=3)\n      INTEGER A(9)\n      DO 10 I=1,2\n      A(",
-            subscript,
+            text,
             b")=0\n   10 J=0\n      END\n",
         ],
     )?;
     let program = program(rt.alloc(), &source)?;
     let tree = loops(rt.alloc(), &program)?;
-    assert_eq!(rt; tree.count(), 1);
+    assert!(rt; tree.count() == 1);
     let view = tree.view(1);
     for occurrence in view.references() {
         if let [subscript] = occurrence.subscripts
@@ -162,7 +162,7 @@ fn has_form(
                 }
                 Affine::NotAffine => None,
             };
-            assert_eq!(rt; found, wanted);
+            assert!(rt; found == wanted, "{text:?}");
             return Ok(());
         }
     }
@@ -179,86 +179,53 @@ fn have_forms(rt: &(impl Abort + AllocGlobal), rows: &[Form<'_>]) -> Result<(), 
     Ok(())
 }
 
-#[test]
-fn forms_of_the_variable(rt: HostRuntime) -> Result<(), Fail> {
-    have_forms(
-        &rt,
-        &[
-            (b"I", Some((0, 1, &[]))),
-            (b"2*I-3", Some((-3, 2, &[]))),
-            (b"-(I+1)", Some((-1, -1, &[]))),
-            (b"+I-I", Some((0, 0, &[]))),
-            (b"N*(I-2)", Some((-6, 3, &[]))),
-        ],
-    )
-}
-
-/// N is a constant; the range assigns J, and no other scalar.
-#[test]
-fn forms_of_scalars(rt: HostRuntime) -> Result<(), Fail> {
-    have_forms(
-        &rt,
-        &[
-            (b"(I+M)*N+M", Some((0, 3, &[4]))),
-            (b"(I-I+2)*J", Some((0, 0, &[2]))),
-            (b"M-2*L+M", Some((0, 0, &[2, -2]))),
-            (b"M-M", Some((0, 0, &[]))),
-            (b"0*J+J", Some((0, 0, &[1]))),
-        ],
-    )
-}
-
-#[test]
-fn no_form_of_a_scalar_that_varies(rt: HostRuntime) -> Result<(), Fail> {
-    have_forms(&rt, &[(b"J-J", None), (b"J+J", None), (b"2*J+I+J", None)])
-}
-
-#[test]
-fn no_form_of_other_operations(rt: HostRuntime) -> Result<(), Fail> {
-    have_forms(
-        &rt,
-        &[
-            (b"I*I", None),
-            (b"I*M", None),
-            (b"0*(I*I)", None),
-            (b"I/1", None),
-            (b"MOD(I,2)", None),
-            (b"A(I)", None),
-        ],
-    )
-}
+static FORMS: [Form<'static>; 28] = [
+    // forms of the variable
+    (b"I", Some((0, 1, &[]))),
+    (b"2*I-3", Some((-3, 2, &[]))),
+    (b"-(I+1)", Some((-1, -1, &[]))),
+    (b"+I-I", Some((0, 0, &[]))),
+    (b"N*(I-2)", Some((-6, 3, &[]))),
+    // forms of scalars
+    // N is a constant; the range assigns J, and no other scalar.
+    (b"(I+M)*N+M", Some((0, 3, &[4]))),
+    (b"(I-I+2)*J", Some((0, 0, &[2]))),
+    (b"M-2*L+M", Some((0, 0, &[2, -2]))),
+    (b"M-M", Some((0, 0, &[]))),
+    (b"0*J+J", Some((0, 0, &[1]))),
+    // no form of a scalar that varies
+    (b"J-J", None),
+    (b"J+J", None),
+    (b"2*J+I+J", None),
+    // no form of other operations
+    (b"I*I", None),
+    (b"I*M", None),
+    (b"0*(I*I)", None),
+    (b"I/1", None),
+    (b"MOD(I,2)", None),
+    (b"A(I)", None),
+    // forms at the bounds of numbers
+    (b"9223372036854775807", Some((i64::MAX, 0, &[]))),
+    (b"9223372036854775807+1+I", None),
+    (b"9223372036854775807+I+1-1", None),
+    (b"4611686018427387904*(I+I)", None),
+    (b"-9223372036854775807*M-M", Some((0, 0, &[i64::MIN]))),
+    // forms of many scalars
+    (
+        b"M1+M2+M3+M4+M5+M6+M7+M8",
+        Some((0, 0, &[1, 1, 1, 1, 1, 1, 1, 1])),
+    ),
+    (b"M1+M2+M3+M4+M5+M6+M7+M8+M9", None),
+    (b"M1+M2+M3+M4+M5+M6+M7+M8+M9-M9", None),
+    (
+        b"M1+M2+M3+M4+M5+M6+M7+M8+(M9-M8)",
+        Some((0, 0, &[1, 1, 1, 1, 1, 1, 1, 1])),
+    ),
+];
 
 #[test]
-fn forms_at_the_bounds_of_numbers(rt: HostRuntime) -> Result<(), Fail> {
-    have_forms(
-        &rt,
-        &[
-            (b"9223372036854775807", Some((i64::MAX, 0, &[]))),
-            (b"9223372036854775807+1+I", None),
-            (b"9223372036854775807+I+1-1", None),
-            (b"4611686018427387904*(I+I)", None),
-            (b"-9223372036854775807*M-M", Some((0, 0, &[i64::MIN]))),
-        ],
-    )
-}
-
-#[test]
-fn forms_of_many_scalars(rt: HostRuntime) -> Result<(), Fail> {
-    have_forms(
-        &rt,
-        &[
-            (
-                b"M1+M2+M3+M4+M5+M6+M7+M8",
-                Some((0, 0, &[1, 1, 1, 1, 1, 1, 1, 1])),
-            ),
-            (b"M1+M2+M3+M4+M5+M6+M7+M8+M9", None),
-            (b"M1+M2+M3+M4+M5+M6+M7+M8+M9-M9", None),
-            (
-                b"M1+M2+M3+M4+M5+M6+M7+M8+(M9-M8)",
-                Some((0, 0, &[1, 1, 1, 1, 1, 1, 1, 1])),
-            ),
-        ],
-    )
+fn forms_of_subscripts(rt: HostRuntime) -> Result<(), Fail> {
+    have_forms(&rt, &FORMS)
 }
 
 /// The elements of arrays in a loop's range, in order of evaluation; the assigned ones alone where
@@ -298,10 +265,10 @@ fn tried(
     )?;
     let program = program(rt.alloc(), &source)?;
     let tree = loops(rt.alloc(), &program)?;
-    assert_eq!(rt; tree.count(), 1);
+    assert!(rt; tree.count() == 1);
     let view = tree.view(1);
     let ids = elements(rt.alloc(), &view, true)?;
-    assert_eq!(rt; ids.len(), 2);
+    assert!(rt; ids.len() == 2);
     let relation = relate(&view, ids[0], ids[1]);
     assert!(rt; verify(&view, ids[0], ids[1], relation));
     assert!(rt; verify(&view, ids[0], ids[1], Relation::Any));
@@ -317,104 +284,88 @@ type Related<'a> = (&'a [u8], &'a [u8], &'a [u8], Relation);
 fn have_relations(rt: &(impl Abort + AllocGlobal), rows: &[Related<'_>]) -> Result<(), Fail> {
     for (first, second, head, wanted) in rows {
         let (found, verified) = tried(rt, (first, second, head), *wanted)?;
-        assert_eq!(rt; found, *wanted, "{first:?} {second:?}");
+        assert!(rt; found == *wanted, "{first:?} {second:?}");
         assert!(rt; verified);
     }
     Ok(())
 }
 
-#[test]
-fn relations_by_distance_and_range(rt: HostRuntime) -> Result<(), Fail> {
-    have_relations(
-        &rt,
-        &[
-            (b"A(I+M)", b"A(I+M-3)", TEN_TRIPS, Relation::Distance(1, 3)),
-            (
-                b"A(I+M-3)",
-                b"A(I+M)",
-                TEN_TRIPS,
-                Relation::Apart(1, Reason::Distance),
-            ),
-            (b"B(I,J)", b"B(I-2,J)", TEN_TRIPS, Relation::Distance(1, 2)),
-            (
-                b"A(I)",
-                b"A(I-3)",
-                b"I=1,10,2",
-                Relation::Apart(1, Reason::Distance),
-            ),
-            (
-                b"A(I+20)",
-                b"A(I)",
-                TEN_TRIPS,
-                Relation::Apart(1, Reason::Range),
-            ),
-            (
-                b"A(I)",
-                b"A(I+20)",
-                TEN_TRIPS,
-                Relation::Apart(1, Reason::Distance),
-            ),
-        ],
-    )
-}
+static RELATED: [Related<'static>; 17] = [
+    // relations by distance and range
+    (b"A(I+M)", b"A(I+M-3)", TEN_TRIPS, Relation::Distance(1, 3)),
+    (
+        b"A(I+M-3)",
+        b"A(I+M)",
+        TEN_TRIPS,
+        Relation::Apart(1, Reason::Distance),
+    ),
+    (b"B(I,J)", b"B(I-2,J)", TEN_TRIPS, Relation::Distance(1, 2)),
+    (
+        b"A(I)",
+        b"A(I-3)",
+        b"I=1,10,2",
+        Relation::Apart(1, Reason::Distance),
+    ),
+    (
+        b"A(I+20)",
+        b"A(I)",
+        TEN_TRIPS,
+        Relation::Apart(1, Reason::Range),
+    ),
+    (
+        b"A(I)",
+        b"A(I+20)",
+        TEN_TRIPS,
+        Relation::Apart(1, Reason::Distance),
+    ),
+    // relations by constant and divisor
+    (
+        b"A(2*I)",
+        b"A(2*I+3)",
+        TEN_TRIPS,
+        Relation::Apart(1, Reason::Divisor),
+    ),
+    (
+        b"B(3,I)",
+        b"B(4,I)",
+        TEN_TRIPS,
+        Relation::Apart(1, Reason::Constant),
+    ),
+    (
+        b"A(2*J)",
+        b"A(2*J+1)",
+        TEN_TRIPS,
+        Relation::Apart(1, Reason::Divisor),
+    ),
+    (
+        b"A(3*M)",
+        b"A(M+1)",
+        TEN_TRIPS,
+        Relation::Apart(1, Reason::Divisor),
+    ),
+    (
+        b"A(2*I)",
+        b"A(2*I+1)",
+        TEN_TRIPS,
+        Relation::Apart(1, Reason::Divisor),
+    ),
+    (
+        b"A(2*I+1)",
+        b"A(2*I)",
+        TEN_TRIPS,
+        Relation::Apart(1, Reason::Divisor),
+    ),
+    // pairs that no test relates
+    (b"A(M)", b"A(M)", TEN_TRIPS, Relation::Any),
+    (b"A(J)", b"A(J)", TEN_TRIPS, Relation::Any),
+    (b"A(J+J)", b"A(2*J+1)", TEN_TRIPS, Relation::Any),
+    (b"A(I*I)", b"A(I)", TEN_TRIPS, Relation::Any),
+    (b"A(I)", b"A(I)", b"I=1,10,0", Relation::Any),
+];
 
 #[test]
-fn relations_by_constant_and_divisor(rt: HostRuntime) -> Result<(), Fail> {
-    have_relations(
-        &rt,
-        &[
-            (
-                b"A(2*I)",
-                b"A(2*I+3)",
-                TEN_TRIPS,
-                Relation::Apart(1, Reason::Divisor),
-            ),
-            (
-                b"B(3,I)",
-                b"B(4,I)",
-                TEN_TRIPS,
-                Relation::Apart(1, Reason::Constant),
-            ),
-            (
-                b"A(2*J)",
-                b"A(2*J+1)",
-                TEN_TRIPS,
-                Relation::Apart(1, Reason::Divisor),
-            ),
-            (
-                b"A(3*M)",
-                b"A(M+1)",
-                TEN_TRIPS,
-                Relation::Apart(1, Reason::Divisor),
-            ),
-            (
-                b"A(2*I)",
-                b"A(2*I+1)",
-                TEN_TRIPS,
-                Relation::Apart(1, Reason::Divisor),
-            ),
-            (
-                b"A(2*I+1)",
-                b"A(2*I)",
-                TEN_TRIPS,
-                Relation::Apart(1, Reason::Divisor),
-            ),
-        ],
-    )
-}
-
-#[test]
-fn pairs_that_no_test_relates(rt: HostRuntime) -> Result<(), Fail> {
-    have_relations(
-        &rt,
-        &[
-            (b"A(M)", b"A(M)", TEN_TRIPS, Relation::Any),
-            (b"A(J)", b"A(J)", TEN_TRIPS, Relation::Any),
-            (b"A(J+J)", b"A(2*J+1)", TEN_TRIPS, Relation::Any),
-            (b"A(I*I)", b"A(I)", TEN_TRIPS, Relation::Any),
-            (b"A(I)", b"A(I)", b"I=1,10,0", Relation::Any),
-        ],
-    )
+fn relations_of_pairs(rt: HostRuntime) -> Result<(), Fail> {
+    have_relations(&rt, &RELATED)
 }
 
 /// Two elements, a claim of them, and whether the test that it names gives it.
@@ -423,103 +374,87 @@ type Claimed<'a> = (&'a [u8], &'a [u8], Relation, bool);
 fn are_judged(rt: &(impl Abort + AllocGlobal), rows: &[Claimed<'_>]) -> Result<(), Fail> {
     for (first, second, claim, wanted) in rows {
         let (_, verified) = tried(rt, (first, second, TEN_TRIPS), *claim)?;
-        assert_eq!(rt; verified, *wanted, "{first:?} {second:?} {claim:?}");
+        assert!(rt; verified == *wanted, "{first:?} {second:?} {claim:?}");
     }
     Ok(())
 }
 
-#[test]
-fn claims_of_a_distance(rt: HostRuntime) -> Result<(), Fail> {
-    are_judged(
-        &rt,
-        &[
-            (b"A(I+M)", b"A(I+M-3)", Relation::Distance(1, 4), false),
-            (b"A(I+M)", b"A(I+M-3)", Relation::Distance(1, 3), true),
-            (b"A(I+M)", b"A(I+M-3)", Relation::Distance(0, 3), false),
-            (b"A(I+M)", b"A(I+M-3)", Relation::Distance(2, 3), false),
-            (b"A(I+M)", b"A(I-3)", Relation::Distance(1, 3), false),
-            (b"A(I+20)", b"A(I)", Relation::Distance(1, 20), true),
-            (b"B(I,J)", b"B(I-2,J)", Relation::Distance(2, 2), false),
-        ],
-    )
-}
+static CLAIMED: [Claimed<'static>; 17] = [
+    // claims of a distance
+    (b"A(I+M)", b"A(I+M-3)", Relation::Distance(1, 4), false),
+    (b"A(I+M)", b"A(I+M-3)", Relation::Distance(1, 3), true),
+    (b"A(I+M)", b"A(I+M-3)", Relation::Distance(0, 3), false),
+    (b"A(I+M)", b"A(I+M-3)", Relation::Distance(2, 3), false),
+    (b"A(I+M)", b"A(I-3)", Relation::Distance(1, 3), false),
+    (b"A(I+20)", b"A(I)", Relation::Distance(1, 20), true),
+    (b"B(I,J)", b"B(I-2,J)", Relation::Distance(2, 2), false),
+    // claims of distance and range
+    (
+        b"A(I+M)",
+        b"A(I+M-3)",
+        Relation::Apart(1, Reason::Distance),
+        false,
+    ),
+    (
+        b"A(I+M)",
+        b"A(I+M-3)",
+        Relation::Apart(1, Reason::Range),
+        false,
+    ),
+    (
+        b"A(2*I)",
+        b"A(2*I+3)",
+        Relation::Apart(1, Reason::Distance),
+        true,
+    ),
+    (
+        b"B(3,I)",
+        b"B(4,I)",
+        Relation::Apart(2, Reason::Distance),
+        true,
+    ),
+    // claims of constant and divisor
+    (
+        b"A(2*I)",
+        b"A(2*I+3)",
+        Relation::Apart(1, Reason::Constant),
+        false,
+    ),
+    (
+        b"A(2*I)",
+        b"A(2*I+4)",
+        Relation::Apart(1, Reason::Divisor),
+        false,
+    ),
+    (
+        b"B(3,I)",
+        b"B(4,I)",
+        Relation::Apart(2, Reason::Constant),
+        false,
+    ),
+    (
+        b"A(J)",
+        b"A(J+1)",
+        Relation::Apart(1, Reason::Constant),
+        false,
+    ),
+    (
+        b"A(M)",
+        b"A(M+1)",
+        Relation::Apart(1, Reason::Constant),
+        true,
+    ),
+    (
+        b"A(I*I)",
+        b"A(I*I+1)",
+        Relation::Apart(1, Reason::Divisor),
+        false,
+    ),
+];
 
 #[test]
-fn claims_of_distance_and_range(rt: HostRuntime) -> Result<(), Fail> {
-    are_judged(
-        &rt,
-        &[
-            (
-                b"A(I+M)",
-                b"A(I+M-3)",
-                Relation::Apart(1, Reason::Distance),
-                false,
-            ),
-            (
-                b"A(I+M)",
-                b"A(I+M-3)",
-                Relation::Apart(1, Reason::Range),
-                false,
-            ),
-            (
-                b"A(2*I)",
-                b"A(2*I+3)",
-                Relation::Apart(1, Reason::Distance),
-                true,
-            ),
-            (
-                b"B(3,I)",
-                b"B(4,I)",
-                Relation::Apart(2, Reason::Distance),
-                true,
-            ),
-        ],
-    )
-}
-
-#[test]
-fn claims_of_constant_and_divisor(rt: HostRuntime) -> Result<(), Fail> {
-    are_judged(
-        &rt,
-        &[
-            (
-                b"A(2*I)",
-                b"A(2*I+3)",
-                Relation::Apart(1, Reason::Constant),
-                false,
-            ),
-            (
-                b"A(2*I)",
-                b"A(2*I+4)",
-                Relation::Apart(1, Reason::Divisor),
-                false,
-            ),
-            (
-                b"B(3,I)",
-                b"B(4,I)",
-                Relation::Apart(2, Reason::Constant),
-                false,
-            ),
-            (
-                b"A(J)",
-                b"A(J+1)",
-                Relation::Apart(1, Reason::Constant),
-                false,
-            ),
-            (
-                b"A(M)",
-                b"A(M+1)",
-                Relation::Apart(1, Reason::Constant),
-                true,
-            ),
-            (
-                b"A(I*I)",
-                b"A(I*I+1)",
-                Relation::Apart(1, Reason::Divisor),
-                false,
-            ),
-        ],
-    )
+fn claims_of_pairs(rt: HostRuntime) -> Result<(), Fail> {
+    are_judged(&rt, &CLAIMED)
 }
 
 /// The relation of the elements at two places among those of a loop's range.
@@ -575,58 +510,42 @@ type Placed<'a> = (&'a [u8], usize, (usize, usize), Relation);
 /// Elements go by their places in order of evaluation, in which a right side goes first.
 fn relate_in_programs(rt: &(impl Abort + AllocGlobal), rows: &[Placed<'_>]) -> Result<(), Fail> {
     for (source, number, places, wanted) in rows {
-        assert_eq!(rt; relation_in(rt, source, *number, *places)?, *wanted);
+        assert!(rt; relation_in(rt, source, *number, *places)? == *wanted);
     }
     Ok(())
 }
 
-#[test]
-fn relations_of_parts_that_never_meet(rt: HostRuntime) -> Result<(), Fail> {
-    relate_in_programs(
-        &rt,
-        &[
-            (EVEN_AND_ODD, 1, (0, 1), Relation::Apart(1, Reason::Divisor)),
-            (EVEN_AND_ODD, 1, (1, 0), Relation::Apart(1, Reason::Divisor)),
-            (EVEN_AND_ODD, 2, (0, 1), Relation::Apart(1, Reason::Range)),
-            (
-                EVEN_AND_ODD,
-                2,
-                (1, 0),
-                Relation::Apart(1, Reason::Distance),
-            ),
-        ],
-    )
-}
+static PLACED: [Placed<'static>; 12] = [
+    // relations of parts that never meet
+    (EVEN_AND_ODD, 1, (0, 1), Relation::Apart(1, Reason::Divisor)),
+    (EVEN_AND_ODD, 1, (1, 0), Relation::Apart(1, Reason::Divisor)),
+    (EVEN_AND_ODD, 2, (0, 1), Relation::Apart(1, Reason::Range)),
+    (
+        EVEN_AND_ODD,
+        2,
+        (1, 0),
+        Relation::Apart(1, Reason::Distance),
+    ),
+    // relations with an index array
+    (INDEX_ARRAY, 1, (0, 0), Relation::Apart(1, Reason::Distance)),
+    (INDEX_ARRAY, 2, (1, 3), Relation::Any),
+    (INDEX_ARRAY, 2, (3, 1), Relation::Any),
+    (INDEX_ARRAY, 2, (0, 2), Relation::Apart(1, Reason::Distance)),
+    // relations with other steps
+    (NEGATIVE_STEP, 1, (1, 0), Relation::Distance(1, 1)),
+    (
+        NEGATIVE_STEP,
+        1,
+        (0, 1),
+        Relation::Apart(1, Reason::Distance),
+    ),
+    (AHEAD, 1, (0, 1), Relation::Distance(1, 1)),
+    (AHEAD, 1, (1, 0), Relation::Apart(1, Reason::Distance)),
+];
 
 #[test]
-fn relations_with_an_index_array(rt: HostRuntime) -> Result<(), Fail> {
-    relate_in_programs(
-        &rt,
-        &[
-            (INDEX_ARRAY, 1, (0, 0), Relation::Apart(1, Reason::Distance)),
-            (INDEX_ARRAY, 2, (1, 3), Relation::Any),
-            (INDEX_ARRAY, 2, (3, 1), Relation::Any),
-            (INDEX_ARRAY, 2, (0, 2), Relation::Apart(1, Reason::Distance)),
-        ],
-    )
-}
-
-#[test]
-fn relations_with_other_steps(rt: HostRuntime) -> Result<(), Fail> {
-    relate_in_programs(
-        &rt,
-        &[
-            (NEGATIVE_STEP, 1, (1, 0), Relation::Distance(1, 1)),
-            (
-                NEGATIVE_STEP,
-                1,
-                (0, 1),
-                Relation::Apart(1, Reason::Distance),
-            ),
-            (AHEAD, 1, (0, 1), Relation::Distance(1, 1)),
-            (AHEAD, 1, (1, 0), Relation::Apart(1, Reason::Distance)),
-        ],
-    )
+fn relations_in_programs(rt: HostRuntime) -> Result<(), Fail> {
+    relate_in_programs(&rt, &PLACED)
 }
 
 /// Looks for the names of a loop's private scalars.
@@ -636,9 +555,9 @@ fn has_privates(
     wanted: &[&[u8]],
 ) -> Result<(), Fail> {
     let found = private_scalars(rt.alloc(), view)?;
-    assert_eq!(rt; found.names.len(), wanted.len(), "{wanted:?}");
+    assert!(rt; found.names.len() == wanted.len(), "{wanted:?}");
     for (name, wanted) in found.names.iter().zip(wanted) {
-        assert_eq!(rt; name.trimmed(), *wanted);
+        assert!(rt; name.trimmed() == *wanted);
     }
     Ok(())
 }
@@ -681,135 +600,111 @@ fn have_privates(rt: &(impl Abort + AllocGlobal), rows: &[Private<'_>]) -> Resul
     Ok(())
 }
 
-#[test]
-fn privates_of_plain_ranges(rt: HostRuntime) -> Result<(), Fail> {
-    have_privates(
-        &rt,
-        &[
-            (
-                b"      INTEGER A(0:4)\n      DO 10 I=1,4\n      A(I)=A(I-1)+1\n      PRINT *,A(I)\n   10 K=10/(2-I)\n      END\n",
-                1,
-                &[b"K"],
-            ),
-            (
-                b"      DO 10 I=1,5\n   10 IF (MOD(I,2).EQ.0) KT=I*10\n      PRINT *,KT\n      END\n",
-                1,
-                &[b"KT"],
-            ),
-            (
-                b"      INTEGER A(4)\n      DO 10 I=1,4\n      A(K)=1\n   10 K=2\n      END\n",
-                1,
-                &[],
-            ),
-            (
-                b"      INTEGER A(4)\n      DO 10 I=1,4\n      READ *,K,A(K),L\n   10 PRINT *,K,L\n      END\n",
-                1,
-                &[b"K", b"L"],
-            ),
-            (b"      DO 10 I=1,4\n   10 K=K+1\n      END\n", 1, &[]),
-        ],
-    )
-}
+static PRIVATE: [Private<'static>; 18] = [
+    // privates of plain ranges
+    (
+        b"      INTEGER A(0:4)\n      DO 10 I=1,4\n      A(I)=A(I-1)+1\n      PRINT *,A(I)\n   10 K=10/(2-I)\n      END\n",
+        1,
+        &[b"K"],
+    ),
+    (
+        b"      DO 10 I=1,5\n   10 IF (MOD(I,2).EQ.0) KT=I*10\n      PRINT *,KT\n      END\n",
+        1,
+        &[b"KT"],
+    ),
+    (
+        b"      INTEGER A(4)\n      DO 10 I=1,4\n      A(K)=1\n   10 K=2\n      END\n",
+        1,
+        &[],
+    ),
+    (
+        b"      INTEGER A(4)\n      DO 10 I=1,4\n      READ *,K,A(K),L\n   10 PRINT *,K,L\n      END\n",
+        1,
+        &[b"K", b"L"],
+    ),
+    (b"      DO 10 I=1,4\n   10 K=K+1\n      END\n", 1, &[]),
+    // privates after arms
+    (
+        b"      DO 10 I=1,4\n      IF (I.LT.3) THEN\n      K=I\n      ELSE\n      PRINT *,K\n      END IF\n   10 CONTINUE\n      END\n",
+        1,
+        &[],
+    ),
+    (
+        b"      DO 10 I=1,4\n      K=0\n      IF (I.LT.3) THEN\n      K=I\n      ELSE\n      PRINT *,K\n      END IF\n   10 CONTINUE\n      END\n",
+        1,
+        &[b"K"],
+    ),
+    (
+        b"      DO 10 I=1,4\n      IF (I.LT.3) THEN\n      K=I\n      ELSE\n      K=0\n      END IF\n   10 PRINT *,K\n      END\n",
+        1,
+        &[b"K"],
+    ),
+    (
+        b"      DO 10 I=1,4\n      IF (I.LT.3) THEN\n      K=I\n      ELSE IF (I.LT.4) THEN\n      K=0\n      END IF\n   10 PRINT *,K\n      END\n",
+        1,
+        &[],
+    ),
+    (
+        b"      DO 10 I=1,4\n      IF (K.GT.0) K=1\n   10 L=M\n      END\n",
+        1,
+        &[b"L"],
+    ),
+    (ARMS, 1, &[b"K", b"L"]),
+    // privates before a stop
+    (
+        b"      DO 10 I=1,4\n      IF (I.LT.3) THEN\n      STOP\n      ELSE\n      K=0\n      END IF\n   10 PRINT *,K\n      END\n",
+        1,
+        &[b"K"],
+    ),
+    (
+        b"      DO 10 I=1,4\n      STOP\n      PRINT *,K\n   10 K=1\n      END\n",
+        1,
+        &[b"K"],
+    ),
+    // privates of nested loops
+    (
+        b"      INTEGER B(3,3)\n      DO 10 I=1,3\n      DO 10 J=1,3\n   10 B(I,J)=10*I+J\n      END\n",
+        1,
+        &[b"J"],
+    ),
+    (
+        b"      DO 10 I=1,2\n      K=J\n      DO 10 J=1,2\n   10 CONTINUE\n      PRINT *,K,J\n      END\n",
+        1,
+        &[b"K"],
+    ),
+    (
+        b"      DO 10 I=1,4\n      DO 20 J=1,I\n   20 K=J\n   10 PRINT *,J,K\n      END\n",
+        1,
+        &[b"J"],
+    ),
+    (
+        b"      DO 10 I=1,4\n      DO 20 J=1,I\n      PRINT *,K\n   20 K=J\n   10 CONTINUE\n      END\n",
+        1,
+        &[b"J"],
+    ),
+    (
+        b"      DO 10 I=1,4\n      DO 20 J=1,J\n   20 CONTINUE\n   10 CONTINUE\n      END\n",
+        1,
+        &[],
+    ),
+];
 
 #[test]
-fn privates_after_arms(rt: HostRuntime) -> Result<(), Fail> {
-    have_privates(
-        &rt,
-        &[
-            (
-                b"      DO 10 I=1,4\n      IF (I.LT.3) THEN\n      K=I\n      ELSE\n      PRINT *,K\n      END IF\n   10 CONTINUE\n      END\n",
-                1,
-                &[],
-            ),
-            (
-                b"      DO 10 I=1,4\n      K=0\n      IF (I.LT.3) THEN\n      K=I\n      ELSE\n      PRINT *,K\n      END IF\n   10 CONTINUE\n      END\n",
-                1,
-                &[b"K"],
-            ),
-            (
-                b"      DO 10 I=1,4\n      IF (I.LT.3) THEN\n      K=I\n      ELSE\n      K=0\n      END IF\n   10 PRINT *,K\n      END\n",
-                1,
-                &[b"K"],
-            ),
-            (
-                b"      DO 10 I=1,4\n      IF (I.LT.3) THEN\n      K=I\n      ELSE IF (I.LT.4) THEN\n      K=0\n      END IF\n   10 PRINT *,K\n      END\n",
-                1,
-                &[],
-            ),
-            (
-                b"      DO 10 I=1,4\n      IF (K.GT.0) K=1\n   10 L=M\n      END\n",
-                1,
-                &[b"L"],
-            ),
-            (ARMS, 1, &[b"K", b"L"]),
-        ],
-    )
-}
-
-#[test]
-fn privates_before_a_stop(rt: HostRuntime) -> Result<(), Fail> {
-    have_privates(
-        &rt,
-        &[
-            (
-                b"      DO 10 I=1,4\n      IF (I.LT.3) THEN\n      STOP\n      ELSE\n      K=0\n      END IF\n   10 PRINT *,K\n      END\n",
-                1,
-                &[b"K"],
-            ),
-            (
-                b"      DO 10 I=1,4\n      STOP\n      PRINT *,K\n   10 K=1\n      END\n",
-                1,
-                &[b"K"],
-            ),
-        ],
-    )
-}
-
-#[test]
-fn privates_of_nested_loops(rt: HostRuntime) -> Result<(), Fail> {
-    have_privates(
-        &rt,
-        &[
-            (
-                b"      INTEGER B(3,3)\n      DO 10 I=1,3\n      DO 10 J=1,3\n   10 B(I,J)=10*I+J\n      END\n",
-                1,
-                &[b"J"],
-            ),
-            (
-                b"      DO 10 I=1,2\n      K=J\n      DO 10 J=1,2\n   10 CONTINUE\n      PRINT *,K,J\n      END\n",
-                1,
-                &[b"K"],
-            ),
-            (
-                b"      DO 10 I=1,4\n      DO 20 J=1,I\n   20 K=J\n   10 PRINT *,J,K\n      END\n",
-                1,
-                &[b"J"],
-            ),
-            (
-                b"      DO 10 I=1,4\n      DO 20 J=1,I\n      PRINT *,K\n   20 K=J\n   10 CONTINUE\n      END\n",
-                1,
-                &[b"J"],
-            ),
-            (
-                b"      DO 10 I=1,4\n      DO 20 J=1,J\n   20 CONTINUE\n   10 CONTINUE\n      END\n",
-                1,
-                &[],
-            ),
-        ],
-    )
+fn private_scalars_of_loops(rt: HostRuntime) -> Result<(), Fail> {
+    have_privates(&rt, &PRIVATE)
 }
 
 #[test]
 fn want_of_memory_in_private_scalars(rt: HostRuntime) -> Result<(), Fail> {
     let program = program(rt.alloc(), ARMS)?;
     let tree = loops(rt.alloc(), &program)?;
-    assert_eq!(rt; tree.count(), 1);
+    assert!(rt; tree.count() == 1);
     let view = tree.view(1);
     match private_scalars(rt.alloc(), &view) {
-        Ok(found) => assert_eq!(rt; found.names.len(), 2),
+        Ok(found) => assert!(rt; found.names.len() == 2),
         Err(error) => {
             let again = private_scalars(rt.alloc(), &view).expect(&rt, "there is memory");
-            assert_eq!(rt; again.names.len(), 2);
+            assert!(rt; again.names.len() == 2);
             return Err(error.into());
         }
     }
