@@ -1,6 +1,7 @@
 //! Cores over code made by hand, driven to their end.
 
-use machine::{Act as Does, Code, Done, Frame, Instr, Loop, Parts, stands_local};
+use crate::endless::assembled;
+use machine::{Act as Does, Code, Done, Frame, stands_local};
 use replay::{Core, CoreRefusal, HandIn, ReplayRefusal, Schedule, Stepped, replay, upgrade};
 use std::alloc::{AllocError, Global};
 use std::process::Abort;
@@ -15,37 +16,6 @@ const LOOP: [Does; 6] = [
     Does::Halt,
     Does::Retire(0),
 ];
-
-fn instructions(alloc: Global, acts: &[Does]) -> Result<Vec<Instr>, AllocError> {
-    let mut list = Vec::new(alloc);
-    for act in acts {
-        list.push(Instr { line: 1, act: *act })?;
-    }
-    Ok(list)
-}
-
-fn assembled(rt: &(impl Abort + AllocGlobal), acts: &[Does]) -> Result<Code, AllocError> {
-    let alloc = rt.alloc();
-    let one = Loop {
-        body: 5,
-        variable: 0,
-        step: 1,
-        privates: Vec::new(alloc),
-    };
-    let parts = Parts {
-        instructions: instructions(alloc, acts)?,
-        records: Vec::new(alloc),
-        awaits: Vec::new(alloc),
-        variables: Vec::new(alloc),
-        loops: vec![in alloc; one]?,
-        operands: 2,
-        counters: 0,
-    };
-    match Code::new(alloc, parts)? {
-        Some(code) => Ok(code),
-        None => panic!(*rt; "the code is laid"),
-    }
-}
 
 /// Processor 0 hands in local work that leads from a frame. A stranger's is not taken.
 fn work(core: &mut Core<'_>, frame: &Frame) -> Result<(), AllocError> {
@@ -92,11 +62,11 @@ fn upgraded(alloc: Global, code: &Code, text: &[u8]) -> Result<Vec<u8>, ReplayRe
 fn want_of_memory_in_cores(rt: HostRuntime) -> Result<(), Fail> {
     let code = assembled(&rt, &LOOP)?;
     let text = run(&rt, &code)?;
-    assert_eq!(rt;
-        text.as_slice(),
-        b"DOACROSS SCHEDULE 2\n1 1\n0 M\n0 2\n0 0\n0 0\n0 T\n0 0\n0 T\n0 0\n0 M\n0 0\n0 0\n".as_slice()
+    assert!(rt;
+        text.as_slice()
+            == b"DOACROSS SCHEDULE 2\n1 1\n0 M\n0 2\n0 0\n0 0\n0 T\n0 0\n0 T\n0 0\n0 M\n0 0\n0 0\n".as_slice()
     );
-    assert_eq!(rt; upgraded(rt.alloc(), &code, &text)?, text);
+    assert!(rt; upgraded(rt.alloc(), &code, &text)? == text);
     Ok(())
 }
 
@@ -104,9 +74,9 @@ fn want_of_memory_in_cores(rt: HostRuntime) -> Result<(), Fail> {
 fn end_alone(rt: HostRuntime) -> Result<(), Fail> {
     let code = assembled(&rt, &[Does::Halt])?;
     let text = b"DOACROSS SCHEDULE 2\n1 1\n0 M\n0 0\n".as_slice();
-    assert_eq!(rt; run(&rt, &code)?.as_slice(), text);
+    assert!(rt; run(&rt, &code)?.as_slice() == text);
     let first = b"DOACROSS SCHEDULE 1\n1 1\n0 0\n0 0\n".as_slice();
-    assert_eq!(rt; upgraded(rt.alloc(), &code, first)?.as_slice(), text);
+    assert!(rt; upgraded(rt.alloc(), &code, first)?.as_slice() == text);
     Ok(())
 }
 

@@ -68,8 +68,8 @@ fn all_end<R: Abort + AllocGlobal + Threads + Wait + Sync>(
 ) -> Result<(), Fail> {
     let code = compiled(rt.alloc(), source)?;
     let answer = sequential(rt.alloc(), source, b"")?;
-    assert_eq!(rt; answer.output.as_slice(), output);
-    assert_eq!(rt; answer.end, end);
+    assert!(rt; answer.output.as_slice() == output);
+    assert!(rt; answer.end == end);
     for p in [1, 2, 3, 4, 64] {
         for s in [1, 4, 256] {
             runs_to(rt, &code, b"", p, s, &answer)?;
@@ -100,31 +100,31 @@ const WAITS: [Does; 7] = [
     Does::Retire(0),
 ];
 
-fn assembled(rt: &(impl Abort + AllocGlobal), acts: &[Does]) -> Result<Code, AllocError> {
+/// The code of these, with a loop whose iterations begin at place 5.
+pub fn assembled(rt: &(impl Abort + AllocGlobal), acts: &[Does]) -> Result<Code, AllocError> {
     let alloc = rt.alloc();
-    let mut instructions = Vec::new(alloc);
+    let mut parts = Parts {
+        instructions: Vec::new(alloc),
+        records: Vec::new(alloc),
+        awaits: Vec::new(alloc),
+        variables: Vec::new(alloc),
+        loops: Vec::new(alloc),
+        operands: 2,
+        counters: 0,
+    };
     for act in acts {
-        instructions.push(Instr { line: 1, act: *act })?;
+        parts.instructions.push(Instr { line: 1, act: *act })?;
     }
-    let one = Loop {
+    parts.awaits.push(Await {
+        event: 1,
+        distance: 1,
+    })?;
+    parts.loops.push(Loop {
         body: 5,
         variable: 0,
         step: 1,
         privates: Vec::new(alloc),
-    };
-    let before = Await {
-        event: 1,
-        distance: 1,
-    };
-    let parts = Parts {
-        instructions,
-        records: Vec::new(alloc),
-        awaits: vec![in alloc; before]?,
-        variables: Vec::new(alloc),
-        loops: vec![in alloc; one]?,
-        operands: 2,
-        counters: 0,
-    };
+    })?;
     match Code::new(alloc, parts)? {
         Some(code) => Ok(code),
         None => panic!(*rt; "the code is laid"),
@@ -140,7 +140,7 @@ fn none_ends<R: Abort + AllocGlobal + Threads + Wait + Sync>(
     for p in [1, 2, 3, 4, 64] {
         for s in [1, 2, 256] {
             let number = refused(run(rt, rt.alloc(), &code, b"", p, s, &NoGate))?;
-            assert_eq!(rt; number, 59, "p {p}, s {s}");
+            assert!(rt; number == 59, "p {p}, s {s}");
         }
     }
     Ok(())
@@ -167,8 +167,8 @@ enum Came {
 fn came_to(rt: &impl Abort, came: Result<Report, RunRefusal>) -> Came {
     match came {
         Ok(report) => {
-            assert_eq!(*rt; report.answer.output.as_slice(), b" 1\n 2\n".as_slice());
-            assert_eq!(*rt; report.answer.end, End::Fault(Fault::ZeroDivisor, 5));
+            assert!(*rt; report.answer.output.as_slice() == b" 1\n 2\n".as_slice());
+            assert!(*rt; report.answer.end == End::Fault(Fault::ZeroDivisor, 5));
             Came::Answer
         }
         Err(RunRefusal::Memory { output }) => {
@@ -180,7 +180,7 @@ fn came_to(rt: &impl Abort, came: Result<Report, RunRefusal>) -> Came {
             Came::Output(RunRefusal::Memory { output })
         }
         Err(RunRefusal::Refused { number }) => {
-            assert_eq!(*rt; number, 58);
+            assert!(*rt; number == 58);
             Came::Nothing
         }
     }

@@ -107,7 +107,7 @@ fn holding<'c>(rt: &(impl Abort + AllocGlobal), code: &'c Code) -> Result<Core<'
 fn held_print(rt: HostRuntime) -> Result<(), Fail> {
     let code = compiled(rt.alloc(), FAULTS)?;
     let (output, _) = holding(&rt, &code)?.into_parts();
-    assert_eq!(rt; output.as_slice(), b" 1\n".as_slice());
+    assert!(rt; output.as_slice() == b" 1\n".as_slice());
     let mut core = holding(&rt, &code)?;
     for _ in 0..ROUNDS {
         first_goes(&mut core)?;
@@ -123,7 +123,7 @@ fn two_begun(rt: &impl Abort, core: &mut Core<'_>) -> Result<(), Fail> {
             _ => turn(core, 0, 1)?,
         };
     }
-    assert_eq!(*rt; core.pick(1, Choice::Ticket)?, Stepped::Went(Some(2)));
+    assert!(*rt; core.pick(1, Choice::Ticket)? == Stepped::Went(Some(2)));
     Ok(())
 }
 
@@ -169,8 +169,8 @@ fn first_alone(core: &mut Core<'_>) -> Result<(), HandIn> {
 /// Work that comes behind the end isn't taken, and the schedule stays as it was.
 fn is_too_late(rt: &impl Abort, core: &mut Core<'_>, late: Done<'_>) -> Result<(), AllocError> {
     let before = core.schedule().text()?;
-    assert_eq!(*rt; core.hand_in(1, late), Err(HandIn::Ended));
-    assert_eq!(*rt; core.schedule().text()?, before);
+    assert!(*rt; core.hand_in(1, late) == Err(HandIn::Ended));
+    assert!(*rt; core.schedule().text()? == before);
     Ok(())
 }
 
@@ -182,7 +182,7 @@ fn work_behind_the_end(rt: HostRuntime) -> Result<(), Fail> {
     let late = late_work(&rt, &mut core)?;
     first_alone(&mut core)?;
     is_too_late(&rt, &mut core, late)?;
-    assert_eq!(rt; core.pick(0, Choice::Main)?, Stepped::Ended);
+    assert!(rt; core.pick(0, Choice::Main)? == Stepped::Ended);
     is_answered(&rt, &core, &sequential(rt.alloc(), FAULTS, b"")?)
 }
 
@@ -228,7 +228,7 @@ fn highest_first(
 fn highest_ready_iteration_first(rt: HostRuntime) -> Result<(), Fail> {
     let code = compiled(rt.alloc(), INDEX_ARRAY)?;
     let answer = sequential(rt.alloc(), INDEX_ARRAY, b"")?;
-    assert_eq!(rt; answer.output.as_slice(), b" 2 4 0\n".as_slice());
+    assert!(rt; answer.output.as_slice() == b" 2 4 0\n".as_slice());
     for size in SIZES {
         highest_first(&rt, &code, size, &answer)?;
     }

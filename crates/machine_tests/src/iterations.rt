@@ -82,65 +82,93 @@ fn name(letter: u8) -> Name {
     }
 }
 
-/// I, A(0:4) and K, in one vector of cells.
-fn variables(alloc: Global) -> Result<Vec<Variable>, AllocError> {
-    let laid = [(b'I', 0, 1), (b'A', 1, 5), (b'K', 6, 1)];
-    let mut list = Vec::new(alloc);
-    for (letter, start, size) in laid {
-        list.push(Variable {
-            name: name(letter),
-            start,
-            size,
-        })?;
-    }
-    Ok(list)
+/// Adds a variable to those that are laid.
+fn lay(parts: &mut Parts, letter: u8, start: usize, size: usize) -> Result<(), AllocError> {
+    parts.variables.push(Variable {
+        name: name(letter),
+        start,
+        size,
+    })?;
+    Ok(())
 }
 
-/// Main, and an iteration of these pieces. The line of an instruction is its place.
-fn instructions(alloc: Global, main: &[Does], body: &[&[Does]]) -> Result<Vec<Instr>, AllocError> {
-    let mut acts = Vec::from_slice(alloc, main)?;
-    for piece in body {
-        acts.extend_from_slice(piece)?;
+/// Adds instructions.
+fn add(parts: &mut Parts, acts: &[Does]) -> Result<(), AllocError> {
+    for act in acts {
+        parts.instructions.push(Instr { line: 0, act: *act })?;
     }
-    acts.push(Does::Retire(0))?;
-    let mut list = Vec::with_capacity(alloc, acts.len())?;
+    Ok(())
+}
+
+/// The line of each instruction is its place.
+fn number(instructions: &mut [Instr]) {
     let mut line: Line = 0;
-    for act in &acts {
-        list.push(Instr { line, act: *act })?;
+    for instruction in instructions {
+        instruction.line = line;
         line = line.wrapping_add(1);
     }
-    Ok(list)
 }
 
-/// The code of main and of an iteration of its loop, whose step is 1 and whose K is private.
+/// Adds a record of so many operands.
+fn add_record(parts: &mut Parts, alloc: Global, operands: usize) -> Result<(), AllocError> {
+    let mut pieces = Vec::new(alloc);
+    for _ in 0..operands {
+        pieces.push(Piece::Operand)?;
+    }
+    parts.records.push(pieces)?;
+    Ok(())
+}
+
+/// Adds a loop whose iterations begin at a place, whose step is 1 and whose K is private.
+fn add_loop(parts: &mut Parts, alloc: Global, body: usize) -> Result<(), AllocError> {
+    let mut privates = Vec::new(alloc);
+    privates.push(2)?;
+    parts.loops.push(Loop {
+        body,
+        variable: 0,
+        step: 1,
+        privates,
+    })?;
+    Ok(())
+}
+
+/// The parts of main and of an iteration of its loop, with I, A(0:4) and K in one vector of cells.
+fn parts_of(alloc: Global, main: &[Does], body: &[&[Does]]) -> Result<Parts, AllocError> {
+    let mut parts = Parts {
+        instructions: Vec::new(alloc),
+        records: Vec::new(alloc),
+        awaits: Vec::new(alloc),
+        variables: Vec::new(alloc),
+        loops: Vec::new(alloc),
+        operands: 4,
+        counters: 0,
+    };
+    add(&mut parts, main)?;
+    for piece in body {
+        add(&mut parts, piece)?;
+    }
+    add(&mut parts, &[Does::Retire(0)])?;
+    number(&mut parts.instructions);
+    add_record(&mut parts, alloc, 2)?;
+    add_record(&mut parts, alloc, 1)?;
+    parts.awaits.push(Await {
+        event: 1,
+        distance: 1,
+    })?;
+    lay(&mut parts, b'I', 0, 1)?;
+    lay(&mut parts, b'A', 1, 5)?;
+    lay(&mut parts, b'K', 6, 1)?;
+    add_loop(&mut parts, alloc, main.len())?;
+    Ok(parts)
+}
+
+/// The code of main and of an iteration of its loop.
 fn assembled(
     rt: &(impl Abort + AllocGlobal),
     main: &[Does],
     body: &[&[Does]],
 ) -> Result<Code, AllocError> {
-    let alloc = rt.alloc();
-    let one = Loop {
-        body: main.len(),
-        variable: 0,
-        step: 1,
-        privates: vec![in alloc; 2]?,
-    };
-    let both = vec![in alloc; Piece::Operand, Piece::Operand]?;
-    let alone = vec![in alloc; Piece::Operand]?;
-    let order = Await {
-        event: 1,
-        distance: 1,
-    };
-    let parts = Parts {
-        instructions: instructions(alloc, main, body)?,
-        records: vec![in alloc; both, alone]?,
-        awaits: vec![in alloc; order]?,
-        variables: variables(alloc)?,
-        loops: vec![in alloc; one]?,
-        operands: 4,
-        counters: 0,
-    };
-    match Code::new(alloc, parts)? {
+    match Code::new(rt.alloc(), parts_of(rt.alloc(), main, body)?)? {
         Some(code) => Ok(code),
         None => panic!(*rt; "the code is laid"),
     }
@@ -190,8 +218,8 @@ fn answered(rt: &(impl Abort + AllocGlobal), core: &Core<'_>) -> Result<Answer, 
     let replayed = replay(rt.alloc(), core.code(), b"", &schedule)?;
     match core.answer()? {
         Some(answer) => {
-            assert_eq!(*rt; answer.output.as_slice(), replayed.output.as_slice());
-            assert_eq!(*rt; answer.end, replayed.end);
+            assert!(*rt; answer.output.as_slice() == replayed.output.as_slice());
+            assert!(*rt; answer.end == replayed.end);
             Ok(answer)
         }
         None => panic!(*rt; "the run has ended"),
@@ -209,8 +237,8 @@ fn each_ends(
         for burst in [1, 3, 1_024] {
             let core = driven(rt, code, slots, burst)?;
             let answer = answered(rt, &core)?;
-            assert_eq!(*rt; answer.output.as_slice(), output);
-            assert_eq!(*rt; answer.end, end);
+            assert!(*rt; answer.output.as_slice() == output);
+            assert!(*rt; answer.end == end);
         }
     }
     Ok(())
@@ -229,7 +257,7 @@ fn elements_and_records_in_order(rt: HostRuntime) -> Result<(), Fail> {
         (b'K', 0, 40),
         (b'I', 0, 5),
     ] {
-        assert_eq!(&rt; answer.store.value(name(letter), place), Some(value));
+        assert!(&rt; answer.store.value(name(letter), place) == Some(value));
     }
     Ok(())
 }
@@ -281,8 +309,8 @@ fn settle(rt: &impl Abort, core: &mut Core<'_>, processor: usize) -> Result<(), 
 /// A core whose main has opened a loop of two trips and waits for its end.
 fn opened<'c>(rt: &(impl Abort + AllocGlobal), code: &'c Code) -> Result<Core<'c>, Fail> {
     let mut core = Core::new(rt.alloc(), code, b"", 2, 2)?;
-    assert_eq!(*rt; core.pick(0, Choice::Ticket)?, Stepped::Idle);
-    assert_eq!(*rt; core.pick(0, Choice::Main)?, Stepped::Went(None));
+    assert!(*rt; core.pick(0, Choice::Ticket)? == Stepped::Idle);
+    assert!(*rt; core.pick(0, Choice::Main)? == Stepped::Went(None));
     settle(rt, &mut core, 0)?;
     Ok(core)
 }
@@ -312,7 +340,7 @@ fn picks(
     choice: Choice,
     wanted: Stepped,
 ) -> Result<(), AllocError> {
-    assert_eq!(*rt; core.pick(processor, choice)?, wanted);
+    assert!(*rt; core.pick(processor, choice)? == wanted);
     Ok(())
 }
 
@@ -345,7 +373,7 @@ fn retires_in_order(rt: HostRuntime) -> Result<(), Fail> {
     overtaken(&rt, &mut core)?;
     caught_up(&rt, &mut core)?;
     let answer = answered(&rt, &core)?;
-    assert_eq!(&rt; answer.output.as_slice(), b" 1\n 2\n".as_slice());
+    assert!(&rt; answer.output.as_slice() == b" 1\n 2\n".as_slice());
     Ok(())
 }
 
@@ -361,7 +389,7 @@ fn worked<'c>(rt: &impl Abort, core: &Core<'c>, processor: usize) -> Result<Done
 /// Processor 0's own work is taken.
 fn is_taken(rt: &impl Abort, core: &mut Core<'_>) -> Result<(), AllocError> {
     let done = worked(rt, core, 0)?;
-    assert_eq!(*rt; core.hand_in(0, done), Ok(()));
+    assert!(*rt; core.hand_in(0, done) == Ok(()));
     Ok(())
 }
 
@@ -374,8 +402,8 @@ fn is_left(
     why: HandIn,
 ) -> Result<(), AllocError> {
     let before = core.schedule().text()?;
-    assert_eq!(*rt; core.hand_in(processor, done), Err(why));
-    assert_eq!(*rt; core.schedule().text()?, before);
+    assert!(*rt; core.hand_in(processor, done) == Err(why));
+    assert!(*rt; core.schedule().text()? == before);
     Ok(())
 }
 

@@ -4,62 +4,48 @@ use ec_kernel::Kernel;
 use std::alloc::AllocError;
 use std::test::Fail;
 
-/// The example of the crate's page.
-#[test]
-fn example(rt: HostRuntime) -> Result<(), Fail> {
-    let mut kernel = Kernel::new(rt.alloc(), 2, 1)?;
-    assert_eq!(rt; kernel.take_slot(), Some(0));
-    kernel.park(0, 2, 0);
-    assert_eq!(rt; kernel.advance(0), 0);
-    assert!(rt; !kernel.reached(0, 2));
-    assert_eq!(rt; kernel.advance(0), 1);
-    assert_eq!(rt; kernel.read(0), 2);
-    assert_eq!(rt; kernel.next_ready(), Some(0));
-    kernel.free_slot(0);
-    assert_eq!(rt; kernel.ticket(), 0);
-    assert_eq!(rt; kernel.ticket(), 1);
-    Ok(())
-}
-
 #[test]
 fn calls_in_order(rt: HostRuntime) -> Result<(), Fail> {
     let mut kernel = Kernel::new(rt.alloc(), 4, 2)?;
-    assert_eq!(rt; kernel.take_slot(), Some(0));
-    assert_eq!(rt; kernel.take_slot(), Some(1));
-    assert_eq!(rt; kernel.take_slot(), Some(2));
+    assert!(rt; kernel.take_slot() == Some(0));
+    assert!(rt; kernel.take_slot() == Some(1));
+    assert!(rt; kernel.take_slot() == Some(2));
     kernel.park(1, 2, 0);
     kernel.park(1, 1, 1);
     kernel.park(1, 2, 2);
-    assert_eq!(rt; kernel.advance(1), 1);
-    assert_eq!(rt; kernel.advance(1), 2);
-    assert_eq!(rt; kernel.next_ready(), Some(1));
+    assert!(rt; kernel.advance(0) == 0);
+    assert!(rt; kernel.advance(1) == 1);
+    assert!(rt; !kernel.reached(1, 2));
+    assert!(rt; kernel.advance(1) == 2);
+    assert!(rt; kernel.read(1) == 2);
+    assert!(rt; kernel.next_ready() == Some(1));
     kernel.free_slot(1);
-    assert_eq!(rt; kernel.ticket(), 0);
-    assert_eq!(rt; kernel.ticket(), 1);
+    assert!(rt; kernel.ticket() == 0);
+    assert!(rt; kernel.ticket() == 1);
     kernel.reset();
-    assert_eq!(rt; kernel.read(0), 0);
-    assert_eq!(rt; kernel.read(1), 0);
-    assert_eq!(rt; kernel.ticket(), 0);
-    assert_eq!(rt; kernel.next_ready(), Some(0));
-    assert_eq!(rt; kernel.next_ready(), Some(2));
-    assert_eq!(rt; kernel.next_ready(), None);
-    assert_eq!(rt; kernel.take_slot(), Some(3));
-    assert_eq!(rt; kernel.take_slot(), Some(1));
-    assert_eq!(rt; kernel.take_slot(), None);
+    assert!(rt; kernel.read(0) == 0);
+    assert!(rt; kernel.read(1) == 0);
+    assert!(rt; kernel.ticket() == 0);
+    assert!(rt; kernel.next_ready() == Some(0));
+    assert!(rt; kernel.next_ready() == Some(2));
+    assert!(rt; kernel.next_ready() == None);
+    assert!(rt; kernel.take_slot() == Some(3));
+    assert!(rt; kernel.take_slot() == Some(1));
+    assert!(rt; kernel.take_slot() == None);
     Ok(())
 }
 
 #[test]
 fn a_ready_slot_taken_from_behind(rt: HostRuntime) -> Result<(), Fail> {
     let mut kernel = Kernel::new(rt.alloc(), 2, 1)?;
-    assert_eq!(rt; kernel.take_slot(), Some(0));
-    assert_eq!(rt; kernel.take_slot(), Some(1));
+    assert!(rt; kernel.take_slot() == Some(0));
+    assert!(rt; kernel.take_slot() == Some(1));
     kernel.park(0, 1, 0);
     kernel.park(0, 1, 1);
-    assert_eq!(rt; kernel.advance(0), 2);
+    assert!(rt; kernel.advance(0) == 2);
     kernel.take_ready(1);
-    assert_eq!(rt; kernel.next_ready(), Some(0));
-    assert_eq!(rt; kernel.next_ready(), None);
+    assert!(rt; kernel.next_ready() == Some(0));
+    assert!(rt; kernel.next_ready() == None);
     Ok(())
 }
 

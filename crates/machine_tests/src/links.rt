@@ -4,23 +4,6 @@ use ready_list::{LAST, Links};
 use std::alloc::AllocError;
 use std::test::Fail;
 
-/// The example of the crate's page.
-#[test]
-fn example(rt: HostRuntime) -> Result<(), Fail> {
-    let mut links = Links::new(rt.alloc(), 4, 2)?;
-    links.insert_by_value(0, 3, 10);
-    links.insert_by_value(0, 1, 5);
-    links.insert_by_value(0, 2, 10);
-    assert_eq!(rt; links.front(0), Some((1, 5)));
-    links.remove(3);
-    links.push_back(1, 3);
-    assert_eq!(rt; links.place_of(3), Some(1));
-    assert_eq!(rt; links.pop_front(0), Some(1));
-    assert_eq!(rt; links.pop_front(0), Some(2));
-    assert_eq!(rt; links.pop_front(0), None);
-    Ok(())
-}
-
 #[test]
 fn values_in_order(rt: HostRuntime) -> Result<(), Fail> {
     let mut links = Links::new(rt.alloc(), 5, 3)?;
@@ -29,13 +12,13 @@ fn values_in_order(rt: HostRuntime) -> Result<(), Fail> {
     links.insert_by_value(1, 0, 7);
     links.insert_by_value(1, 2, 3);
     links.insert_by_value(1, 3, 7);
-    assert_eq!(rt; links.pop_front(0), Some(4));
-    assert_eq!(rt; links.pop_front(0), Some(1));
-    assert_eq!(rt; links.pop_front(0), None);
-    assert_eq!(rt; links.pop_front(1), Some(2));
-    assert_eq!(rt; links.pop_front(1), Some(0));
-    assert_eq!(rt; links.pop_front(1), Some(3));
-    assert_eq!(rt; links.pop_front(1), None);
+    assert!(rt; links.pop_front(0) == Some(4));
+    assert!(rt; links.pop_front(0) == Some(1));
+    assert!(rt; links.pop_front(0) == None);
+    assert!(rt; links.pop_front(1) == Some(2));
+    assert!(rt; links.pop_front(1) == Some(0));
+    assert!(rt; links.pop_front(1) == Some(3));
+    assert!(rt; links.pop_front(1) == None);
     Ok(())
 }
 
@@ -47,15 +30,15 @@ fn calls_in_order(rt: HostRuntime) -> Result<(), Fail> {
     links.insert_by_value(1, 0, 7);
     links.insert_by_value(1, 2, 3);
     links.insert_by_value(1, 3, 7);
-    assert_eq!(rt; links.place_of(0), Some(1));
+    assert!(rt; links.place_of(0) == Some(1));
     links.remove(0);
-    assert_eq!(rt; links.front(1), Some((2, 3)));
+    assert!(rt; links.front(1) == Some((2, 3)));
     assert!(rt; !links.is_in(0));
-    assert_eq!(rt; links.pop_front(1), Some(2));
-    assert_eq!(rt; links.place_of(4), Some(0));
-    assert_eq!(rt; links.front(0), Some((4, LAST)));
-    assert_eq!(rt; links.pop_front(1), Some(3));
-    assert_eq!(rt; links.pop_front(1), None);
+    assert!(rt; links.pop_front(1) == Some(2));
+    assert!(rt; links.place_of(4) == Some(0));
+    assert!(rt; links.front(0) == Some((4, LAST)));
+    assert!(rt; links.pop_front(1) == Some(3));
+    assert!(rt; links.pop_front(1) == None);
     Ok(())
 }
 

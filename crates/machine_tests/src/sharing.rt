@@ -35,7 +35,7 @@ fn core_under_a_lock(rt: HostRuntime) -> Result<(), Fail> {
         || takes_turns(&rt, &core, 0),
         || takes_turns(&rt, &core, 1),
     );
-    assert_eq!(rt; ended, (true, true));
+    assert!(rt; ended == (true, true));
     is_answered(
         &rt,
         &core.into_inner(),

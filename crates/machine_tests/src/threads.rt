@@ -117,11 +117,11 @@ fn numbers_out_of_range(rt: HostRuntime) -> Result<(), Fail> {
         (1, u64::MAX),
     ] {
         let number = refused(run(&rt, rt.alloc(), &code, b"", p, s, &NoGate))?;
-        assert_eq!(rt; number, 57, "p {p}, s {s}");
+        assert!(rt; number == 57, "p {p}, s {s}");
     }
     for (p, s) in [(1, 65), (1, 256), (64, 256)] {
         let number = refused(run(&rt, rt.alloc(), &code, b"", p, s, &NoGate))?;
-        assert_eq!(rt; number, 0, "p {p}, s {s}");
+        assert!(rt; number == 0, "p {p}, s {s}");
     }
     Ok(())
 }

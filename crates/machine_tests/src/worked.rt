@@ -487,8 +487,8 @@ pub fn sequential(alloc: Global, source: &[u8], input: &[u8]) -> Result<Answer, 
 /// The sequential answer of a worked program, which has the records and the end that it should have.
 pub fn worked_out(rt: &(impl Abort + AllocGlobal), row: &Worked) -> Result<Answer, Fail> {
     let answer = sequential(rt.alloc(), row.source, row.input)?;
-    assert_eq!(*rt; answer.output.as_slice(), row.output, "{}", row.name);
-    assert_eq!(*rt; answer.end, row.end, "{}", row.name);
+    assert!(*rt; answer.output.as_slice() == row.output, "{}", row.name);
+    assert!(*rt; answer.end == row.end, "{}", row.name);
     Ok(answer)
 }
 
