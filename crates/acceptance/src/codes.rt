@@ -51,8 +51,8 @@ const LINES: &[u8] = b"LOOP 0 PLACE 5 VARIABLE I STEP 1 PRIVATE K
 fn streams_that_fail_under_code(rt: HostRuntime) -> Result<(), Fail> {
     let mut source = WAITING;
     let mut out = with_room(rt.alloc(), 20)?;
-    assert_eq!(rt; status_of(code(rt.alloc(), &mut source, &mut out)), 4);
-    assert_eq!(rt; out.taken.as_slice(), &LINES[..20]);
+    assert!(rt; status_of(code(rt.alloc(), &mut source, &mut out)) == 4);
+    assert!(rt; out.taken.as_slice() == &LINES[..20]);
     let mut out = Vec::new(rt.alloc());
     let unread = code(rt.alloc(), &mut Unreadable, &mut out);
     assert!(rt; matches!(&unread, Err(EngineFault::Source(_))));
@@ -71,12 +71,9 @@ fn want_of_memory_in_lines_of_code(rt: HostRuntime) -> Result<(), Fail> {
     let first = code_into(rt.alloc(), &mut out);
     if let Err(EngineFault::Memory) = &first {
         assert!(rt; out.taken.is_empty());
-        assert_eq!(rt;
-            code_into(rt.alloc(), &mut out).expect(&rt, "there is memory"),
-            0
-        );
+        assert!(rt; code_into(rt.alloc(), &mut out).expect(&rt, "there is memory") == 0);
     }
-    assert_eq!(rt; out.taken.as_slice(), LINES);
-    assert_eq!(rt; first?, 0);
+    assert!(rt; out.taken.as_slice() == LINES);
+    assert!(rt; first? == 0);
     Ok(())
 }

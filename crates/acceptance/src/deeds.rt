@@ -163,11 +163,11 @@ fn lines(bytes: &[u8]) -> usize {
 
 /// What came of a command whose calls all went well.
 fn has_succeeded(rt: &impl Abort, case: &Case, files: &TestFiles, out: &[u8], status: u8) {
-    assert_eq!(*rt; status, 0);
-    assert_eq!(*rt; files.calls.as_slice(), case.calls);
-    assert_eq!(*rt; out, case.output);
+    assert!(*rt; status == 0);
+    assert!(*rt; files.calls.as_slice() == case.calls);
+    assert!(*rt; out == case.output);
     match case.put {
-        Some(put) => assert_eq!(*rt; files.put.as_slice(), put),
+        Some(put) => assert!(*rt; files.put.as_slice() == put),
         None => assert!(*rt; !files.put.is_empty()),
     }
 }
@@ -181,9 +181,9 @@ fn has_failed(
     out: &[u8],
     status: u8,
 ) {
-    assert_eq!(*rt; status, 4);
+    assert!(*rt; status == 4);
     assert!(*rt; case.calls.starts_with(&files.calls));
-    assert_eq!(*rt; lines(&files.calls), left.wrapping_add(1));
+    assert!(*rt; lines(&files.calls) == left.wrapping_add(1));
     assert!(*rt; out.is_empty());
     assert!(*rt; files.put.is_empty());
 }

@@ -28,8 +28,8 @@ const LINES: &[u8] = b"LOOP 1 LINE 2 DOACROSS EVENTS 1
 fn streams_that_fail_in_lists(rt: HostRuntime) -> Result<(), Fail> {
     let mut source = BRANCH;
     let mut out = with_room(rt.alloc(), 20)?;
-    assert_eq!(rt; status_of(list(rt.alloc(), &mut source, &mut out)), 4);
-    assert_eq!(rt; out.taken.as_slice(), &LINES[..20]);
+    assert!(rt; status_of(list(rt.alloc(), &mut source, &mut out)) == 4);
+    assert!(rt; out.taken.as_slice() == &LINES[..20]);
     let mut out = Vec::new(rt.alloc());
     let unread = list(rt.alloc(), &mut Unreadable, &mut out);
     assert!(rt; matches!(&unread, Err(EngineFault::Source(_))));
@@ -48,12 +48,9 @@ fn want_of_memory_in_lists_of_loops(rt: HostRuntime) -> Result<(), Fail> {
     let first = list_into(rt.alloc(), &mut out);
     if let Err(EngineFault::Memory) = &first {
         assert!(rt; out.taken.is_empty());
-        assert_eq!(rt;
-            list_into(rt.alloc(), &mut out).expect(&rt, "there is memory"),
-            0
-        );
+        assert!(rt; list_into(rt.alloc(), &mut out).expect(&rt, "there is memory") == 0);
     }
-    assert_eq!(rt; out.taken.as_slice(), LINES);
-    assert_eq!(rt; first?, 0);
+    assert!(rt; out.taken.as_slice() == LINES);
+    assert!(rt; first? == 0);
     Ok(())
 }

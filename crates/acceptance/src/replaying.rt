@@ -30,7 +30,7 @@ const TO_ITS_END: &[u8] =
 /// What the schedule of the end alone is upgraded to.
 fn is_named(rt: &impl Abort, upgraded: &Upgraded) {
     match upgraded {
-        Upgraded::Text(text) => assert_eq!(*rt; text.as_slice(), NAMED),
+        Upgraded::Text(text) => assert!(*rt; text.as_slice() == NAMED),
         Upgraded::Shown(_) => panic!(*rt; "a schedule that replays"),
     }
 }
@@ -46,10 +46,10 @@ fn want_of_memory_in_replays(rt: HostRuntime) -> Result<(), Fail> {
     if let Err(EngineFault::Memory) = &first {
         assert!(rt; out.is_empty());
         let again = replay_into(rt.alloc(), &mut out).expect(&rt, "there is memory");
-        assert_eq!(rt; again.status(), 0);
+        assert!(rt; again.status() == 0);
     }
-    assert_eq!(rt; out.as_slice(), b" A 5\n".as_slice());
-    assert_eq!(rt; first?.status(), 0);
+    assert!(rt; out.as_slice() == b" A 5\n".as_slice());
+    assert!(rt; first?.status() == 0);
     Ok(())
 }
 
@@ -75,13 +75,13 @@ fn readers_that_fail_in_replays(rt: HostRuntime) -> Result<(), Fail> {
     let mut schedule = WHOLE;
     let unread = replay(rt.alloc(), &mut source, &mut cut, &mut schedule, &mut out);
     assert!(rt; matches!(&unread, Err(EngineFault::Input(_))));
-    assert_eq!(rt; schedule, WHOLE);
+    assert!(rt; schedule == WHOLE);
     let mut source = END;
     let mut input: &[u8] = b"";
     let mut cut = Interrupted { bytes: WHOLE };
     let unread = replay(rt.alloc(), &mut source, &mut input, &mut cut, &mut out);
     assert!(rt; matches!(&unread, Err(EngineFault::Schedule(_))));
-    assert_eq!(rt; status_of(unread), 4);
+    assert!(rt; status_of(unread) == 4);
     assert!(rt; out.is_empty());
     Ok(())
 }
@@ -99,8 +99,8 @@ fn writers_that_fail_in_replays(rt: HostRuntime) -> Result<(), Fail> {
             fails: true,
         };
         let given = replay(rt.alloc(), &mut source, &mut input, &mut schedule, &mut out);
-        assert_eq!(rt; status_of(given), status);
-        assert_eq!(rt; out.taken.as_slice(), &whole[..room]);
+        assert!(rt; status_of(given) == status);
+        assert!(rt; out.taken.as_slice() == &whole[..room]);
     }
     Ok(())
 }

@@ -28,13 +28,13 @@ fn writers_that_fail(rt: HostRuntime) -> Result<(), Fail> {
             fails,
         };
         let given = seq(rt.alloc(), &mut source, &mut input, false, 65_536, &mut out);
-        assert_eq!(rt; status_of(given), status);
-        assert_eq!(rt; out.taken.as_slice(), &whole[..room]);
+        assert!(rt; status_of(given) == status);
+        assert!(rt; out.taken.as_slice() == &whole[..room]);
     }
     let mut source = DIVIDES;
     let mut out = with_room(rt.alloc(), 5)?;
-    assert_eq!(rt; status_of(check(rt.alloc(), &mut source, &mut out)), 4);
-    assert_eq!(rt; out.taken.as_slice(), b"ACCEP".as_slice());
+    assert!(rt; status_of(check(rt.alloc(), &mut source, &mut out)) == 4);
+    assert!(rt; out.taken.as_slice() == b"ACCEP".as_slice());
     Ok(())
 }
 
@@ -53,8 +53,8 @@ fn cut_short(
         let mut out = with_room(rt.alloc(), room)?;
         let given = seq(rt.alloc(), &mut text, &mut input, true, most, &mut out);
         let wanted = if room < whole.len() { 4 } else { status };
-        assert_eq!(rt; status_of(given), wanted);
-        assert_eq!(rt; out.taken.as_slice(), &whole[..room]);
+        assert!(rt; status_of(given) == wanted);
+        assert!(rt; out.taken.as_slice() == &whole[..room]);
     }
     Ok(())
 }
@@ -77,7 +77,7 @@ fn readers_that_fail(rt: HostRuntime) -> Result<(), Fail> {
     let mut out = Vec::new(rt.alloc());
     let unread = check(rt.alloc(), &mut Unreadable, &mut out);
     assert!(rt; matches!(&unread, Err(EngineFault::Source(_))));
-    assert_eq!(rt; status_of(unread), 4);
+    assert!(rt; status_of(unread) == 4);
     // Want of memory of a reader's own is a fault of reading, not one of the engine's memory.
     let unread = check(rt.alloc(), &mut Full, &mut out);
     assert!(rt; matches!(&unread, Err(EngineFault::Source(_))));
@@ -92,7 +92,7 @@ fn readers_that_fail(rt: HostRuntime) -> Result<(), Fail> {
     let mut cut = Interrupted { bytes: b"5\n" };
     let unread = seq(rt.alloc(), &mut source, &mut cut, false, 65_536, &mut out);
     assert!(rt; matches!(&unread, Err(EngineFault::Input(_))));
-    assert_eq!(rt; status_of(unread), 4);
+    assert!(rt; status_of(unread) == 4);
     assert!(rt; out.is_empty());
     Ok(())
 }
@@ -111,13 +111,10 @@ fn want_of_memory_in_runs(rt: HostRuntime) -> Result<(), Fail> {
     if let Err(EngineFault::Memory) = &first {
         assert!(rt; b" -7A\n".starts_with(out.taken.as_slice()));
         out.taken.clear();
-        assert_eq!(rt;
-            run_into(rt.alloc(), &mut out).expect(&rt, "there is memory"),
-            0
-        );
+        assert!(rt; run_into(rt.alloc(), &mut out).expect(&rt, "there is memory") == 0);
     }
-    assert_eq!(rt; out.taken.as_slice(), b" -7A\nK = -7\n".as_slice());
-    assert_eq!(rt; first?, 0);
+    assert!(rt; out.taken.as_slice() == b" -7A\nK = -7\n".as_slice());
+    assert!(rt; first? == 0);
     Ok(())
 }
 
@@ -132,12 +129,9 @@ fn want_of_memory_in_checks(rt: HostRuntime) -> Result<(), Fail> {
     let first = check_into(rt.alloc(), &mut out);
     if let Err(EngineFault::Memory) = &first {
         assert!(rt; out.taken.is_empty());
-        assert_eq!(rt;
-            check_into(rt.alloc(), &mut out).expect(&rt, "there is memory"),
-            1
-        );
+        assert!(rt; check_into(rt.alloc(), &mut out).expect(&rt, "there is memory") == 1);
     }
-    assert_eq!(rt; out.taken.as_slice(), b"REFUSED 25 LINE 1\n".as_slice());
-    assert_eq!(rt; first?, 1);
+    assert!(rt; out.taken.as_slice() == b"REFUSED 25 LINE 1\n".as_slice());
+    assert!(rt; first? == 1);
     Ok(())
 }

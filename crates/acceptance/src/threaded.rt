@@ -55,7 +55,7 @@ fn readers_that_fail_in_a_run(rt: HostRuntime) -> Result<(), Fail> {
         &mut out,
     );
     assert!(rt; matches!(&unread, Err(EngineFault::Source(_))));
-    assert_eq!(rt; input, b"5\n".as_slice());
+    assert!(rt; input == b"5\n".as_slice());
     let mut source = CHAIN;
     let mut cut = Interrupted { bytes: b"4\n" };
     let unread = run(
@@ -68,7 +68,7 @@ fn readers_that_fail_in_a_run(rt: HostRuntime) -> Result<(), Fail> {
         &mut out,
     );
     assert!(rt; matches!(&unread, Err(EngineFault::Input(_))));
-    assert_eq!(rt; status_of(unread), 4);
+    assert!(rt; status_of(unread) == 4);
     assert!(rt; out.is_empty());
     assert!(rt; schedule.is_empty());
     Ok(())
@@ -97,20 +97,20 @@ fn faults_into<R: AllocGlobal + Threads + Wait + Sync>(
 fn writers_that_fail_in_a_run(rt: HostRuntime) -> Result<(), Fail> {
     let mut whole = with_room(rt.alloc(), 4096)?;
     let mut out = with_room(rt.alloc(), 64)?;
-    assert_eq!(rt; faults_into(&rt, &mut whole, &mut out)?, 2);
-    assert_eq!(rt; out.taken.as_slice(), FAULT_SHOWN);
+    assert!(rt; faults_into(&rt, &mut whole, &mut out)? == 2);
+    assert!(rt; out.taken.as_slice() == FAULT_SHOWN);
     for room in 0..FAULT_SHOWN.len() {
         let mut schedule = with_room(rt.alloc(), 4096)?;
         let mut out = with_room(rt.alloc(), room)?;
-        assert_eq!(rt; status_of(faults_into(&rt, &mut schedule, &mut out)), 4);
-        assert_eq!(rt; out.taken.as_slice(), &FAULT_SHOWN[..room]);
-        assert_eq!(rt; schedule.taken, whole.taken);
+        assert!(rt; status_of(faults_into(&rt, &mut schedule, &mut out)) == 4);
+        assert!(rt; out.taken.as_slice() == &FAULT_SHOWN[..room]);
+        assert!(rt; schedule.taken == whole.taken);
     }
     for room in 0..whole.taken.len() {
         let mut schedule = with_room(rt.alloc(), room)?;
         let mut out = with_room(rt.alloc(), 64)?;
-        assert_eq!(rt; status_of(faults_into(&rt, &mut schedule, &mut out)), 4);
-        assert_eq!(rt; schedule.taken.as_slice(), &whole.taken[..room]);
+        assert!(rt; status_of(faults_into(&rt, &mut schedule, &mut out)) == 4);
+        assert!(rt; schedule.taken.as_slice() == &whole.taken[..room]);
         assert!(rt; out.taken.is_empty());
     }
     Ok(())
@@ -133,11 +133,11 @@ fn want_of_memory_in_the_engine_of_runs(rt: HostRuntime) -> Result<(), Fail> {
         let mut schedule = with_room(rt.alloc(), 4096)?;
         let mut out = with_room(rt.alloc(), 64)?;
         let again = faults_into(&rt, &mut schedule, &mut out);
-        assert_eq!(rt; again.expect(&rt, "there is memory"), 2);
-        assert_eq!(rt; out.taken.as_slice(), FAULT_SHOWN);
+        assert!(rt; again.expect(&rt, "there is memory") == 2);
+        assert!(rt; out.taken.as_slice() == FAULT_SHOWN);
         return Err(AllocError.into());
     }
-    assert_eq!(rt; first?, 2);
-    assert_eq!(rt; out.taken.as_slice(), FAULT_SHOWN);
+    assert!(rt; first? == 2);
+    assert!(rt; out.taken.as_slice() == FAULT_SHOWN);
     Ok(())
 }

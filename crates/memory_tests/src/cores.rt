@@ -40,7 +40,7 @@ fn step(rt: &impl Abort, core: &mut Core<'_>, q: usize) -> Stepped {
     match core.step(q) {
         Ok(stepped) => stepped,
         Err(_) => {
-            assert_eq!(*rt; seen(core, q), before);
+            assert!(*rt; seen(core, q) == before);
             core.step(q).expect(rt, AGAIN)
         }
     }
@@ -52,7 +52,7 @@ fn picks(rt: &impl Abort, core: &mut Core<'_>, q: usize, choice: Choice) -> bool
     let stepped = match core.pick(q, choice) {
         Ok(stepped) => stepped,
         Err(_) => {
-            assert_eq!(*rt; seen(core, q), before);
+            assert!(*rt; seen(core, q) == before);
             core.pick(q, choice).expect(rt, AGAIN)
         }
     };
@@ -98,8 +98,8 @@ fn hands_in(rt: &impl Abort, core: &mut Core<'_>, q: usize, from: Frame) {
     };
     let before = seen(core, q);
     if let Err(refusal) = core.hand_in(q, done) {
-        assert_eq!(*rt; refusal, HandIn::Memory);
-        assert_eq!(*rt; seen(core, q), before);
+        assert!(*rt; refusal == HandIn::Memory);
+        assert!(*rt; seen(core, q) == before);
         let anew = worked(rt, code, spare).expect(rt, "the work stands next");
         core.hand_in(q, anew).expect(rt, AGAIN);
     }
@@ -153,7 +153,7 @@ fn driven<'c>(
     let mut core = match Core::new(rt.alloc(), code, input, 2, 2) {
         Ok(core) => core,
         Err(refusal) => {
-            assert_eq!(*rt; refusal, CoreRefusal::Memory);
+            assert!(*rt; refusal == CoreRefusal::Memory);
             Core::new(rt.alloc(), code, input, 2, 2).expect(rt, AGAIN)
         }
     };
@@ -185,7 +185,7 @@ fn parsed(rt: &(impl Abort + AllocGlobal), text: &[u8]) -> Schedule {
     match Schedule::parse(rt.alloc(), text) {
         Ok(schedule) => schedule,
         Err(refusal) => {
-            assert_eq!(*rt; refusal, ReplayRefusal::Memory);
+            assert!(*rt; refusal == ReplayRefusal::Memory);
             Schedule::parse(rt.alloc(), text).expect(rt, AGAIN)
         }
     }
@@ -201,7 +201,7 @@ fn replayed(
     match replay(rt.alloc(), code, input, schedule) {
         Ok(answer) => answer,
         Err(refusal) => {
-            assert_eq!(*rt; refusal, ReplayRefusal::Memory);
+            assert!(*rt; refusal == ReplayRefusal::Memory);
             replay(rt.alloc(), code, input, schedule).expect(rt, AGAIN)
         }
     }
@@ -216,7 +216,7 @@ fn upgraded(
     match upgrade(rt.alloc(), code, input, schedule) {
         Ok(schedule) => schedule,
         Err(refusal) => {
-            assert_eq!(*rt; refusal, ReplayRefusal::Memory);
+            assert!(*rt; refusal == ReplayRefusal::Memory);
             upgrade(rt.alloc(), code, input, schedule).expect(rt, AGAIN)
         }
     }
@@ -232,7 +232,7 @@ fn leaves(rt: &(impl Abort + AllocGlobal), core: &Core<'_>, row: &Row) -> Vec<u8
     let read = parsed(rt, &text);
     is_answer(rt, &replayed(rt, core.code(), row.input, &read), row);
     let again = upgraded(rt, core.code(), row.input, &read);
-    assert_eq!(*rt; text_of(rt, &again), text);
+    assert!(*rt; text_of(rt, &again) == text);
     text
 }
 
@@ -242,13 +242,13 @@ pub fn code_of(rt: &(impl Abort + AllocGlobal), row: &Row) -> Code {
     let Compiled { code, reports } = match compile(rt.alloc(), &program) {
         Ok(compiled) => compiled,
         Err(refusal) => {
-            assert_eq!(*rt; refusal, Refusal::Memory);
+            assert!(*rt; refusal == Refusal::Memory);
             compile(rt.alloc(), &program).expect(rt, AGAIN)
         }
     };
-    assert_eq!(*rt; reports.len(), row.loops.len());
+    assert!(*rt; reports.len() == row.loops.len());
     for (report, range) in reports.iter().zip(row.loops) {
-        assert_eq!(*rt; report.line, range.first);
+        assert!(*rt; report.line == range.first);
         is_planned(rt, &report.plan, range);
     }
     code
@@ -288,7 +288,7 @@ fn want_of_memory_in_steps(rt: HostRuntime) -> Result<(), Fail> {
         let first = parsed(&rt, &in_first_version(rt.alloc(), &text)?);
         is_answer(&rt, &replayed(&rt, &code, row.input, &first), row);
         let named = upgraded(&rt, &code, row.input, &first);
-        assert_eq!(rt; text_of(&rt, &named), text);
+        assert!(rt; text_of(&rt, &named) == text);
     }
     Ok(())
 }

@@ -60,11 +60,11 @@ fn want_of_memory_in_formulas(rt: HostRuntime) {
         let read = match expr(rt.alloc(), text, LINE) {
             Ok(read) => read,
             Err(refusal) => {
-                assert_eq!(&rt; refusal, Refusal::Memory);
+                assert!(&rt; refusal == Refusal::Memory);
                 expr(rt.alloc(), text, LINE).expect(&rt, AGAIN)
             }
         };
-        assert_eq!(&rt; value_of(&read), Some(value));
+        assert!(&rt; value_of(&read) == Some(value));
     }
 }
 
@@ -153,10 +153,10 @@ fn has_code(
         emit(value, places, &mut code).expect(rt, AGAIN);
     }
     let added = behind_halt(&code).expect(rt, "what was there stays");
-    assert_eq!(*rt; added.len(), wanted.len());
+    assert!(*rt; added.len() == wanted.len());
     for (instruction, act) in added.iter().zip(wanted) {
-        assert_eq!(*rt; instruction.act, *act);
-        assert_eq!(*rt; instruction.line, LINE);
+        assert!(*rt; instruction.act == *act);
+        assert!(*rt; instruction.line == LINE);
     }
     Ok(())
 }

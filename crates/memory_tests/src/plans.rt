@@ -20,9 +20,9 @@ fn tree_of<'p>(rt: &(impl Abort + AllocGlobal), program: &'p Program) -> LoopTre
 
 /// Names are these, in this order.
 fn are_named(rt: &impl Abort, names: &[Name], wanted: &[&[u8]]) {
-    assert_eq!(*rt; names.len(), wanted.len());
+    assert!(*rt; names.len() == wanted.len());
     for (name, wanted) in names.iter().zip(wanted) {
-        assert_eq!(*rt; name.trimmed(), *wanted);
+        assert!(*rt; name.trimmed() == *wanted);
     }
 }
 
@@ -48,16 +48,16 @@ fn mark_of(part: &PlanStmt) -> Option<Mark> {
 
 /// The parts of a body are these.
 fn are_parts(rt: &impl Abort, body: &[PlanStmt], wanted: &[Mark]) {
-    assert_eq!(*rt; body.len(), wanted.len());
+    assert!(*rt; body.len() == wanted.len());
     for (part, mark) in body.iter().zip(wanted) {
-        assert_eq!(*rt; mark_of(part), Some(*mark));
+        assert!(*rt; mark_of(part) == Some(*mark));
     }
 }
 
 /// A plan is the wanted one.
 pub fn is_planned(rt: &impl Abort, found: &LoopPlan, wanted: &Range) {
     match (found, &wanted.plan) {
-        (LoopPlan::Serial(reason), Planned::Serial(number)) => assert_eq!(*rt; reason, number),
+        (LoopPlan::Serial(reason), Planned::Serial(number)) => assert!(*rt; reason == number),
         (LoopPlan::Body { body, privates, .. }, Planned::Body(marks)) => {
             are_named(rt, &privates.names, wanted.privates);
             are_parts(rt, body, marks);
@@ -74,21 +74,21 @@ fn has_plan(rt: &(impl Abort + AllocGlobal), view: &LoopView<'_, '_>, wanted: &R
     };
     is_planned(rt, &found, wanted);
     if let Err(fault) = check(rt.alloc(), view, &found) {
-        assert_eq!(*rt; fault, PlanFault::Memory);
+        assert!(*rt; fault == PlanFault::Memory);
         check(rt.alloc(), view, &found).expect(rt, AGAIN);
     }
 }
 
 /// The loops of a program are these.
 fn are_loops(rt: &(impl Abort + AllocGlobal), tree: &LoopTree<'_>, wanted: &[Range]) {
-    assert_eq!(*rt; tree.count(), wanted.len());
+    assert!(*rt; tree.count() == wanted.len());
     let mut number: usize = 0;
     for range in wanted {
         number = number.wrapping_add(1);
         assert!(*rt; 1 <= number);
         assert!(*rt; number <= tree.count());
         let view = tree.view(number);
-        assert_eq!(*rt; view.line(), range.first);
+        assert!(*rt; view.line() == range.first);
         has_privates(rt, &view, range);
         has_plan(rt, &view, range);
     }

@@ -16,13 +16,13 @@ fn lines_of(rt: &(impl Abort + AllocGlobal), row: &Row) -> Vec<Labelled> {
     let list = match statements(rt.alloc(), row.source) {
         Ok(list) => list,
         Err(refusal) => {
-            assert_eq!(*rt; refusal, Refusal::Memory);
+            assert!(*rt; refusal == Refusal::Memory);
             statements(rt.alloc(), row.source).expect(rt, AGAIN)
         }
     };
-    assert_eq!(*rt; list.len(), row.statements);
+    assert!(*rt; list.len() == row.statements);
     for (place, one) in list.iter().enumerate() {
-        assert_eq!(*rt; one.line as usize, place.wrapping_add(1));
+        assert!(*rt; one.line as usize == place.wrapping_add(1));
     }
     list
 }
@@ -42,16 +42,13 @@ fn read(rt: &(impl Abort + AllocGlobal), row: &Row, line: &Labelled) -> Stmt {
     let read = match statement(rt.alloc(), line) {
         Ok(read) => read,
         Err(refusal) => {
-            assert_eq!(*rt; refusal, Refusal::Memory);
+            assert!(*rt; refusal == Refusal::Memory);
             statement(rt.alloc(), line).expect(rt, AGAIN)
         }
     };
-    assert_eq!(*rt; read.line, line.line);
-    assert_eq!(*rt; read.label, line.label);
-    assert_eq!(*rt;
-        matches!(&read.kind, Kind::Do(_)),
-        begins_loop(row, read.line)
-    );
+    assert!(*rt; read.line == line.line);
+    assert!(*rt; read.label == line.label);
+    assert!(*rt; matches!(&read.kind, Kind::Do(_)) == begins_loop(row, read.line));
     read
 }
 
@@ -72,7 +69,7 @@ fn ranges_of(rt: &(impl Abort + AllocGlobal), lines: &[Labelled], trees: &[Stmt]
     match blocks(rt.alloc(), lines, trees) {
         Ok(found) => found,
         Err(refusal) => {
-            assert_eq!(*rt; refusal, Refusal::Memory);
+            assert!(*rt; refusal == Refusal::Memory);
             blocks(rt.alloc(), lines, trees).expect(rt, AGAIN)
         }
     }
@@ -80,10 +77,10 @@ fn ranges_of(rt: &(impl Abort + AllocGlobal), lines: &[Labelled], trees: &[Stmt]
 
 /// Ranges are these; a statement's number is one less than its line.
 fn are_ranges(rt: &impl Abort, found: &Blocks, wanted: &[Range]) {
-    assert_eq!(*rt; found.spans.len(), wanted.len());
+    assert!(*rt; found.spans.len() == wanted.len());
     for (span, range) in found.spans.iter().zip(wanted) {
-        assert_eq!(*rt; span.first.wrapping_add(1), range.first as usize);
-        assert_eq!(*rt; span.last.wrapping_add(1), range.last as usize);
+        assert!(*rt; span.first.wrapping_add(1) == range.first as usize);
+        assert!(*rt; span.last.wrapping_add(1) == range.last as usize);
     }
 }
 
@@ -102,7 +99,7 @@ pub fn program_of(rt: &(impl Abort + AllocGlobal), row: &Row) -> Program {
     match program(rt.alloc(), row.source) {
         Ok(made) => made,
         Err(refusal) => {
-            assert_eq!(*rt; refusal, Refusal::Memory);
+            assert!(*rt; refusal == Refusal::Memory);
             program(rt.alloc(), row.source).expect(rt, AGAIN)
         }
     }
@@ -118,15 +115,15 @@ fn answer_of(rt: &(impl Abort + AllocGlobal), program: &Program, row: &Row) -> A
 
 /// An answer is the row's.
 pub fn is_answer(rt: &impl Abort, answer: &Answer, row: &Row) {
-    assert_eq!(*rt; answer.output.as_slice(), row.output);
-    assert_eq!(*rt; answer.end, row.end);
+    assert!(*rt; answer.output.as_slice() == row.output);
+    assert!(*rt; answer.end == row.end);
 }
 
 #[test]
 fn want_of_memory_in_programs(rt: HostRuntime) {
     for row in &ROWS {
         let first = program_of(&rt, row);
-        assert_eq!(&rt; first.statements, row.statements);
+        assert!(&rt; first.statements == row.statements);
         let copy = match first.try_copy() {
             Ok(copy) => copy,
             Err(_) => first.try_copy().expect(&rt, AGAIN),

@@ -13,8 +13,8 @@ use std::thread::Threads;
 fn has_ended(rt: &impl Abort, came: Result<Report, RunRefusal>, row: &Row) -> bool {
     match came {
         Ok(report) => {
-            assert_eq!(*rt; report.answer.output.as_slice(), row.output);
-            assert_eq!(*rt; report.answer.end, row.end);
+            assert!(*rt; report.answer.output.as_slice() == row.output);
+            assert!(*rt; report.answer.end == row.end);
             true
         }
         Err(RunRefusal::Memory { output }) => {
@@ -23,7 +23,7 @@ fn has_ended(rt: &impl Abort, came: Result<Report, RunRefusal>, row: &Row) -> bo
             false
         }
         Err(RunRefusal::Refused { number }) => {
-            assert_eq!(*rt; number, 58);
+            assert!(*rt; number == 58);
             false
         }
     }

@@ -41,8 +41,8 @@ fn is_checked(rt: &(impl Abort + AllocGlobal), row: &Row) -> Result<(), AllocErr
         let mut source = row.source;
         given = check(rt.alloc(), &mut source, &mut out);
     }
-    assert_eq!(*rt; given.expect(rt, AGAIN), 0);
-    assert_eq!(*rt; out.as_slice(), row.accepted);
+    assert!(*rt; given.expect(rt, AGAIN) == 0);
+    assert!(*rt; out.as_slice() == row.accepted);
     Ok(())
 }
 
@@ -55,8 +55,8 @@ fn is_listed(rt: &(impl Abort + AllocGlobal), row: &Row) -> Result<(), AllocErro
         let mut source = row.source;
         given = list(rt.alloc(), &mut source, &mut out);
     }
-    assert_eq!(*rt; given.expect(rt, AGAIN), 0);
-    assert_eq!(*rt; out.as_slice(), row.listing);
+    assert!(*rt; given.expect(rt, AGAIN) == 0);
+    assert!(*rt; out.as_slice() == row.listing);
     Ok(())
 }
 
@@ -78,7 +78,7 @@ fn runs_alone(rt: &(impl Abort + AllocGlobal), row: &Row) -> Result<(), AllocErr
         out.clear();
         given = seq_into(rt, row, &mut out);
     }
-    assert_eq!(*rt; given.expect(rt, AGAIN), status_of(row));
+    assert!(*rt; given.expect(rt, AGAIN) == status_of(row));
     let behind = out.strip_prefix(row.output).unwrap_or(&[]);
     assert!(*rt; are(behind, row.told, row.stored));
     Ok(())
@@ -146,7 +146,7 @@ fn runs<R: Abort + AllocGlobal + Threads + Wait + Sync>(
         out.clear();
         given = run_into(rt, row, &mut schedule, &mut out);
     }
-    assert_eq!(*rt; given.expect(rt, AGAIN), status_of(row));
+    assert!(*rt; given.expect(rt, AGAIN) == status_of(row));
     let behind = out.strip_prefix(row.output).unwrap_or(&[]);
     assert!(*rt; are(behind, row.told, row.stored));
     Ok(schedule)
@@ -172,7 +172,7 @@ fn replays(rt: &(impl Abort + AllocGlobal), row: &Row, schedule: &[u8]) -> Resul
         assert!(*rt; out.is_empty());
         given = replay_into(rt, row, schedule, &mut out);
     }
-    assert_eq!(*rt; given.expect(rt, AGAIN), status_of(row));
+    assert!(*rt; given.expect(rt, AGAIN) == status_of(row));
     assert!(*rt; are(&out, row.output, row.told));
     Ok(())
 }
@@ -206,8 +206,8 @@ fn is_kept(rt: &(impl Abort + AllocGlobal), row: &Row, schedule: &[u8]) -> Resul
         assert!(*rt; upgraded.is_empty());
         given = upgrade_into(rt, row, schedule, &mut out, &mut upgraded);
     }
-    assert_eq!(*rt; given.expect(rt, AGAIN), 0);
-    assert_eq!(*rt; upgraded.as_slice(), schedule);
+    assert!(*rt; given.expect(rt, AGAIN) == 0);
+    assert!(*rt; upgraded.as_slice() == schedule);
     assert!(*rt; out.is_empty());
     Ok(())
 }
