@@ -7,9 +7,6 @@ use machine::{Code, Frame, Stretch, stands_local};
 use replay::{Act, Activities, Choice, Core, CoreRefusal, Entry, HandIn, Stepped};
 use std::alloc::{AllocError, Global};
 
-/// How many local instructions are done at a time, at most.
-const BURST: u32 = 1024;
-
 /// A core at the beginning of a run of so many processors with so many open iterations; `None` where no
 /// core has so many.
 pub fn new_core<'c>(
@@ -27,7 +24,7 @@ pub fn new_core<'c>(
 }
 
 /// Processor `q` does local instructions that stand next in what it holds, which has this frame, at most
-/// so many, 1 to 1,024.
+/// so many.
 fn work_from(
     core: &mut Core<'_>,
     q: usize,
@@ -35,7 +32,7 @@ fn work_from(
     count: u32,
 ) -> Result<Stepped, AllocError> {
     let code = core.code();
-    if count < 1 || count > BURST || !stands_local(code, &frame) {
+    if count < 1 || !stands_local(code, &frame) {
         return Ok(Stepped::Idle);
     }
     let stretch = Stretch::work(code, frame, count)?;
