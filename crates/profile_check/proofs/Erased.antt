@@ -2,7 +2,7 @@
 use Rattle.std.proofs.Common.{◌≡◌, ◌∙◌, ℕ, ◌+◌, Bool, true, false, List, [], ◌∷◌, ◌++◌, length, refl, ap, sym, subst, arith, append_assoc, map, Option, Some, None, option_map}
 use Rattle.std.specs.Prelude.{ℤ, ◌&&◌, ◌==◌}
 use Rattle.std.specs.List.{list_all}
-use Rattle.std.proofs.lemmas.Bool.{and_parts, eqb-true}
+use Rattle.std.proofs.lemmas.Bool.{and_parts, eqb-false, eqb-true}
 use Rattle.std.proofs.lemmas.List.Folds.{list_all-append}
 use Rattle.ast.specs.Program.{is_placed}
 use Rattle.ast.specs.References.{term_references, terms_references, expressions_references, are_numbered, optional, item_expressions, items_expressions, kind_expressions, head_expressions, node_expressions, block_expressions, arms_expressions}
@@ -98,6 +98,15 @@ same-name {x = x} {y = y} e = ap name-of e
 same-element : (r s : Ref) (es fs : Terms) → r.name ≡ s.name → r.id ≡ s.id → r.cell ≡ s.cell → es ≡ fs → element r es ≡ element s fs
 same-element r s es fs a b c d = λ i. element (record { name = a i; id = b i; cell = c i }) (d i)
 
+-- which form an expression has; what is written as an element is one
+abbrev form-of : Term → ℕ
+form-of (constant a) = 0
+form-of (truth a) = 1
+form-of (parentheses a) = 2
+form-of (unary p a) = 3
+form-of (binary o a b) = 4
+form-of _ = 5
+
 mutual
   pub same-term : (symbols : List Symbol) → Known symbols → (n : ℕ) (e f : Term) → erased e ≡ erased f → Settled symbols n e → Settled symbols n f → e ≡ f
   same-term symbols k n (constant a) (constant b) e h g = e
@@ -138,7 +147,7 @@ mutual
       let u : b ≡ d = same-term symbols k (n + length (term_references a)) b d (let z : erased b ≡ erased d = cc in z) (right symbols n o a b h)
       (subst (λ (x : Term). Settled symbols (n + length (term_references x)) d) (sym t) (right symbols n p c d g)) in
       λ j. binary (q j) (t j) (u j)
-  same-term symbols k n _ _ e h g = absurd cc
+  same-term symbols k n a b e h g = absurd (eqb-false (form-of (erased a)) (form-of (erased b)) refl (ap form-of e))
 
   pub same-terms : (symbols : List Symbol) → Known symbols → (n : ℕ) (es fs : Terms) → all_erased es ≡ all_erased fs → AllSettled symbols n es → AllSettled symbols n fs → es ≡ fs
   same-terms symbols k n no_terms no_terms e h g = refl
@@ -207,6 +216,12 @@ is-print _ = false
 abbrev is-read : Kind → Bool
 is-read (read elements) = true
 is-read _ = false
+
+-- which form a node has
+abbrev node-form : Node → ℕ
+node-form (plain s) = 0
+node-form (loop l d b) = 1
+node-form (choose a) = 2
 
 clash : true ≡ false → ⊥
 clash e = cc
@@ -313,7 +328,7 @@ module _ (symbols : List Symbol) (k : Known symbols) where
         (subst (λ (x : DoHead). ListSettled symbols (n + count (head_expressions x)) (block_expressions c)) (sym t) (back symbols n (head_expressions f) (block_expressions c) g)) in
         λ i. loop (q i) (t i) (u i)
     same-node n (choose a) (choose b) e h g = ap choose (same-arms n a b (let z : arms_erased a ≡ arms_erased b = cc in z) h g)
-    same-node n _ _ e h g = absurd cc
+    same-node n x y e h g = absurd (eqb-false (node-form (node_erased x)) (node-form (node_erased y)) refl (ap node-form e))
 
     pub same-block : (n : ℕ) (x y : Block) → block_erased x ≡ block_erased y → ListSettled symbols n (block_expressions x) → ListSettled symbols n (block_expressions y) → x ≡ y
     same-block n no_nodes no_nodes e h g = refl
