@@ -17,7 +17,7 @@ use std::test::Fail;
 const ROUNDS: usize = 2_000;
 
 /// What can be seen of a core and of what one of its processors holds.
-#[derive(Clone, Copy, Debug, PartialEq, Eq)]
+#[derive(Clone, Copy, PartialEq, Eq)]
 struct Outside {
     entries: usize,
     tally: Tally,

@@ -6,7 +6,7 @@ use ast::{End, Fault, Line};
 pub const AGAIN: &str = "there is memory for a second call";
 
 /// What stands in the body of a plan.
-#[derive(Clone, Copy, Debug, PartialEq, Eq)]
+#[derive(Clone, Copy, PartialEq, Eq)]
 pub enum Mark {
     /// An await of this event, so many iterations back.
     Await(usize, u128),
