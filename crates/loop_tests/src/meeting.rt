@@ -385,7 +385,7 @@ fn refute(met: u32, relation: Relation) -> bool {
 }
 
 /// How many relations of each kind were found.
-#[derive(Clone, Copy, Debug)]
+#[derive(Clone, Copy)]
 struct Tally {
     constant: u32,
     divisor: u32,
@@ -494,18 +494,26 @@ fn try_beside(
     Ok(())
 }
 
+/// Tries all pairs of the elements of a loop.
+fn try_loop(
+    rt: &(impl Abort + AllocGlobal),
+    view: &LoopView<'_, '_>,
+    tally: &mut Tally,
+) -> Result<(), Fail> {
+    let elements = assigned_elements(rt.alloc(), view)?;
+    assert!(rt; elements.len() == ELEMENTS as usize);
+    for a in &elements {
+        try_beside(rt, view, a, &elements, tally)?;
+    }
+    Ok(())
+}
+
 /// Tries all pairs of the elements of a program.
 fn try_source(rt: &(impl Abort + AllocGlobal), text: &[u8], tally: &mut Tally) -> Result<(), Fail> {
     let program = program(rt.alloc(), text)?;
     let tree = loops(rt.alloc(), &program)?;
     assert!(rt; tree.count() == 1);
-    let view = tree.view(1);
-    let elements = assigned_elements(rt.alloc(), &view)?;
-    assert!(rt; elements.len() == ELEMENTS as usize);
-    for a in &elements {
-        try_beside(rt, &view, a, &elements, tally)?;
-    }
-    Ok(())
+    try_loop(rt, &tree.view(1), tally)
 }
 
 #[test]
@@ -523,10 +531,10 @@ fn no_relation_is_refuted(rt: HostRuntime) -> Result<(), Fail> {
         let text = source(rt.alloc(), &mut numbers)?;
         try_source(&rt, &text, &mut tally)?;
     }
-    assert!(rt; tally.constant > 20, "{tally:?}");
-    assert!(rt; tally.divisor > 20, "{tally:?}");
-    assert!(rt; tally.distance > 20, "{tally:?}");
-    assert!(rt; tally.range > 20, "{tally:?}");
-    assert!(rt; tally.only > 20, "{tally:?}");
+    assert!(rt; tally.constant > 20);
+    assert!(rt; tally.divisor > 20);
+    assert!(rt; tally.distance > 20);
+    assert!(rt; tally.range > 20);
+    assert!(rt; tally.only > 20);
     Ok(())
 }

@@ -1,7 +1,8 @@
 //! Which statement is in the way where a loop stays serial.
 
+use crate::overlap::loop_of;
 use ast::{Line, Name};
-use loop_tree::{LoopTree, loops};
+use loop_tree::{LoopTree, LoopView, loops};
 use placement::{first_read, first_shared, first_sources};
 use profile_check::program;
 use std::alloc::{AllocError, Global};
@@ -125,18 +126,25 @@ fn many_sources(rt: HostRuntime) -> Result<(), Fail> {
     Ok(())
 }
 
-#[test]
-fn want_of_memory_in_sources(rt: HostRuntime) -> Result<(), Fail> {
-    let program = program(rt.alloc(), SOURCES)?;
-    let tree = loops(rt.alloc(), &program)?;
-    assert!(rt; 1 <= tree.count());
-    match first_sources(rt.alloc(), &tree.view(1), tree.lines()) {
-        Ok(lines) => assert!(rt; lines.len() == 5),
+/// The loop has five sources, at once or in a second call.
+fn has_five_sources(
+    rt: &(impl Abort + AllocGlobal),
+    view: &LoopView<'_, '_>,
+    lines: &[Line],
+) -> Result<(), Fail> {
+    match first_sources(rt.alloc(), view, lines) {
+        Ok(found) => assert!(*rt; found.len() == 5),
         Err(AllocError) => {
-            let lines = first_sources(rt.alloc(), &tree.view(1), tree.lines())?;
-            assert!(rt; lines.len() == 5);
+            assert!(*rt; first_sources(rt.alloc(), view, lines)?.len() == 5);
             return Err(AllocError.into());
         }
     }
     Ok(())
+}
+
+#[test]
+fn want_of_memory_in_sources(rt: HostRuntime) -> Result<(), Fail> {
+    let program = program(rt.alloc(), SOURCES)?;
+    let tree = loops(rt.alloc(), &program)?;
+    has_five_sources(&rt, &loop_of(&rt, &tree, 1), tree.lines())
 }

@@ -1,6 +1,6 @@
 //! Loops, affine forms, relations and private scalars of sources.
 
-use ast::{Line, RefId};
+use ast::{Expr, Line, RefId};
 use dependence::{Reason, Relation, relate, verify};
 use loop_tree::{LoopTree, LoopView, loops};
 use privatise::private_scalars;
@@ -8,7 +8,7 @@ use profile_check::program;
 use std::alloc::{AllocError, Global};
 use std::process::Abort;
 use std::test::Fail;
-use subscripts::{Affine, affine};
+use subscripts::{Affine, Share, affine};
 
 /// Loops in loops, and one that reads.
 const NEST: &[u8] = b"      INTEGER A(10),B(3,3)
@@ -23,6 +23,13 @@ const NEST: &[u8] = b"      INTEGER A(10),B(3,3)
    40 READ *,A(I),K
       END
 ";
+
+/// The loop of a number, of which there is one.
+pub fn loop_of<'t, 'p>(rt: &impl Abort, tree: &'t LoopTree<'p>, number: usize) -> LoopView<'t, 'p> {
+    assert!(*rt; 1 <= number);
+    assert!(*rt; number <= tree.count());
+    tree.view(number)
+}
 
 /// What is wanted of a loop: its line, that of the loop around it, its step, its number of trips,
 /// the scalars that it assigns, and the lines of the references of its range.
@@ -95,9 +102,7 @@ fn is_nest(rt: &(impl Abort + AllocGlobal), tree: &LoopTree<'_>) -> Result<(), F
     let mut number: usize = 0;
     for wanted in wanted {
         number = number.wrapping_add(1);
-        assert!(rt; 1 <= number);
-        assert!(rt; number <= tree.count());
-        looks_as(rt, tree, &tree.view(number), wanted)?;
+        looks_as(rt, tree, &loop_of(rt, tree, number), wanted)?;
     }
     Ok(())
 }
@@ -129,44 +134,73 @@ fn joined(alloc: Global, parts: &[&[u8]]) -> Result<Vec<u8>, AllocError> {
     Ok(text)
 }
 
-/// The constant, the coefficient of the loop's variable and the factors of other scalars that the
-/// form of a subscript has, if it has one.
-fn has_form(
-    rt: &(impl Abort + AllocGlobal),
-    text: &[u8],
+/// The subscript of the first element that a loop's range assigns.
+fn assigned_at<'p>(rt: &impl Abort, view: &LoopView<'_, 'p>) -> &'p Expr {
+    for occurrence in view.references() {
+        if let [subscript] = occurrence.subscripts
+            && occurrence.defines
+        {
+            return subscript;
+        }
+    }
+    panic!(*rt; "no element is assigned")
+}
+
+/// Whether shares have these factors.
+fn have_factors(shares: &[Share], wanted: &[i64]) -> bool {
+    for (share, factor) in shares.iter().zip(wanted) {
+        if share.factor != *factor {
+            return false;
+        }
+    }
+    shares.len() == wanted.len()
+}
+
+/// Whether a subscript has a form of this constant, this coefficient of the loop's variable and these
+/// factors of other scalars, or has none.
+fn is_formed(
+    subscript: &Expr,
+    view: &LoopView<'_, '_>,
     wanted: Option<(i64, i64, &[i64])>,
-) -> Result<(), Fail> {
-    let source = joined(
-        rt.alloc(),
+) -> bool {
+    match (affine(subscript, view), wanted) {
+        (Affine::Form(form), Some((constant, coefficient, factors))) => {
+            form.constant == constant
+                && form.coefficient == coefficient
+                && have_factors(form.shares.as_slice(), factors)
+        }
+        (Affine::NotAffine, None) => true,
+        _ => false,
+    }
+}
+
+/// A source whose loop assigns an element of this subscript, and J.
+fn of_one_element(alloc: Global, text: &[u8]) -> Result<Vec<u8>, AllocError> {
+    joined(
+        alloc,
         &[
             b"      PARAMETER (N=3)\n      INTEGER A(9)\n      DO 10 I=1,2\n      A(",
             text,
             b")=0\n   10 J=0\n      END\n",
         ],
-    )?;
-    let program = program(rt.alloc(), &source)?;
+    )
+}
+
+/// A subscript has the form of this constant, coefficient and factors, or has none.
+fn has_form(
+    rt: &(impl Abort + AllocGlobal),
+    text: &[u8],
+    wanted: Option<(i64, i64, &[i64])>,
+) -> Result<(), Fail> {
+    let program = program(rt.alloc(), &of_one_element(rt.alloc(), text)?)?;
     let tree = loops(rt.alloc(), &program)?;
     assert!(rt; tree.count() == 1);
     let view = tree.view(1);
-    for occurrence in view.references() {
-        if let [subscript] = occurrence.subscripts
-            && occurrence.defines
-        {
-            let mut factors = Vec::new(rt.alloc());
-            let found = match affine(subscript, &view) {
-                Affine::Form(form) => {
-                    for share in form.shares.as_slice() {
-                        factors.push(share.factor)?;
-                    }
-                    Some((form.constant, form.coefficient, factors.as_slice()))
-                }
-                Affine::NotAffine => None,
-            };
-            assert!(rt; found == wanted, "{text:?}");
-            return Ok(());
-        }
-    }
-    panic!(rt; "no element is assigned")
+    assert!(rt;
+        is_formed(assigned_at(rt, &view), &view, wanted),
+        "{text:?}"
+    );
+    Ok(())
 }
 
 /// Subscripts, each with its form: the constant, the coefficient and the factors.
@@ -244,15 +278,32 @@ fn elements(
     Ok(ids)
 }
 
-/// The relation of two elements that a loop's range assigns, and whether a claim of them is
-/// verified. The range assigns J too.
-fn tried(
-    rt: &(impl Abort + AllocGlobal),
-    (first, second, head): (&[u8], &[u8], &[u8]),
+/// The relation of the two elements that a loop's range assigns, and whether a claim of them is
+/// verified.
+fn judged(
+    rt: &impl Abort,
+    view: &LoopView<'_, '_>,
+    ids: &[RefId],
     claim: Relation,
-) -> Result<(Relation, bool), Fail> {
-    let source = joined(
-        rt.alloc(),
+) -> (Relation, bool) {
+    match ids {
+        [first, second] => {
+            let relation = relate(view, *first, *second);
+            assert!(*rt; verify(view, *first, *second, relation));
+            assert!(*rt; verify(view, *first, *second, Relation::Any));
+            (relation, verify(view, *first, *second, claim))
+        }
+        _ => panic!(*rt; "two elements are assigned"),
+    }
+}
+
+/// A source whose loop assigns two elements, and J.
+fn of_two_elements(
+    alloc: Global,
+    (first, second, head): (&[u8], &[u8], &[u8]),
+) -> Result<Vec<u8>, AllocError> {
+    joined(
+        alloc,
         &[
             b"      INTEGER A(9),B(9,9)\n      DO 10 ",
             head,
@@ -262,17 +313,22 @@ fn tried(
             second,
             b"=0\n   10 J=0\n      END\n",
         ],
-    )?;
-    let program = program(rt.alloc(), &source)?;
+    )
+}
+
+/// The relation of two elements that a loop's range assigns, and whether a claim of them is
+/// verified. The range assigns J too.
+fn tried(
+    rt: &(impl Abort + AllocGlobal),
+    texts: (&[u8], &[u8], &[u8]),
+    claim: Relation,
+) -> Result<(Relation, bool), Fail> {
+    let program = program(rt.alloc(), &of_two_elements(rt.alloc(), texts)?)?;
     let tree = loops(rt.alloc(), &program)?;
     assert!(rt; tree.count() == 1);
     let view = tree.view(1);
     let ids = elements(rt.alloc(), &view, true)?;
-    assert!(rt; ids.len() == 2);
-    let relation = relate(&view, ids[0], ids[1]);
-    assert!(rt; verify(&view, ids[0], ids[1], relation));
-    assert!(rt; verify(&view, ids[0], ids[1], Relation::Any));
-    Ok((relation, verify(&view, ids[0], ids[1], claim)))
+    Ok(judged(rt, &view, &ids, claim))
 }
 
 const TEN_TRIPS: &[u8] = b"I=1,10";
@@ -466,9 +522,7 @@ fn relation_in(
 ) -> Result<Relation, Fail> {
     let program = program(rt.alloc(), source)?;
     let tree = loops(rt.alloc(), &program)?;
-    assert!(rt; 1 <= number);
-    assert!(rt; number <= tree.count());
-    let view = tree.view(number);
+    let view = loop_of(rt, &tree, number);
     let ids = elements(rt.alloc(), &view, false)?;
     assert!(rt; first < ids.len());
     assert!(rt; second < ids.len());
@@ -571,9 +625,7 @@ fn privates_in(
 ) -> Result<(), Fail> {
     let program = program(rt.alloc(), source)?;
     let tree = loops(rt.alloc(), &program)?;
-    assert!(rt; 1 <= number);
-    assert!(rt; number <= tree.count());
-    has_privates(rt, &tree.view(number), wanted)
+    has_privates(rt, &loop_of(rt, &tree, number), wanted)
 }
 
 /// K is assigned in an arm that not all paths go through.
@@ -694,19 +746,22 @@ fn private_scalars_of_loops(rt: HostRuntime) -> Result<(), Fail> {
     have_privates(&rt, &PRIVATE)
 }
 
-#[test]
-fn want_of_memory_in_private_scalars(rt: HostRuntime) -> Result<(), Fail> {
-    let program = program(rt.alloc(), ARMS)?;
-    let tree = loops(rt.alloc(), &program)?;
-    assert!(rt; tree.count() == 1);
-    let view = tree.view(1);
-    match private_scalars(rt.alloc(), &view) {
-        Ok(found) => assert!(rt; found.names.len() == 2),
+/// The loop has two private scalars, at once or in a second call.
+fn has_two_privates(rt: &(impl Abort + AllocGlobal), view: &LoopView<'_, '_>) -> Result<(), Fail> {
+    match private_scalars(rt.alloc(), view) {
+        Ok(found) => assert!(*rt; found.names.len() == 2),
         Err(error) => {
-            let again = private_scalars(rt.alloc(), &view).expect(&rt, "there is memory");
-            assert!(rt; again.names.len() == 2);
+            let again = private_scalars(rt.alloc(), view).expect(rt, "there is memory");
+            assert!(*rt; again.names.len() == 2);
             return Err(error.into());
         }
     }
     Ok(())
+}
+
+#[test]
+fn want_of_memory_in_private_scalars(rt: HostRuntime) -> Result<(), Fail> {
+    let program = program(rt.alloc(), ARMS)?;
+    let tree = loops(rt.alloc(), &program)?;
+    has_two_privates(&rt, &loop_of(&rt, &tree, 1))
 }

@@ -1,5 +1,6 @@
 //! Plans of loops, and what is said of them where one thing is changed.
 
+use crate::overlap::loop_of;
 use ast::{Access, Expr, Kind, Line, Name, RefId, Reference, Stmt};
 use dependence::{LoopPlan, PlanArm, PlanStmt, Reason, Relation, Relations};
 use loop_tree::{LoopView, ScalarSet, loops};
@@ -98,7 +99,7 @@ const OWN_COUNTER: &[u8] = b"      INTEGER A(0:4)
 // ---- plans
 
 /// What stands in a plan's body, in turn.
-#[derive(Clone, Copy, Debug, PartialEq, Eq)]
+#[derive(Clone, Copy, PartialEq, Eq)]
 enum Mark {
     /// An await of this event, so many iterations back.
     Await(usize, u128),
@@ -232,9 +233,7 @@ fn is_planned(
 ) -> Result<(), Fail> {
     let program = program(rt.alloc(), source)?;
     let tree = loops(rt.alloc(), &program)?;
-    assert!(rt; 1 <= number);
-    assert!(rt; number <= tree.count());
-    let view = tree.view(number);
+    let view = loop_of(rt, &tree, number);
     let found = plan(rt.alloc(), &view)?;
     looks_as(rt, &found, wanted)?;
     assert!(rt; refusal(rt, &view, &found)? == ACCEPTED);
@@ -380,19 +379,38 @@ fn plans_of_loops(rt: HostRuntime) -> Result<(), Fail> {
     are_planned(&rt, &PLANNED)
 }
 
+/// The loop has its plan, at once or in a second call.
+fn has_one_branch(rt: &(impl Abort + AllocGlobal), view: &LoopView<'_, '_>) -> Result<(), Fail> {
+    let wanted = Wanted::Body(&[], &ONE_BRANCH);
+    match plan(rt.alloc(), view) {
+        Ok(found) => looks_as(rt, &found, wanted),
+        Err(error) => {
+            let again = plan(rt.alloc(), view).expect(rt, "there is memory");
+            looks_as(rt, &again, wanted)?;
+            Err(error.into())
+        }
+    }
+}
+
 #[test]
 fn want_of_memory_in_plans(rt: HostRuntime) -> Result<(), Fail> {
     let program = program(rt.alloc(), SOURCE_IN_ONE_BRANCH)?;
     let tree = loops(rt.alloc(), &program)?;
-    assert!(rt; tree.count() == 1);
-    let view = tree.view(1);
-    let wanted = Wanted::Body(&[], &ONE_BRANCH);
-    match plan(rt.alloc(), &view) {
-        Ok(found) => looks_as(&rt, &found, wanted),
-        Err(error) => {
-            let again = plan(rt.alloc(), &view).expect(&rt, "there is memory");
-            looks_as(&rt, &again, wanted)?;
-            Err(error.into())
+    has_one_branch(&rt, &loop_of(&rt, &tree, 1))
+}
+
+/// The plan is accepted, at once or in a second call.
+fn is_accepted(
+    rt: &(impl Abort + AllocGlobal),
+    view: &LoopView<'_, '_>,
+    found: &LoopPlan,
+) -> Result<(), Fail> {
+    match check(rt.alloc(), view, found) {
+        Ok(()) => Ok(()),
+        Err(fault) => {
+            assert!(*rt; fault == PlanFault::Memory);
+            check(rt.alloc(), view, found).expect(rt, "there is memory");
+            Err(fault.into())
         }
     }
 }
@@ -401,17 +419,8 @@ fn want_of_memory_in_plans(rt: HostRuntime) -> Result<(), Fail> {
 fn want_of_memory_in_the_check(rt: HostRuntime) -> Result<(), Fail> {
     let program = program(rt.alloc(), SOURCE_IN_ONE_BRANCH)?;
     let tree = loops(rt.alloc(), &program)?;
-    assert!(rt; tree.count() == 1);
-    let view = tree.view(1);
-    let found = plan(rt.alloc(), &view)?;
-    match check(rt.alloc(), &view, &found) {
-        Ok(()) => Ok(()),
-        Err(fault) => {
-            assert!(rt; fault == PlanFault::Memory);
-            check(rt.alloc(), &view, &found).expect(&rt, "there is memory");
-            Err(fault.into())
-        }
-    }
+    let view = loop_of(&rt, &tree, 1);
+    is_accepted(&rt, &view, &plan(rt.alloc(), &view)?)
 }
 
 // ---- changes
@@ -686,6 +695,17 @@ fn change_all(
 }
 
 /// The number of the refusal of a loop's plan with changes; `None` where it is accepted.
+fn refusal_with(
+    rt: &(impl Abort + AllocGlobal),
+    view: &LoopView<'_, '_>,
+    changes: &[Change],
+) -> Result<Option<u8>, Fail> {
+    let mut parts = parts_of(rt, plan(rt.alloc(), view)?)?;
+    change_all(rt, view, &mut parts, changes)?;
+    refusal(rt, view, &made_of(rt.alloc(), parts)?)
+}
+
+/// The same of a source's loop of this number.
 fn refusal_of_changed(
     rt: &(impl Abort + AllocGlobal),
     source: &[u8],
@@ -694,12 +714,7 @@ fn refusal_of_changed(
 ) -> Result<Option<u8>, Fail> {
     let program = program(rt.alloc(), source)?;
     let tree = loops(rt.alloc(), &program)?;
-    assert!(rt; 1 <= number);
-    assert!(rt; number <= tree.count());
-    let view = tree.view(number);
-    let mut parts = parts_of(rt, plan(rt.alloc(), &view)?)?;
-    change_all(rt, &view, &mut parts, changes)?;
-    refusal(rt, &view, &made_of(rt.alloc(), parts)?)
+    refusal_with(rt, &loop_of(rt, &tree, number), changes)
 }
 
 /// A source, a loop's number, changes of its plan, and the number of the refusal, if there is one.
@@ -887,9 +902,7 @@ fn plan_of(
 ) -> Result<LoopPlan, Fail> {
     let program = program(rt.alloc(), source)?;
     let tree = loops(rt.alloc(), &program)?;
-    assert!(rt; 1 <= number);
-    assert!(rt; number <= tree.count());
-    Ok(plan(rt.alloc(), &tree.view(number))?)
+    Ok(plan(rt.alloc(), &loop_of(rt, &tree, number))?)
 }
 
 /// The number of the refusal of a loop's plan with the body of another plan.
