@@ -1,4 +1,5 @@
 pub mod Actions
+pub mod Privates
 pub mod Stacks
 pub mod Runs
 pub mod Shortcuts

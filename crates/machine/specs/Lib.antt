@@ -7,6 +7,7 @@ pub mod FrameView
 pub mod Laid
 pub mod Local
 pub mod Next
+pub mod ScalarView
 pub mod Short
 pub mod Shortcut
 pub mod Solo

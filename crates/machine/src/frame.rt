@@ -1,8 +1,10 @@
 //! Frames.
 
 ghost use Rattle.std.specs.Prelude.{◌≡◌, IfOk, None, replicate};
+ghost use Rattle.machine.specs.ScalarView.{scalars_of};
 
 use crate::code::{Code, Open};
+use crate::scalar::Scalar;
 use ast::{Fault, Line};
 use smallvec::SmallVec;
 use std::alloc::{AllocError, Global};
@@ -25,8 +27,7 @@ pub struct Frame {
     pub(crate) slots: SmallVec<i64, 16>,
     /// The slot of the operand that was pushed last; the number of slots where there is none.
     pub(crate) top: usize,
-    /// `None` where it wasn't defined.
-    pub(crate) privates: SmallVec<Option<i64>, 8>,
+    pub(crate) privates: SmallVec<Scalar, 8>,
     pub(crate) counters: SmallVec<Counter, 4>,
     /// The slot of the innermost serial loop.
     pub(crate) inner: usize,
@@ -37,10 +38,11 @@ pub struct Frame {
 }
 
 /// So many private scalars, none of them defined.
-fn undefined(alloc: Global, count: usize) -> Result<SmallVec<Option<i64>, 8>, AllocError>
-    ensures { IfOk result (λ v. v.items ≡ replicate count None) }
+#[tactic(auto, using(crate::proofs::Privates::undefined_law))]
+fn undefined(alloc: Global, count: usize) -> Result<SmallVec<Scalar, 8>, AllocError>
+    ensures { IfOk result (λ v. scalars_of v.items ≡ replicate count None) }
 {
-    SmallVec::from_elem(alloc, None, count)
+    SmallVec::from_elem(alloc, Scalar::default(), count)
 }
 
 impl Frame {

@@ -1,6 +1,7 @@
 //! What whoever makes an activity's shared steps sees of its frame, and how the frame goes on.
 
 use crate::frame::Frame;
+use crate::scalar::Scalar;
 use crate::stack::push;
 use ast::{Fault, Line};
 
@@ -8,6 +9,7 @@ impl Frame {
     ghost use Rattle.std.specs.Prelude.{◌≡◌, ◌<◌, ◌≤◌, ◌^◌, ◌∷◌, length, true};
     ghost use Rattle.machine.specs.Frame.{has_room, with_items};
     ghost use Rattle.machine.specs.FrameView.{frame_of};
+    ghost use Rattle.machine.specs.ScalarView.{scalars_of};
     ghost use Rattle.machine.specs.Local.{faulted, going_on, without};
     ghost use Rattle.machine.specs.View.{with_operand};
 
@@ -44,9 +46,9 @@ impl Frame {
         crate::stack::has_room(self.slots.as_slice(), self.top)
     }
 
-    /// The private scalars, `None` where they weren't defined.
-    pub fn privates(&self) -> &[Option<i64>]
-        ensures { result.now ≡ (frame_of self.now).privates }
+    /// The private scalars.
+    pub fn privates(&self) -> &[Scalar]
+        ensures { scalars_of result.now ≡ (frame_of self.now).privates }
     {
         self.privates.as_slice()
     }

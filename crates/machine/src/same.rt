@@ -3,8 +3,10 @@
 ghost use Rattle.std.specs.Prelude.{◌≡◌, ℤ, ℕ, List, Option, drop, length};
 ghost use Rattle.std.specs.Bool.{Decides};
 ghost use Rattle.machine.specs.FrameView.{frame_of, room_of, stack_of};
+ghost use Rattle.machine.specs.ScalarView.{scalar_of, scalars_of};
 
 use crate::frame::{Counter, Frame};
+use crate::scalar::Scalar;
 
 /// What stands on a stack.
 fn used<T>(slots: &[T], top: usize) -> &[T]
@@ -30,14 +32,20 @@ fn same_numbers(a: &[i64], b: &[i64]) -> bool
     a == b
 }
 
-fn same_privates(a: &[Option<i64>], b: &[Option<i64>]) -> bool
-    ensures { Decides result (a.now ≡ b.now) }
+fn same_scalar(a: Scalar, b: Scalar) -> bool
+    ensures { Decides result (scalar_of a ≡ scalar_of b) }
+{
+    a.get() == b.get()
+}
+
+fn same_privates(a: &[Scalar], b: &[Scalar]) -> bool
+    ensures { Decides result (scalars_of a.now ≡ scalars_of b.now) }
 {
     if a.len() != b.len() {
         return false;
     }
     for i in 0..a.len() {
-        if a[i] != b[i] {
+        if !same_scalar(a[i], b[i]) {
             return false;
         }
     }

@@ -1,5 +1,5 @@
 -- A step of an iteration is a step of the machine.
-use Rattle.std.proofs.Common.{inl, inr, ◌≡◌, ◌∙◌, ◌⊎◌, ℕ, ◌+◌, ◌-◌, ◌<◌, ◌≤◌, Bool, true, false, List, [], ◌∷◌, ◌++◌, length, drop, get_or, Option, Some, None, refl, sym, ap, subst, arith}
+use Rattle.std.proofs.Common.{inl, inr, ◌≡◌, ◌∙◌, ◌⊎◌, ℕ, zero, suc, ◌+◌, ◌-◌, ◌<◌, ◌≤◌, Bool, true, false, List, [], ◌∷◌, ◌++◌, length, drop, get_or, Option, Some, None, refl, sym, ap, subst, arith}
 use Rattle.std.specs.Prelude.{ℤ, pos, ◌%◌, ◌==◌, nat_lt, nat_le, if◌then◌else◌, slice_get}
 use Rattle.std.proofs.Math.ListN.{set}
 use Rattle.std.proofs.lemmas.Bool.{eqb-true, eq-eqb, ltb-true, ltb-false, leb-true, and_parts}
@@ -14,6 +14,8 @@ use Rattle.machine.specs.Laid.{are_distinct, are_laid, cell_number, count_of, na
 use Rattle.machine.specs.Local.{going_on, without}
 use Rattle.machine.specs.Next.{Tells}
 use Rattle.machine.specs.State.{Active, Machine, Move, Wait, until_count, until_retired, Who, iteration, end_of, put_at, put_cell, put_cells, with_frame, park}
+use Rattle.machine.specs.ScalarView.{scalar_of, scalars_of}
+use Rattle.machine.specs.declared.scalar.Scalar.{Scalar}
 use Rattle.machine.specs.View.{Cause, View, defined_cells, stored_if, with_operand, loading, storing, awaiting, advancing, leaving, breaking, failure, stop_at, is_event}
 use Rattle.machine.specs.declared.code.Open.{Open}
 use Rattle.machine.specs.declared.code.Variable.{Variable}
@@ -333,6 +335,11 @@ stores_one code n i d xs o vs old mid new m h k w u =
     ∙ one_more code (get_or xs i d) (drop (i + 1) xs) (get_or vs i o) (drop (i + 1) vs) old
     ∙ ap (λ (c : List ℤ). one_after code (get_or xs i d) (get_or vs i o) c) (ap (λ (j : ℕ). cells_after code (drop j xs) (drop j vs) old) (sym m) ∙ w)
     ∙ sym u
+
+pub scalar_at : (ps : List Scalar) (i : ℕ) (d : Scalar) (o : Option ℤ) → i < length ps → scalar_of (get_or ps i d) ≡ get_or (scalars_of ps) i o
+scalar_at [] i d o h = absurd (omega (arith, h))
+scalar_at (p ∷ ps) zero d o h = refl
+scalar_at (p ∷ ps) (suc i) d o h = scalar_at ps i d o (omega (arith, h))
 
 pub one_length : (code : Code) (x : ℕ) (o : Option ℤ) (cells : List ℤ) → length (one_after code x o cells) ≡ length cells
 one_length code x None cells = refl

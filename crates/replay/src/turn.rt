@@ -8,6 +8,7 @@ ghost use Rattle.machine.specs.FrameView.{frame_of};
 ghost use Rattle.machine.specs.Laid.{count_of};
 ghost use Rattle.machine.specs.Local.{going_on, without};
 ghost use Rattle.machine.specs.Next.{Goes, Pushes, Tells};
+ghost use Rattle.machine.specs.ScalarView.{scalars_of};
 ghost use Rattle.machine.specs.State.{until_count};
 ghost use Rattle.machine.specs.View.{values_wanted, view, with_operand};
 ghost use Rattle.machine.specs.declared.next.Next.TheVariants.{Await, Advance, Retire};
@@ -17,7 +18,7 @@ ghost use Rattle.replay.specs.Turns.{May, cells_after, ends, iteration_after, le
 use crate::parts::{Iteration, Shared, Until};
 use crate::printing::print;
 use ast::End;
-use machine::{Code, Frame, Next, Piece};
+use machine::{Code, Frame, Next, Piece, Scalar};
 use std::alloc::AllocError;
 
 /// What a step of an activity came to.
@@ -140,9 +141,9 @@ fn store_private(cells: &mut [i64], code: &Code, variable: u32, private: Option<
 }
 
 /// The private scalars that were defined become the values of their variables.
-fn store_privates(cells: &mut [i64], code: &Code, variables: &[u32], values: &[Option<i64>])
+fn store_privates(cells: &mut [i64], code: &Code, variables: &[u32], values: &[Scalar])
     requires cells { length cells.old ≡ count_of code.now.variables.items }
-    ensures { cells.new ≡ cells_after (code_of code.now) variables.now values.now cells.old }
+    ensures { cells.new ≡ cells_after (code_of code.now) variables.now (scalars_of values.now) cells.old }
 {
     let mut i = if variables.len() < values.len() {
         variables.len()
@@ -151,7 +152,7 @@ fn store_privates(cells: &mut [i64], code: &Code, variables: &[u32], values: &[O
     };
     while i > 0 {
         i -= 1;
-        store_private(cells, code, variables[i], values[i]);
+        store_private(cells, code, variables[i], values[i].get());
     }
 }
 

@@ -1,6 +1,7 @@
 use Rattle.std.proofs.Common.{◌≡◌, ◌≤◌, drop, length}
 use Rattle.machine.specs.CodeView.{code_of}
 use Rattle.machine.specs.Laid.{count_of}
+use Rattle.machine.specs.ScalarView.{scalars_of}
 use Rattle.replay.specs.Turns.{cells_after}
 use Rattle.replay.proofs.turn.store_privates.Given as goal
 
@@ -9,7 +10,7 @@ invariant-loop-i l = record {
   variables : l.i ≤ length l.variables;
   values : l.i ≤ length l.values;
   cells : length l.cells ≡ count_of l.code.variables.items;
-  stored : cells_after (code_of l.code) (drop l.i l.variables) (drop l.i l.values) l.fn.cells ≡ l.cells;
+  stored : cells_after (code_of l.code) (drop l.i l.variables) (drop l.i (scalars_of l.values)) l.fn.cells ≡ l.cells;
 }
 
 abbrev pub decreases-loop-i : goal.decreases-loop-i
