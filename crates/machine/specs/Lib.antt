@@ -12,6 +12,7 @@ pub mod Short
 pub mod Shortcut
 pub mod Solo
 pub mod State
+mod Taking
 pub mod View
 pub mod Worked
 pub mod Working
