@@ -1,6 +1,7 @@
 pub mod Answers
 pub mod Code
 pub mod CodeView
+pub mod Elements
 pub mod Executing
 pub mod Fitting
 pub mod Fused
