@@ -1,4 +1,5 @@
 pub mod Answers
+pub mod Choices
 pub mod Code
 pub mod CodeView
 pub mod Elements
