@@ -4,6 +4,7 @@ pub mod Code
 pub mod CodeView
 pub mod Elements
 pub mod Executing
+pub mod Fast
 pub mod Fitting
 pub mod Fused
 pub mod Handing
