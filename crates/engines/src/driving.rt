@@ -3,7 +3,7 @@
 ghost use Rattle.std.specs.Prelude.{IfOk, IfSome};
 ghost use Rattle.replay.specs.Activities.{AreActivities};
 
-use machine::{Code, Frame, Stretch, stands_local};
+use machine::{Code, stands_local};
 use replay::{Act, Activities, Choice, Core, CoreRefusal, Entry, HandIn, Stepped};
 use std::alloc::{AllocError, Global};
 
@@ -23,31 +23,20 @@ pub fn new_core<'c>(
     }
 }
 
-/// Processor `q` does local instructions that stand next in what it holds, which has this frame, at most
-/// so many.
-fn work_from(
-    core: &mut Core<'_>,
-    q: usize,
-    frame: Frame,
-    count: u32,
-) -> Result<Stepped, AllocError> {
-    let code = core.code();
-    if count < 1 || !stands_local(code, &frame) {
+/// Processor `q` does local instructions that stand next in what it holds, at most so many.
+fn work(core: &mut Core<'_>, q: usize, count: u32) -> Result<Stepped, AllocError> {
+    let mut work = core.work()?;
+    if !core.load(q, &mut work)? {
         return Ok(Stepped::Idle);
     }
-    let stretch = Stretch::work(code, frame, count)?;
-    match core.hand_in_own(q, stretch) {
+    work.run(count)?;
+    if work.made == 0 {
+        return Ok(Stepped::Idle);
+    }
+    match core.hand_in_own(q, &mut work) {
         Ok(()) => Ok(Stepped::Went(None)),
         Err(HandIn::Memory) => Err(AllocError),
         Err(_) => Ok(Stepped::Idle),
-    }
-}
-
-/// Processor `q` does local instructions that stand next in what it holds, at most so many.
-fn work(core: &mut Core<'_>, q: usize, count: u32) -> Result<Stepped, AllocError> {
-    match core.frame(q)? {
-        Some(frame) => work_from(core, q, frame, count),
-        None => Ok(Stepped::Idle),
     }
 }
 

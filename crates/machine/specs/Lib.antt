@@ -14,5 +14,6 @@ pub mod Solo
 pub mod State
 mod Taking
 pub mod View
+pub mod WorkView
 pub mod Worked
 pub mod Working

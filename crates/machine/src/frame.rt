@@ -4,6 +4,7 @@ ghost use Rattle.std.specs.Prelude.{◌≡◌, IfOk, None, replicate};
 ghost use Rattle.machine.specs.ScalarView.{scalars_of};
 
 use crate::code::{Code, Open};
+use crate::room::{make_room, refill};
 use crate::scalar::Scalar;
 use ast::{Fault, Line};
 use smallvec::SmallVec;
@@ -46,7 +47,7 @@ fn undefined(alloc: Global, count: usize) -> Result<SmallVec<Scalar, 8>, AllocEr
 }
 
 impl Frame {
-    ghost use Rattle.std.specs.Prelude.{◌≡◌, IfOk};
+    ghost use Rattle.std.specs.Prelude.{◌≡◌, IfOk, OnErr, OnOk};
     ghost use Rattle.machine.specs.CodeView.{code_of};
     ghost use Rattle.machine.specs.FrameView.{frame_of};
     ghost use Rattle.machine.specs.View.{begin, entry, index_at, main_frame};
@@ -120,6 +121,27 @@ impl Frame {
             index: self.index,
             fault: self.fault,
         })
+    }
+
+    /// Becomes equal to another frame, in the room that it has. It takes memory only where that is too
+    /// little; where memory is refused it is as before.
+    pub fn copy_from(&mut self, other: &Frame) -> Result<(), AllocError>
+        ensures ok { OnOk result (frame_of self.new ≡ frame_of other.now) }
+        ensures err { OnErr result (frame_of self.new ≡ frame_of self.old) }
+    {
+        make_room(&mut self.slots, other.slots.len())?;
+        make_room(&mut self.privates, other.privates.len())?;
+        make_room(&mut self.counters, other.counters.len())?;
+        refill(&mut self.slots, other.slots.as_slice());
+        refill(&mut self.privates, other.privates.as_slice());
+        refill(&mut self.counters, other.counters.as_slice());
+        self.place = other.place;
+        self.top = other.top;
+        self.inner = other.inner;
+        self.number = other.number;
+        self.index = other.index;
+        self.fault = other.fault;
+        Ok(())
     }
 
     /// The number of the iteration whose frame it is; `None` of main.

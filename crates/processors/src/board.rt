@@ -6,7 +6,6 @@ use crate::call::Call;
 use crate::report::{Effort, Report, RunRefusal};
 use crate::work::Own;
 use ast::Answer;
-use machine::Frame;
 use replay::{Core, HandIn, Stepped};
 use std::alloc::{AllocError, Global};
 use std::marker::{Model, PhantomData};
@@ -42,7 +41,7 @@ pub enum Standing {
 }
 
 /// What a processor does next.
-#[derive(Drop)]
+#[derive(Clone, Copy, Debug, PartialEq, Eq)]
 pub enum Next {
     /// Its thread ends.
     Leave,
@@ -52,15 +51,14 @@ pub enum Next {
     Again,
     /// It goes through the gate, with the iteration of that number, and takes its next turn.
     Begin(u128),
-    /// It does the local work that stands next in this frame; where it has taken a ticket, it goes
+    /// It does the local work that was loaded; where it has taken the ticket of an iteration, it goes
     /// through the gate first.
-    Work(Box<Frame>, Option<u128>),
+    Work(Option<u128>),
 }
 
 /// The core of a run, and what its processors tell each other.
 #[derive(Drop)]
 pub struct Board<'c, C: Call> {
-    alloc: Global,
     core: Core<'c>,
     standing: Standing,
     /// How many processors sleep, or have been woken and have not had their turn yet. Each of them
@@ -98,7 +96,6 @@ impl<'c, C: Call> Board<'c, C> {
     {
         let efforts = vec![in alloc; Effort::default(); core.processors()]?;
         Ok(Board {
-            alloc,
             core,
             standing: Standing::Going,
             asleep: 0,
@@ -158,11 +155,14 @@ impl<'c, C: Call> Board<'c, C> {
         self.asleep.saturating_add(1) >= self.core.processors()
     }
 
-    /// Whether a processor that holds nothing leaves what could be taken up to another one that is awake:
-    /// an iteration that may begin, where iterations are short.
-    fn leaves_it(&self) -> bool {
-        let is_a_ticket = self.core.has_ticket() && !self.core.has_ready();
-        is_a_ticket && !self.have_done(SHORT) && !self.is_last_awake() && !self.core.has_ended()
+    /// Whether a processor that holds nothing takes up nothing: there is nothing, or only an iteration
+    /// that may begin, which it leaves to another one that is awake where iterations are short.
+    fn takes_nothing(&self) -> bool {
+        if self.core.has_ready() || self.core.has_ended() {
+            return false;
+        }
+        let leaves_it = !self.have_done(SHORT) && !self.is_last_awake();
+        leaves_it || !self.core.has_ticket()
     }
 
     /// Processor `q` made so many steps.
@@ -172,10 +172,13 @@ impl<'c, C: Call> Board<'c, C> {
         }
     }
 
-    /// Processor `q` hands in its local work.
-    fn hand_in(&mut self, q: usize, own: Own<'c, C>) -> Result<(), HandIn> {
-        let made = own.stretch.made();
-        self.core.hand_in_own(q, Box::into_inner(own.stretch))?;
+    /// Processor `q` hands in its local work, if it has done any.
+    fn hand_in(&mut self, q: usize, own: &mut Own<'c, C>) -> Result<(), HandIn> {
+        let made = own.work.made;
+        if made == 0 {
+            return Ok(());
+        }
+        self.core.hand_in_own(q, &mut own.work)?;
         self.worked = self.worked.wrapping_add(u64::from(made));
         self.count(q, made);
         Ok(())
@@ -187,7 +190,7 @@ impl<'c, C: Call> Board<'c, C> {
         if self.core.holds(q) {
             return self.core.step(q);
         }
-        if self.leaves_it() {
+        if self.takes_nothing() {
             return Ok(Stepped::Idle);
         }
         self.core.pick(q, self.core.least())
@@ -207,26 +210,15 @@ impl<'c, C: Call> Board<'c, C> {
         Next::Leave
     }
 
-    /// Processor `q` works on from a copy of its frame.
-    fn work(&mut self, q: usize, begun: Option<u128>) -> Next {
-        match self.core.frame(q) {
-            Ok(Some(frame)) => match Box::new(self.alloc, frame) {
-                Ok(frame) => Next::Work(frame, begun),
-                Err(_) => self.no_memory(),
-            },
-            Ok(None) => Next::Again,
-            Err(_) => self.no_memory(),
-        }
-    }
-
     /// Processor `q` has taken the ticket of iteration `k`.
-    fn begin(&mut self, q: usize, k: u128) -> Next {
+    fn begin(&mut self, q: usize, k: u128, own: &mut Own<'c, C>) -> Next {
         self.count_begun();
         self.overlap = self.overlap.max(self.core.overlap());
-        if self.core.is_local(q) {
-            return self.work(q, Some(k));
+        match self.core.load(q, &mut own.work) {
+            Ok(true) => Next::Work(Some(k)),
+            Ok(false) => Next::Begin(k),
+            Err(_) => self.no_memory(),
         }
-        Next::Begin(k)
     }
 
     /// Processor `q` has no step. Where it holds something, or all others sleep, none will come.
@@ -238,16 +230,13 @@ impl<'c, C: Call> Board<'c, C> {
         Next::Wait
     }
 
-    /// Processor `q` works on where a local instruction stands next, and else makes a shared step.
-    fn go_on(&mut self, q: usize) -> Next {
-        if self.core.is_local(q) {
-            return self.work(q, None);
-        }
+    /// Processor `q`, before which no local instruction stands, makes a shared step.
+    fn share(&mut self, q: usize, own: &mut Own<'c, C>) -> Next {
         match self.step(q) {
             Ok(Stepped::Went(begun)) => {
                 self.count(q, 1);
                 match begun {
-                    Some(k) => self.begin(q, k),
+                    Some(k) => self.begin(q, k, own),
                     None => Next::Again,
                 }
             }
@@ -257,31 +246,37 @@ impl<'c, C: Call> Board<'c, C> {
         }
     }
 
+    /// Processor `q` works on where a local instruction stands next, and else makes a shared step.
+    fn go_on(&mut self, q: usize, own: &mut Own<'c, C>) -> Next {
+        match self.core.load(q, &mut own.work) {
+            Ok(true) => Next::Work(None),
+            Ok(false) => self.share(q, own),
+            Err(_) => self.no_memory(),
+        }
+    }
+
     /// Processor `q` makes shared steps as long as one stands next, up to so many.
-    fn steps(&mut self, q: usize) -> Next {
-        let mut next = self.go_on(q);
+    fn steps(&mut self, q: usize, own: &mut Own<'c, C>) -> Next {
+        let mut next = self.go_on(q, own);
         for _ in 1..MOST_STEPS {
             match next {
-                Next::Again => next = self.go_on(q),
+                Next::Again => next = self.go_on(q, own),
                 _ => break,
             }
         }
         next
     }
 
-    /// A turn of processor `q`: it hands in local work, if it has done any, and makes shared steps.
+    /// A turn of processor `q`: it hands in its local work, if it has done any, and makes shared steps.
     /// Work that the core doesn't take is forgotten.
-    pub fn turn(&mut self, q: usize, own: Option<Own<'c, C>>) -> Next {
+    pub fn turn(&mut self, q: usize, own: &mut Own<'c, C>) -> Next {
         if self.standing != Standing::Going {
             return Next::Leave;
         }
-        match own {
-            None => self.steps(q),
-            Some(own) => match self.hand_in(q, own) {
-                Ok(()) | Err(HandIn::Stranger) => self.steps(q),
-                Err(HandIn::Ended) => Next::Leave,
-                Err(HandIn::Memory) => self.no_memory(),
-            },
+        match self.hand_in(q, own) {
+            Ok(()) | Err(HandIn::Stranger) => self.steps(q, own),
+            Err(HandIn::Ended) => Next::Leave,
+            Err(HandIn::Memory) => self.no_memory(),
         }
     }
 

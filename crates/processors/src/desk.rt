@@ -21,10 +21,10 @@ impl<'c, C: Call> Desk<'c, C> {
         }
     }
 
-    /// A turn of processor `q`, which hands in this local work. It sleeps until there is something to
+    /// A turn of processor `q`, which hands in its local work. It sleeps until there is something to
     /// do. Who leaves the desk wakes another where that one could do something, and all when the run
     /// is over.
-    pub fn turn<R: Wait>(&self, rt: &R, q: usize, own: Option<Own<'c, C>>) -> Next {
+    pub fn turn<R: Wait>(&self, rt: &R, q: usize, own: &mut Own<'c, C>) -> Next {
         let mut board = self.board.lock(rt);
         let mut next = board.turn(q, own);
         for _ in rt.forever() {
@@ -33,7 +33,7 @@ impl<'c, C: Call> Desk<'c, C> {
                     board.fall_asleep(q);
                     board = self.changed.wait(rt, board);
                     board.wake_up();
-                    next = board.turn(q, None);
+                    next = board.turn(q, own);
                 }
                 _ => break,
             }

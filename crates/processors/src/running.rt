@@ -13,7 +13,7 @@ use crate::desk::Desk;
 use crate::gate::Gate;
 use crate::report::{Report, RunRefusal};
 use crate::work::{Coded, Own};
-use machine::{Code, Frame};
+use machine::Code;
 use replay::{Core, CoreRefusal};
 use std::alloc::Global;
 use std::marker::Brand;
@@ -21,23 +21,32 @@ use std::sync::Wait;
 use std::thread;
 use std::thread::Threads;
 
-/// Local work from a frame. Where there is no memory for it the run is given up.
-fn worked<'c, C: Call, R: Wait>(
+/// The turns of processor `q` until it leaves. What it does between two of them is `own`.
+fn take_turns<'c, C: Call, G: Gate, R: Wait>(
     rt: &R,
     desk: &Desk<'c, C>,
-    coded: &Coded<'c, C>,
-    frame: Box<Frame>,
-) -> Option<Own<'c, C>> {
-    match coded.work(frame) {
-        Ok(own) => own,
-        Err(_) => {
-            desk.give_up(rt, Standing::NoMemory);
-            None
+    own: &mut Own<'c, C>,
+    q: usize,
+    gate: &G,
+) {
+    for _ in rt.forever() {
+        match desk.turn(rt, q, own) {
+            Next::Leave => return,
+            Next::Wait | Next::Again => {}
+            Next::Begin(k) => gate.before(q, k),
+            Next::Work(begun) => {
+                if let Some(k) = begun {
+                    gate.before(q, k);
+                }
+                if own.run().is_err() {
+                    desk.give_up(rt, Standing::NoMemory);
+                }
+            }
         }
     }
 }
 
-/// What processor `q` does from its first turn until it leaves.
+/// What processor `q` does. Where there is no memory for its work the run is given up.
 fn process<'c, C: Call, G: Gate, R: Wait>(
     rt: &R,
     desk: &Desk<'c, C>,
@@ -45,22 +54,9 @@ fn process<'c, C: Call, G: Gate, R: Wait>(
     q: usize,
     gate: &G,
 ) {
-    let mut own = None;
-    for _ in rt.forever() {
-        match desk.turn(rt, q, own) {
-            Next::Leave => return,
-            Next::Wait | Next::Again => own = None,
-            Next::Begin(k) => {
-                gate.before(q, k);
-                own = None;
-            }
-            Next::Work(frame, begun) => {
-                if let Some(k) = begun {
-                    gate.before(q, k);
-                }
-                own = worked(rt, desk, coded, frame);
-            }
-        }
+    match coded.own() {
+        Ok(mut own) => take_turns(rt, desk, &mut own, q, gate),
+        Err(_) => desk.give_up(rt, Standing::NoMemory),
     }
 }
 

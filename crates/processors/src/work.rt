@@ -5,7 +5,7 @@ ghost use Rattle.std.proofs.Props.{props};
 ghost use Rattle.machine.specs.CodeView.{code_of};
 
 use crate::call::Call;
-use machine::{Code, Frame, Stretch, stands_local};
+use machine::{Code, Work};
 use std::alloc::{AllocError, Global};
 use std::marker::PhantomData;
 
@@ -22,12 +22,13 @@ pub struct Coded<'c, C: Call> {
     ghost is: { code_of code.now ≡ C.code } by { Prim.hlevel props },
 }
 
-/// Local work of a call's code.
+/// The local work of a processor, which is of a call's code. Its room is kept from one turn to the
+/// next.
 #[derive(Drop)]
 pub struct Own<'c, C: Call> {
-    pub stretch: Box<Stretch<'c>>,
+    pub work: Work<'c>,
     of: PhantomData<C>,
-    ghost is: { code_of stretch.value.code.now ≡ C.code } by { Prim.hlevel props },
+    ghost is: { code_of work.code.now ≡ C.code } by { Prim.hlevel props },
 }
 
 impl<'c, C: Call> Coded<'c, C> {
@@ -44,15 +45,19 @@ impl<'c, C: Call> Coded<'c, C> {
         }
     }
 
-    /// The local work that stands next, if any does.
-    pub fn work(&self, frame: Box<Frame>) -> Result<Option<Own<'c, C>>, AllocError> {
-        if !stands_local(self.code, &*frame) {
-            return Ok(None);
-        }
-        let stretch = Stretch::work(self.code, Box::into_inner(frame), MOST_WORK)?;
-        Ok(Some(Own {
-            stretch: Box::new(self.alloc, stretch)?,
+    /// Room for a processor's work, of which none has been done.
+    pub fn own(&self) -> Result<Own<'c, C>, AllocError> {
+        Ok(Own {
+            work: Work::new(self.alloc, self.code)?,
             of: PhantomData,
-        }))
+        })
+    }
+}
+
+impl<'c, C: Call> Own<'c, C> {
+    /// Does the local work that stands next.
+    pub fn run(&mut self) -> Result<(), AllocError> {
+        self.work.run(MOST_WORK)?;
+        Ok(())
     }
 }

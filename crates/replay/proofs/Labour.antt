@@ -11,13 +11,14 @@ use Rattle.machine.specs.Local.{and_then, local, locals}
 use Rattle.machine.specs.State.{Machine, Wait, Who, the_main, iteration, put_at}
 use Rattle.machine.specs.declared.frame.Frame.{Frame as FrameValue}
 use Rattle.machine.specs.declared.instr.Instr.{Instr}
-use Rattle.replay.specs.Activities.{AreActivities, code_in, frame_at, frame_held, frame_there, kept_in, point_in}
+use Rattle.replay.specs.Activities.{AreActivities, code_in, frame_at, frame_held, frame_there, kept_in, point_in, who}
 use Rattle.replay.specs.Core.{IsCore, IsRunning}
 use Rattle.replay.specs.Parts.{Kept, Standing, active, held_of, machine_of, point_of, standing, wait_in}
 use Rattle.replay.specs.PartsView.{standing_of}
-use Rattle.replay.specs.Replays.{Point, Works, frame_in}
+use Rattle.replay.specs.Replays.{Point, Works, frame_in, wait_of}
 use Rattle.replay.specs.Sharing.{WorkedAt, Working, with_frame}
 use Rattle.replay.specs.declared.activities.Activities.{Activities}
+use Rattle.replay.specs.declared.activities.Holder.{Holder}
 use Rattle.replay.specs.declared.parts.Iteration.{Iteration}
 use Rattle.replay.proofs.Choosing.{placed_machine}
 use Rattle.replay.proofs.Entering.{place_below}
@@ -166,3 +167,20 @@ frame_in_place q k old a h =
     ap (λ (o : Option Standing). frame_there o) r.here
     ∙ sym (ap (λ (o : Option Standing). frame_in (active o)) here)
     ∙ sym (ap (λ (o : Option Who). frame_held (point_in old).machine o) h)
+
+-- who is held has a frame, and isn't parked
+
+held_frame : (q : ℕ) (u : Who) (old : Activities) → AreActivities old → held_of (kept_in old).held q ≡ Some u → is_some (frame_at q (point_in old)) ≡ true
+held_frame q the_main old a h = ap (λ (o : Option Who). is_some (frame_held (point_in old).machine o)) h
+held_frame q (iteration k) old a h = sym (ap is_some (frame_in_place q k old a h)) ∙ ap (λ (o : Option Standing). is_some (frame_there o)) (a.core.runs q k h).here
+
+pub holds_frame : (q : ℕ) (o : Option Holder) (old : Activities) → AreActivities old → held_of (kept_in old).held q ≡ option_map who o → is_some o ≡ is_some (frame_at q (point_in old))
+holds_frame q None old a h = sym (ap (λ (u : Option Who). is_some (frame_held (point_in old).machine u)) h)
+holds_frame q (Some u) old a h = sym (held_frame q (who u) old a h)
+
+pub held_runs : (q : ℕ) (u : Who) (old : Activities) → AreActivities old → held_of (kept_in old).held q ≡ Some u → wait_of (point_in old).machine u ≡ None
+held_runs q the_main old a h = a.core.leads q h
+held_runs q (iteration k) old a h =
+    let r = a.core.runs q k h in
+    let here : standing (kept_in old).iterations old.slots k ≡ Some r.standing = standing_is (kept_in old).iterations old.slots k (Some r.standing) r.here r.number in
+    ap wait_in here ∙ r.wait

@@ -3,12 +3,14 @@ pub mod Core
 pub mod CoreView
 pub mod Kept
 pub mod Least
+pub mod Loading
 pub mod MainTurns
 pub mod Making
 pub mod Parts
 pub mod PartsView
 pub mod Picking
 pub mod Printing
+pub mod Putting
 pub mod Reading
 pub mod Refusals
 pub mod Replayed

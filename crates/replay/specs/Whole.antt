@@ -1,9 +1,11 @@
 -- What always holds of a core.
 use Rattle.std.specs.Prelude.{◌≡◌, ◌+◌, ◌*◌, ◌≤◌, ℕ, Bool, true, false, List, length}
+use Rattle.machine.specs.State.{Choice}
 use Rattle.replay.specs.Activities.{AreActivities, AreOf, code_in, kept_in, point_in}
 use Rattle.replay.specs.CoreView.{CoreView}
-use Rattle.replay.specs.Replays.{Point, Replays, Works, beginning}
-use Rattle.replay.specs.Schedules.{Entry, IsSchedule, Schedule, bursts, with_entries, with_entry}
+use Rattle.replay.specs.Making.{pick_of}
+use Rattle.replay.specs.Replays.{Moves, Picks, Point, Replays, Works, beginning}
+use Rattle.replay.specs.Schedules.{Entry, IsSchedule, Schedule, bursts, shares, with_entries, with_entry, works}
 use Rattle.replay.specs.Tallies.{Again, Tallies, steps}
 use Rattle.replay.specs.declared.activities.Activities.{Activities}
 use Rattle.replay.specs.declared.entry.Version.TheVariants.{Second}
@@ -54,7 +56,19 @@ pub record IsWorked (q made : ℕ) (a : Activities) (x : Schedule) (t : Tally) (
   pub counted : u.made ≡ t.made + made
   pub parked : u.again ≡ t.again
 
+-- So many local instructions were made, and one entry added.
+abbrev pub IsBurst : (q made : ℕ) → Activities → Schedule → Tally → Activities → Schedule → Tally → Type 0
+IsBurst q made a x t b y u = IsMore (record { processor = q; act = works made }) (λ c d. Works (code_in a) x.slots made c q d) a x t b y u
+
 -- The step was made, or it can't be made and nothing has changed.
 abbrev pub Entered : Bool → Entry → (Point → Point → Type 0) → Activities → Schedule → Tally → Activities → Schedule → Tally → Type 0
 Entered true e Step a x t b y u = IsMore e Step a x t b y u
 Entered false e Step a x t b y u = IsSame a x t b y u × ((c : Point) → Step (point_in a) c → ⊥)
+
+-- the same of the shared step of what processor q holds
+abbrev pub Shares : Bool → ℕ → Activities → Schedule → Tally → Activities → Schedule → Tally → Type 0
+Shares did q a x t b y u = Entered did (record { processor = q; act = shares }) (λ c d. Moves (code_in a) x.slots false c q d) a x t b y u
+
+-- and of a pick of processor q
+abbrev pub TakesUp : Bool → ℕ → Choice → Activities → Schedule → Tally → Activities → Schedule → Tally → Type 0
+TakesUp did q k a x t b y u = Entered did (record { processor = q; act = pick_of k }) (λ c d. Picks (code_in a) x.slots k c q d) a x t b y u

@@ -93,7 +93,7 @@ fn free_processors(alloc: Global, processors: usize) -> Result<Vec<Option<Holder
 }
 
 impl<'c> Activities<'c> {
-    ghost use Rattle.std.specs.Prelude.{◌≡◌, ◌≤◌, ◌<◌, ℕ, IfOk, OnErr, None, Some, get_or, length, option_map, ◌%◌};
+    ghost use Rattle.std.specs.Prelude.{◌≡◌, ◌≤◌, ◌<◌, ℕ, IfOk, OnErr, None, Some, get_or, is_some, length, option_map, ◌%◌};
     ghost use Rattle.machine.specs.CodeView.{code_of};
     ghost use Rattle.machine.specs.Frame.{Frame as Plain};
     ghost use Rattle.machine.specs.FrameView.{frame_of};
@@ -145,6 +145,15 @@ impl<'c> Activities<'c> {
             Some(iteration) => Some(&iteration.frame),
             None => None,
         }
+    }
+
+    /// Whether processor `q` holds an activity.
+    pub fn holds(&self, q: usize) -> bool
+        requires stand { AreActivities self.now }
+        requires processor { q < length self.now.held.items }
+        ensures { result ≡ is_some (frame_at q (point_in self.now)) }
+    {
+        self.held[q].is_some()
     }
 
     /// The frame of what processor `q` holds.

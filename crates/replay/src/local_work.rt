@@ -4,11 +4,13 @@ ghost use Rattle.std.specs.Prelude.{◌≡◌, IfSome, option_map};
 ghost use Rattle.machine.specs.CodeView.{code_of};
 ghost use Rattle.machine.specs.FrameView.{frame_of};
 ghost use Rattle.replay.specs.PartsView.{standing_of};
-ghost use Rattle.replay.specs.Sharing.{WorkedAt, Working, with_frame};
+ghost use Rattle.replay.specs.Putting.{HasGot};
+ghost use Rattle.replay.specs.Sharing.{WorkedAt, Working};
 
 use crate::activities::{Activities, Holder};
 use crate::parts::Iteration;
 use machine::{Code, Frame, local};
+use std::mem::swap;
 
 /// So many local instructions; false where there aren't so many, and then it has made those that there
 /// are.
@@ -28,23 +30,22 @@ fn work_at(code: &Code, place: &mut Option<Iteration>, n: u32) -> bool
     }
 }
 
-/// What stands in a place gets a frame.
-fn put_at(place: &mut Option<Iteration>, to: Frame)
-    ensures { option_map standing_of place.new ≡ option_map (with_frame (frame_of to)) (option_map standing_of place.old) }
+/// What stands in a place gets a frame, and gives its own for it.
+fn put_at(place: &mut Option<Iteration>, to: &mut Frame)
+    ensures { HasGot (frame_of to.old) place.old place.new }
 {
     if let Some(iteration) = place {
-        iteration.frame = to;
+        swap(&mut iteration.frame, to);
     }
 }
 
 impl<'c> Activities<'c> {
     ghost use Rattle.std.specs.Prelude.{◌≡◌, ◌≤◌, ◌<◌, ℕ, None, Some, length, true, false};
-    ghost use Rattle.machine.specs.Frame.{Frame as Plain};
     ghost use Rattle.machine.specs.FrameView.{frame_of};
-    ghost use Rattle.machine.specs.Local.{locals};
     ghost use Rattle.machine.specs.State.{iteration};
-    ghost use Rattle.replay.specs.Activities.{AreActivities, Stays, code_in, frame_at, kept_in, point_in};
+    ghost use Rattle.replay.specs.Activities.{AreActivities, Stays, code_in, kept_in, point_in};
     ghost use Rattle.replay.specs.Parts.{held_of};
+    ghost use Rattle.replay.specs.Putting.{PutsOn};
     ghost use Rattle.replay.specs.Replays.{Point, Works};
 
     /// `n` local instructions of iteration `k`, which processor `q` holds.
@@ -83,12 +84,12 @@ impl<'c> Activities<'c> {
     }
 
     /// Iteration `k`, which processor `q` holds, gets the frame to which local instructions of its
-    /// own lead.
-    fn put_iteration(&mut self, q: usize, k: u128, to: Frame)
+    /// own lead, and gives its own for it.
+    fn put_iteration(&mut self, q: usize, k: u128, to: &mut Frame)
         requires stand { AreActivities self.old }
         requires going { self.old.shared.ended ≡ None }
         requires holds { held_of (kept_in self.old).held q ≡ Some (iteration k) }
-        ensures works { (made : ℕ) (from : Plain) → frame_at q (point_in self.old) ≡ Some from → locals (code_in self.old).instructions made from ≡ Some (frame_of to) → Works (code_in self.old) self.old.slots made (point_in self.old) q (point_in self.new) }
+        ensures works { PutsOn self.old q (frame_of to.old) self.new }
         ensures stand { AreActivities self.new }
         ensures stays { Stays self.old self.new }
     {
@@ -96,18 +97,19 @@ impl<'c> Activities<'c> {
         put_at(&mut self.iterations[at], to);
     }
 
-    /// What processor `q` holds gets the frame to which local instructions of its own lead.
-    pub fn put(&mut self, q: usize, to: Frame)
+    /// What processor `q` holds gets the frame to which local instructions of its own lead, and gives
+    /// its own for it.
+    pub fn put(&mut self, q: usize, to: &mut Frame)
         requires stand { AreActivities self.old }
         requires processor { q < length self.old.held.items }
         requires going { self.old.shared.ended ≡ None }
-        ensures works { (made : ℕ) (from : Plain) → frame_at q (point_in self.old) ≡ Some from → locals (code_in self.old).instructions made from ≡ Some (frame_of to) → Works (code_in self.old) self.old.slots made (point_in self.old) q (point_in self.new) }
+        ensures works { PutsOn self.old q (frame_of to.old) self.new }
         ensures stand { AreActivities self.new }
         ensures stays { Stays self.old self.new }
     {
         match self.held[q] {
             None => {}
-            Some(Holder::Main) => self.main.frame = to,
+            Some(Holder::Main) => swap(&mut self.main.frame, to),
             Some(Holder::Iteration(k)) => self.put_iteration(q, k, to),
         }
     }

@@ -160,6 +160,8 @@ impl<'c> Activities<'c> {
     }
 
     /// Processor `q` takes the next ticket.
+    // Out of line, since its caller would clear room for an iteration at each other step.
+    #[inline(never)]
     fn take_ticket(&mut self, q: usize) -> Result<bool, AllocError>
         requires stand { AreActivities self.old }
         requires processor { q < length self.old.held.items }

@@ -1,16 +1,14 @@
 //! Steps of activities with their entries in a schedule.
 
-ghost use Rattle.std.specs.Prelude.{◌≡◌, ◌≤◌, ◌<◌, IfOk, OnOk, OnErr, Some, None, false, true, is_some};
-ghost use Rattle.machine.specs.Frame.{Frame as PlainFrame};
+ghost use Rattle.std.specs.Prelude.{◌≡◌, ◌≤◌, ◌<◌, IfOk, OnOk, OnErr, Some, None, false, true, is_some, length, option_map};
 ghost use Rattle.machine.specs.FrameView.{frame_of};
-ghost use Rattle.machine.specs.Local.{locals};
-ghost use Rattle.replay.specs.Activities.{AreActivities, Stays, chosen, code_in, frame_at, kept_in, point_in, who};
-ghost use Rattle.replay.specs.Making.{pick_of as pick_act};
+ghost use Rattle.machine.specs.State.{iteration};
+ghost use Rattle.replay.specs.Activities.{AreActivities, Stays, chosen, frame_at, kept_in, point_in, who};
 ghost use Rattle.replay.specs.Parts.{held_of};
-ghost use Rattle.replay.specs.Replays.{Moves, Picks, Works, wait_of};
-ghost use Rattle.replay.specs.Schedules.{shares, works};
+ghost use Rattle.replay.specs.Putting.{LeadTo};
+ghost use Rattle.replay.specs.Replays.{wait_of};
 ghost use Rattle.replay.specs.Tallies.{takes_parked};
-ghost use Rattle.replay.specs.Whole.{AreParts, Entered, IsMore, IsSame, IsWorked};
+ghost use Rattle.replay.specs.Whole.{AreParts, IsBurst, IsSame, IsWorked, Shares, TakesUp};
 
 use crate::activities::{Activities, Choice, Holder};
 use crate::entry::{Act, Entry};
@@ -20,14 +18,28 @@ use crate::stepped::Tally;
 use machine::Frame;
 use std::alloc::AllocError;
 
-/// Whether an activity is parked.
-fn is_parked(activities: &Activities<'_>, holder: Holder) -> bool
-    requires { AreActivities activities.now }
+/// Whether iteration `number` is what a processor holds.
+fn is_iteration(held: Option<Holder>, number: u128) -> bool
+    ensures { result ≡ true → option_map who held ≡ Some (iteration number) }
+{
+    match held {
+        Some(Holder::Iteration(k)) => k == number,
+        Some(Holder::Main) | None => false,
+    }
+}
+
+/// Whether an activity is parked. If processor `q` holds it, it isn't.
+fn is_parked(activities: &Activities<'_>, q: usize, holder: Holder) -> bool
+    requires stand { AreActivities activities.now }
+    requires processor { q < length activities.now.held.items }
     ensures { result ≡ is_some (wait_of (point_in activities.now).machine (who holder)) }
 {
     match holder {
         Holder::Main => activities.main.wait.is_some(),
         Holder::Iteration(number) => {
+            if is_iteration(activities.held[q], number) {
+                return false;
+            }
             match &activities.iterations[activities.place_of(number)] {
                 Some(iteration) => iteration.number == number && iteration.wait.is_some(),
                 None => false,
@@ -58,8 +70,10 @@ pub fn share(
     requires parts { AreParts activities.old schedule.old tally.old }
     requires processor { q < schedule.old.processors }
     requires holds { held_of (kept_in activities.old).held q ≡ Some (who holder) }
-    ensures did { IfOk result (λ did. Entered did (record { processor = q; act = shares }) (λ a b. Moves (code_in activities.old) schedule.old.slots false a q b) activities.old schedule.old tally.old activities.new schedule.new tally.new) }
-    ensures err { OnErr result (IsSame activities.old schedule.old tally.old activities.new schedule.new tally.new) }
+    ensures did { IfOk result (λ did. Shares did q activities.old schedule.old tally.old
+        activities.new schedule.new tally.new) }
+    ensures err { OnErr result (IsSame activities.old schedule.old tally.old
+        activities.new schedule.new tally.new) }
     ensures parts { AreParts activities.new schedule.new tally.new }
     ensures stays { Stays activities.old activities.new }
 {
@@ -70,7 +84,7 @@ pub fn share(
     })?;
     match activities.share(q) {
         Ok(true) => {
-            let parked = is_parked(activities, holder);
+            let parked = is_parked(activities, q, holder);
             tally.count(1, parked);
             Ok(true)
         }
@@ -96,8 +110,10 @@ pub fn pick(
 ) -> Result<bool, AllocError>
     requires parts { AreParts activities.old schedule.old tally.old }
     requires processor { q < schedule.old.processors }
-    ensures did { IfOk result (λ did. Entered did (record { processor = q; act = pick_act (chosen choice) }) (λ a b. Picks (code_in activities.old) schedule.old.slots (chosen choice) a q b) activities.old schedule.old tally.old activities.new schedule.new tally.new) }
-    ensures err { OnErr result (IsSame activities.old schedule.old tally.old activities.new schedule.new tally.new) }
+    ensures did { IfOk result (λ did. TakesUp did q (chosen choice) activities.old schedule.old tally.old
+        activities.new schedule.new tally.new) }
+    ensures err { OnErr result (IsSame activities.old schedule.old tally.old
+        activities.new schedule.new tally.new) }
     ensures parts { AreParts activities.new schedule.new tally.new }
     ensures stays { Stays activities.old activities.new }
 {
@@ -129,7 +145,7 @@ pub fn put(
     schedule: &mut Schedule,
     tally: &mut Tally,
     q: usize,
-    to: Frame,
+    mut to: Frame,
     made: u32,
 ) -> Result<(), AllocError>
     requires parts { AreParts activities.old schedule.old tally.old }
@@ -137,10 +153,12 @@ pub fn put(
     requires going { activities.old.shared.ended ≡ None }
     requires some { 1 ≤ made }
     requires few { made ≤ 1024 }
-    requires leads { (from : PlainFrame) → frame_at q (point_in activities.old) ≡ Some from → locals (code_in activities.old).instructions made from ≡ Some (frame_of to) }
+    requires leads { LeadTo activities.old q made (frame_of to) }
     requires holds { is_some (frame_at q (point_in activities.old)) ≡ true }
-    ensures did { OnOk result (IsMore (record { processor = q; act = works made }) (λ a b. Works (code_in activities.old) schedule.old.slots made a q b) activities.old schedule.old tally.old activities.new schedule.new tally.new) }
-    ensures err { OnErr result (IsSame activities.old schedule.old tally.old activities.new schedule.new tally.new) }
+    ensures did { OnOk result (IsBurst q made activities.old schedule.old tally.old
+        activities.new schedule.new tally.new) }
+    ensures err { OnErr result (IsSame activities.old schedule.old tally.old
+        activities.new schedule.new tally.new) }
     ensures parts { AreParts activities.new schedule.new tally.new }
     ensures stays { Stays activities.old activities.new }
 {
@@ -149,28 +167,32 @@ pub fn put(
         processor: q as u8,
         act: Act::Work(made as u16),
     })?;
-    activities.put(q, to);
+    activities.put(q, &mut to);
     tally.count(made, false);
     Ok(())
 }
 
-/// The same of local work of any length, with as many entries as it takes.
+/// The same of local work of any length, with as many entries as it takes. What processor `q` holds
+/// gives its own frame for the other.
 pub fn put_all(
     activities: &mut Activities<'_>,
     schedule: &mut Schedule,
     tally: &mut Tally,
     q: usize,
-    to: Frame,
+    to: &mut Frame,
     made: u32,
 ) -> Result<(), AllocError>
     requires parts { AreParts activities.old schedule.old tally.old }
     requires processor { q < schedule.old.processors }
     requires going { activities.old.shared.ended ≡ None }
     requires some { 1 ≤ made }
-    requires leads { (from : PlainFrame) → frame_at q (point_in activities.old) ≡ Some from → locals (code_in activities.old).instructions made from ≡ Some (frame_of to) }
+    requires leads { LeadTo activities.old q made (frame_of to.old) }
     requires holds { is_some (frame_at q (point_in activities.old)) ≡ true }
-    ensures did { OnOk result (IsWorked q made activities.old schedule.old tally.old activities.new schedule.new tally.new) }
-    ensures err { OnErr result (IsSame activities.old schedule.old tally.old activities.new schedule.new tally.new) }
+    ensures did { OnOk result (IsWorked q made activities.old schedule.old tally.old
+        activities.new schedule.new tally.new) }
+    ensures err { OnErr result (IsSame activities.old schedule.old tally.old
+        activities.new schedule.new tally.new) }
+    ensures kept { OnErr result (frame_of to.new ≡ frame_of to.old) }
     ensures parts { AreParts activities.new schedule.new tally.new }
     ensures stays { Stays activities.old activities.new }
 {

@@ -12,7 +12,7 @@ use crate::recording;
 use crate::schedule::Schedule;
 use crate::stepped::{CoreRefusal, HandIn, Stepped, Tally};
 use ast::Answer;
-use machine::{Code, Done, Frame, Stretch, stands_local};
+use machine::{Code, Done, Frame, Work, stands_local};
 use std::alloc::{AllocError, Global};
 use std::marker::Model;
 
@@ -58,17 +58,19 @@ impl<'c> Model for Core<'c> {
 
 impl<'c> Core<'c> {
     ghost use Rattle.std.specs.Bool.{Decides};
-    ghost use Rattle.std.specs.Prelude.{◌≡◌, ◌<◌, ◌-◌, true, IfOk, IfErr, IfSome, OnOk, OnErr, Some, None, is_some, option_map};
+    ghost use Rattle.std.specs.Prelude.{◌≡◌, ◌<◌, ◌≤◌, ◌-◌, true, IfOk, IfErr, IfSome, OnOk, OnErr, Some, None, is_some, option_map};
     ghost use Rattle.ec_kernel.specs.View.{first_of};
     ghost use Rattle.machine.specs.CodeView.{code_of};
     ghost use Rattle.machine.specs.FrameView.{frame_of};
+    ghost use Rattle.machine.specs.WorkView.{IsSpent, work_of};
     ghost use Rattle.replay.specs.Activities.{chosen, frame_at, who};
     ghost use Rattle.replay.specs.CoreView.{CoreView, IsNew, point_at};
     ghost use Rattle.replay.specs.Least.{IsLeast, has_ticket};
+    ghost use Rattle.replay.specs.Loading.{CannotHandInWork, HandsInWork, HasFrame, Loads};
     ghost use Rattle.replay.specs.Parts.{held_of};
     ghost use Rattle.replay.specs.Replayed.{IsAnswer};
     ghost use Rattle.replay.specs.Replays.{Replays, beginning, local_in};
-    ghost use Rattle.replay.specs.Stepping.{CannotHandIn, HandsIn, HandsInAll, IsFrom, IsGoing, HasEnded, KeepsGoing, MayTry, NoCore, PicksUp, Steps, WentOrLocal};
+    ghost use Rattle.replay.specs.Stepping.{CannotHandIn, HandsIn, HasLocal, IsFrom, IsGoing, HasEnded, KeepsGoing, MayTry, NoCore, PicksUp, Steps, WentOrLocal};
     ghost use Rattle.replay.specs.Tallies.{Tallies};
     ghost use Rattle.replay.specs.declared.entry.Version.TheVariants.{Second};
 
@@ -255,11 +257,11 @@ impl<'c> Core<'c> {
     }
 
     /// Whether local work leads from the frame of what processor `q` holds.
-    fn is_at(&self, q: usize, stretch: &Stretch<'_>) -> bool
-        ensures { Decides result (frame_at q (point_at self.now) ≡ Some (frame_of stretch.now.from)) }
+    fn is_at(&self, q: usize, work: &Work<'_>) -> bool
+        ensures { Decides result (HasFrame self.now q (frame_of work.now.from)) }
     {
         match self.held_frame(q) {
-            Some(frame) => frame.is_same(stretch.from()),
+            Some(frame) => frame.is_same(&work.from),
             None => false,
         }
     }
@@ -310,51 +312,86 @@ impl<'c> Core<'c> {
         self.put(q, done)
     }
 
-    /// What processor `q` holds gets the frame to which a stretch of local work of the core's own code
-    /// leads from its own.
-    fn put_stretch(&mut self, q: usize, stretch: Stretch<'_>) -> Result<(), HandIn>
+    /// What processor `q` holds gets the frame to which local work of the core's own code leads from
+    /// its own.
+    fn put_work(&mut self, q: usize, work: &mut Work<'_>) -> Result<(), HandIn>
         requires going { IsGoing self.old }
-        requires from { IsFrom self.old q (code_of stretch.code.now) (frame_of stretch.from) }
-        ensures ok { OnOk result (HandsInAll self.old q (code_of stretch.entry.code.now) (frame_of stretch.entry.from) stretch.entry.made self.new) }
-        ensures frame { OnOk result (frame_at q (point_at self.new) ≡ Some (frame_of stretch.entry.to)) }
-        ensures refused { IfErr result (CannotHandIn self.old q (code_of stretch.entry.code.now) (frame_of stretch.entry.from)) }
+        requires some { 1 ≤ work.old.made }
+        requires from { IsFrom self.old q (code_of work.old.code.now) (frame_of work.old.from) }
+        ensures ok { OnOk result (HandsInWork self.old q work.old self.new) }
+        ensures frame { OnOk result (HasFrame self.new q (frame_of work.old.to)) }
+        ensures spent { OnOk result (IsSpent work.old work.new) }
+        ensures refused { IfErr result (CannotHandInWork self.old q work.old) }
         ensures err { OnErr result (self.new ≡ self.old) }
+        ensures kept { OnErr result (work_of work.new ≡ work_of work.old) }
     {
-        let made = stretch.made();
-        let to = stretch.into_frame();
         if let Err(error) = recording::put_all(
             &mut self.activities,
             &mut self.schedule,
             &mut self.tally,
             q,
-            to,
-            made,
+            &mut work.to,
+            work.made,
         ) {
             return Err(error.into());
         }
+        work.made = 0;
         Ok(())
     }
 
     /// As `hand_in`, of local work of any length of which the caller knows that it is of the core's own
     /// code: codes are not compared, so that it takes no longer where the code is longer. The schedule
-    /// grows by as many entries as it takes, each as long as it may be.
+    /// grows by as many entries as it takes, each as long as it may be, and memory is taken for them
+    /// alone. None of the work is left to be handed in then.
     ///
     /// # Errors
     ///
-    /// Those of `hand_in`.
-    pub fn hand_in_own(&mut self, q: usize, stretch: Stretch<'_>) -> Result<(), HandIn>
-        requires own { code_of stretch.code.now ≡ self.old.code }
-        ensures ok { OnOk result (HandsInAll self.old q (code_of stretch.entry.code.now) (frame_of stretch.entry.from) stretch.entry.made self.new) }
-        ensures frame { OnOk result (frame_at q (point_at self.new) ≡ Some (frame_of stretch.entry.to)) }
-        ensures refused { IfErr result (CannotHandIn self.old q (code_of stretch.entry.code.now) (frame_of stretch.entry.from)) }
+    /// Those of `hand_in`. The work hasn't changed then either.
+    pub fn hand_in_own(&mut self, q: usize, work: &mut Work<'_>) -> Result<(), HandIn>
+        requires own { code_of work.old.code.now ≡ self.old.code }
+        requires some { 1 ≤ work.old.made }
+        ensures ok { OnOk result (HandsInWork self.old q work.old self.new) }
+        ensures frame { OnOk result (HasFrame self.new q (frame_of work.old.to)) }
+        ensures spent { OnOk result (IsSpent work.old work.new) }
+        ensures refused { IfErr result (CannotHandInWork self.old q work.old) }
         ensures err { OnErr result (self.new ≡ self.old) }
+        ensures kept { OnErr result (work_of work.new ≡ work_of work.old) }
     {
         if self.has_ended() {
             Err(HandIn::Ended)
-        } else if self.is_at(q, &stretch) {
-            self.put_stretch(q, stretch)
+        } else if self.is_at(q, work) {
+            self.put_work(q, work)
         } else {
             Err(HandIn::Stranger)
+        }
+    }
+
+    /// Room for local work of the core's code, of which none has been done.
+    pub fn work(&self) -> Result<Work<'c>, AllocError>
+        ensures code { IfOk result (λ work. code_of work.code.now ≡ self.now.code) }
+        ensures none { IfOk result (λ work. work.made ≡ 0) }
+    {
+        let alloc = *self.activities.shared.output.allocator();
+        Work::new(alloc, self.activities.code)
+    }
+
+    /// Loads the frame of what processor `q` holds, where a local instruction of it stands next, and
+    /// tells whether one does. Where none does, or memory is refused, the work hasn't changed.
+    pub fn load(&self, q: usize, work: &mut Work<'_>) -> Result<bool, AllocError>
+        ensures ok { IfOk result (Loads self.now q work.old work.new) }
+        ensures code { code_of work.new.code.now ≡ code_of work.old.code.now }
+        ensures memory { OnErr result (HasLocal self.now q) }
+        ensures err { OnErr result (work_of work.new ≡ work_of work.old) }
+    {
+        match self.held_frame(q) {
+            Some(frame) => {
+                if !stands_local(self.activities.code, frame) {
+                    return Ok(false);
+                }
+                work.load(frame)?;
+                Ok(true)
+            }
+            None => Ok(false),
         }
     }
 
@@ -362,7 +399,10 @@ impl<'c> Core<'c> {
     pub fn holds(&self, q: usize) -> bool
         ensures { result ≡ is_some (frame_at q (point_at self.now)) }
     {
-        self.held_frame(q).is_some()
+        if q >= self.activities.held.len() {
+            return false;
+        }
+        self.activities.holds(q)
     }
 
     /// Whether a local instruction of what processor `q` holds stands next.

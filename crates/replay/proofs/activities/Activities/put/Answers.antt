@@ -28,7 +28,7 @@ returns-in-Some-Main-clause-works c =
     let one : Some c.in-Some-Main.field-0 ≡ Some (holder.Main) = ap (λ (h : Holder). Some h) (rw some at c.in-Some-Main.field-0-is) in
     let h : held_of (kept_in c.args.self.now).held c.args.q ≡ Some the_main = held_is c.args.self.now.held.items c.args.q c.index.result.now c.index.result.now c.requires.processor c.index.ensures ∙ ap (λ o. option_map who o) (some ∙ one) in
     let old = c.args.self.now in
-    put_works the_main c.args.q (kept_in old).main (frames.frame_of c.args.to) old (with_main_frame c.args.to old) (stood_main c.args.q old c.requires.stand c.requires.going h) refl
+    rw c.swap.ensures.x_after (put_works the_main c.args.q (kept_in old).main (frames.frame_of c.args.to.now) old (with_main_frame c.args.to.now old) (stood_main c.args.q old c.requires.stand c.requires.going h) refl)
 
 pub returns-in-Some-Main-clause-stand : goal.returns-in-Some-Main-clause-stand
-returns-in-Some-Main-clause-stand c = main_stands c.args.to c.args.self.now c.requires.stand
+returns-in-Some-Main-clause-stand c = main_stands c.swap.new.x c.args.self.now c.requires.stand
