@@ -35,7 +35,7 @@ fn held_by(activities: &Activities<'_>, q: usize) -> Option<Held> {
     match activities.held.get(q)? {
         None => None,
         Some(Holder::Main) => Some(Held::Main),
-        Some(Holder::Iteration(number)) => Some(Held::Iteration(*number)),
+        Some(Holder::Iteration { number, .. }) => Some(Held::Iteration(*number)),
     }
 }
 

@@ -1,9 +1,10 @@
 -- Local instructions of what a processor holds, of activities.
-use Rattle.std.proofs.Common.{◌≡◌, ◌∙◌, ℕ, zero, suc, ◌<◌, ◌≤◌, Bool, true, false, List, get_or, Option, Some, None, refl, sym, ap, subst, arith}
+use Rattle.std.proofs.Common.{◌≡◌, ◌∙◌, ℕ, zero, suc, ◌<◌, ◌≤◌, Bool, true, false, List, length, get_or, Option, Some, None, refl, sym, ap, subst, arith}
 use Rattle.std.specs.Prelude.{IfSome, ◌%◌, option_map, is_some}
 use Rattle.std.specs.Vec.{with_item}
 use Rattle.std.proofs.Math.ListN.{set}
 use Rattle.std.proofs.lemmas.Bool.{eqb-true, eq-eqb}
+use Rattle.std.proofs.lemmas.List.{get_or-map}
 use Rattle.ast.specs.declared.fault.End.{End}
 use Rattle.machine.specs.Frame.{Frame}
 use Rattle.machine.specs.FrameView as frames
@@ -167,6 +168,14 @@ frame_in_place q k old a h =
     ap (λ (o : Option Standing). frame_there o) r.here
     ∙ sym (ap (λ (o : Option Standing). frame_in (active o)) here)
     ∙ sym (ap (λ (o : Option Who). frame_held (point_in old).machine o) h)
+
+-- an iteration stands where its number is
+
+pub stands_there : (k at : ℕ) (o : Option Iteration) (i : Iteration) (old : Activities) → AreActivities old → at < length old.iterations.items → o ≡ get_or old.iterations.items at o → o ≡ Some i → i.number ≡ k → at ≡ k % old.slots
+stands_there k at o i old a h e f n =
+    let there : get_or (kept_in old).iterations at None ≡ Some (standing_of i) =
+    get_or-map (λ (z : Option Iteration). option_map standing_of z) old.iterations.items at o None h ∙ ap (λ (z : Option Iteration). option_map standing_of z) (sym e ∙ f) in
+    sym ((a.core.numbers at (standing_of i) there).0) ∙ ap (λ (j : ℕ). j % old.slots) n
 
 -- who is held has a frame, and isn't parked
 

@@ -92,7 +92,7 @@ pub iteration_untaken : (q k at : ℕ) (z : Option Iteration) (b : Bool) (old : 
 iteration_untaken q k at z b old p a e f d n h = iteration_not_picked (code_in old) old.slots q k (kept_in old) p a.core (place_below old.slots k a.core.some) (due_there k at z b old a e f d ∙ n) h
 
 abbrev pub with_iteration : ℕ → ℕ → ℕ → View → Option Iteration → Activities → Activities
-with_iteration q k at z p old = record old { shared = record old.shared { kernel = z }; iterations = with_item old.iterations at p; held = with_item old.held q (Some (holder.Iteration k)) }
+with_iteration q k at z p old = record old { shared = record old.shared { kernel = z }; iterations = with_item old.iterations at p; held = with_item old.held q (Some (holder.Iteration k at)) }
 
 pub iteration_taken : (q k at : ℕ) (z : View) (o p : Option Iteration) (b : Bool) (old : Activities) → AreActivities old → old.shared.ended ≡ None → held_of (kept_in old).held q ≡ None → q < length old.held.items → at ≡ k % old.slots → o ≡ get_or old.iterations.items at o
     → b ≡ is_due old.shared.kernel (wait_in (numbered k (option_map standing_of o))) → b ≡ true → z ≡ no_longer_ready (at + 1) old.shared.kernel → option_map standing_of p ≡ option_map unparked (option_map standing_of o) → IsKernel z
@@ -120,18 +120,18 @@ iteration_taken q k at z o p b old a g i l e f d n zi pi ki = by (standing (kept
 
         is : kept_in new ≡ iteration_up q (k % s) u x
         is =
-            ap (λ (y : View). record x { shared = record x.shared { order = y }; iterations = standings (set old.iterations.items at p); held = holders (set old.held.items q (Some (holder.Iteration k))) }) order
-            ∙ ap (λ (ys : List (Option Standing)). record x { shared = record x.shared { order = no_longer_ready (1 + k % s) old.shared.kernel }; iterations = ys; held = holders (set old.held.items q (Some (holder.Iteration k))) })
+            ap (λ (y : View). record x { shared = record x.shared { order = y }; iterations = standings (set old.iterations.items at p); held = holders (set old.held.items q (Some (holder.Iteration k at))) }) order
+            ∙ ap (λ (ys : List (Option Standing)). record x { shared = record x.shared { order = no_longer_ready (1 + k % s) old.shared.kernel }; iterations = ys; held = holders (set old.held.items q (Some (holder.Iteration k at))) })
             (place_put old.iterations.items at (k % s) p e ∙ ap (set x.iterations (k % s)) (pi ∙ ap (λ (w : Option Standing). option_map unparked w) (place_view k at o old a e f ∙ there.0)))
             ∙ ap (λ (hs : List (Option Who)). record x { shared = record x.shared { order = no_longer_ready (1 + k % s) old.shared.kernel }; iterations = set x.iterations (k % s) (Some (unparked u)); held = hs })
-            (held_put old.held.items q (holder.Iteration k) ∙ ap (λ (j : ℕ). set x.held q (Some (iteration j))) (sym there.1))
+            (held_put old.held.items q (holder.Iteration k at) ∙ ap (λ (j : ℕ). set x.held q (Some (iteration j))) (sym there.1))
 
         parked : (w : Option Wait) → u.wait ≡ w → is_due old.shared.kernel w ≡ true → TakenBy (take_iteration k) q old new
         parked None v c2 = cc
         parked (Some w) v c2 =
             let m : k % s < s = place_below s k a.core.some in
             let stands : Stands old.shared.kernel (1 + k % s) (Some w) = subst (λ (y : Option Wait). Stands old.shared.kernel (1 + k % s) y) (ap wait_in there.0 ∙ v) (a.core.each (k % s) m) in
-            taken_by (take_iteration k) q old new (iteration_up q (k % s) u x) a (record { code_is = refl; processors = length-set old.held.items q (Some (holder.Iteration k)); slots = refl }) is
+            taken_by (take_iteration k) q old new (iteration_up q (k % s) u x) a (record { code_is = refl; processors = length-set old.held.items q (Some (holder.Iteration k at)); slots = refl }) is
             (iteration_picked (code_in old) s q k w u x a.core g i (within q old l) m there.0 there.1 v c2)
             (core w v m (due_ready old.shared.kernel (1 + k % s) w stands c2))
           where
@@ -177,7 +177,7 @@ pub ticket_taken : (q k at : ℕ) (l : Open) (z : View) (it : Iteration) (old : 
     → k ≡ old.shared.kernel.ticket → at ≡ k % old.slots → z ≡ record old.shared.kernel { ticket = old.shared.kernel.ticket + 1 } → standing_of it ≡ begun (code_in old) l old.shared.kernel.ticket → IsKernel z
     → TakenBy take_ticket q old (with_iteration q k at z (Some it) old)
 ticket_taken q k at l z it old a g i b o m r ki e zi si kk =
-    taken_by take_ticket q old new (ticket_up (code_in old) s q l x) a (record { code_is = refl; processors = length-set old.held.items q (Some (holder.Iteration k)); slots = refl }) is
+    taken_by take_ticket q old new (ticket_up (code_in old) s q l x) a (record { code_is = refl; processors = length-set old.held.items q (Some (holder.Iteration k at)); slots = refl }) is
     (ticket_picked (code_in old) s q l x a.core g i (within q old b) below free o t u)
     (ticket_up_core (code_in old) s q l x a.core free below (omega (arith, r)) (within q old b) (subst (λ (y : View). IsKernel y) zi kk))
   where
@@ -207,11 +207,11 @@ ticket_taken q k at l z it old a g i b o m r ki e zi si kk =
 
     is : kept_in new ≡ ticket_up (code_in old) s q l x
     is =
-        ap (λ (y : View). record x { shared = record x.shared { order = y }; iterations = standings (set old.iterations.items at (Some it)); held = holders (set old.held.items q (Some (holder.Iteration k))) }) zi
-        ∙ ap (λ (ys : List (Option Standing)). record x { shared = record x.shared { order = record old.shared.kernel { ticket = n + 1 } }; iterations = ys; held = holders (set old.held.items q (Some (holder.Iteration k))) })
+        ap (λ (y : View). record x { shared = record x.shared { order = y }; iterations = standings (set old.iterations.items at (Some it)); held = holders (set old.held.items q (Some (holder.Iteration k at))) }) zi
+        ∙ ap (λ (ys : List (Option Standing)). record x { shared = record x.shared { order = record old.shared.kernel { ticket = n + 1 } }; iterations = ys; held = holders (set old.held.items q (Some (holder.Iteration k at))) })
         (place_put old.iterations.items at (n % s) (Some it) (e ∙ ap (λ (j : ℕ). j % s) ki) ∙ ap (λ (y : Standing). set x.iterations (n % s) (Some y)) si)
         ∙ ap (λ (hs : List (Option Who)). record x { shared = record x.shared { order = record old.shared.kernel { ticket = n + 1 } }; iterations = set x.iterations (n % s) (Some (begun (code_in old) l n)); held = hs })
-        (held_put old.held.items q (holder.Iteration k) ∙ ap (λ (j : ℕ). set x.held q (Some (iteration j))) ki)
+        (held_put old.held.items q (holder.Iteration k at) ∙ ap (λ (j : ℕ). set x.held q (Some (iteration j))) ki)
 
 -- ---- the rule
 

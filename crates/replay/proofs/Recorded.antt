@@ -45,8 +45,8 @@ any_default [] i d e h = absurd (omega (arith, h))
 any_default (x ∷ xs) zero d e h = refl
 any_default (x ∷ xs) (suc i) d e h = any_default xs i d e (omega (arith, h))
 
-pub parked_is : (a : Activities) (h : Holder) (k : ℕ) (o y : Option Iteration) (r : Bool) → AreActivities a → h ≡ holders.Iteration k → y ≡ get_or a.iterations.items (k % a.slots) y → y ≡ o → r ≡ is_there k o → r ≡ is_some (wait_of (point_in a).machine (who h))
-parked_is a h k o y r stand e f g t =
+pub parked_is : (a : Activities) (h : Holder) (k at : ℕ) (o y : Option Iteration) (r : Bool) → AreActivities a → h ≡ holders.Iteration k at → y ≡ get_or a.iterations.items (k % a.slots) y → y ≡ o → r ≡ is_there k o → r ≡ is_some (wait_of (point_in a).machine (who h))
+parked_is a h k at o y r stand e f g t =
     let room : length a.iterations.items ≡ a.slots = sym (length-map a.iterations.items (λ x. option_map standing_of x)) ∙ stand.core.room in
     let inside : k % a.slots < length a.iterations.items = omega (arith, room, stand.core.some) in
     let place : get_or a.iterations.items (k % a.slots) None ≡ o = any_default a.iterations.items (k % a.slots) None y inside ∙ sym f ∙ g in

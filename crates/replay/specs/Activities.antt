@@ -18,7 +18,7 @@ use Rattle.replay.specs.declared.activities.Holder.TheVariants as holders
 
 abbrev pub who : Holder → Who
 who holders.Main = the_main
-who (holders.Iteration k) = iteration k
+who (holders.Iteration k at) = iteration k
 
 abbrev pub chosen : Choice → machine.Choice
 chosen choices.Main = take_main

@@ -15,8 +15,8 @@ use std::alloc::{AllocError, Global};
 #[derive(Clone, Copy, Debug, PartialEq, Eq)]
 pub enum Holder {
     Main,
-    /// The iteration of this number.
-    Iteration(u128),
+    /// The iteration of this number, which stood in this place when it was taken up.
+    Iteration { number: u128, place: usize },
 }
 
 /// What a processor that holds nothing may take up.
@@ -135,13 +135,14 @@ impl<'c> Activities<'c> {
         })
     }
 
-    /// The frame of what stands in the place of iteration `k`.
-    fn iteration_frame(&self, k: u128) -> Option<&Frame>
+    /// The frame of what stands in the place of iteration `k`, which may be this one.
+    fn iteration_frame(&self, k: u128, place: usize) -> Option<&Frame>
+        requires stand { AreActivities self.now }
         requires place { 0 < self.now.slots }
         requires room { length self.now.iterations.items ≡ self.now.slots }
         ensures { option_map (λ f. frame_of f.now) result ≡ frame_there (get_or (kept_in self.now).iterations (k % self.now.slots) None) }
     {
-        match &self.iterations[self.place_of(k)] {
+        match &self.iterations[self.place_from(k, place)] {
             Some(iteration) => Some(&iteration.frame),
             None => None,
         }
@@ -165,7 +166,7 @@ impl<'c> Activities<'c> {
         match self.held[q] {
             None => None,
             Some(Holder::Main) => Some(&self.main.frame),
-            Some(Holder::Iteration(k)) => self.iteration_frame(k),
+            Some(Holder::Iteration { number, place }) => self.iteration_frame(number, place),
         }
     }
 }

@@ -48,8 +48,9 @@ impl<'c> Activities<'c> {
     ghost use Rattle.replay.specs.Putting.{PutsOn};
     ghost use Rattle.replay.specs.Replays.{Point, Works};
 
-    /// `n` local instructions of iteration `k`, which processor `q` holds.
-    fn work_iteration(&mut self, q: usize, k: u128, n: u32) -> bool
+    /// `n` local instructions of iteration `k`, which processor `q` holds, and which may stand in this
+    /// place.
+    fn work_iteration(&mut self, q: usize, k: u128, place: usize, n: u32) -> bool
         requires stand { AreActivities self.old }
         requires going { self.old.shared.ended ≡ None }
         requires holds { held_of (kept_in self.old).held q ≡ Some (iteration k) }
@@ -58,7 +59,7 @@ impl<'c> Activities<'c> {
         ensures stand { AreActivities self.new }
         ensures stays { Stays self.old self.new }
     {
-        let at = self.place_of(k);
+        let at = self.place_from(k, place);
         work_at(self.code, &mut self.iterations[at], n)
     }
 
@@ -79,13 +80,13 @@ impl<'c> Activities<'c> {
         match self.held[q] {
             None => false,
             Some(Holder::Main) => work_on(self.code, &mut self.main.frame, n),
-            Some(Holder::Iteration(k)) => self.work_iteration(q, k, n),
+            Some(Holder::Iteration { number, place }) => self.work_iteration(q, number, place, n),
         }
     }
 
-    /// Iteration `k`, which processor `q` holds, gets the frame to which local instructions of its
-    /// own lead, and gives its own for it.
-    fn put_iteration(&mut self, q: usize, k: u128, to: &mut Frame)
+    /// Iteration `k`, which processor `q` holds, and which may stand in this place, gets the frame to
+    /// which local instructions of its own lead, and gives its own for it.
+    fn put_iteration(&mut self, q: usize, k: u128, place: usize, to: &mut Frame)
         requires stand { AreActivities self.old }
         requires going { self.old.shared.ended ≡ None }
         requires holds { held_of (kept_in self.old).held q ≡ Some (iteration k) }
@@ -93,7 +94,7 @@ impl<'c> Activities<'c> {
         ensures stand { AreActivities self.new }
         ensures stays { Stays self.old self.new }
     {
-        let at = self.place_of(k);
+        let at = self.place_from(k, place);
         put_at(&mut self.iterations[at], to);
     }
 
@@ -110,7 +111,7 @@ impl<'c> Activities<'c> {
         match self.held[q] {
             None => {}
             Some(Holder::Main) => swap(&mut self.main.frame, to),
-            Some(Holder::Iteration(k)) => self.put_iteration(q, k, to),
+            Some(Holder::Iteration { number, place }) => self.put_iteration(q, number, place, to),
         }
     }
 }

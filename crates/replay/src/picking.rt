@@ -144,7 +144,10 @@ impl<'c> Activities<'c> {
         if !take_up(&mut self.shared.kernel, &mut self.iterations[at], at + 1, k) {
             return false;
         }
-        self.held[q] = Some(Holder::Iteration(k));
+        self.held[q] = Some(Holder::Iteration {
+            number: k,
+            place: at,
+        });
         true
     }
 
@@ -183,7 +186,10 @@ impl<'c> Activities<'c> {
         let k = self.shared.kernel.ticket();
         let at = self.place_of(k);
         self.iterations[at] = Some(iteration);
-        self.held[q] = Some(Holder::Iteration(k));
+        self.held[q] = Some(Holder::Iteration {
+            number: k,
+            place: at,
+        });
         Ok(true)
     }
 

@@ -23,7 +23,7 @@ fn is_iteration(held: Option<Holder>, number: u128) -> bool
     ensures { result ≡ true → option_map who held ≡ Some (iteration number) }
 {
     match held {
-        Some(Holder::Iteration(k)) => k == number,
+        Some(Holder::Iteration { number: k, .. }) => k == number,
         Some(Holder::Main) | None => false,
     }
 }
@@ -36,7 +36,7 @@ fn is_parked(activities: &Activities<'_>, q: usize, holder: Holder) -> bool
 {
     match holder {
         Holder::Main => activities.main.wait.is_some(),
-        Holder::Iteration(number) => {
+        Holder::Iteration { number, .. } => {
             if is_iteration(activities.held[q], number) {
                 return false;
             }

@@ -107,7 +107,7 @@ fn lead(
 }
 
 impl<'c> Activities<'c> {
-    ghost use Rattle.std.specs.Prelude.{◌≡◌, ◌<◌, ◌%◌, false, IfOk, OnErr, None, Some, length};
+    ghost use Rattle.std.specs.Prelude.{◌≡◌, ◌<◌, ◌%◌, true, false, IfOk, OnErr, None, Some, length};
     ghost use Rattle.machine.specs.State.{iteration, the_main};
     ghost use Rattle.replay.specs.Activities.{AreActivities, Did, Stays, code_in, kept_in};
     ghost use Rattle.replay.specs.Parts.{held_of};
@@ -144,6 +144,32 @@ impl<'c> Activities<'c> {
         }
     }
 
+    /// Whether iteration `k` stands in a place.
+    fn stands_at(&self, k: u128, place: usize) -> bool
+        requires stand { AreActivities self.now }
+        ensures { result ≡ true → place ≡ k % self.now.slots }
+    {
+        if place >= self.iterations.len() {
+            return false;
+        }
+        match &self.iterations[place] {
+            Some(iteration) => iteration.number == k,
+            None => false,
+        }
+    }
+
+    /// Where iteration `k` stands. A place in which it may stand is looked at first: a division takes
+    /// longer.
+    pub(crate) fn place_from(&self, k: u128, place: usize) -> usize
+        requires stand { AreActivities self.now }
+        ensures { result ≡ k % self.now.slots }
+    {
+        if self.stands_at(k, place) {
+            return place;
+        }
+        self.place_of(k)
+    }
+
     /// The shared step of main, which processor `q` holds.
     fn share_main(&mut self, q: usize) -> Result<bool, AllocError>
         requires stand { AreActivities self.old }
@@ -164,8 +190,8 @@ impl<'c> Activities<'c> {
         Ok(self.note(q, outcome))
     }
 
-    /// The shared step of iteration `k`, which processor `q` holds.
-    fn share_iteration(&mut self, q: usize, k: u128) -> Result<bool, AllocError>
+    /// The shared step of iteration `k`, which processor `q` holds, and which may stand in this place.
+    fn share_iteration(&mut self, q: usize, k: u128, place: usize) -> Result<bool, AllocError>
         requires stand { AreActivities self.old }
         requires processor { q < length self.old.held.items }
         requires going { self.old.shared.ended ≡ None }
@@ -175,7 +201,7 @@ impl<'c> Activities<'c> {
         ensures stand { AreActivities self.new }
         ensures stays { Stays self.old self.new }
     {
-        let at = self.place_of(k);
+        let at = self.place_from(k, place);
         let outcome = step_at(
             &mut self.shared,
             &mut self.iterations[at],
@@ -201,7 +227,7 @@ impl<'c> Activities<'c> {
         match self.held[q] {
             None => Ok(false),
             Some(Holder::Main) => self.share_main(q),
-            Some(Holder::Iteration(k)) => self.share_iteration(q, k),
+            Some(Holder::Iteration { number, place }) => self.share_iteration(q, number, place),
         }
     }
 }

@@ -17,14 +17,14 @@ returns-then-is_iteration c =
 
 pub returns-then-iteration-number : goal.returns-then-iteration-number
 returns-then-iteration-number c =
-    parked_is c.args.activities.now c.args.holder c.in-Iteration.number (Some c.in-Some.iteration) c.index-in-Iteration.result.now c.is_some-then-iteration-number.result c.requires.stand c.in-Iteration.is (subst (λ (n : ℕ). c.index-in-Iteration.result.now ≡ get_or c.args.activities.now.iterations.items n c.index-in-Iteration.result.now) c.place_of.ensures c.index-in-Iteration.ensures) c.in-Some.is
+    parked_is c.args.activities.now c.args.holder c.in-Iteration.number _ (Some c.in-Some.iteration) c.index-in-Iteration.result.now c.is_some-then-iteration-number.result c.requires.stand c.in-Iteration.is (subst (λ (n : ℕ). c.index-in-Iteration.result.now ≡ get_or c.args.activities.now.iterations.items n c.index-in-Iteration.result.now) c.place_of.ensures c.index-in-Iteration.ensures) c.in-Some.is
     (then_there c.in-Iteration.number c.in-Some.iteration c.is_some-then-iteration-number.result c.if-iteration-number.true c.is_some-then-iteration-number.ensures)
 
 pub returns-else-iteration-number : goal.returns-else-iteration-number
 returns-else-iteration-number c =
-    parked_is c.args.activities.now c.args.holder c.in-Iteration.number (Some c.in-Some.iteration) c.index-in-Iteration.result.now _ c.requires.stand c.in-Iteration.is (subst (λ (n : ℕ). c.index-in-Iteration.result.now ≡ get_or c.args.activities.now.iterations.items n c.index-in-Iteration.result.now) c.place_of.ensures c.index-in-Iteration.ensures) c.in-Some.is
+    parked_is c.args.activities.now c.args.holder c.in-Iteration.number _ (Some c.in-Some.iteration) c.index-in-Iteration.result.now _ c.requires.stand c.in-Iteration.is (subst (λ (n : ℕ). c.index-in-Iteration.result.now ≡ get_or c.args.activities.now.iterations.items n c.index-in-Iteration.result.now) c.place_of.ensures c.index-in-Iteration.ensures) c.in-Some.is
     (else_there c.in-Iteration.number c.in-Some.iteration c.if-iteration-number.false)
 
 pub returns-in-None : goal.returns-in-None
 returns-in-None c =
-    parked_is c.args.activities.now c.args.holder c.in-Iteration.number None c.index-in-Iteration.result.now _ c.requires.stand c.in-Iteration.is (subst (λ (n : ℕ). c.index-in-Iteration.result.now ≡ get_or c.args.activities.now.iterations.items n c.index-in-Iteration.result.now) c.place_of.ensures c.index-in-Iteration.ensures) c.in-None.is refl
+    parked_is c.args.activities.now c.args.holder c.in-Iteration.number _ None c.index-in-Iteration.result.now _ c.requires.stand c.in-Iteration.is (subst (λ (n : ℕ). c.index-in-Iteration.result.now ≡ get_or c.args.activities.now.iterations.items n c.index-in-Iteration.result.now) c.place_of.ensures c.index-in-Iteration.ensures) c.in-None.is refl

@@ -26,6 +26,6 @@ returns-in-Some-Main c =
 pub returns-in-Some-Iteration : goal.returns-in-Some-Iteration
 returns-in-Some-Iteration c =
     let some : c.index.result.now ≡ Some c.in-Some-Iteration.field-0 = c.in-Some-Iteration.is in
-    let one : Some c.in-Some-Iteration.field-0 ≡ Some (holder.Iteration c.in-Some-Iteration.k) = ap (λ (h : Holder). Some h) (rw some at c.in-Some-Iteration.field-0-is) in
-    let h : held_of (kept_in c.args.self.now).held c.args.q ≡ Some (iteration c.in-Some-Iteration.k) = held_is c.args.self.now.held.items c.args.q c.index.result.now c.index.result.now c.requires.processor c.index.ensures ∙ ap (λ o. option_map who o) (some ∙ one) in
-    c.iteration_frame.ensures ∙ frame_in_place c.args.q c.in-Some-Iteration.k c.args.self.now c.requires.stand h
+    let one : Some c.in-Some-Iteration.field-0 ≡ Some (holder.Iteration c.in-Some-Iteration.number c.in-Some-Iteration.place) = ap (λ (h : Holder). Some h) (rw some at c.in-Some-Iteration.field-0-is) in
+    let h : held_of (kept_in c.args.self.now).held c.args.q ≡ Some (iteration c.in-Some-Iteration.number) = held_is c.args.self.now.held.items c.args.q c.index.result.now c.index.result.now c.requires.processor c.index.ensures ∙ ap (λ o. option_map who o) (some ∙ one) in
+    c.iteration_frame.ensures ∙ frame_in_place c.args.q c.in-Some-Iteration.number c.args.self.now c.requires.stand h

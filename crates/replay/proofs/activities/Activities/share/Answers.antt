@@ -16,7 +16,7 @@ share_main-requires-clause-holds c =
 pub share_iteration-requires-clause-holds : goal.share_iteration-requires-clause-holds
 share_iteration-requires-clause-holds c =
     let some : c.index.result.now ≡ Some c.in-Some-Iteration.field-0 = c.in-Some-Iteration.is in
-    let one : Some c.in-Some-Iteration.field-0 ≡ Some (holder.Iteration c.in-Some-Iteration.k) = ap (λ (h : Holder). Some h) (rw some at c.in-Some-Iteration.field-0-is) in
+    let one : Some c.in-Some-Iteration.field-0 ≡ Some (holder.Iteration c.in-Some-Iteration.number c.in-Some-Iteration.place) = ap (λ (h : Holder). Some h) (rw some at c.in-Some-Iteration.field-0-is) in
     held_is c.args.self.now.held.items c.args.q c.index.result.now c.index.result.now c.requires.processor c.index.ensures ∙ ap (λ o. option_map who o) (some ∙ one)
 
 pub returns-in-None-clause-did : goal.returns-in-None-clause-did

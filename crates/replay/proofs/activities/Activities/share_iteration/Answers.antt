@@ -11,20 +11,20 @@ use Rattle.replay.proofs.Shares.{SharedBy, iteration_shared, laid_in, may_step, 
 use Rattle.replay.proofs.activities.Activities.share_iteration.Goals as goal
 
 pub step_at-requires : goal.step_at-requires
-step_at-requires c = record { may = may_step c.args.q c.args.k c.place_of-at.result c.index_mut.result.now c.args.self.now c.requires.stand c.requires.holds c.place_of-at.ensures c.index_mut.ensures.value }
+step_at-requires c = record { may = may_step c.args.q c.args.k c.place_from-at.result c.index_mut.result.now c.args.self.now c.requires.stand c.requires.holds c.place_from-at.ensures c.index_mut.ensures.value }
 
 pub returns-in_err-outcome-clause-err : goal.returns-in_err-outcome-clause-err
 returns-in_err-outcome-clause-err c =
     let old = c.args.self.now in
-    let new : Activities = record old { shared = c.step_at.new.shared; iterations = with_item old.iterations c.place_of-at.result c.step_at.new.place } in
-    let same : kept_in new ≡ kept_in old = unchanged old c.place_of-at.result c.index_mut.result.now c.step_at.new.place c.step_at.new.shared c.index_mut.ensures.value c.in_err-outcome.ensures.err.0 c.in_err-outcome.ensures.err.1 in
+    let new : Activities = record old { shared = c.step_at.new.shared; iterations = with_item old.iterations c.place_from-at.result c.step_at.new.place } in
+    let same : kept_in new ≡ kept_in old = unchanged old c.place_from-at.result c.index_mut.result.now c.step_at.new.place c.step_at.new.shared c.index_mut.ensures.value c.in_err-outcome.ensures.err.0 c.in_err-outcome.ensures.err.1 in
     on_err c.from_residual.result (kept_in new ≡ kept_in old) same
 
 pub returns-in_err-outcome-clause-stand : goal.returns-in_err-outcome-clause-stand
 returns-in_err-outcome-clause-stand c =
     let old = c.args.self.now in
-    let new : Activities = record old { shared = c.step_at.new.shared; iterations = with_item old.iterations c.place_of-at.result c.step_at.new.place } in
-    let same : kept_in new ≡ kept_in old = unchanged old c.place_of-at.result c.index_mut.result.now c.step_at.new.place c.step_at.new.shared c.index_mut.ensures.value c.in_err-outcome.ensures.err.0 c.in_err-outcome.ensures.err.1 in
+    let new : Activities = record old { shared = c.step_at.new.shared; iterations = with_item old.iterations c.place_from-at.result c.step_at.new.place } in
+    let same : kept_in new ≡ kept_in old = unchanged old c.place_from-at.result c.index_mut.result.now c.step_at.new.place c.step_at.new.shared c.index_mut.ensures.value c.in_err-outcome.ensures.err.0 c.in_err-outcome.ensures.err.1 in
     stays_same old new c.requires.stand (record { code_is = refl; processors = refl; slots = refl }) same
 
 done : (c : goal.After-note) → SharedBy c.args.q c.note.result c.args.self.now c.note.new.self
@@ -37,9 +37,9 @@ done c =
     let h = c.requires.holds in
     iteration_shared c.args.q c.args.k c.note.result (c.requires.stand.core.runs c.args.q c.args.k h).standing o y d old c.note.new.self c.requires.stand
     (runs_of (code_in old) old.slots c.args.q c.args.k x c.requires.stand.core (laid_in old.code.now) c.requires.going h)
-    (turned_there c.args.q c.args.k c.place_of-at.result c.index_mut.result.now o y d old c.requires.stand h c.place_of-at.ensures c.index_mut.ensures.value c.in_ok-outcome.ensures.ok)
+    (turned_there c.args.q c.args.k c.place_from-at.result c.index_mut.result.now o y d old c.requires.stand h c.place_from-at.ensures c.index_mut.ensures.value c.in_ok-outcome.ensures.ok)
     (c.note.ensures.kept
-    ∙ ap (λ (xs : List (Option Standing)). record x { shared = y; iterations = xs; held = held_after o c.args.q x.held }) (place_put old.iterations.items c.place_of-at.result (c.args.k % old.slots) c.step_at.new.place c.place_of-at.ensures))
+    ∙ ap (λ (xs : List (Option Standing)). record x { shared = y; iterations = xs; held = held_after o c.args.q x.held }) (place_put old.iterations.items c.place_from-at.result (c.args.k % old.slots) c.step_at.new.place c.place_from-at.ensures))
     c.note.ensures.went
     c.note.ensures.stays
 

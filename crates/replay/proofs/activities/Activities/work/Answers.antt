@@ -13,8 +13,8 @@ use Rattle.replay.proofs.activities.Activities.work.Goals as goal
 pub work_iteration-requires-clause-holds : goal.work_iteration-requires-clause-holds
 work_iteration-requires-clause-holds c =
     let some : c.index.result.now ≡ Some c.in-Some-Iteration.field-0 = c.in-Some-Iteration.is in
-    let one : Some c.in-Some-Iteration.field-0 ≡ Some (holder.Iteration c.in-Some-Iteration.k) = ap (λ (h : Holder). Some h) (rw some at c.in-Some-Iteration.field-0-is) in
-    let h : held_of (kept_in c.args.self.now).held c.args.q ≡ Some (iteration c.in-Some-Iteration.k) = held_is c.args.self.now.held.items c.args.q c.index.result.now c.index.result.now c.requires.processor c.index.ensures ∙ ap (λ o. option_map who o) (some ∙ one) in
+    let one : Some c.in-Some-Iteration.field-0 ≡ Some (holder.Iteration c.in-Some-Iteration.number c.in-Some-Iteration.place) = ap (λ (h : Holder). Some h) (rw some at c.in-Some-Iteration.field-0-is) in
+    let h : held_of (kept_in c.args.self.now).held c.args.q ≡ Some (iteration c.in-Some-Iteration.number) = held_is c.args.self.now.held.items c.args.q c.index.result.now c.index.result.now c.requires.processor c.index.ensures ∙ ap (λ o. option_map who o) (some ∙ one) in
     h
 
 pub returns-in-None-clause-fails : goal.returns-in-None-clause-fails
