@@ -1,6 +1,6 @@
 //! Shared steps of what processors hold.
 
-ghost use Rattle.std.specs.Prelude.{◌≡◌, ◌+◌, ◌<◌, List, Option, Some, IfOk, IfSome, OnErr, get_or, length, map, option_map, pos, true};
+ghost use Rattle.std.specs.Prelude.{◌≡◌, ◌+◌, ◌<◌, List, Option, None, Some, IfOk, IfSome, OnErr, get_or, length, map, option_map, pos, true};
 ghost use Rattle.ast.specs.Exact.{fits};
 ghost use Rattle.machine.specs.CodeView.{code_of};
 ghost use Rattle.machine.specs.FrameView.{frame_of};
@@ -65,6 +65,15 @@ fn may_open(code: &Code, frame: &Frame, next: Next<'_>, iterations: &[Option<Ite
     }
 }
 
+/// Nothing stands in a place any more.
+// Out of line, since its caller would clear room for an iteration at each other step.
+#[inline(never)]
+fn clear(place: &mut Option<Iteration>)
+    ensures { place.new ≡ None }
+{
+    *place = None;
+}
+
 /// What stands in a place, in this slot, makes the step that stands next. Where memory is refused
 /// nothing changes.
 fn step_at(
@@ -85,7 +94,7 @@ fn step_at(
         None => return Ok(Outcome::Idle),
     };
     if outcome == Outcome::Leaves {
-        *place = None;
+        clear(place);
     }
     Ok(outcome)
 }
