@@ -1,6 +1,7 @@
 pub mod Answers
 pub mod Exact
 pub mod Input
+pub mod Laid
 pub mod Meaning
 pub mod Name
 pub mod Program

@@ -1,5 +1,5 @@
 -- Stores: the value of each element of each name, elements numbered from 0 in storage order.
-use Rattle.std.specs.Prelude.{ℕ, ℤ, zero, suc, ◌+◌, pos, Bool, nat_eq, ◌==◌, ◌&&◌, List, [], ◌∷◌, if◌then◌else◌, Option, None, unwrap_or, slice_get, get_or}
+use Rattle.std.specs.Prelude.{ℕ, ℤ, zero, suc, ◌+◌, pos, Bool, nat_eq, ◌==◌, ◌&&◌, List, [], ◌∷◌, if◌then◌else◌, Option, None, unwrap_or, slice_get, get_or, take, drop}
 use Rattle.std.specs.Cmp.Lexicographic.{pointwise}
 
 -- whether two names are the same
@@ -34,3 +34,13 @@ store_of cs = λ name place. unwrap_or (value_at cs name place) (pos 0)
 -- the values of a list of cells at a place of that list
 abbrev pub values_in : List (List ℕ × List ℤ) → ℕ → List ℤ
 values_in cs i = (get_or cs i ([], [])).1
+
+-- how many elements names have together, by how many each has
+abbrev pub total_of : List (List ℕ × ℕ) → ℕ
+total_of [] = 0
+total_of (x ∷ xs) = x.1 + total_of xs
+
+-- the values of names whose elements follow each other, the first name's first
+abbrev pub dealt : List (List ℕ × ℕ) → List ℤ → List (List ℕ × List ℤ)
+dealt [] vs = []
+dealt (x ∷ xs) vs = (x.0, take x.1 vs) ∷ dealt xs (drop x.1 vs)

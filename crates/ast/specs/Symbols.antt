@@ -37,6 +37,10 @@ abbrev pub size : Sort → ℕ
 size (variable ds) = elements ds
 size (fixed n) = 0
 
+-- each name, and how many values it has a place for
+abbrev pub shapes_of : List Symbol → List (List ℕ × ℕ)
+shapes_of symbols = map (λ s. (s.name, size s.sort)) symbols
+
 abbrev pub is_within : Extent → ℤ → Bool
 is_within d x = not (int_lt x d.lower) && not (int_lt d.upper x)
 

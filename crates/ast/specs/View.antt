@@ -1,5 +1,6 @@
 -- The tree that each value of the program's types stands for.
 use Rattle.std.specs.Prelude.{ℕ, ℤ, List, map, Option, option_map}
+use Rattle.ast.specs.Store.{dealt}
 use Rattle.ast.specs.Symbols as symbols
 use Rattle.ast.specs.Symbols.{Extent, Sort}
 use Rattle.ast.specs.Tree as tree
@@ -23,7 +24,8 @@ use Rattle.ast.specs.declared.statement.Kind.{Kind, fold-Kind}
 use Rattle.ast.specs.declared.statement.Kind.TheOpen.{Kind-F}
 use Rattle.ast.specs.declared.statement.Stmt.{Stmt}
 use Rattle.ast.specs.declared.store.Store.{Store}
-use Rattle.ast.specs.declared.store.Variable.{Variable}
+use Rattle.ast.specs.declared.table.Seat.{Seat}
+use Rattle.ast.specs.declared.table.Table.{Table}
 use Rattle.ast.specs.declared.tree.Node.{Node, fold-Node}
 use Rattle.ast.specs.declared.tree.Node.TheOpen.{Node-F, Arm-F}
 use Rattle.ast.specs.declared.tree.Arm.{Arm, fold-Arm}
@@ -131,12 +133,13 @@ symbol s = record { name = s.name.letters; sort = sort s.kind }
 
 -- ---- stores
 
-abbrev pub cell : Variable → List ℕ × List ℤ
-cell v = (v.name.letters, v.values.items)
+-- each name of a table, and how many elements it has
+abbrev pub shapes_in : List Seat → List (List ℕ × ℕ)
+shapes_in seats = map (λ s. (s.name.letters, s.size)) seats
 
-abbrev pub cells_in : List Variable → List (List ℕ × List ℤ)
-cells_in vs = map (λ v. cell v) vs
+abbrev pub shapes : Table → List (List ℕ × ℕ)
+shapes t = shapes_in t.seats.items
 
 -- each name of a store with its values
 abbrev pub cells : Store → List (List ℕ × List ℤ)
-cells s = cells_in s.variables.items
+cells s = dealt (shapes s.table) s.numbers.items

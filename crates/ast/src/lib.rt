@@ -11,6 +11,7 @@ pub mod program;
 pub mod refusal;
 pub mod statement;
 pub mod store;
+pub mod table;
 pub mod tree;
 
 pub use answer::Answer;
@@ -22,4 +23,5 @@ pub use program::{Dimension, Program, Symbol, SymbolKind};
 pub use refusal::Refusal;
 pub use statement::{Bounds, Declarator, Definition, DoHead, Item, Kind, Label, Line, Stmt};
 pub use store::Store;
+pub use table::Table;
 pub use tree::{Arm, Node};

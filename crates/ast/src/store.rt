@@ -1,28 +1,20 @@
 //! Stores.
 
-ghost use Rattle.std.specs.Prelude.{◌≡◌, IfOk, map, pos, slice_get, true};
-ghost use Rattle.std.specs.List.{list_all};
-ghost use Rattle.ast.specs.Store.{values_from, zeros};
-ghost use Rattle.ast.specs.Symbols.{cell_of, cells_of, is_sized};
-ghost use Rattle.ast.specs.View.{cell, cells_in, symbol as symbol_of};
+ghost use Rattle.std.specs.Prelude.{◌≡◌, IfOk, drop, map, pos, slice_get, take};
+ghost use Rattle.ast.specs.Store.{values_from};
 
 use crate::name::Name;
 use crate::program::Symbol;
+use crate::table::Table;
 use std::alloc::{AllocError, Global};
-
-/// A variable with its values.
-#[derive(Drop)]
-struct Variable {
-    name: Name,
-    /// Its elements in storage order; a scalar has one, a constant none.
-    values: Vec<i64>,
-}
 
 /// The values of a program's variables: each name once.
 #[derive(Drop)]
 pub struct Store {
-    /// In the order of the program's symbols.
-    variables: Vec<Variable>,
+    /// The names, in the order of the program's symbols.
+    table: Table,
+    /// The elements of the first name in storage order, then those of the second one, and so on.
+    numbers: Vec<i64>,
 }
 
 /// The element at a place, if there is one.
@@ -36,126 +28,86 @@ fn element(values: &[i64], place: usize) -> Option<i64>
     }
 }
 
-impl Variable {
-    ghost use Rattle.std.specs.Prelude.{◌≡◌, ◌<◌, length};
-    ghost use Rattle.std.proofs.Math.ListN.{set};
-
-    fn set(&mut self, place: usize, value: i64)
-        requires { place < length self.old.values.items }
-        ensures name { self.new.name ≡ self.old.name }
-        ensures values { self.new.values.items ≡ set self.old.values.items place value }
-    {
-        self.values[place] = value;
-    }
-}
-
-/// So many zeros.
-#[tactic(auto, using(crate::proofs::Sizes::zeros_of))]
-fn zero_values(alloc: Global, count: usize) -> Result<Vec<i64>, AllocError>
-    ensures { IfOk result (λ v. v.items ≡ values_from (λ p. pos 0) 0 count) }
+/// So many numbers from a place on, as far as there are any.
+#[tactic(auto, using(std::proofs::lemmas::List::drop_min))]
+fn part(numbers: &[i64], start: usize, size: usize) -> &[i64]
+    ensures { result.now ≡ take size (drop start numbers.now) }
 {
-    let mut values = Vec::with_capacity(alloc, count)?;
-    values.resize(count, 0)?;
-    Ok(values)
-}
-
-/// The variable of a symbol, holding zeros.
-fn zero_variable(alloc: Global, symbol: &Symbol) -> Result<Variable, AllocError>
-    requires { is_sized (symbol_of symbol.now) ≡ true }
-    ensures { IfOk result (λ v. cell v ≡ cell_of zeros (symbol_of symbol.now)) }
-{
-    Ok(Variable {
-        name: symbol.name,
-        values: zero_values(alloc, symbol.kind.size())?,
-    })
-}
-
-/// A variable for each symbol, holding zeros.
-fn zero_variables(alloc: Global, symbols: &[Symbol]) -> Result<Vec<Variable>, AllocError>
-    requires { list_all is_sized (map symbol_of symbols.now) ≡ true }
-    ensures { IfOk result (λ v. cells_in v.items ≡ cells_of (map symbol_of symbols.now) zeros) }
-{
-    let mut variables = Vec::with_capacity(alloc, symbols.len())?;
-    for symbol in symbols {
-        variables.push(zero_variable(alloc, symbol)?)?;
-    }
-    Ok(variables)
+    let rest = &numbers[start.min(numbers.len())..];
+    &rest[..size.min(rest.len())]
 }
 
 impl Store {
-    ghost use Rattle.std.specs.Prelude.{◌≡◌, ◌<◌, ◌≤◌, ◌++◌, ◌∷◌, IfOk, OnOk, OnErr, length, map, pos, slice_index_or, true, get_or, []};
+    ghost use Rattle.std.specs.Prelude.{◌≡◌, ◌<◌, IfOk, [], get_or, length, map, pos, slice_index_or, true};
     ghost use Rattle.std.specs.List.{list_all};
     ghost use Rattle.std.proofs.Math.ListN.{set};
-    ghost use Rattle.ast.specs.Store.{values_in, value_at, zeros};
+    ghost use Rattle.ast.specs.Store.{dealt, value_at, values_in, zeros};
     ghost use Rattle.ast.specs.Symbols.{cells_of, is_sized};
-    ghost use Rattle.ast.specs.View.{cells, symbol as symbol_of};
+    ghost use Rattle.ast.specs.View.{cells, shapes, symbol as symbol_of};
+
+    /// A store of these names and numbers: the first name has the first numbers, as many as it has
+    /// elements, and so on.
+    pub fn over(table: Table, numbers: Vec<i64>) -> Store
+        ensures { cells result ≡ dealt (shapes table) numbers.items }
+    {
+        Store { table, numbers }
+    }
 
     /// A store of zeros, in the order of a program's symbols.
+    #[tactic(auto, using(crate::proofs::Cells::zeros_dealt))]
     pub fn zeros(alloc: Global, symbols: &[Symbol]) -> Result<Store, AllocError>
         requires { list_all is_sized (map symbol_of symbols.now) ≡ true }
         ensures { IfOk result (λ store. cells store ≡ cells_of (map symbol_of symbols.now) zeros) }
     {
-        Ok(Store {
-            variables: zero_variables(alloc, symbols)?,
-        })
-    }
-
-    /// A store of no names.
-    pub fn new(alloc: Global) -> Store
-        ensures { cells result ≡ [] }
-    {
-        Store {
-            variables: Vec::new(alloc),
-        }
-    }
-
-    /// Adds a name with its values behind the others. Where memory is refused nothing has changed.
-    pub fn push(&mut self, name: Name, values: Vec<i64>) -> Result<(), AllocError>
-        ensures ok { OnOk result (cells self.new ≡ cells self.old ++ (name.letters, values.items) ∷ []) }
-        ensures err { OnErr result (cells self.new ≡ cells self.old) }
-    {
-        self.variables.push(Variable { name, values })?;
-        Ok(())
+        let table = Table::of(alloc, symbols)?;
+        let numbers = vec![in alloc; 0; table.total()]?;
+        Ok(Store::over(table, numbers))
     }
 
     /// How many names it holds.
+    #[tactic(auto, using(crate::proofs::Cells::dealt_length))]
     pub fn len(&self) -> usize
         ensures { result ≡ length (cells self.now) }
     {
-        self.variables.len()
+        self.table.len()
     }
 
     /// The name at a place of the program's symbols.
+    #[tactic(auto, using(crate::proofs::Cells::dealt_length, crate::proofs::Cells::dealt_name))]
     pub fn name(&self, cell: usize) -> Name
         requires { cell < length (cells self.now) }
         ensures { result.letters ≡ (get_or (cells self.now) cell ([], [])).0 }
     {
-        self.variables[cell].name
+        self.table.name(cell)
     }
 
     /// The values of that name, its elements in storage order.
+    #[tactic(auto, using(crate::proofs::Cells::dealt_length, crate::proofs::Cells::dealt_values))]
     pub fn values(&self, cell: usize) -> &[i64]
         requires { cell < length (cells self.now) }
         ensures { result.now ≡ values_in (cells self.now) cell }
     {
-        &self.variables[cell].values
+        part(&self.numbers, self.table.start(cell), self.table.size(cell))
     }
 
     /// The value of one of its elements.
+    #[tactic(auto, using(crate::proofs::Cells::within, crate::proofs::Cells::read_at))]
     pub fn load(&self, cell: usize, place: usize) -> i64
         requires { place < length (values_in (cells self.now) cell) }
         ensures { result ≡ slice_index_or (values_in (cells self.now) cell) place (pos 0) }
     {
-        self.variables[cell].values[place]
+        self.numbers[self.table.start(cell) + place]
     }
 
     /// Gives one of its elements another value.
-    #[tactic(auto, using(crate::proofs::Cells::written))]
+    #[tactic(auto, using(crate::proofs::Cells::within, crate::proofs::Cells::written))]
     pub fn set(&mut self, cell: usize, place: usize, value: i64)
         requires { place < length (values_in (cells self.old) cell) }
-        ensures { cells self.new ≡ set (cells self.old) cell ((get_or (cells self.old) cell ([], [])).0, set (values_in (cells self.old) cell) place value) }
+        ensures { cells self.new ≡ set (cells self.old) cell
+            ((get_or (cells self.old) cell ([], [])).0, set (values_in (cells self.old) cell) place value) }
     {
-        self.variables[cell].set(place, value);
+        let at = self.table.start(cell) + place;
+        self.numbers[at] = value;
     }
 
     /// The value of the element of `name` whose number in storage order, from 0, is `place`; a
@@ -163,9 +115,9 @@ impl Store {
     pub fn value(&self, name: Name, place: usize) -> Option<i64>
         ensures { result ≡ value_at (cells self.now) name.letters place }
     {
-        for variable in &self.variables {
-            if variable.name == name {
-                return element(&variable.values, place);
+        for cell in 0..self.len() {
+            if self.name(cell) == name {
+                return element(self.values(cell), place);
             }
         }
         None

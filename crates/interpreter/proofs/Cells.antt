@@ -8,7 +8,8 @@ use Rattle.std.proofs.Math.Dec.{eqb-suc-suc}
 use Rattle.std.proofs.Math.ListN.{set}
 use Rattle.ast.specs.Store.{StoreOf, same_name, put, zeros, value_at, values_in, values_from, store_of}
 use Rattle.ast.specs.Symbols.{Symbol, names_of, size, cells_of}
-use Rattle.interpreter.specs.Shapes.{shapes_in, shapes_of}
+use Rattle.ast.specs.Symbols.{shapes_of}
+use Rattle.interpreter.specs.Shapes.{shapes_in}
 use Rattle.interpreter.proofs.Finding.{same_itself, same}
 
 abbrev Cell : Type 0

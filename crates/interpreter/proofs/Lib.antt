@@ -14,6 +14,7 @@ pub mod Items
 pub mod Lands
 pub mod Leading
 pub mod Nesting
+pub mod Numbering
 pub mod Offsets
 pub mod Onward
 pub mod Placing

@@ -6,7 +6,8 @@ use Rattle.ast.specs.Program.{is_placed}
 use Rattle.ast.specs.Store.{same_name, values_in}
 use Rattle.ast.specs.Symbols.{Symbol, names_of, dimensions_in, dimensions_of, elements, is_sized, most_elements}
 use Rattle.ast.specs.Tree.{Ref}
-use Rattle.interpreter.specs.Shapes.{shapes_in, shapes_of}
+use Rattle.ast.specs.Symbols.{shapes_of}
+use Rattle.interpreter.specs.Shapes.{shapes_in}
 use Rattle.interpreter.proofs.Cells.{names_fit, values_fit}
 use Rattle.interpreter.proofs.Finding.{found, dimensions_at, sized_at, size_of_variable, open_sort, few_elements}
 

@@ -23,6 +23,7 @@ mod places;
 mod print;
 mod run;
 mod run_end;
+mod slots;
 mod statements;
 mod stop;
 

@@ -6,7 +6,8 @@ ghost use Rattle.std.proofs.Props.{props};
 ghost use Rattle.ast.specs.Store.{same_name};
 ghost use Rattle.ast.specs.Symbols.{is_sized, names_of};
 ghost use Rattle.ast.specs.View.{cells, symbol};
-ghost use Rattle.interpreter.specs.Shapes.{shapes_in, shapes_of};
+ghost use Rattle.ast.specs.Symbols.{shapes_of};
+ghost use Rattle.interpreter.specs.Shapes.{shapes_in};
 
 use ast::{Dimension, Program, Reference, Store, Symbol};
 use std::alloc::{AllocError, Global};

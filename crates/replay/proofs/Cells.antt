@@ -1,14 +1,14 @@
 -- The values of variables in a store that is one vector of cells.
-use Rattle.std.proofs.Common.{◌≡◌, ◌∙◌, ℕ, zero, suc, ◌+◌, ◌<◌, ◌≤◌, Bool, true, false, List, [], ◌∷◌, ◌++◌, length, take, drop, get_or, Some, refl, sym, ap, append_assoc, arith}
+use Rattle.std.proofs.Common.{◌≡◌, ◌∙◌, ℕ, zero, suc, ◌+◌, ◌<◌, ◌≤◌, Bool, true, false, List, [], ◌∷◌, length, take, drop, get_or, Some, refl, sym, ap, arith}
 use Rattle.std.specs.Prelude.{ℤ, pos, nat_lt, ◌&&◌, ◌==◌, ◌^◌, slice_get}
 use Rattle.std.proofs.lemmas.Bool.{and_parts, eqb-true, ltb-false}
-use Rattle.std.proofs.lemmas.List.{drop_more}
-use Rattle.ast.specs.Store.{values_from}
+use Rattle.std.proofs.lemmas.List.{drop-drop, drop_more}
+use Rattle.ast.specs.Store.{StoreOf, dealt, values_from}
 use Rattle.machine.specs.Laid.{are_distinct, are_laid, cell_number, count_of, names_in}
 use Rattle.machine.specs.declared.code.Variable.{Variable}
 use Rattle.machine.proofs.Naming.{number_named}
 use Rattle.replay.specs.Parts.{store_of, value_in}
-use Rattle.replay.specs.Replayed.{stored}
+use Rattle.replay.specs.Replayed.{shapes_of, stored}
 
 -- so many values from a place on
 values_law : (f : ℕ → ℤ) (cells : List ℤ) (start n size : ℕ) → start + n + size ≤ length cells → ((p : ℕ) → p < n + size → f p ≡ get_or cells (start + p) (pos 0)) → take size (drop (start + n) cells) ≡ values_from f n size
@@ -48,21 +48,19 @@ variable_law xs cells i x d l c e =
     ap (λ (n : ℕ). take x.size (drop n cells)) zeroth
     ∙ values_law (store_of xs cells x.name.letters) cells x.start 0 x.size (omega (arith, c, bounded 0 xs i x l e)) (λ p h. value_law xs cells i x p d e (omega (arith, h)))
 
-get_is : (xs : List Variable) (i : ℕ) (d : Variable) → i < length xs → slice_get xs i ≡ Some (get_or xs i d)
-get_is [] i d h = absurd (omega (arith, h))
-get_is (x ∷ xs) zero d h = refl
-get_is (x ∷ xs) (suc i) d h = get_is xs i d (omega (arith, h))
+dealt_from : (n : ℕ) (xs : List Variable) (cells : List ℤ) (store : StoreOf) → are_laid n xs ≡ true → ((i : ℕ) (x : Variable) → slice_get xs i ≡ Some x → take x.size (drop x.start cells) ≡ values_from (store x.name.letters) 0 x.size)
+    → dealt (shapes_of xs) (drop n cells) ≡ stored xs store
+dealt_from n [] cells store l h = refl
+dealt_from n (x ∷ xs) cells store l h =
+    let k = and_parts (x.start == n) (nat_lt (n + x.size) (2 ^ 62) && are_laid (n + x.size) xs) l in
+    let m = and_parts (nat_lt (n + x.size) (2 ^ 62)) (are_laid (n + x.size) xs) k.1 in
+    let starts : n ≡ x.start = sym (eqb-true x.start n k.0) in
+    let rest : List ℤ = drop x.size (drop n cells) in
+    ap (λ (i : ℕ). (x.name.letters, take x.size (drop i cells)) ∷ dealt (shapes_of xs) rest) starts
+    ∙ ap (λ (vs : List ℤ). (x.name.letters, vs) ∷ dealt (shapes_of xs) rest) (h 0 x refl)
+    ∙ ap (λ (vs : List ℤ). (x.name.letters, values_from (store x.name.letters) 0 x.size) ∷ dealt (shapes_of xs) vs) (drop-drop x.size n cells)
+    ∙ ap (λ (cs : List (List ℕ × List ℤ)). (x.name.letters, values_from (store x.name.letters) 0 x.size) ∷ cs) (dealt_from (n + x.size) xs cells store m.1 (λ i y e. h (suc i) y e))
 
-pub within_cells : (xs : List Variable) (i : ℕ) (d : Variable) → are_laid 0 xs ≡ true → i < length xs → (get_or xs i d).start + (get_or xs i d).size ≤ count_of xs
-within_cells xs i d l h = omega (arith, bounded 0 xs i (get_or xs i d) l (get_is xs i d h))
-
--- one variable more is stored
-pub one_stored : (xs : List Variable) (cells : List ℤ) (i : ℕ) (d : Variable) (old new : List (List ℕ × List ℤ)) (v : List ℤ) → are_distinct (names_in xs) ≡ true → are_laid 0 xs ≡ true → length cells ≡ count_of xs → i < length xs
-    → new ≡ old ++ ((get_or xs i d).name.letters, v) ∷ [] → v ≡ take (get_or xs i d).size (drop (get_or xs i d).start cells) → old ++ stored (drop i xs) (store_of xs cells) ≡ stored xs (store_of xs cells)
-    → new ++ stored (drop (i + 1) xs) (store_of xs cells) ≡ stored xs (store_of xs cells)
-one_stored xs cells i d old new v u l c h n w inv =
-    let held : v ≡ values_from (store_of xs cells (get_or xs i d).name.letters) 0 (get_or xs i d).size = w ∙ variable_law xs cells i (get_or xs i d) u l c (get_is xs i d h) in
-    ap (λ (ys : List (List ℕ × List ℤ)). ys ++ stored (drop (i + 1) xs) (store_of xs cells)) n
-    ∙ append_assoc old (((get_or xs i d).name.letters, v) ∷ []) (stored (drop (i + 1) xs) (store_of xs cells))
-    ∙ ap (λ (z : List ℤ). old ++ ((get_or xs i d).name.letters, z) ∷ stored (drop (i + 1) xs) (store_of xs cells)) held
-    ∙ sym (ap (λ (ys : List Variable). old ++ stored ys (store_of xs cells)) (drop_more xs i d h)) ∙ inv
+-- the variables' names have the values of the store that the cells stand for
+pub dealt_stored : (xs : List Variable) (cells : List ℤ) → are_distinct (names_in xs) ≡ true → are_laid 0 xs ≡ true → length cells ≡ count_of xs → dealt (shapes_of xs) cells ≡ stored xs (store_of xs cells)
+dealt_stored xs cells d l c = dealt_from 0 xs cells (store_of xs cells) l (λ i x e. variable_law xs cells i x d l c e)

@@ -13,6 +13,10 @@ use Rattle.replay.specs.Schedules.{Act, Entry, Schedule}
 use Rattle.replay.specs.declared.entry.Version.{Version}
 use Rattle.replay.specs.declared.entry.Version.TheVariants.{Second}
 
+-- the name of each variable, and how many cells it has
+abbrev pub shapes_of : List Variable → List (List ℕ × ℕ)
+shapes_of xs = map (λ x. (x.name.letters, x.size)) xs
+
 -- what a store has for variables, name by name
 abbrev pub stored : List Variable → StoreOf → List (List ℕ × List ℤ)
 stored xs store = map (λ x. (x.name.letters, values_from (store x.name.letters) 0 x.size)) xs

@@ -1,39 +1,40 @@
 //! Answers of runs that have ended.
 
-ghost use Rattle.std.specs.Prelude.{◌≡◌, ◌≤◌, ◌+◌, IfOk, length, take, drop, true};
-ghost use Rattle.ast.specs.View.{cells as named_values};
+ghost use Rattle.std.specs.Prelude.{◌≡◌, IfOk, length, true};
+ghost use Rattle.ast.specs.View.{cells as named_values, shapes};
 ghost use Rattle.machine.specs.CodeView.{code_of};
 ghost use Rattle.machine.specs.Laid.{are_distinct, are_laid, count_of, names_in};
 ghost use Rattle.replay.specs.Parts.{store_of};
-ghost use Rattle.replay.specs.Replayed.{stored};
+ghost use Rattle.replay.specs.Replayed.{shapes_of, stored};
 
 use crate::parts::Shared;
-use ast::{Answer, End, Store};
+use ast::{Answer, End, Store, Table};
 use machine::{Code, Variable};
 use std::alloc::{AllocError, Global};
 
-/// The values of a variable.
-fn values(alloc: Global, variable: &Variable, cells: &[i64]) -> Result<Vec<i64>, AllocError>
-    requires { variable.now.start + variable.now.size ≤ length cells.now }
-    ensures { IfOk result (λ v. v.items ≡ take variable.now.size (drop variable.now.start cells.now)) }
+/// The names of variables, each with as many elements as it has cells.
+fn table_of(alloc: Global, variables: &[Variable]) -> Result<Table, AllocError>
+    ensures { IfOk result (λ table. shapes table ≡ shapes_of variables.now) }
 {
-    let mut values = Vec::new(alloc);
-    values.extend_from_slice(&cells[variable.start..][..variable.size])?;
-    Ok(values)
+    let mut table = Table::new(alloc);
+    for variable in variables {
+        table.push(variable.name, variable.size)?;
+    }
+    Ok(table)
 }
 
 /// The store of variables whose values stand in cells.
+#[tactic(auto, using(crate::proofs::Cells::dealt_stored))]
 fn stored(alloc: Global, variables: &[Variable], cells: &[i64]) -> Result<Store, AllocError>
     requires distinct { are_distinct (names_in variables.now) ≡ true }
     requires laid { are_laid 0 variables.now ≡ true }
     requires cells { length cells.now ≡ count_of variables.now }
-    ensures { IfOk result (λ store. named_values store ≡ stored variables.now (store_of variables.now cells.now)) }
+    ensures { IfOk result (λ store. named_values store ≡
+        stored variables.now (store_of variables.now cells.now)) }
 {
-    let mut store = Store::new(alloc);
-    for variable in variables {
-        store.push(variable.name, values(alloc, variable, cells)?)?;
-    }
-    Ok(store)
+    let table = table_of(alloc, variables)?;
+    let numbers = Vec::from_slice(alloc, cells)?;
+    Ok(Store::over(table, numbers))
 }
 
 /// The answer of a run with this output that has ended so.

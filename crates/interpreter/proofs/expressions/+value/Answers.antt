@@ -1,4 +1,4 @@
-use Rattle.std.proofs.Common.{◌≡◌, ◌∙◌, ap, sym, List, map, arith}
+use Rattle.std.proofs.Common.{◌≡◌, ◌∙◌, ap, length, sym, List, map, arith, rules}
 use Rattle.std.proofs.lemmas.Grind.{common_steps}
 use Rattle.ast.specs.Symbols.{Extent, dimensions_in}
 use Rattle.ast.specs.Tree.{Ref, Terms, terms}
@@ -8,7 +8,7 @@ use Rattle.interpreter.specs.Steps.{opening, place_at, room}
 use Rattle.interpreter.specs.View.{look, symbols_in, way}
 use Rattle.interpreter.proofs.Accesses.{reference_of, subscripts_of}
 use Rattle.interpreter.proofs.Offsets.{room_kept}
-use Rattle.interpreter.proofs.Values.{place_law}
+use Rattle.interpreter.proofs.Values.{mod_zero, place_law}
 use Rattle.interpreter.proofs.expressions.+value.Goals as goal
 
 pub place-loop-subscript-preserved : goal.place-loop-subscript-preserved
@@ -30,3 +30,8 @@ target-returns-clause-at t c =
     ∙ ap (λ (ds : List Extent). place_at (look m) (opening ds) (terms (map term c.deref.result.now))) (c.dimensions.ensures.dimensions ∙ named)
     ∙ ap (λ (es : Terms). place_at (look m) (opening (dimensions_in (symbols_in m) (access_of a).ref.name)) es) (seen ∙ sym (subscripts_of a))
     ∙ place_law (look m) (dimensions_in (symbols_in m) (access_of a).ref.name) (access_of a).subscripts
+
+pub remainder-returns-in_ok-evaluate : goal.remainder-returns-in_ok-evaluate
+remainder-returns-in_ok-evaluate t c =
+    let others : length c.args.others.now ≡ 1 → ⊥ = search rules in
+    mod_zero (look c.args.memory.now) c.args.a c.args.others.now c.in_ok-evaluate.field-0 others (sym (c.in_ok-evaluate.was {u = tt}) ∙ c.evaluate.ensures)
