@@ -1,8 +1,11 @@
 //! Cores over code made by hand, driven to their end.
 
+use crate::calls::{
+    core_of, hand_in, parsed, replayed, step, text_of, text_of_schedule, upgraded, work_of,
+};
 use crate::endless::assembled;
-use machine::{Act as Does, Code, Done, Frame, stands_local};
-use replay::{Core, CoreRefusal, HandIn, ReplayRefusal, Schedule, Stepped, replay, upgrade};
+use machine::{Act as Does, Code, Done};
+use replay::{Core, CoreRefusal, HandIn, ReplayRefusal, Schedule, Stepped};
 use std::alloc::{AllocError, Global};
 use std::process::Abort;
 use std::test::Fail;
@@ -17,84 +20,124 @@ const LOOP: [Does; 6] = [
     Does::Retire(0),
 ];
 
-/// Processor 0 hands in local work that leads from a frame. A stranger's is not taken.
-fn work(core: &mut Core<'_>, frame: &Frame) -> Result<(), AllocError> {
-    let code = core.code();
-    let from = frame.try_copy()?;
-    if !stands_local(code, &from) {
+/// Processor 0 hands in what local work stands next of a frame that it had. A stranger's is not taken.
+fn hands_in(core: &mut Core<'_>, done: Option<Done<'_>>) -> Result<(), AllocError> {
+    let Some(done) = done else {
         return Ok(());
-    }
-    match core.hand_in(0, Done::work(code, from, 8)?) {
+    };
+    match hand_in(core, 0, done) {
         Err(HandIn::Memory) => Err(AllocError),
         _ => Ok(()),
     }
 }
 
+/// Processor 0 hands in the local work that stands next, if any does.
+fn hands_in_next(core: &mut Core<'_>) -> Result<(), AllocError> {
+    let done = work_of(core, 0, 8)?;
+    hands_in(core, done)
+}
+
+/// Processor 0 hands in the same local work twice, if any stands next.
+fn works(core: &mut Core<'_>) -> Result<(), AllocError> {
+    let again = work_of(core, 0, 8)?;
+    hands_in_next(core)?;
+    hands_in(core, again)
+}
+
 /// Processor 0 does what it can, until the run ends, and hands in all local work twice.
 fn drive(core: &mut Core<'_>) -> Result<(), AllocError> {
     for _ in 0..20 {
-        let stepped = core.step(0)?;
-        if let (Stepped::Idle, Some(frame)) = (stepped, core.frame(0)?) {
-            work(core, &frame)?;
-            work(core, &frame)?;
+        if let Stepped::Idle = step(core, 0)? {
+            works(core)?;
         }
     }
     Ok(())
 }
 
 /// The text of a run's schedule. With memory refused nothing has changed, and the run goes on.
-fn run(rt: &(impl Abort + AllocGlobal), code: &Code) -> Result<Vec<u8>, CoreRefusal> {
-    let mut core = Core::new(rt.alloc(), code, b"", 1, 1)?;
-    if drive(&mut core).is_err() {
-        drive(&mut core).expect(rt, "there is memory");
+fn text_of_run(rt: &impl Abort, core: &mut Core<'_>) -> Result<Vec<u8>, CoreRefusal> {
+    if drive(core).is_err() {
+        drive(core).expect(rt, "there is memory");
     }
-    Ok(core.schedule().text()?)
+    Ok(text_of(core)?)
+}
+
+fn run(rt: &(impl Abort + AllocGlobal), code: &Code) -> Result<Vec<u8>, CoreRefusal> {
+    let mut core = core_of(rt.alloc(), code, b"", 1, 1)?;
+    text_of_run(rt, &mut core)
 }
 
 /// The text of the upgrade of a schedule that leads to the end.
-fn upgraded(alloc: Global, code: &Code, text: &[u8]) -> Result<Vec<u8>, ReplayRefusal> {
-    let schedule = Schedule::parse(alloc, text)?;
-    let _ = replay(alloc, code, b"", &schedule)?;
-    Ok(upgrade(alloc, code, b"", &schedule)?.text()?)
+fn upgraded_text(
+    alloc: Global,
+    code: &Code,
+    schedule: &Schedule,
+) -> Result<Vec<u8>, ReplayRefusal> {
+    let _ = replayed(alloc, code, b"", schedule)?;
+    Ok(text_of_schedule(&upgraded(alloc, code, b"", schedule)?)?)
 }
+
+/// The text to which a text is upgraded.
+fn upgrade_of(alloc: Global, code: &Code, text: &[u8]) -> Result<Vec<u8>, ReplayRefusal> {
+    upgraded_text(alloc, code, &parsed(alloc, text)?)
+}
+
+/// The schedule of the run of a loop of two iterations.
+const TEXT: &[u8] =
+    b"DOACROSS SCHEDULE 2\n1 1\n0 M\n0 2\n0 0\n0 0\n0 T\n0 0\n0 T\n0 0\n0 M\n0 0\n0 0\n";
 
 #[test]
 fn want_of_memory_in_cores(rt: HostRuntime) -> Result<(), Fail> {
     let code = assembled(&rt, &LOOP)?;
-    let text = run(&rt, &code)?;
-    assert!(rt;
-        text.as_slice()
-            == b"DOACROSS SCHEDULE 2\n1 1\n0 M\n0 2\n0 0\n0 0\n0 T\n0 0\n0 T\n0 0\n0 M\n0 0\n0 0\n".as_slice()
-    );
-    assert!(rt; upgraded(rt.alloc(), &code, &text)? == text);
+    assert!(rt; run(&rt, &code)?.as_slice() == TEXT);
+    assert!(rt; upgrade_of(rt.alloc(), &code, TEXT)?.as_slice() == TEXT);
     Ok(())
 }
+
+/// The schedule of a run that has only its end, in both versions.
+const NAMED_END: &[u8] = b"DOACROSS SCHEDULE 2\n1 1\n0 M\n0 0\n";
+
+const FIRST_END: &[u8] = b"DOACROSS SCHEDULE 1\n1 1\n0 0\n0 0\n";
 
 #[test]
 fn end_alone(rt: HostRuntime) -> Result<(), Fail> {
     let code = assembled(&rt, &[Does::Halt])?;
-    let text = b"DOACROSS SCHEDULE 2\n1 1\n0 M\n0 0\n".as_slice();
-    assert!(rt; run(&rt, &code)?.as_slice() == text);
-    let first = b"DOACROSS SCHEDULE 1\n1 1\n0 0\n0 0\n".as_slice();
-    assert!(rt; upgraded(rt.alloc(), &code, first)?.as_slice() == text);
+    assert!(rt; run(&rt, &code)?.as_slice() == NAMED_END);
+    assert!(rt; upgrade_of(rt.alloc(), &code, FIRST_END)?.as_slice() == NAMED_END);
     Ok(())
 }
 
 /// Whether there is a core of so many processors and slots, and otherwise 57.
 fn has_sizes(alloc: Global, code: &Code, p: u64, s: u64) -> Result<bool, AllocError> {
-    match Core::new(alloc, code, b"", p, s) {
+    match core_of(alloc, code, b"", p, s) {
         Ok(_) => Ok(true),
         Err(CoreRefusal::Refused { number }) => Ok(number != 57),
         Err(CoreRefusal::Memory) => Err(AllocError),
     }
 }
 
+/// Numbers of processors and slots, and whether there is a core of so many.
+const NUMBERS: [(u64, u64, bool); 5] = [
+    (64, 256, true),
+    (0, 1, false),
+    (65, 1, false),
+    (1, 0, false),
+    (1, 257, false),
+];
+
+/// Whether there are cores of the sizes that there should be.
+fn have_sizes(alloc: Global, code: &Code) -> Result<bool, AllocError> {
+    for (p, s, wanted) in NUMBERS {
+        if has_sizes(alloc, code, p, s)? != wanted {
+            return Ok(false);
+        }
+    }
+    Ok(true)
+}
+
 #[test]
 fn sizes(rt: HostRuntime) -> Result<(), Fail> {
     let code = assembled(&rt, &LOOP)?;
-    assert!(&rt; has_sizes(rt.alloc(), &code, 64, 256)?);
-    for (p, s) in [(0, 1), (65, 1), (1, 0), (1, 257)] {
-        assert!(&rt; !has_sizes(rt.alloc(), &code, p, s)?);
-    }
+    assert!(rt; have_sizes(rt.alloc(), &code)?);
     Ok(())
 }

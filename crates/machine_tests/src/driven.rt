@@ -1,11 +1,13 @@
 //! Cores over the code of worked programs, which several drivers drive to their end: the answer is the
 //! sequential one, whatever they do.
 
+use crate::calls::{answer_of, core_of, replay_of};
 use crate::drivers::{Driver, drive};
-use crate::worked::{WORKED, Worked, compiled, same_answers, worked_out};
+use crate::worked::{WORKED, Worked, compiled, same_answers, sequential, worked_out};
 use ast::{Answer, End};
 use machine::Code;
-use replay::{Core, Schedule, Tally, replay};
+use replay::{Core, Tally};
+use std::alloc::AllocError;
 use std::process::Abort;
 use std::test::Fail;
 
@@ -48,22 +50,33 @@ struct Way {
     burst: u32,
 }
 
+/// Whether a run has ended with this answer.
+fn has_answer(core: &Core<'_>, answer: &Answer) -> Result<bool, AllocError> {
+    Ok(match answer_of(core)? {
+        Some(came) => same_answers(core.code(), &came, answer),
+        None => false,
+    })
+}
+
 /// A run has ended with this answer, and so does the replay of its schedule, written and read again.
 pub fn is_answered(
     rt: &(impl Abort + AllocGlobal),
     core: &Core<'_>,
     answer: &Answer,
 ) -> Result<(), Fail> {
-    let code = core.code();
-    match core.answer()? {
-        Some(came) => assert!(*rt; same_answers(code, &came, answer)),
-        None => panic!(*rt; "the run has ended"),
-    }
-    let text = core.schedule().text()?;
-    let schedule = Schedule::parse(rt.alloc(), &text)?;
-    let again = replay(rt.alloc(), code, core.input(), &schedule)?;
-    assert!(*rt; same_answers(code, &again, answer));
+    assert!(*rt; has_answer(core, answer)?);
+    let again = replay_of(rt.alloc(), core)?;
+    assert!(*rt; same_answers(core.code(), &again, answer));
     Ok(())
+}
+
+/// A run of a source has ended with the sequential answer.
+pub fn is_sequential(
+    rt: &(impl Abort + AllocGlobal),
+    core: &Core<'_>,
+    source: &[u8],
+) -> Result<(), Fail> {
+    is_answered(rt, core, &sequential(rt.alloc(), source, core.input())?)
 }
 
 /// How many steps of a run neither parked an activity nor took up a parked one.
@@ -78,17 +91,43 @@ fn is_bounded(tally: Tally, alone: u128) -> bool {
 }
 
 /// Drives a core of a case to its end. The answer is the sequential one.
+fn comes_to(
+    rt: &(impl Abort + AllocGlobal),
+    core: &mut Core<'_>,
+    answer: &Answer,
+    way: Way,
+) -> Result<Tally, Fail> {
+    drive(rt, core, way.driver, way.burst)?;
+    is_answered(rt, core, answer)?;
+    Ok(core.tally())
+}
+
+/// A run of a case, which comes to the sequential answer.
 fn driven(rt: &(impl Abort + AllocGlobal), case: &Case<'_>, way: Way) -> Result<Tally, Fail> {
-    let mut core = Core::new(
+    let mut core = core_of(
         rt.alloc(),
         case.code,
         case.row.input,
         way.processors,
         way.slots,
     )?;
-    drive(rt, &mut core, way.driver, way.burst)?;
-    is_answered(rt, &core, case.answer)?;
-    Ok(core.tally())
+    comes_to(rt, &mut core, case.answer, way)
+}
+
+/// A run that comes to END has those steps of the run alone.
+fn is_as_alone(
+    rt: &(impl Abort + AllocGlobal),
+    case: &Case<'_>,
+    way: Way,
+    alone: u128,
+) -> Result<(), Fail> {
+    let tally = driven(rt, case, way)?;
+    assert!(*rt;
+        case.row.end != End::Done || is_bounded(tally, alone),
+        "{} {way:?}",
+        case.row.name
+    );
+    Ok(())
 }
 
 /// The runs of a case with one to four processors and slots.
@@ -106,43 +145,46 @@ fn each_size(
             driver,
             burst,
         };
-        let tally = driven(rt, case, way)?;
-        let is_done = case.row.end == End::Done;
-        assert!(*rt;
-            !is_done || is_bounded(tally, alone),
-            "{} {way:?}",
-            case.row.name
-        );
+        is_as_alone(rt, case, way, alone)?;
     }
     Ok(())
 }
 
-/// The runs of a worked program under all drivers.
-fn each_driver(rt: &(impl Abort + AllocGlobal), row: &Worked, burst: u32) -> Result<(), Fail> {
-    let code = compiled(rt.alloc(), row.source)?;
-    let answer = worked_out(rt, row)?;
-    let case = Case {
-        row,
-        code: &code,
-        answer: &answer,
-    };
+/// The runs of a case under all drivers.
+fn each_way(rt: &(impl Abort + AllocGlobal), case: &Case<'_>, burst: u32) -> Result<(), Fail> {
     let way = Way {
         processors: 1,
         slots: 1,
         driver: Driver::Lowest,
         burst,
     };
-    let alone = steps_once(driven(rt, &case, way)?);
+    let alone = steps_once(driven(rt, case, way)?);
     for driver in DRIVERS {
-        each_size(rt, &case, driver, burst, alone)?;
+        each_size(rt, case, driver, burst, alone)?;
     }
     Ok(())
+}
+
+/// The runs of the code of a worked program.
+fn each_driver(
+    rt: &(impl Abort + AllocGlobal),
+    row: &Worked,
+    code: &Code,
+    burst: u32,
+) -> Result<(), Fail> {
+    let answer = worked_out(rt, row)?;
+    let case = Case {
+        row,
+        code,
+        answer: &answer,
+    };
+    each_way(rt, &case, burst)
 }
 
 /// The runs of all worked programs, in bursts of so many instructions.
 fn each_program(rt: &(impl Abort + AllocGlobal), burst: u32) -> Result<(), Fail> {
     for row in &WORKED {
-        each_driver(rt, row, burst)?;
+        each_driver(rt, row, &compiled(rt.alloc(), row.source)?, burst)?;
     }
     Ok(())
 }

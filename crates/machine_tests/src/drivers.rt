@@ -1,9 +1,8 @@
 //! Drivers of cores on one thread: which processor goes next, and how far.
 
-use machine::{Done, stands_local};
+use crate::calls::{hand_in, step, work_of};
 use replay::{Core, HandIn, Stepped};
 use std::process::Abort;
-use std::test::Fail;
 
 /// How many turns each of these runs takes at most.
 const TURNS: usize = 20_000;
@@ -31,20 +30,23 @@ impl Driver {
     }
 }
 
+/// Processor `q` hands in the local instructions that stand next, so many at most.
+fn works(core: &mut Core<'_>, q: usize, burst: u32) -> Result<Stepped, HandIn> {
+    match work_of(core, q, burst)? {
+        Some(done) => {
+            hand_in(core, q, done)?;
+            Ok(Stepped::Went(None))
+        }
+        None => Ok(Stepped::Idle),
+    }
+}
+
 /// A turn of processor `q`: a shared step or, where local instructions stand next, so many at most, 1 to
 /// 1,024.
 pub fn turn(core: &mut Core<'_>, q: usize, burst: u32) -> Result<Stepped, HandIn> {
-    let stepped = core.step(q)?;
-    if stepped != Stepped::Idle {
-        return Ok(stepped);
-    }
-    let code = core.code();
-    match core.frame(q)? {
-        Some(frame) if stands_local(code, &frame) && 1 <= burst && burst <= 1_024 => {
-            core.hand_in(q, Done::work(code, frame, burst)?)?;
-            Ok(Stepped::Went(None))
-        }
-        _ => Ok(Stepped::Idle),
+    match step(core, q)? {
+        Stepped::Idle => works(core, q, burst),
+        stepped => Ok(stepped),
     }
 }
 
@@ -55,7 +57,7 @@ fn go(
     driver: Driver,
     burst: u32,
     last: usize,
-) -> Result<Option<usize>, Fail> {
+) -> Result<Option<usize>, HandIn> {
     let count = core.processors();
     for asked in 0..count {
         let q = driver.nth(asked, count, last);
@@ -69,7 +71,12 @@ fn go(
 }
 
 /// Drives a core until its run has ended.
-pub fn drive(rt: &impl Abort, core: &mut Core<'_>, driver: Driver, burst: u32) -> Result<(), Fail> {
+pub fn drive(
+    rt: &impl Abort,
+    core: &mut Core<'_>,
+    driver: Driver,
+    burst: u32,
+) -> Result<(), HandIn> {
     let mut last = 0;
     for _ in 0..TURNS {
         match go(rt, core, driver, burst, last)? {

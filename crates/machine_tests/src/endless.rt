@@ -1,12 +1,12 @@
 //! Runs in threads that end though iterations past the first fault or STOP turn without end, and runs
 //! of code made by hand that come to no end.
 
-use crate::threads::{refused, runs_to};
+use crate::threads::{ran, refusal_of, runs_to};
 use crate::worked::{FAULTS, compiled, sequential};
-use ast::{End, Fault};
+use ast::{Answer, End, Fault};
 use machine::{Act as Does, Await, Code, Instr, Loop, Parts};
-use processors::{NoGate, Report, RunRefusal, run};
-use std::alloc::AllocError;
+use processors::{Report, RunRefusal};
+use std::alloc::{AllocError, Global};
 use std::process::Abort;
 use std::sync::Wait;
 use std::test::Fail;
@@ -59,23 +59,48 @@ const ENDS: [(&[u8], &[u8], End); 3] = [
     (PRINTS, b" 1\n 2\n 3\n", End::Fault(Fault::Index, 8)),
 ];
 
-/// The runs of a source, by one to four processors and by 64.
+/// Numbers of processors and slots.
+const SIZES: [(u64, u64); 15] = [
+    (1, 1),
+    (1, 4),
+    (1, 256),
+    (2, 1),
+    (2, 4),
+    (2, 256),
+    (3, 1),
+    (3, 4),
+    (3, 256),
+    (4, 1),
+    (4, 4),
+    (4, 256),
+    (64, 1),
+    (64, 4),
+    (64, 256),
+];
+
+/// The runs of code, by one to four processors and by 64.
+fn all_run<R: Abort + AllocGlobal + Threads + Wait + Sync>(
+    rt: &R,
+    code: &Code,
+    answer: &Answer,
+) -> Result<(), Fail> {
+    for (p, s) in SIZES {
+        runs_to(rt, code, b"", p, s, answer)?;
+    }
+    Ok(())
+}
+
+/// The runs of a source come to what the sequential program says.
 fn all_end<R: Abort + AllocGlobal + Threads + Wait + Sync>(
     rt: &R,
     source: &[u8],
     output: &[u8],
     end: End,
 ) -> Result<(), Fail> {
-    let code = compiled(rt.alloc(), source)?;
     let answer = sequential(rt.alloc(), source, b"")?;
     assert!(rt; answer.output.as_slice() == output);
     assert!(rt; answer.end == end);
-    for p in [1, 2, 3, 4, 64] {
-        for s in [1, 4, 256] {
-            runs_to(rt, &code, b"", p, s, &answer)?;
-        }
-    }
-    Ok(())
+    all_run(rt, &compiled(rt.alloc(), source)?, &answer)
 }
 
 #[test]
@@ -100,18 +125,16 @@ const WAITS: [Does; 7] = [
     Does::Retire(0),
 ];
 
-/// The code of these, with a loop whose iterations begin at place 5.
-pub fn assembled(rt: &(impl Abort + AllocGlobal), acts: &[Does]) -> Result<Code, AllocError> {
-    let alloc = rt.alloc();
-    let mut parts = Parts {
-        instructions: Vec::new(alloc),
-        records: Vec::new(alloc),
-        awaits: Vec::new(alloc),
-        variables: Vec::new(alloc),
-        loops: Vec::new(alloc),
-        operands: 2,
-        counters: 0,
-    };
+/// Code of these parts. It is laid.
+pub fn code_of(rt: &(impl Abort + AllocGlobal), parts: Parts) -> Result<Code, AllocError> {
+    match Code::new(rt.alloc(), parts)? {
+        Some(code) => Ok(code),
+        None => panic!(*rt; "the code is laid"),
+    }
+}
+
+/// Adds instructions to parts, and a loop whose iterations begin at place 5.
+fn add(parts: &mut Parts, acts: &[Does], alloc: Global) -> Result<(), AllocError> {
     for act in acts {
         parts.instructions.push(Instr { line: 1, act: *act })?;
     }
@@ -125,22 +148,49 @@ pub fn assembled(rt: &(impl Abort + AllocGlobal), acts: &[Does]) -> Result<Code,
         step: 1,
         privates: Vec::new(alloc),
     })?;
-    match Code::new(alloc, parts)? {
-        Some(code) => Ok(code),
-        None => panic!(*rt; "the code is laid"),
+    Ok(())
+}
+
+/// Parts with room for so many operands, and with nothing else.
+pub fn no_parts(alloc: Global, operands: usize) -> Parts {
+    Parts {
+        instructions: Vec::new(alloc),
+        records: Vec::new(alloc),
+        awaits: Vec::new(alloc),
+        variables: Vec::new(alloc),
+        loops: Vec::new(alloc),
+        operands,
+        counters: 0,
     }
+}
+
+/// The code of these, with a loop whose iterations begin at place 5.
+pub fn assembled(rt: &(impl Abort + AllocGlobal), acts: &[Does]) -> Result<Code, AllocError> {
+    let mut parts = no_parts(rt.alloc(), 2);
+    add(&mut parts, acts, rt.alloc())?;
+    code_of(rt, parts)
+}
+
+/// No step leads from the state to which a run comes.
+fn is_stuck<R: Abort + AllocGlobal + Threads + Wait + Sync>(
+    rt: &R,
+    code: &Code,
+    p: u64,
+    s: u64,
+) -> Result<(), Fail> {
+    let number = refusal_of(rt, code, p, s)?;
+    assert!(rt; number == 59, "p {p}, s {s}");
+    Ok(())
 }
 
 /// The runs of code from a state of which no step leads.
 fn none_ends<R: Abort + AllocGlobal + Threads + Wait + Sync>(
     rt: &R,
-    acts: &[Does],
+    code: &Code,
 ) -> Result<(), Fail> {
-    let code = assembled(rt, acts)?;
     for p in [1, 2, 3, 4, 64] {
         for s in [1, 2, 256] {
-            let number = refused(run(rt, rt.alloc(), &code, b"", p, s, &NoGate))?;
-            assert!(rt; number == 59, "p {p}, s {s}");
+            is_stuck(rt, code, p, s)?;
         }
     }
     Ok(())
@@ -148,8 +198,8 @@ fn none_ends<R: Abort + AllocGlobal + Threads + Wait + Sync>(
 
 #[test]
 fn no_step_is_left(rt: HostRuntime) -> Result<(), Fail> {
-    none_ends(&rt, &JOINS)?;
-    none_ends(&rt, &WAITS)
+    none_ends(&rt, &assembled(&rt, &JOINS)?)?;
+    none_ends(&rt, &assembled(&rt, &WAITS)?)
 }
 
 /// What came of a run of the source whose second iteration faults.
@@ -190,26 +240,26 @@ fn came_to(rt: &impl Abort, came: Result<Report, RunRefusal>) -> Came {
 /// something had gone out, the refusal has it.
 fn refused_once<R: Abort + AllocGlobal + Threads + Wait + Sync>(
     rt: &R,
+    code: &Code,
     p: u64,
     s: u64,
 ) -> Result<(), Fail> {
-    let code = compiled(rt.alloc(), FAULTS)?;
-    let refusal = match came_to(rt, run(rt, rt.alloc(), &code, b"", p, s, &NoGate)) {
+    let refusal = match came_to(rt, ran(rt, code, b"", p, s)) {
         Came::Answer => return Ok(()),
         Came::Nothing => AllocError.into(),
         Came::Output(refusal) => refusal.into(),
     };
-    let again = came_to(rt, run(rt, rt.alloc(), &code, b"", p, s, &NoGate));
+    let again = came_to(rt, ran(rt, code, b"", p, s));
     assert!(rt; matches!(again, Came::Answer));
     Err(refusal)
 }
 
 #[test]
 fn want_of_memory_in_a_run(rt: HostRuntime) -> Result<(), Fail> {
-    refused_once(&rt, 1, 1)
+    refused_once(&rt, &compiled(rt.alloc(), FAULTS)?, 1, 1)
 }
 
 #[test]
 fn want_of_memory_in_threads(rt: HostRuntime) -> Result<(), Fail> {
-    refused_once(&rt, 3, 4)
+    refused_once(&rt, &compiled(rt.alloc(), FAULTS)?, 3, 4)
 }

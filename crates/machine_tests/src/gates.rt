@@ -1,11 +1,12 @@
 //! Gates of runs in threads: that iterations are open at once, on the processors that the schedule
 //! names.
 
+use crate::calls::{core_of, hand_in, pick, step, work_of};
 use crate::worked::{SQUARES, compiled};
-use machine::{Code, Done};
+use machine::Code;
 use processors::{Gate, run};
-use replay::{Act, Choice, Core, CoreRefusal, Entry, HandIn, Schedule, Stepped};
-use std::alloc::{AllocError, Global};
+use replay::{Act, Choice, Core, Entry, HandIn, Schedule, Stepped};
+use std::alloc::AllocError;
 use std::process::Abort;
 use std::sync::Wait;
 use std::sync::atomic::{AtomicU64, Ordering};
@@ -77,62 +78,86 @@ impl Gate for Meeting {
 
 /// Processor `q` hands in so many local instructions.
 fn work(core: &mut Core<'_>, q: usize, made: u32) -> Result<(), HandIn> {
-    let code = core.code();
-    match core.frame(q)? {
-        Some(frame) if machine::stands_local(code, &frame) && 1 <= made && made <= 1024 => {
-            core.hand_in(q, Done::work(code, frame, made)?)
-        }
-        _ => Err(HandIn::Stranger),
+    match work_of(core, q, made)? {
+        Some(done) => hand_in(core, q, done),
+        None => Err(HandIn::Stranger),
+    }
+}
+
+/// What an entry that isn't of local work says, of a core.
+fn share(core: &mut Core<'_>, q: usize, act: Act) -> Result<Stepped, AllocError> {
+    match act {
+        Act::Work(_) => Ok(Stepped::Idle),
+        Act::Share => step(core, q),
+        Act::PickMain => pick(core, q, Choice::Main),
+        Act::PickIteration(k) => pick(core, q, Choice::Iteration(k)),
+        Act::TakeTicket => pick(core, q, Choice::Ticket),
     }
 }
 
 /// What an entry says, of a core. The iteration whose ticket was taken, if one was.
 fn follow(core: &mut Core<'_>, entry: Entry) -> Result<Option<u128>, HandIn> {
     let q = usize::from(entry.processor);
-    let stepped = match entry.act {
-        Act::Work(made) => {
-            work(core, q, u32::from(made))?;
-            return Ok(None);
-        }
-        Act::Share => core.step(q)?,
-        Act::PickMain => core.pick(q, Choice::Main)?,
-        Act::PickIteration(k) => core.pick(q, Choice::Iteration(k))?,
-        Act::TakeTicket => core.pick(q, Choice::Ticket)?,
-    };
-    match stepped {
+    if let Act::Work(made) = entry.act {
+        work(core, q, u32::from(made))?;
+        return Ok(None);
+    }
+    match share(core, q, entry.act)? {
         Stepped::Went(begun) => Ok(begun),
         Stepped::Idle => Err(HandIn::Stranger),
         Stepped::Ended => Err(HandIn::Ended),
     }
 }
 
-/// The processors that took the tickets, in order, as a core driven by the schedule takes them.
-fn tickets(alloc: Global, code: &Code, schedule: &Schedule) -> Result<Vec<(u64, u128)>, Fail> {
-    let (p, s) = (
-        u64::from(schedule.processors()),
-        u64::from(schedule.slots()),
-    );
-    let mut core = Core::new(alloc, code, b"", p, s)?;
-    let mut taken = Vec::new(alloc);
-    let mut entries = schedule.entries();
-    for _ in 0..schedule.len() {
-        if let Some(entry) = entries.next() {
-            if let Some(k) = follow(&mut core, entry)? {
-                taken.push((u64::from(entry.processor), k))?;
-            }
-        }
-    }
-    Ok(taken)
+/// Whether the gates saw this processor begin this iteration.
+fn saw(meeting: &Meeting, q: u8, k: u128) -> bool {
+    k < 10 && meeting.seen[k as usize].load(Ordering::SeqCst) == u64::from(q).wrapping_add(1)
 }
 
-/// Whether the gates saw the tickets that were taken, and no others.
-fn saw(meeting: &Meeting, taken: &[(u64, u128)]) -> bool {
-    for (q, k) in taken {
-        if *k >= 10 || meeting.seen[*k as usize].load(Ordering::SeqCst) != q.wrapping_add(1) {
-            return false;
+/// How many tickets were taken, and how many of them the gates saw, as a core that is driven by the
+/// schedule takes them.
+fn tickets(
+    meeting: &Meeting,
+    core: &mut Core<'_>,
+    schedule: &Schedule,
+) -> Result<(u64, u64), HandIn> {
+    let mut taken: u64 = 0;
+    let mut seen: u64 = 0;
+    let mut entries = schedule.entries();
+    for _ in 0..schedule.len() {
+        let Some(entry) = entries.next() else {
+            break;
+        };
+        if let Some(k) = follow(core, entry)? {
+            taken = taken.wrapping_add(1);
+            seen = seen.wrapping_add(u64::from(saw(meeting, entry.processor, k)));
         }
     }
-    meeting.calls.load(Ordering::SeqCst) == taken.len() as u64
+    Ok((taken, seen))
+}
+
+/// The gates saw the ten tickets that a core takes which is driven by the schedule, and no others.
+fn are_ten(
+    rt: &impl Abort,
+    meeting: &Meeting,
+    core: &mut Core<'_>,
+    schedule: &Schedule,
+) -> Result<(), Fail> {
+    let n = meeting.wanted;
+    assert!(*rt; tickets(meeting, core, schedule)? == (10, 10), "n {n}");
+    assert!(*rt; meeting.calls.load(Ordering::SeqCst) == 10, "n {n}");
+    Ok(())
+}
+
+/// The gates saw the tickets of a schedule.
+fn are_seen(
+    rt: &(impl Abort + AllocGlobal),
+    meeting: &Meeting,
+    code: &Code,
+    schedule: &Schedule,
+) -> Result<(), Fail> {
+    let mut core = core_of(rt.alloc(), code, b"", meeting.wanted, meeting.wanted)?;
+    are_ten(rt, meeting, &mut core, schedule)
 }
 
 /// A run of so many processors, whose first iterations meet.
@@ -146,17 +171,21 @@ fn meets<R: Abort + AllocGlobal + Threads + Wait + Sync>(
     assert!(rt; meeting.gave_up.load(Ordering::SeqCst) == 0, "n {n}");
     assert!(rt; report.answer.output.as_slice() == b" 100\n".as_slice());
     assert!(rt; report.overlap == u128::from(n));
-    let taken = tickets(rt.alloc(), code, &report.schedule)?;
-    assert!(rt; taken.len() == 10);
-    assert!(rt; saw(&meeting, &taken), "n {n}");
+    are_seen(rt, &meeting, code, &report.schedule)
+}
+
+/// Runs of two to four processors.
+fn each_meets<R: Abort + AllocGlobal + Threads + Wait + Sync>(
+    rt: &R,
+    code: &Code,
+) -> Result<(), Fail> {
+    for n in 2..5 {
+        meets(rt, code, n)?;
+    }
     Ok(())
 }
 
 #[test]
 fn two_open(rt: HostRuntime) -> Result<(), Fail> {
-    let code = compiled(rt.alloc(), SQUARES)?;
-    for n in 2..5 {
-        meets(&rt, &code, n)?;
-    }
-    Ok(())
+    each_meets(&rt, &compiled(rt.alloc(), SQUARES)?)
 }

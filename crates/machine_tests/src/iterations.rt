@@ -1,10 +1,11 @@
 //! Open loops of code made by hand, with several iterations open at once.
 
-use ast::{Answer, End, Fault, Line, Name, Operator};
-use machine::{
-    Act as Does, Await, Axis, Code, Done, Instr, Loop, Parts, Piece, Variable, stands_local,
-};
-use replay::{Choice, Core, HandIn, Schedule, Stepped, replay};
+use crate::calls::{answer_of, core_of, hand_in, holds, pick, replay_of, work_of};
+use crate::drivers::turn;
+use crate::endless::{code_of, no_parts};
+use ast::{Answer, End, Fault, Line, Name, Operator, Store};
+use machine::{Act as Does, Await, Axis, Code, Done, Instr, Loop, Parts, Piece, Variable};
+use replay::{Choice, Core, HandIn, Stepped};
 use std::alloc::{AllocError, Global};
 use std::process::Abort;
 use std::test::Fail;
@@ -92,12 +93,27 @@ fn lay(parts: &mut Parts, letter: u8, start: usize, size: usize) -> Result<(), A
     Ok(())
 }
 
+/// Adds I, A(0:4) and K, in one vector of cells.
+fn add_variables(parts: &mut Parts) -> Result<(), AllocError> {
+    lay(parts, b'I', 0, 1)?;
+    lay(parts, b'A', 1, 5)?;
+    lay(parts, b'K', 6, 1)
+}
+
 /// Adds instructions.
 fn add(parts: &mut Parts, acts: &[Does]) -> Result<(), AllocError> {
     for act in acts {
         parts.instructions.push(Instr { line: 0, act: *act })?;
     }
     Ok(())
+}
+
+/// Adds the instructions of an iteration, piece by piece.
+fn add_body(parts: &mut Parts, body: &[&[Does]]) -> Result<(), AllocError> {
+    for piece in body {
+        add(parts, piece)?;
+    }
+    add(parts, &[Does::Retire(0)])
 }
 
 /// The line of each instruction is its place.
@@ -109,20 +125,41 @@ fn number(instructions: &mut [Instr]) {
     }
 }
 
-/// Adds a record of so many operands.
-fn add_record(parts: &mut Parts, alloc: Global, operands: usize) -> Result<(), AllocError> {
+/// A record of so many operands.
+fn record(alloc: Global, operands: usize) -> Result<Vec<Piece>, AllocError> {
     let mut pieces = Vec::new(alloc);
     for _ in 0..operands {
         pieces.push(Piece::Operand)?;
     }
+    Ok(pieces)
+}
+
+/// Adds a record of so many operands.
+fn add_record(parts: &mut Parts, alloc: Global, operands: usize) -> Result<(), AllocError> {
+    let pieces = record(alloc, operands)?;
     parts.records.push(pieces)?;
     Ok(())
 }
 
-/// Adds a loop whose iterations begin at a place, whose step is 1 and whose K is private.
-fn add_loop(parts: &mut Parts, alloc: Global, body: usize) -> Result<(), AllocError> {
+/// Adds an await of the event one iteration back.
+fn add_await(parts: &mut Parts) -> Result<(), AllocError> {
+    parts.awaits.push(Await {
+        event: 1,
+        distance: 1,
+    })?;
+    Ok(())
+}
+
+/// The place of K, which is private.
+fn own_k(alloc: Global) -> Result<Vec<u32>, AllocError> {
     let mut privates = Vec::new(alloc);
     privates.push(2)?;
+    Ok(privates)
+}
+
+/// Adds a loop whose iterations begin at a place, whose step is 1 and whose K is private.
+fn add_loop(parts: &mut Parts, alloc: Global, body: usize) -> Result<(), AllocError> {
+    let privates = own_k(alloc)?;
     parts.loops.push(Loop {
         body,
         variable: 0,
@@ -132,34 +169,26 @@ fn add_loop(parts: &mut Parts, alloc: Global, body: usize) -> Result<(), AllocEr
     Ok(())
 }
 
-/// The parts of main and of an iteration of its loop, with I, A(0:4) and K in one vector of cells.
-fn parts_of(alloc: Global, main: &[Does], body: &[&[Does]]) -> Result<Parts, AllocError> {
-    let mut parts = Parts {
-        instructions: Vec::new(alloc),
-        records: Vec::new(alloc),
-        awaits: Vec::new(alloc),
-        variables: Vec::new(alloc),
-        loops: Vec::new(alloc),
-        operands: 4,
-        counters: 0,
-    };
-    add(&mut parts, main)?;
-    for piece in body {
-        add(&mut parts, piece)?;
-    }
-    add(&mut parts, &[Does::Retire(0)])?;
+/// Adds two records, an await and a loop whose iterations begin at a place.
+fn add_tables(parts: &mut Parts, alloc: Global, body: usize) -> Result<(), AllocError> {
+    add_record(parts, alloc, 2)?;
+    add_record(parts, alloc, 1)?;
+    add_await(parts)?;
+    add_loop(parts, alloc, body)
+}
+
+/// Adds main and an iteration of its loop.
+fn add_all(
+    parts: &mut Parts,
+    alloc: Global,
+    main: &[Does],
+    body: &[&[Does]],
+) -> Result<(), AllocError> {
+    add(parts, main)?;
+    add_body(parts, body)?;
     number(&mut parts.instructions);
-    add_record(&mut parts, alloc, 2)?;
-    add_record(&mut parts, alloc, 1)?;
-    parts.awaits.push(Await {
-        event: 1,
-        distance: 1,
-    })?;
-    lay(&mut parts, b'I', 0, 1)?;
-    lay(&mut parts, b'A', 1, 5)?;
-    lay(&mut parts, b'K', 6, 1)?;
-    add_loop(&mut parts, alloc, main.len())?;
-    Ok(parts)
+    add_variables(parts)?;
+    add_tables(parts, alloc, main.len())
 }
 
 /// The code of main and of an iteration of its loop.
@@ -168,63 +197,74 @@ fn assembled(
     main: &[Does],
     body: &[&[Does]],
 ) -> Result<Code, AllocError> {
-    match Code::new(rt.alloc(), parts_of(rt.alloc(), main, body)?)? {
-        Some(code) => Ok(code),
-        None => panic!(*rt; "the code is laid"),
-    }
+    let mut parts = no_parts(rt.alloc(), 4);
+    add_all(&mut parts, rt.alloc(), main, body)?;
+    code_of(rt, parts)
 }
 
-/// A turn of a processor: its shared step, or so much of its local work, 1 to 1,024.
-fn turn(
-    rt: &impl Abort,
-    core: &mut Core<'_>,
-    processor: usize,
-    burst: u32,
-) -> Result<(), AllocError> {
-    let stepped = core.step(processor)?;
-    if let (Stepped::Idle, Some(frame)) = (stepped, core.frame(processor)?) {
-        let code = core.code();
-        if stands_local(code, &frame) && 1 <= burst && burst <= 1_024 {
-            match core.hand_in(processor, Done::work(code, frame, burst)?) {
-                Ok(()) => {}
-                Err(HandIn::Memory) => return Err(AllocError),
-                Err(_) => panic!(*rt; "the frame is the processor's own"),
-            }
-        }
+/// Each processor has its turn, the last one first.
+fn has_round(core: &mut Core<'_>, burst: u32) -> Result<(), HandIn> {
+    for processor in [2, 1, 0] {
+        turn(core, processor, burst)?;
     }
     Ok(())
 }
 
-/// The core of a run in which each processor has its turn, the last one first, until the end.
+fn has_rounds(core: &mut Core<'_>, burst: u32) -> Result<(), HandIn> {
+    for _ in 0..ROUNDS {
+        has_round(core, burst)?;
+    }
+    Ok(())
+}
+
+/// The core of a run in which each processor has its turn until the end.
 fn driven<'c>(
-    rt: &(impl Abort + AllocGlobal),
+    rt: &impl AllocGlobal,
     code: &'c Code,
     slots: u64,
     burst: u32,
 ) -> Result<Core<'c>, Fail> {
-    let mut core = Core::new(rt.alloc(), code, b"", 3, slots)?;
-    for _ in 0..ROUNDS {
-        for processor in [2, 1, 0] {
-            turn(rt, &mut core, processor, burst)?;
-        }
-    }
+    let mut core = core_of(rt.alloc(), code, b"", 3, slots)?;
+    has_rounds(&mut core, burst)?;
     Ok(core)
 }
 
-/// What the core of a run that has ended answers. Its schedule, written and read again, replays to it.
-fn answered(rt: &(impl Abort + AllocGlobal), core: &Core<'_>) -> Result<Answer, Fail> {
-    let text = core.schedule().text()?;
-    let schedule = Schedule::parse(rt.alloc(), &text)?;
-    let replayed = replay(rt.alloc(), core.code(), b"", &schedule)?;
-    match core.answer()? {
-        Some(answer) => {
-            assert!(*rt; answer.output.as_slice() == replayed.output.as_slice());
-            assert!(*rt; answer.end == replayed.end);
-            Ok(answer)
-        }
-        None => panic!(*rt; "the run has ended"),
-    }
+fn is_so(answer: &Answer, output: &[u8], end: End) -> bool {
+    answer.output.as_slice() == output && answer.end == end
 }
+
+/// Whether a run has ended so.
+fn has_ended_so(core: &Core<'_>, output: &[u8], end: End) -> Result<bool, AllocError> {
+    Ok(match answer_of(core)? {
+        Some(answer) => is_so(&answer, output, end),
+        None => false,
+    })
+}
+
+/// A run has ended so, and so does the replay of its schedule, written and read again.
+fn ends_so(
+    rt: &(impl Abort + AllocGlobal),
+    core: &Core<'_>,
+    output: &[u8],
+    end: End,
+) -> Result<(), Fail> {
+    assert!(*rt; has_ended_so(core, output, end)?);
+    assert!(*rt; is_so(&replay_of(rt.alloc(), core)?, output, end));
+    Ok(())
+}
+
+/// Slots and bursts.
+const WAYS: [(u64, u32); 9] = [
+    (1, 1),
+    (1, 3),
+    (1, 1_024),
+    (2, 1),
+    (2, 3),
+    (2, 1_024),
+    (4, 1),
+    (4, 3),
+    (4, 1_024),
+];
 
 /// How each run of a code ends, whatever its slots and bursts.
 fn each_ends(
@@ -233,32 +273,43 @@ fn each_ends(
     output: &[u8],
     end: End,
 ) -> Result<(), Fail> {
-    for slots in [1, 2, 4] {
-        for burst in [1, 3, 1_024] {
-            let core = driven(rt, code, slots, burst)?;
-            let answer = answered(rt, &core)?;
-            assert!(*rt; answer.output.as_slice() == output);
-            assert!(*rt; answer.end == end);
-        }
+    for (slots, burst) in WAYS {
+        ends_so(rt, &driven(rt, code, slots, burst)?, output, end)?;
     }
     Ok(())
+}
+
+/// What is stored behind the end of the loop.
+const STORED: [(u8, usize, i64); 5] = [
+    (b'A', 0, 0),
+    (b'A', 1, 1),
+    (b'A', 4, 4),
+    (b'K', 0, 40),
+    (b'I', 0, 5),
+];
+
+fn is_stored(store: &Store) -> bool {
+    for (letter, place, value) in STORED {
+        if store.value(name(letter), place) != Some(value) {
+            return false;
+        }
+    }
+    true
+}
+
+/// Whether a run has ended with what is to be stored.
+fn has_stored(core: &Core<'_>) -> Result<bool, AllocError> {
+    Ok(match answer_of(core)? {
+        Some(answer) => is_stored(&answer.store),
+        None => false,
+    })
 }
 
 #[test]
 fn elements_and_records_in_order(rt: HostRuntime) -> Result<(), Fail> {
     let code = assembled(&rt, &MAIN, &[&ELEMENT, &RECORD])?;
     each_ends(&rt, &code, b" 1\n 2\n 3\n 4\n 40 5\n", End::Done)?;
-    let core = driven(&rt, &code, 3, 1)?;
-    let answer = answered(&rt, &core)?;
-    for (letter, place, value) in [
-        (b'A', 0, 0),
-        (b'A', 1, 1),
-        (b'A', 4, 4),
-        (b'K', 0, 40),
-        (b'I', 0, 5),
-    ] {
-        assert!(&rt; answer.store.value(name(letter), place) == Some(value));
-    }
+    assert!(rt; has_stored(&driven(&rt, &code, 3, 1)?)?);
     Ok(())
 }
 
@@ -281,192 +332,240 @@ fn stop_of_an_iteration(rt: HostRuntime) -> Result<(), Fail> {
     each_ends(&rt, &code, b" 1\n 2\n", End::Stopped(12))
 }
 
-/// The loop's variable grows out of 64 bits after the last trip.
+/// A loop whose variable grows out of 64 bits after the last trip.
+const TO_THE_GREATEST: [Does; 5] = [
+    Does::Constant(9_223_372_036_854_775_806),
+    Does::Constant(9_223_372_036_854_775_807),
+    Does::Open(0),
+    Does::Join,
+    Does::Halt,
+];
+
 #[test]
 fn overflow_at_a_join(rt: HostRuntime) -> Result<(), Fail> {
-    let main = [
-        Does::Constant(9_223_372_036_854_775_806),
-        Does::Constant(9_223_372_036_854_775_807),
-        Does::Open(0),
-        Does::Join,
-        Does::Halt,
-    ];
-    let code = assembled(&rt, &main, &[])?;
+    let code = assembled(&rt, &TO_THE_GREATEST, &[])?;
     each_ends(&rt, &code, b"", End::Fault(Fault::Overflow, 3))
 }
 
 /// A processor's turns until it holds nothing, or the run has ended.
-fn settle(rt: &impl Abort, core: &mut Core<'_>, processor: usize) -> Result<(), AllocError> {
+fn settle(core: &mut Core<'_>, processor: usize) -> Result<(), HandIn> {
     for _ in 0..ROUNDS {
-        if core.frame(processor)?.is_none() {
+        if !holds(core, processor) {
             break;
         }
-        turn(rt, core, processor, 8)?;
+        turn(core, processor, 8)?;
     }
     Ok(())
 }
+
+/// What a processor does.
+#[derive(Clone, Copy)]
+enum Deed {
+    /// It has turns until it holds nothing.
+    Settles(usize),
+    /// It takes this up, and this comes of it.
+    Picks(usize, Choice, Stepped),
+}
+
+/// Whether a processor's deed comes to what it should.
+fn is_done(core: &mut Core<'_>, deed: Deed) -> Result<bool, HandIn> {
+    match deed {
+        Deed::Settles(processor) => {
+            settle(core, processor)?;
+            Ok(true)
+        }
+        Deed::Picks(processor, choice, wanted) => Ok(pick(core, processor, choice)? == wanted),
+    }
+}
+
+/// Deeds come to what they should, one after another.
+fn are_done(rt: &impl Abort, core: &mut Core<'_>, deeds: &[Deed]) -> Result<(), HandIn> {
+    let mut place: usize = 0;
+    for deed in deeds {
+        assert!(*rt; is_done(core, *deed)?, "deed {place}");
+        place = place.wrapping_add(1);
+    }
+    Ok(())
+}
+
+/// Main opens its loop and waits for the end of it.
+const OPENING: [Deed; 3] = [
+    Deed::Picks(0, Choice::Ticket, Stepped::Idle),
+    Deed::Picks(0, Choice::Main, Stepped::Went(None)),
+    Deed::Settles(0),
+];
 
 /// A core whose main has opened a loop of two trips and waits for its end.
 fn opened<'c>(rt: &(impl Abort + AllocGlobal), code: &'c Code) -> Result<Core<'c>, Fail> {
-    let mut core = Core::new(rt.alloc(), code, b"", 2, 2)?;
-    assert!(*rt; core.pick(0, Choice::Ticket)? == Stepped::Idle);
-    assert!(*rt; core.pick(0, Choice::Main)? == Stepped::Went(None));
-    settle(rt, &mut core, 0)?;
+    let mut core = core_of(rt.alloc(), code, b"", 2, 2)?;
+    are_done(rt, &mut core, &OPENING)?;
     Ok(core)
 }
 
-/// The code of a loop over 1 and 2, each of whose iterations does this.
-fn of_two(rt: &(impl Abort + AllocGlobal), body: &[&[Does]]) -> Result<Code, AllocError> {
-    let main = [
-        Does::Constant(1),
-        Does::Constant(2),
-        Does::Open(0),
-        Does::Join,
-        Does::Halt,
-    ];
-    assembled(rt, &main, body)
-}
+/// A loop over 1 and 2.
+const TWO: [Does; 5] = [
+    Does::Constant(1),
+    Does::Constant(2),
+    Does::Open(0),
+    Does::Join,
+    Does::Halt,
+];
 
 /// The code of a loop over 1 and 2, each of whose iterations prints its value.
 fn of_two_records(rt: &(impl Abort + AllocGlobal)) -> Result<Code, AllocError> {
-    of_two(rt, &[&RECORD])
+    assembled(rt, &TWO, &[&RECORD])
 }
 
-/// What comes of a pick.
-fn picks(
-    rt: &impl Abort,
-    core: &mut Core<'_>,
-    processor: usize,
-    choice: Choice,
-    wanted: Stepped,
-) -> Result<(), AllocError> {
-    assert!(*rt; core.pick(processor, choice)? == wanted);
-    Ok(())
+/// Each processor takes a ticket, and the second iteration comes to its end first. Then the first
+/// iteration retires, after it the second one, and main goes on.
+const OVERTAKING: [Deed; 13] = [
+    Deed::Picks(0, Choice::Ticket, Stepped::Went(Some(0))),
+    Deed::Picks(1, Choice::Ticket, Stepped::Went(Some(1))),
+    Deed::Settles(1),
+    Deed::Picks(1, Choice::Ticket, Stepped::Idle),
+    Deed::Picks(1, Choice::Main, Stepped::Idle),
+    Deed::Picks(1, Choice::Iteration(1), Stepped::Idle),
+    Deed::Settles(0),
+    Deed::Picks(0, Choice::Main, Stepped::Idle),
+    Deed::Picks(0, Choice::Iteration(1), Stepped::Went(None)),
+    Deed::Settles(0),
+    Deed::Picks(1, Choice::Main, Stepped::Went(None)),
+    Deed::Settles(1),
+    Deed::Picks(0, Choice::Main, Stepped::Ended),
+];
+
+/// The deeds come to what they should, and the records to theirs.
+fn are_overtaken(rt: &(impl Abort + AllocGlobal), core: &mut Core<'_>) -> Result<(), Fail> {
+    are_done(rt, core, &OVERTAKING)?;
+    ends_so(rt, core, b" 1\n 2\n", End::Done)
 }
 
-/// Each processor takes a ticket, and the second iteration comes to its end first.
-fn overtaken(rt: &impl Abort, core: &mut Core<'_>) -> Result<(), AllocError> {
-    picks(rt, core, 0, Choice::Ticket, Stepped::Went(Some(0)))?;
-    picks(rt, core, 1, Choice::Ticket, Stepped::Went(Some(1)))?;
-    settle(rt, core, 1)?;
-    for choice in [Choice::Ticket, Choice::Main, Choice::Iteration(1)] {
-        picks(rt, core, 1, choice, Stepped::Idle)?;
-    }
-    Ok(())
-}
-
-/// The first iteration retires, then the second one, and then main goes on.
-fn caught_up(rt: &impl Abort, core: &mut Core<'_>) -> Result<(), AllocError> {
-    settle(rt, core, 0)?;
-    picks(rt, core, 0, Choice::Main, Stepped::Idle)?;
-    picks(rt, core, 0, Choice::Iteration(1), Stepped::Went(None))?;
-    settle(rt, core, 0)?;
-    picks(rt, core, 1, Choice::Main, Stepped::Went(None))?;
-    settle(rt, core, 1)?;
-    picks(rt, core, 0, Choice::Main, Stepped::Ended)
+fn retire_in_order(rt: &(impl Abort + AllocGlobal), code: &Code) -> Result<(), Fail> {
+    let mut core = opened(rt, code)?;
+    are_overtaken(rt, &mut core)
 }
 
 #[test]
 fn retires_in_order(rt: HostRuntime) -> Result<(), Fail> {
-    let code = of_two_records(&rt)?;
-    let mut core = opened(&rt, &code)?;
-    overtaken(&rt, &mut core)?;
-    caught_up(&rt, &mut core)?;
-    let answer = answered(&rt, &core)?;
-    assert!(&rt; answer.output.as_slice() == b" 1\n 2\n".as_slice());
-    Ok(())
+    retire_in_order(&rt, &of_two_records(&rt)?)
 }
 
 /// Local work that leads from the frame of what a processor holds.
 fn worked<'c>(rt: &impl Abort, core: &Core<'c>, processor: usize) -> Result<Done<'c>, AllocError> {
-    let code = core.code();
-    match core.frame(processor)? {
-        Some(frame) if stands_local(code, &frame) => Done::work(code, frame, 8),
-        _ => panic!(*rt; "a local instruction stands next"),
-    }
+    Ok(work_of(core, processor, 8)?.expect(rt, "a local instruction stands next"))
 }
 
 /// Processor 0's own work is taken.
 fn is_taken(rt: &impl Abort, core: &mut Core<'_>) -> Result<(), AllocError> {
     let done = worked(rt, core, 0)?;
-    assert!(*rt; core.hand_in(0, done) == Ok(()));
+    assert!(*rt; hand_in(core, 0, done) == Ok(()));
     Ok(())
 }
 
-/// Work that a processor hands in isn't taken, for this reason, and the schedule stays as it was.
-fn is_left(
-    rt: &impl Abort,
-    core: &mut Core<'_>,
-    processor: usize,
-    done: Done<'_>,
-    why: HandIn,
-) -> Result<(), AllocError> {
-    let before = core.schedule().text()?;
-    assert!(*rt; core.hand_in(processor, done) == Err(why));
-    assert!(*rt; core.schedule().text()? == before);
+/// Work that a processor hands in isn't taken, for this reason, and no entry is added.
+fn is_left(rt: &impl Abort, core: &mut Core<'_>, processor: usize, done: Done<'_>, why: HandIn) {
+    let before = core.schedule().len();
+    assert!(*rt; hand_in(core, processor, done) == Err(why));
+    assert!(*rt; core.schedule().len() == before);
+}
+
+/// Work of the first iteration isn't taken from this processor.
+fn is_strange(rt: &impl Abort, core: &mut Core<'_>, processor: usize) -> Result<(), AllocError> {
+    let done = worked(rt, core, 0)?;
+    is_left(rt, core, processor, done, HandIn::Stranger);
     Ok(())
 }
 
-/// Two iterations are held, and work of the first is handed in by the second's processor, by one that
-/// isn't there, and by its own.
-fn handed_in(rt: &impl Abort, core: &mut Core<'_>) -> Result<(), AllocError> {
-    picks(rt, core, 0, Choice::Ticket, Stepped::Went(Some(0)))?;
-    picks(rt, core, 1, Choice::Ticket, Stepped::Went(Some(1)))?;
-    for processor in [1, 2] {
-        let done = worked(rt, core, 0)?;
-        is_left(rt, core, processor, done, HandIn::Stranger)?;
-    }
+/// Work of the first iteration is taken from its processor once.
+fn is_taken_once(rt: &impl Abort, core: &mut Core<'_>) -> Result<(), AllocError> {
     let again = worked(rt, core, 0)?;
     is_taken(rt, core)?;
-    is_left(rt, core, 0, again, HandIn::Stranger)
+    is_left(rt, core, 0, again, HandIn::Stranger);
+    Ok(())
+}
+
+/// Turns of both processors until the end.
+fn both_end(core: &mut Core<'_>) -> Result<(), HandIn> {
+    for _ in 0..ROUNDS {
+        turn(core, 0, 8)?;
+        turn(core, 1, 8)?;
+    }
+    Ok(())
 }
 
 /// Work that was done before the end is handed in behind it.
-fn handed_in_late(rt: &impl Abort, core: &mut Core<'_>) -> Result<(), AllocError> {
+fn is_late(rt: &impl Abort, core: &mut Core<'_>) -> Result<(), HandIn> {
     let late = worked(rt, core, 1)?;
-    for _ in 0..ROUNDS {
-        turn(rt, core, 0, 8)?;
-        turn(rt, core, 1, 8)?;
-    }
-    is_left(rt, core, 1, late, HandIn::Ended)
+    both_end(core)?;
+    is_left(rt, core, 1, late, HandIn::Ended);
+    Ok(())
+}
+
+/// Each processor takes a ticket.
+const TICKETS: [Deed; 2] = [
+    Deed::Picks(0, Choice::Ticket, Stepped::Went(Some(0))),
+    Deed::Picks(1, Choice::Ticket, Stepped::Went(Some(1))),
+];
+
+/// Two iterations are held, and work of the first is handed in by the second's processor, by one that
+/// isn't there, and by its own; then work of the second behind the end.
+fn handed_in(rt: &impl Abort, core: &mut Core<'_>) -> Result<(), Fail> {
+    are_done(rt, core, &TICKETS)?;
+    is_strange(rt, core, 1)?;
+    is_strange(rt, core, 2)?;
+    is_taken_once(rt, core)?;
+    Ok(is_late(rt, core)?)
+}
+
+fn hand_in_once(rt: &(impl Abort + AllocGlobal), code: &Code) -> Result<(), Fail> {
+    let mut core = opened(rt, code)?;
+    handed_in(rt, &mut core)
 }
 
 #[test]
 fn work_is_handed_in_once(rt: HostRuntime) -> Result<(), Fail> {
-    let code = of_two_records(&rt)?;
-    let mut core = opened(&rt, &code)?;
-    handed_in(&rt, &mut core)?;
-    handed_in_late(&rt, &mut core)?;
-    Ok(())
+    hand_in_once(&rt, &of_two_records(&rt)?)
 }
 
-/// A core whose processor 0 holds the first iteration of a loop of two trips.
+/// A core whose processors hold the iterations of a loop of two trips.
 fn holding<'c>(rt: &(impl Abort + AllocGlobal), code: &'c Code) -> Result<Core<'c>, Fail> {
     let mut core = opened(rt, code)?;
-    picks(rt, &mut core, 0, Choice::Ticket, Stepped::Went(Some(0)))?;
+    are_done(rt, &mut core, &TICKETS)?;
     Ok(core)
+}
+
+/// Work of what a processor of another core holds isn't taken of processor 0, whose own then is.
+fn is_of_another(
+    rt: &impl Abort,
+    core: &mut Core<'_>,
+    other: &Core<'_>,
+    processor: usize,
+) -> Result<(), Fail> {
+    let strange = worked(rt, other, processor)?;
+    is_left(rt, core, 0, strange, HandIn::Stranger);
+    Ok(is_taken(rt, core)?)
+}
+
+/// Work of one code's core is handed in to another one's.
+fn is_of_another_core(
+    rt: &(impl Abort + AllocGlobal),
+    code: &Code,
+    other: &Code,
+    processor: usize,
+) -> Result<(), Fail> {
+    let mut core = holding(rt, code)?;
+    is_of_another(rt, &mut core, &holding(rt, other)?, processor)
 }
 
 #[test]
 fn work_of_another_frame_of_another_core(rt: HostRuntime) -> Result<(), Fail> {
     let code = of_two_records(&rt)?;
-    let mut core = holding(&rt, &code)?;
-    let mut other = holding(&rt, &code)?;
-    picks(&rt, &mut other, 1, Choice::Ticket, Stepped::Went(Some(1)))?;
-    let strange = worked(&rt, &other, 1)?;
-    is_left(&rt, &mut core, 0, strange, HandIn::Stranger)?;
-    is_taken(&rt, &mut core)?;
-    Ok(())
+    is_of_another_core(&rt, &code, &code, 1)
 }
 
 /// The frames of both cores are equal, their code isn't.
 #[test]
 fn work_of_another_code(rt: HostRuntime) -> Result<(), Fail> {
     let code = of_two_records(&rt)?;
-    let mut core = holding(&rt, &code)?;
-    let other = of_two(&rt, &[&RECORD, &QUOTIENT])?;
-    let strange = worked(&rt, &holding(&rt, &other)?, 0)?;
-    is_left(&rt, &mut core, 0, strange, HandIn::Stranger)?;
-    is_taken(&rt, &mut core)?;
-    Ok(())
+    is_of_another_core(&rt, &code, &assembled(&rt, &TWO, &[&RECORD, &QUOTIENT])?, 0)
 }

@@ -1,12 +1,15 @@
 //! A core under a lock, at which two threads take turns.
 
-use crate::driven::is_answered;
+use crate::calls::core_of;
+use crate::driven::is_sequential;
 use crate::drivers::turn;
-use crate::worked::{SQUARES, compiled, sequential};
+use crate::worked::{SQUARES, compiled};
+use machine::Code;
 use replay::{Core, Stepped};
+use std::process::Abort;
 use std::sync::{Mutex, Wait};
 use std::test::Fail;
-use std::thread::{join, yield_now};
+use std::thread::{Threads, join, yield_now};
 
 /// How many turns a thread takes at most.
 const TURNS: u32 = 1_000_000;
@@ -26,19 +29,22 @@ fn takes_turns<R: Wait>(rt: &R, core: &Mutex<Core<'_>>, q: usize) -> bool {
     false
 }
 
+/// Two threads take turns at a core until its run has ended. The answer is the sequential one.
+fn is_shared<R: Abort + AllocGlobal + Threads + Wait + Sync>(
+    rt: &R,
+    code: &Code,
+) -> Result<(), Fail> {
+    let core = Mutex::new(core_of(rt.alloc(), code, b"", 2, 2)?);
+    let ended = join(
+        rt,
+        || takes_turns(rt, &core, 0),
+        || takes_turns(rt, &core, 1),
+    );
+    assert!(*rt; ended == (true, true));
+    is_sequential(rt, &core.into_inner(), SQUARES)
+}
+
 #[test]
 fn core_under_a_lock(rt: HostRuntime) -> Result<(), Fail> {
-    let code = compiled(rt.alloc(), SQUARES)?;
-    let core = Mutex::new(Core::new(rt.alloc(), &code, b"", 2, 2)?);
-    let ended = join(
-        &rt,
-        || takes_turns(&rt, &core, 0),
-        || takes_turns(&rt, &core, 1),
-    );
-    assert!(rt; ended == (true, true));
-    is_answered(
-        &rt,
-        &core.into_inner(),
-        &sequential(rt.alloc(), SQUARES, b"")?,
-    )
+    is_shared(&rt, &compiled(rt.alloc(), SQUARES)?)
 }

@@ -1,6 +1,6 @@
 //! Worked programs, and what their runs are set beside.
 
-use ast::{Answer, End, Fault, Refusal};
+use ast::{Answer, End, Fault, Program, Refusal};
 use codegen::compile;
 use interpreter::run_seq;
 use machine::Code;
@@ -474,14 +474,29 @@ pub const WORKED: [Worked; 36] = [
     },
 ];
 
-pub fn compiled(alloc: Global, source: &[u8]) -> Result<Code, Refusal> {
-    let compiled = compile(alloc, &program(alloc, source)?)?;
+/// The program of a source.
+fn read(alloc: Global, source: &[u8]) -> Result<Program, Refusal> {
+    program(alloc, source)
+}
+
+/// The code of a program.
+fn code_of(alloc: Global, program: &Program) -> Result<Code, Refusal> {
+    let compiled = compile(alloc, program)?;
     Ok(compiled.code)
+}
+
+pub fn compiled(alloc: Global, source: &[u8]) -> Result<Code, Refusal> {
+    code_of(alloc, &read(alloc, source)?)
+}
+
+/// The sequential answer of a program.
+fn answer_of(alloc: Global, program: &Program, input: &[u8]) -> Result<Answer, Refusal> {
+    Ok(run_seq(alloc, program, input)?)
 }
 
 /// The sequential answer.
 pub fn sequential(alloc: Global, source: &[u8], input: &[u8]) -> Result<Answer, Refusal> {
-    Ok(run_seq(alloc, &program(alloc, source)?, input)?)
+    answer_of(alloc, &read(alloc, source)?, input)
 }
 
 /// The sequential answer of a worked program, which has the records and the end that it should have.
