@@ -1,14 +1,13 @@
 //! Cores, of which any call may find no memory, and the schedules that they leave.
 
+use crate::calls;
 use crate::plans::is_planned;
 use crate::programs::{is_answer, program_of};
 use crate::rows::{AGAIN, ROWS, Row};
-use ast::{Answer, Refusal};
-use codegen::{Compiled, compile};
-use machine::{Code, Done, Frame, stands_local};
-use replay::{
-    Choice, Core, CoreRefusal, HandIn, ReplayRefusal, Schedule, Stepped, Tally, replay, upgrade,
-};
+use ast::{Answer, Program, Refusal};
+use codegen::{Compiled, LoopReport};
+use machine::{Code, Done, Frame};
+use replay::{Choice, Core, CoreRefusal, HandIn, ReplayRefusal, Schedule, Stepped, Tally};
 use std::alloc::{AllocError, Global};
 use std::process::Abort;
 use std::test::Fail;
@@ -37,71 +36,72 @@ fn seen(core: &Core<'_>, q: usize) -> Outside {
 /// A shared step of processor `q`.
 fn step(rt: &impl Abort, core: &mut Core<'_>, q: usize) -> Stepped {
     let before = seen(core, q);
-    match core.step(q) {
+    match calls::step(core, q) {
         Ok(stepped) => stepped,
         Err(_) => {
             assert!(*rt; seen(core, q) == before);
-            core.step(q).expect(rt, AGAIN)
+            calls::step(core, q).expect(rt, AGAIN)
         }
     }
 }
 
-/// Whether processor `q`, which holds nothing, may take this up, which it then does.
-fn picks(rt: &impl Abort, core: &mut Core<'_>, q: usize, choice: Choice) -> bool {
+/// What comes where processor `q`, which holds nothing, takes this up.
+fn pick(rt: &impl Abort, core: &mut Core<'_>, q: usize, choice: Choice) -> Stepped {
     let before = seen(core, q);
-    let stepped = match core.pick(q, choice) {
+    match calls::pick(core, q, choice) {
         Ok(stepped) => stepped,
         Err(_) => {
             assert!(*rt; seen(core, q) == before);
-            core.pick(q, choice).expect(rt, AGAIN)
+            calls::pick(core, q, choice).expect(rt, AGAIN)
         }
-    };
-    matches!(stepped, Stepped::Went(_))
+    }
 }
 
 /// The frame of what processor `q` holds.
 fn frame(rt: &impl Abort, core: &Core<'_>, q: usize) -> Option<Frame> {
-    match core.frame(q) {
+    match calls::frame(core, q) {
         Ok(frame) => frame,
-        Err(_) => core.frame(q).expect(rt, AGAIN),
+        Err(_) => calls::frame(core, q).expect(rt, AGAIN),
     }
 }
 
 fn copy(rt: &impl Abort, frame: &Frame) -> Frame {
-    match frame.try_copy() {
+    match calls::copy(frame) {
         Ok(copy) => copy,
-        Err(_) => frame.try_copy().expect(rt, AGAIN),
+        Err(_) => calls::copy(frame).expect(rt, AGAIN),
     }
 }
 
 /// Local work that leads from a frame, if any stands next.
 fn worked<'c>(rt: &impl Abort, code: &'c Code, from: Frame) -> Option<Done<'c>> {
     let spare = copy(rt, &from);
-    if !stands_local(code, &from) {
-        return None;
+    match calls::work(code, from) {
+        Ok(done) => done,
+        Err(_) => calls::work(code, spare).expect(rt, AGAIN),
     }
-    if !stands_local(code, &spare) {
-        return None;
-    }
-    match Done::work(code, from, 8) {
-        Ok(done) => Some(done),
-        Err(_) => Some(Done::work(code, spare, 8).expect(rt, AGAIN)),
+}
+
+/// Processor `q` hands in the local work that leads from its frame again, for which there was no memory.
+fn hands_in_again(rt: &impl Abort, core: &mut Core<'_>, q: usize, from: Frame) {
+    let anew = worked(rt, core.code(), from).expect(rt, "the work stands next");
+    calls::hand_in(core, q, anew).expect(rt, AGAIN);
+}
+
+/// Processor `q` hands in local work that leads from its frame.
+fn gives(rt: &impl Abort, core: &mut Core<'_>, q: usize, done: Done<'_>, spare: Frame) {
+    let before = seen(core, q);
+    if let Err(refusal) = calls::hand_in(core, q, done) {
+        assert!(*rt; refusal == HandIn::Memory);
+        assert!(*rt; seen(core, q) == before);
+        hands_in_again(rt, core, q, spare);
     }
 }
 
 /// Processor `q` hands in local work that leads from its frame, if any stands next.
 fn hands_in(rt: &impl Abort, core: &mut Core<'_>, q: usize, from: Frame) {
-    let code = core.code();
     let spare = copy(rt, &from);
-    let Some(done) = worked(rt, code, from) else {
-        return;
-    };
-    let before = seen(core, q);
-    if let Err(refusal) = core.hand_in(q, done) {
-        assert!(*rt; refusal == HandIn::Memory);
-        assert!(*rt; seen(core, q) == before);
-        let anew = worked(rt, code, spare).expect(rt, "the work stands next");
-        core.hand_in(q, anew).expect(rt, AGAIN);
+    if let Some(done) = worked(rt, core.code(), from) {
+        gives(rt, core, q, done, spare);
     }
 }
 
@@ -128,65 +128,82 @@ enum Picker {
     HighestFirst,
 }
 
-/// A turn of processor `q`.
-fn turn(rt: &impl Abort, core: &mut Core<'_>, q: usize, picker: Picker) {
-    if let (false, Picker::HighestFirst) = (core.holds(q), picker) {
-        for choice in HIGHEST_FIRST {
-            if picks(rt, core, q, choice) {
-                break;
-            }
-        }
-    } else if step(rt, core, q) == Stepped::Idle {
-        if let Some(from) = frame(rt, core, q) {
-            hands_in(rt, core, q, from);
+/// Processor `q`, which holds nothing, takes up the first of these that it may.
+fn takes(rt: &impl Abort, core: &mut Core<'_>, q: usize) {
+    for choice in HIGHEST_FIRST {
+        if let Stepped::Went(_) = pick(rt, core, q, choice) {
+            break;
         }
     }
 }
 
-/// The core of a run by two processors, of two iterations at once, that has ended.
-fn driven<'c>(
-    rt: &(impl Abort + AllocGlobal),
-    code: &'c Code,
-    input: &'c [u8],
-    picker: Picker,
-) -> Core<'c> {
-    let mut core = match Core::new(rt.alloc(), code, input, 2, 2) {
+/// Processor `q` makes a shared step, or hands in local work.
+fn goes(rt: &impl Abort, core: &mut Core<'_>, q: usize) {
+    if step(rt, core, q) != Stepped::Idle {
+        return;
+    }
+    if let Some(from) = frame(rt, core, q) {
+        hands_in(rt, core, q, from);
+    }
+}
+
+/// A turn of processor `q`.
+fn turn(rt: &impl Abort, core: &mut Core<'_>, q: usize, picker: Picker) {
+    match (core.holds(q), picker) {
+        (false, Picker::HighestFirst) => takes(rt, core, q),
+        _ => goes(rt, core, q),
+    }
+}
+
+/// A core of two processors, and of two iterations at once.
+fn core_of<'c>(rt: &(impl Abort + AllocGlobal), code: &'c Code, input: &'c [u8]) -> Core<'c> {
+    match calls::core_of(rt.alloc(), code, input) {
         Ok(core) => core,
         Err(refusal) => {
             assert!(*rt; refusal == CoreRefusal::Memory);
-            Core::new(rt.alloc(), code, input, 2, 2).expect(rt, AGAIN)
+            calls::core_of(rt.alloc(), code, input).expect(rt, AGAIN)
         }
-    };
+    }
+}
+
+/// The turns of both processors until the end.
+fn drive(rt: &impl Abort, core: &mut Core<'_>, picker: Picker) {
     for _ in 0..ROUNDS {
-        turn(rt, &mut core, 1, picker);
-        turn(rt, &mut core, 0, picker);
+        turn(rt, core, 1, picker);
+        turn(rt, core, 0, picker);
     }
     assert!(*rt; core.has_ended());
-    core
 }
 
 /// The answer of a core whose run has ended.
 fn answer_of(rt: &impl Abort, core: &Core<'_>) -> Answer {
-    let answer = match core.answer() {
+    let answer = match calls::answer(core) {
         Ok(answer) => answer,
-        Err(_) => core.answer().expect(rt, AGAIN),
+        Err(_) => calls::answer(core).expect(rt, AGAIN),
     };
     answer.expect(rt, "the run has ended")
 }
 
+fn copy_of(rt: &impl Abort, schedule: &Schedule) -> Schedule {
+    match calls::copy_of(schedule) {
+        Ok(copy) => copy,
+        Err(_) => calls::copy_of(schedule).expect(rt, AGAIN),
+    }
+}
+
 fn text_of(rt: &impl Abort, schedule: &Schedule) -> Vec<u8> {
-    match schedule.text() {
+    match calls::text(schedule) {
         Ok(text) => text,
-        Err(_) => schedule.text().expect(rt, AGAIN),
+        Err(_) => calls::text(schedule).expect(rt, AGAIN),
     }
 }
 
 fn parsed(rt: &(impl Abort + AllocGlobal), text: &[u8]) -> Schedule {
-    match Schedule::parse(rt.alloc(), text) {
+    match calls::parsed(rt.alloc(), text) {
         Ok(schedule) => schedule,
         Err(refusal) => {
             assert!(*rt; refusal == ReplayRefusal::Memory);
-            Schedule::parse(rt.alloc(), text).expect(rt, AGAIN)
+            calls::parsed(rt.alloc(), text).expect(rt, AGAIN)
         }
     }
 }
@@ -198,11 +215,11 @@ fn replayed(
     input: &[u8],
     schedule: &Schedule,
 ) -> Answer {
-    match replay(rt.alloc(), code, input, schedule) {
+    match calls::replayed(rt.alloc(), code, input, schedule) {
         Ok(answer) => answer,
         Err(refusal) => {
             assert!(*rt; refusal == ReplayRefusal::Memory);
-            replay(rt.alloc(), code, input, schedule).expect(rt, AGAIN)
+            calls::replayed(rt.alloc(), code, input, schedule).expect(rt, AGAIN)
         }
     }
 }
@@ -213,44 +230,59 @@ fn upgraded(
     input: &[u8],
     schedule: &Schedule,
 ) -> Schedule {
-    match upgrade(rt.alloc(), code, input, schedule) {
+    match calls::upgraded(rt.alloc(), code, input, schedule) {
         Ok(schedule) => schedule,
         Err(refusal) => {
             assert!(*rt; refusal == ReplayRefusal::Memory);
-            upgrade(rt.alloc(), code, input, schedule).expect(rt, AGAIN)
+            calls::upgraded(rt.alloc(), code, input, schedule).expect(rt, AGAIN)
         }
     }
 }
 
-/// The schedule of a core leads to the row's answer, once it was copied, written and read.
+/// A schedule of the second version leads to the row's answer, and is upgraded to itself.
+fn leads(
+    rt: &(impl Abort + AllocGlobal),
+    code: &Code,
+    row: &Row,
+    schedule: &Schedule,
+    text: &[u8],
+) {
+    is_answer(rt, &replayed(rt, code, row.input, schedule), row);
+    let again = upgraded(rt, code, row.input, schedule);
+    assert!(*rt; text_of(rt, &again).as_slice() == text);
+}
+
+/// The schedule of a core, copied and written. It leads to the row's answer, once it was read.
 fn leaves(rt: &(impl Abort + AllocGlobal), core: &Core<'_>, row: &Row) -> Vec<u8> {
-    let copy = match core.schedule().try_copy() {
-        Ok(copy) => copy,
-        Err(_) => core.schedule().try_copy().expect(rt, AGAIN),
-    };
-    let text = text_of(rt, &copy);
-    let read = parsed(rt, &text);
-    is_answer(rt, &replayed(rt, core.code(), row.input, &read), row);
-    let again = upgraded(rt, core.code(), row.input, &read);
-    assert!(*rt; text_of(rt, &again) == text);
+    let text = text_of(rt, &copy_of(rt, core.schedule()));
+    leads(rt, core.code(), row, &parsed(rt, &text), &text);
     text
 }
 
-/// The code of a row, each of whose loops has its plan.
-pub fn code_of(rt: &(impl Abort + AllocGlobal), row: &Row) -> Code {
-    let program = program_of(rt, row);
-    let Compiled { code, reports } = match compile(rt.alloc(), &program) {
+/// The code of a program, with the reports of its loops.
+fn compiled(rt: &(impl Abort + AllocGlobal), program: &Program) -> Compiled {
+    match calls::compiled(rt.alloc(), program) {
         Ok(compiled) => compiled,
         Err(refusal) => {
             assert!(*rt; refusal == Refusal::Memory);
-            compile(rt.alloc(), &program).expect(rt, AGAIN)
+            calls::compiled(rt.alloc(), program).expect(rt, AGAIN)
         }
-    };
+    }
+}
+
+/// Each loop has its plan.
+fn are_reported(rt: &impl Abort, reports: &[LoopReport], row: &Row) {
     assert!(*rt; reports.len() == row.loops.len());
     for (report, range) in reports.iter().zip(row.loops) {
         assert!(*rt; report.line == range.first);
         is_planned(rt, &report.plan, range);
     }
+}
+
+/// The code of a row, each of whose loops has its plan.
+pub fn code_of(rt: &(impl Abort + AllocGlobal), row: &Row) -> Code {
+    let Compiled { code, reports } = compiled(rt, &program_of(rt, row));
+    are_reported(rt, &reports, row);
     code
 }
 
@@ -278,17 +310,39 @@ fn in_first_version(alloc: Global, text: &[u8]) -> Result<Vec<u8>, AllocError> {
     Ok(made)
 }
 
+/// A run of a row has its answer, to which its schedule leads, whose text this is.
+fn text_of_run(rt: &(impl Abort + AllocGlobal), code: &Code, row: &Row, picker: Picker) -> Vec<u8> {
+    let mut core = core_of(rt, code, row.input);
+    drive(rt, &mut core, picker);
+    is_answer(rt, &answer_of(rt, &core), row);
+    leaves(rt, &core, row)
+}
+
+/// A schedule of the first version leads to the row's answer, and is upgraded to this one.
+fn is_first(
+    rt: &(impl Abort + AllocGlobal),
+    code: &Code,
+    row: &Row,
+    first: &Schedule,
+    text: &[u8],
+) {
+    is_answer(rt, &replayed(rt, code, row.input, first), row);
+    let named = upgraded(rt, code, row.input, first);
+    assert!(*rt; text_of(rt, &named).as_slice() == text);
+}
+
+/// The schedule of a row's run, without the names of what is picked, is upgraded to it.
+fn has_steps(rt: &(impl Abort + AllocGlobal), code: &Code, row: &Row) -> Result<(), AllocError> {
+    let text = text_of_run(rt, code, row, Picker::Core);
+    let unnamed = in_first_version(rt.alloc(), &text)?;
+    is_first(rt, code, row, &parsed(rt, &unnamed), &text);
+    Ok(())
+}
+
 #[test]
 fn want_of_memory_in_steps(rt: HostRuntime) -> Result<(), Fail> {
     for row in &ROWS {
-        let code = code_of(&rt, row);
-        let core = driven(&rt, &code, row.input, Picker::Core);
-        is_answer(&rt, &answer_of(&rt, &core), row);
-        let text = leaves(&rt, &core, row);
-        let first = parsed(&rt, &in_first_version(rt.alloc(), &text)?);
-        is_answer(&rt, &replayed(&rt, &code, row.input, &first), row);
-        let named = upgraded(&rt, &code, row.input, &first);
-        assert!(rt; text_of(&rt, &named) == text);
+        has_steps(&rt, &code_of(&rt, row), row)?;
     }
     Ok(())
 }
@@ -296,9 +350,6 @@ fn want_of_memory_in_steps(rt: HostRuntime) -> Result<(), Fail> {
 #[test]
 fn want_of_memory_in_picks(rt: HostRuntime) {
     for row in &ROWS {
-        let code = code_of(&rt, row);
-        let core = driven(&rt, &code, row.input, Picker::HighestFirst);
-        is_answer(&rt, &answer_of(&rt, &core), row);
-        leaves(&rt, &core, row);
+        text_of_run(&rt, &code_of(&rt, row), row, Picker::HighestFirst);
     }
 }

@@ -1,11 +1,11 @@
 //! Expressions of the worked programs: their texts, and their code.
 
+use crate::calls::{add_code, expr, loops};
 use crate::programs::program_of;
 use crate::rows::{AGAIN, ROWS};
 use ast::{Expr, Kind, Node, Operator, Program, Refusal};
-use expr_code::{Places, emit};
-use expressions::expr;
-use loop_tree::{ScalarSet, loops};
+use expr_code::Places;
+use loop_tree::{LoopView, ScalarSet};
 use machine::{Act as Does, Axis, Instr};
 use std::alloc::AllocError;
 use std::process::Abort;
@@ -54,17 +54,21 @@ fn value_of(expression: &Expr) -> Option<i64> {
     }
 }
 
+/// The expression of a text.
+fn read(rt: &(impl Abort + AllocGlobal), text: &[u8]) -> Expr {
+    match expr(rt.alloc(), text, LINE) {
+        Ok(read) => read,
+        Err(refusal) => {
+            assert!(*rt; refusal == Refusal::Memory);
+            expr(rt.alloc(), text, LINE).expect(rt, AGAIN)
+        }
+    }
+}
+
 #[test]
 fn want_of_memory_in_formulas(rt: HostRuntime) {
     for (text, value) in TEXTS {
-        let read = match expr(rt.alloc(), text, LINE) {
-            Ok(read) => read,
-            Err(refusal) => {
-                assert!(&rt; refusal == Refusal::Memory);
-                expr(rt.alloc(), text, LINE).expect(&rt, AGAIN)
-            }
-        };
-        assert!(&rt; value_of(&read) == Some(value));
+        assert!(rt; value_of(&read(&rt, text)) == Some(value));
     }
 }
 
@@ -134,7 +138,26 @@ fn behind_halt(code: &[Instr]) -> Option<&[Instr]> {
     }
 }
 
-/// The code of an expression stands behind what was there, which stays where memory is refused.
+/// Adds the code of an expression behind a halt, which stays where memory is refused.
+fn add(rt: &impl Abort, value: &Expr, places: &Places<'_>, code: &mut Vec<Instr>) {
+    if add_code(value, places, code).is_err() {
+        assert!(*rt; behind_halt(code).is_some());
+        code.truncate(1);
+        add_code(value, places, code).expect(rt, AGAIN);
+    }
+}
+
+/// Whether instructions do this, and are of the line of the texts.
+fn are_wanted(added: &[Instr], wanted: &[Does]) -> bool {
+    for (instruction, act) in added.iter().zip(wanted) {
+        if instruction.act != *act || instruction.line != LINE {
+            return false;
+        }
+    }
+    added.len() == wanted.len()
+}
+
+/// The code of an expression stands behind what was there.
 fn has_code(
     rt: &(impl Abort + AllocGlobal),
     value: &Expr,
@@ -145,20 +168,33 @@ fn has_code(
         line: 1,
         act: Does::Halt,
     };
-    let alloc = rt.alloc();
-    let mut code = vec![in alloc; halt]?;
-    if emit(value, places, &mut code).is_err() {
-        assert!(*rt; behind_halt(&code).is_some());
-        code.truncate(1);
-        emit(value, places, &mut code).expect(rt, AGAIN);
-    }
+    let mut code = vec![in rt.alloc(); halt]?;
+    add(rt, value, places, &mut code);
     let added = behind_halt(&code).expect(rt, "what was there stays");
-    assert!(*rt; added.len() == wanted.len());
-    for (instruction, act) in added.iter().zip(wanted) {
-        assert!(*rt; instruction.act == *act);
-        assert!(*rt; instruction.line == LINE);
-    }
+    assert!(*rt; are_wanted(added, wanted));
     Ok(())
+}
+
+/// The code of what a loop assigns first.
+fn loop_has_code(
+    rt: &(impl Abort + AllocGlobal),
+    program: &Program,
+    view: &LoopView<'_, '_>,
+    wanted: &[Does],
+) -> Result<(), AllocError> {
+    let privates = ScalarSet {
+        names: Vec::new(rt.alloc()),
+    };
+    let places = Places {
+        program,
+        privates: &privates,
+        loop_name: Some(view.head().variable.name),
+        line: LINE,
+    };
+    match assigned(view.body()) {
+        Some(value) => has_code(rt, value, &places, wanted),
+        None => panic!(*rt; "an assignment begins the loop"),
+    }
 }
 
 /// The code of what a program's first loop assigns first.
@@ -169,19 +205,7 @@ fn first_has_code(
 ) -> Result<(), AllocError> {
     let tree = loops(rt.alloc(), program)?;
     assert!(*rt; 1 <= tree.count());
-    let view = tree.view(1);
-    let places = Places {
-        program,
-        privates: &ScalarSet {
-            names: Vec::new(rt.alloc()),
-        },
-        loop_name: Some(view.head().variable.name),
-        line: LINE,
-    };
-    match assigned(view.body()) {
-        Some(value) => has_code(rt, value, &places, wanted),
-        None => panic!(*rt; "an assignment begins the loop"),
-    }
+    loop_has_code(rt, program, &tree.view(1), wanted)
 }
 
 #[test]

@@ -1,13 +1,12 @@
 //! Loops, their private scalars, their plans and the check of these.
 
+use crate::calls::{check, loops, plan, private_scalars};
 use crate::programs::program_of;
 use crate::rows::{AGAIN, Mark, Planned, ROWS, Range};
 use ast::{Name, Program};
 use dependence::{LoopPlan, PlanStmt};
-use loop_tree::{LoopTree, LoopView, loops};
-use placement::plan;
-use plan_check::{PlanFault, check};
-use privatise::private_scalars;
+use loop_tree::{LoopTree, LoopView, ScalarSet};
+use plan_check::PlanFault;
 use std::process::Abort;
 
 /// The loops of a program.
@@ -26,13 +25,12 @@ fn are_named(rt: &impl Abort, names: &[Name], wanted: &[&[u8]]) {
     }
 }
 
-/// The private scalars of a loop are the wanted ones.
-fn has_privates(rt: &(impl Abort + AllocGlobal), view: &LoopView<'_, '_>, wanted: &Range) {
-    let found = match private_scalars(rt.alloc(), view) {
+/// The private scalars of a loop.
+fn privates_of(rt: &(impl Abort + AllocGlobal), view: &LoopView<'_, '_>) -> ScalarSet {
+    match private_scalars(rt.alloc(), view) {
         Ok(found) => found,
         Err(_) => private_scalars(rt.alloc(), view).expect(rt, AGAIN),
-    };
-    are_named(rt, &found.names, wanted.privates);
+    }
 }
 
 /// What a part of a body is, IFs aside.
@@ -66,17 +64,34 @@ pub fn is_planned(rt: &impl Abort, found: &LoopPlan, wanted: &Range) {
     }
 }
 
-/// A loop's plan is the wanted one, and is accepted.
-fn has_plan(rt: &(impl Abort + AllocGlobal), view: &LoopView<'_, '_>, wanted: &Range) {
-    let found = match plan(rt.alloc(), view) {
+/// The plan of a loop.
+fn plan_of(rt: &(impl Abort + AllocGlobal), view: &LoopView<'_, '_>) -> LoopPlan {
+    match plan(rt.alloc(), view) {
         Ok(found) => found,
         Err(_) => plan(rt.alloc(), view).expect(rt, AGAIN),
-    };
-    is_planned(rt, &found, wanted);
-    if let Err(fault) = check(rt.alloc(), view, &found) {
-        assert!(*rt; fault == PlanFault::Memory);
-        check(rt.alloc(), view, &found).expect(rt, AGAIN);
     }
+}
+
+/// A plan is accepted.
+fn is_accepted(rt: &(impl Abort + AllocGlobal), view: &LoopView<'_, '_>, found: &LoopPlan) {
+    if let Err(fault) = check(rt.alloc(), view, found) {
+        assert!(*rt; fault == PlanFault::Memory);
+        check(rt.alloc(), view, found).expect(rt, AGAIN);
+    }
+}
+
+/// A loop's plan is the wanted one, and is accepted.
+fn has_plan(rt: &(impl Abort + AllocGlobal), view: &LoopView<'_, '_>, wanted: &Range) {
+    let found = plan_of(rt, view);
+    is_planned(rt, &found, wanted);
+    is_accepted(rt, view, &found);
+}
+
+/// A loop is the wanted one.
+fn is_loop(rt: &(impl Abort + AllocGlobal), view: &LoopView<'_, '_>, wanted: &Range) {
+    assert!(*rt; view.line() == wanted.first);
+    are_named(rt, &privates_of(rt, view).names, wanted.privates);
+    has_plan(rt, view, wanted);
 }
 
 /// The loops of a program are these.
@@ -87,17 +102,18 @@ fn are_loops(rt: &(impl Abort + AllocGlobal), tree: &LoopTree<'_>, wanted: &[Ran
         number = number.wrapping_add(1);
         assert!(*rt; 1 <= number);
         assert!(*rt; number <= tree.count());
-        let view = tree.view(number);
-        assert!(*rt; view.line() == range.first);
-        has_privates(rt, &view, range);
-        has_plan(rt, &view, range);
+        is_loop(rt, &tree.view(number), range);
     }
+}
+
+/// The loops of a row are these.
+fn has_loops(rt: &(impl Abort + AllocGlobal), program: &Program, wanted: &[Range]) {
+    are_loops(rt, &tree_of(rt, program), wanted);
 }
 
 #[test]
 fn want_of_memory_in_loops(rt: HostRuntime) {
     for row in &ROWS {
-        let program = program_of(&rt, row);
-        are_loops(&rt, &tree_of(&rt, &program), row.loops);
+        has_loops(&rt, &program_of(&rt, row), row.loops);
     }
 }

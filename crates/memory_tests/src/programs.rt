@@ -1,30 +1,31 @@
 //! From texts to programs, and to their answers one statement after another.
 
+use crate::calls::{blocks, program, run_seq, statement, statements};
 use crate::rows::{AGAIN, ROWS, Range, Row};
 use ast::{Answer, Kind, Line, Program, Refusal, Stmt};
-use fixed_form::{Labelled, statements};
-use interpreter::run_seq;
-use profile_check::program;
+use fixed_form::Labelled;
 use std::alloc::AllocError;
 use std::process::Abort;
 use std::test::Fail;
-use structure::{Blocks, blocks};
-use syntax::statement;
+use structure::Blocks;
 
-/// The statements of a source, each of which has a line of its own.
-fn lines_of(rt: &(impl Abort + AllocGlobal), row: &Row) -> Vec<Labelled> {
-    let list = match statements(rt.alloc(), row.source) {
+/// The statements of a source.
+fn statements_of(rt: &(impl Abort + AllocGlobal), source: &[u8]) -> Vec<Labelled> {
+    match statements(rt.alloc(), source) {
         Ok(list) => list,
         Err(refusal) => {
             assert!(*rt; refusal == Refusal::Memory);
-            statements(rt.alloc(), row.source).expect(rt, AGAIN)
+            statements(rt.alloc(), source).expect(rt, AGAIN)
         }
-    };
-    assert!(*rt; list.len() == row.statements);
+    }
+}
+
+/// There are so many statements, each of which has a line of its own.
+fn are_lines(rt: &impl Abort, list: &[Labelled], count: usize) {
+    assert!(*rt; list.len() == count);
     for (place, one) in list.iter().enumerate() {
         assert!(*rt; one.line as usize == place.wrapping_add(1));
     }
-    list
 }
 
 /// Whether a DO stands on this line.
@@ -37,15 +38,20 @@ fn begins_loop(row: &Row, line: Line) -> bool {
     false
 }
 
-/// A statement. Those that begin loops are the row's.
-fn read(rt: &(impl Abort + AllocGlobal), row: &Row, line: &Labelled) -> Stmt {
-    let read = match statement(rt.alloc(), line) {
+/// The tree of a statement.
+fn tree_of(rt: &(impl Abort + AllocGlobal), line: &Labelled) -> Stmt {
+    match statement(rt.alloc(), line) {
         Ok(read) => read,
         Err(refusal) => {
             assert!(*rt; refusal == Refusal::Memory);
             statement(rt.alloc(), line).expect(rt, AGAIN)
         }
-    };
+    }
+}
+
+/// A statement. Those that begin loops are the row's.
+fn read(rt: &(impl Abort + AllocGlobal), row: &Row, line: &Labelled) -> Stmt {
+    let read = tree_of(rt, line);
     assert!(*rt; read.line == line.line);
     assert!(*rt; read.label == line.label);
     assert!(*rt; matches!(&read.kind, Kind::Do(_)) == begins_loop(row, read.line));
@@ -84,12 +90,28 @@ fn are_ranges(rt: &impl Abort, found: &Blocks, wanted: &[Range]) {
     }
 }
 
+/// The trees of a row's statements, and their ranges.
+fn has_trees(
+    rt: &(impl Abort + AllocGlobal),
+    row: &Row,
+    lines: &[Labelled],
+) -> Result<(), AllocError> {
+    let trees = trees_of(rt, row, lines)?;
+    are_ranges(rt, &ranges_of(rt, lines, &trees), row.loops);
+    Ok(())
+}
+
+/// The statements of a row.
+fn has_statements(rt: &(impl Abort + AllocGlobal), row: &Row) -> Result<(), AllocError> {
+    let lines = statements_of(rt, row.source);
+    are_lines(rt, &lines, row.statements);
+    has_trees(rt, row, &lines)
+}
+
 #[test]
 fn want_of_memory_in_statements(rt: HostRuntime) -> Result<(), Fail> {
     for row in &ROWS {
-        let lines = lines_of(&rt, row);
-        let trees = trees_of(&rt, row, &lines)?;
-        are_ranges(&rt, &ranges_of(&rt, &lines, &trees), row.loops);
+        has_statements(&rt, row)?;
     }
     Ok(())
 }
@@ -119,15 +141,22 @@ pub fn is_answer(rt: &impl Abort, answer: &Answer, row: &Row) {
     assert!(*rt; answer.end == row.end);
 }
 
+fn copy_of(rt: &impl Abort, program: &Program) -> Program {
+    match program.try_copy() {
+        Ok(copy) => copy,
+        Err(_) => program.try_copy().expect(rt, AGAIN),
+    }
+}
+
+/// The copy of a row's program has the row's answer.
+fn has_answer(rt: &(impl Abort + AllocGlobal), program: &Program, row: &Row) {
+    assert!(*rt; program.statements == row.statements);
+    is_answer(rt, &answer_of(rt, &copy_of(rt, program), row), row);
+}
+
 #[test]
 fn want_of_memory_in_programs(rt: HostRuntime) {
     for row in &ROWS {
-        let first = program_of(&rt, row);
-        assert!(&rt; first.statements == row.statements);
-        let copy = match first.try_copy() {
-            Ok(copy) => copy,
-            Err(_) => first.try_copy().expect(&rt, AGAIN),
-        };
-        is_answer(&rt, &answer_of(&rt, &copy, row), row);
+        has_answer(&rt, &program_of(&rt, row), row);
     }
 }

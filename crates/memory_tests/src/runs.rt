@@ -1,9 +1,10 @@
 //! Runs in threads.
 
+use crate::calls::ran;
 use crate::cores::code_of;
 use crate::rows::{ROWS, Row};
 use machine::Code;
-use processors::{NoGate, Report, RunRefusal, run};
+use processors::{Report, RunRefusal};
 use std::process::Abort;
 use std::sync::Wait;
 use std::thread::Threads;
@@ -37,8 +38,8 @@ fn ends<R: Abort + AllocGlobal + Threads + Wait + Sync>(
     p: u64,
     s: u64,
 ) {
-    if !has_ended(rt, run(rt, rt.alloc(), code, row.input, p, s, &NoGate), row) {
-        let again = run(rt, rt.alloc(), code, row.input, p, s, &NoGate);
+    if !has_ended(rt, ran(rt, code, row.input, p, s), row) {
+        let again = ran(rt, code, row.input, p, s);
         assert!(*rt; has_ended(rt, again, row));
     }
 }
