@@ -1,13 +1,17 @@
 //! Trees of expressions.
 
 use ast::{Access, Expr, Name, Operator, Prefix, Refusal};
-use expressions::expr;
 use std::alloc::{AllocError, Global};
 use std::process::Abort;
 use std::test::Fail;
 
 /// The line of each text.
 const LINE: u32 = 9;
+
+/// The tree of a text. What is proved of it isn't carried through the tests.
+fn expr(alloc: Global, text: &[u8], line: u32) -> Result<Expr, Refusal> {
+    expressions::expr(alloc, text, line)
+}
 
 fn is_constant(expr: &Expr, wanted: i64) -> bool {
     match expr {
@@ -110,26 +114,41 @@ fn is_refused(rt: &impl Abort, given: Result<Expr, Refusal>, number: u8) {
     assert!(*rt; given.err() == Some(wanted));
 }
 
+/// Whether so many parentheses are read, with 7 in them.
+fn are_parentheses(alloc: Global, times: usize) -> Result<bool, Refusal> {
+    let deepest = expr(alloc, &enclosed(alloc, b"7", times)?, LINE)?;
+    Ok(match inside(&deepest, times) {
+        Some(inner) => is_constant(inner, 7),
+        None => false,
+    })
+}
+
 #[test]
 fn parentheses_to_the_greatest_depth(rt: HostRuntime) -> Result<(), Fail> {
-    let deepest = expr(rt.alloc(), &enclosed(rt.alloc(), b"7", 127)?, LINE)?;
-    match inside(&deepest, 127) {
-        Some(inner) => assert!(rt; is_constant(inner, 7)),
-        None => panic!(rt; "127 parentheses"),
-    }
+    assert!(rt; are_parentheses(rt.alloc(), 127)?);
+    Ok(())
+}
+
+#[test]
+fn parentheses_too_deep(rt: HostRuntime) -> Result<(), Fail> {
     let over = enclosed(rt.alloc(), b"7", 128)?;
     is_refused(&rt, expr(rt.alloc(), &over, LINE), 26);
     Ok(())
 }
 
-#[test]
-fn long_lists(rt: HostRuntime) -> Result<(), Fail> {
-    let mut text = Vec::from_slice(rt.alloc(), b"MAX(1")?;
-    for _ in 1..1_000 {
+/// MAX of so many ones
+fn long_list(alloc: Global, count: usize) -> Result<Vec<u8>, AllocError> {
+    let mut text = Vec::from_slice(alloc, b"MAX(1")?;
+    for _ in 1..count {
         text.extend_from_slice(b",1")?;
     }
     text.push(b')')?;
-    match expr(rt.alloc(), &text, LINE)? {
+    Ok(text)
+}
+
+#[test]
+fn long_lists(rt: HostRuntime) -> Result<(), Fail> {
+    match expr(rt.alloc(), &long_list(rt.alloc(), 1_000)?, LINE)? {
         Expr::Element(access) => assert!(rt; access.subscripts.len() == 1_000),
         _ => panic!(rt; "a name with a list"),
     }

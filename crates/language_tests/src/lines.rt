@@ -1,10 +1,15 @@
 //! Statements of texts.
 
 use ast::Refusal;
-use fixed_form::{Labelled, statements};
+use fixed_form::Labelled;
 use std::alloc::{AllocError, Global};
 use std::process::Abort;
 use std::test::Fail;
+
+/// The statements of a text. What is proved of them isn't carried through the tests.
+fn statements(alloc: Global, text: &[u8]) -> Result<Vec<Labelled>, Refusal> {
+    fixed_form::statements(alloc, text)
+}
 
 /// Some characters, and blanks behind them.
 fn is_filled(text: &[u8], characters: &[u8]) -> bool {
@@ -136,8 +141,7 @@ static ACCEPTED: [(&[u8], &[Wanted]); 10] = [
 #[test]
 fn statements_of_texts(rt: HostRuntime) -> Result<(), Fail> {
     for (text, wanted) in &ACCEPTED {
-        let list = statements(rt.alloc(), text)?;
-        gives(&rt, &list, wanted);
+        text_gives(&rt, text, wanted)?;
     }
     Ok(())
 }
@@ -237,25 +241,42 @@ static LONG: [&[u8]; 20] = [
     b"+1",
 ];
 
+/// Adds END on a long line, of which columns 1 to 72 count.
+fn add_long_end(text: &mut Vec<u8>) -> Result<(), AllocError> {
+    text.extend_from_slice(b"      END")?;
+    for _ in 0..1_000 {
+        text.push(b' ')?;
+    }
+    text.extend_from_slice(b"+1\n")?;
+    Ok(())
+}
+
+/// Two statements of 20 lines, which are on lines 1 to 39 and on lines 40 to 78.
+fn two_long(alloc: Global) -> Result<Vec<u8>, AllocError> {
+    let mut text = Vec::new(alloc);
+    add_long(&mut text, 19)?;
+    add_long(&mut text, 19)?;
+    Ok(text)
+}
+
+/// The statements of a text are these.
+fn text_gives(rt: &(impl Abort + AllocGlobal), text: &[u8], wanted: &[Wanted]) -> Result<(), Fail> {
+    let list = statements(rt.alloc(), text)?;
+    gives(rt, &list, wanted);
+    Ok(())
+}
+
 #[test]
 fn long_statements(rt: HostRuntime) -> Result<(), Fail> {
-    // 20 lines of text are on lines 1 to 39, and on lines 40 to 78.
-    let mut text = Vec::new(rt.alloc());
-    add_long(&mut text, 19)?;
-    add_long(&mut text, 19)?;
-    let mut ended = Vec::from_slice(rt.alloc(), &text)?;
-    // A long line, of which columns 1 to 72 count
-    ended.extend_from_slice(b"      END")?;
-    for _ in 0..1_000 {
-        ended.push(b' ')?;
-    }
-    ended.extend_from_slice(b"+1\n")?;
-    let list = statements(rt.alloc(), &ended)?;
-    gives(
-        &rt,
-        &list,
-        &[(None, 1, &LONG), (None, 40, &LONG), (None, 79, &[b"END"])],
-    );
+    let mut text = two_long(rt.alloc())?;
+    add_long_end(&mut text)?;
+    let wanted: &[Wanted] = &[(None, 1, &LONG), (None, 40, &LONG), (None, 79, &[b"END"])];
+    text_gives(&rt, &text, wanted)
+}
+
+#[test]
+fn statements_of_too_many_lines(rt: HostRuntime) -> Result<(), Fail> {
+    let mut text = two_long(rt.alloc())?;
     text.extend_from_slice(b"*\n     1+1\n      END\n")?;
     is_refused(&rt, statements(rt.alloc(), &text), 4, 80);
     Ok(())
@@ -273,26 +294,38 @@ fn with_comments(alloc: Global, lines: u32) -> Result<Vec<u8>, AllocError> {
 #[test]
 fn greatest_number_of_lines(rt: HostRuntime) -> Result<(), Fail> {
     let full = with_comments(rt.alloc(), 65_535)?;
-    let list = statements(rt.alloc(), &full)?;
-    gives(&rt, &list, &[(None, 1, &[b"END"])]);
+    text_gives(&rt, &full, &[(None, 1, &[b"END"])])
+}
+
+#[test]
+fn too_many_lines(rt: HostRuntime) -> Result<(), Fail> {
     let over = with_comments(rt.alloc(), 65_536)?;
     is_refused(&rt, statements(rt.alloc(), &over), 6, 65_536);
     Ok(())
 }
 
-#[test]
-fn greatest_number_of_continuation_lines(rt: HostRuntime) -> Result<(), Fail> {
-    // 1,680 statements of 20 lines and 19 comments are 65,520 lines.
-    let mut text = Vec::new(rt.alloc());
+/// 1,680 statements of 20 lines and 19 comments, which are 65,520 lines, and END.
+fn many_long(alloc: Global) -> Result<Vec<u8>, AllocError> {
+    let mut text = Vec::new(alloc);
     for _ in 0..1_680 {
         add_long(&mut text, 19)?;
     }
     text.extend_from_slice(b"      END\n")?;
-    let list = statements(rt.alloc(), &text)?;
-    assert!(&rt; list.len() == 1_681);
-    for statement in list.iter().take(1_680) {
-        assert!(&rt; statement.text.len() == 1_320);
-    }
+    Ok(text)
+}
+
+/// Whether the first statements of a list are as long as one may be.
+fn are_longest(list: &[Labelled]) -> bool {
+    list.iter()
+        .take(1_680)
+        .all(|statement| statement.text.len() == 1_320)
+}
+
+#[test]
+fn greatest_number_of_continuation_lines(rt: HostRuntime) -> Result<(), Fail> {
+    let list = statements(rt.alloc(), &many_long(rt.alloc())?)?;
+    assert!(rt; list.len() == 1_681);
+    assert!(rt; are_longest(&list));
     Ok(())
 }
 

@@ -1,27 +1,44 @@
 //! Where DO ranges and IF blocks stand.
 
 use ast::{Refusal, Stmt};
-use fixed_form::statements;
+use fixed_form::{Labelled, statements};
 use std::alloc::{AllocError, Global};
 use std::process::Abort;
 use std::test::Fail;
 use structure::{Blocks, Span, blocks};
 use syntax::statement;
 
-/// The trees of a source's statements.
-pub fn trees_of(alloc: Global, source: &[u8]) -> Result<Vec<Stmt>, Refusal> {
-    let labelled = statements(alloc, source)?;
-    let mut trees = Vec::with_capacity(alloc, labelled.len())?;
-    for one in &labelled {
-        trees.push(statement(alloc, one)?)?;
+/// The statements of a source. What is proved of these calls isn't carried through the tests.
+fn lines_of(alloc: Global, source: &[u8]) -> Result<Vec<Labelled>, Refusal> {
+    statements(alloc, source)
+}
+
+/// The tree of a statement.
+fn tree_of(alloc: Global, line: &Labelled) -> Result<Stmt, Refusal> {
+    statement(alloc, line)
+}
+
+fn read(alloc: Global, lines: &[Labelled]) -> Result<Vec<Stmt>, Refusal> {
+    let mut trees = Vec::with_capacity(alloc, lines.len())?;
+    for line in lines {
+        trees.push(tree_of(alloc, line)?)?;
     }
     Ok(trees)
 }
 
+/// The trees of a source's statements.
+pub fn trees_of(alloc: Global, source: &[u8]) -> Result<Vec<Stmt>, Refusal> {
+    read(alloc, &lines_of(alloc, source)?)
+}
+
+/// The ranges and blocks of statements.
+fn found_in(alloc: Global, lines: &[Labelled]) -> Result<Blocks, Refusal> {
+    blocks(alloc, lines, &read(alloc, lines)?)
+}
+
 /// The ranges and blocks of a source's statements.
 fn blocks_of(alloc: Global, source: &[u8]) -> Result<Blocks, Refusal> {
-    let labelled = statements(alloc, source)?;
-    blocks(alloc, &labelled, &trees_of(alloc, source)?)
+    found_in(alloc, &lines_of(alloc, source)?)
 }
 
 /// Two ranges that end together, a block in them, and a range in its first arm
@@ -58,19 +75,32 @@ fn want_of_memory_in_nests(rt: HostRuntime) -> Result<(), Fail> {
     Ok(())
 }
 
-#[test]
-fn many_blocks(rt: HostRuntime) -> Result<(), Fail> {
-    let mut source = Vec::new(rt.alloc());
-    for _ in 0..600 {
+/// So many blocks, one behind the other
+fn with_blocks(alloc: Global, count: usize) -> Result<Vec<u8>, AllocError> {
+    let mut source = Vec::new(alloc);
+    for _ in 0..count {
         source.extend_from_slice(b"      IF (I.EQ.1) THEN\n      END IF\n")?;
     }
     source.extend_from_slice(b"      END\n")?;
-    let made = blocks_of(rt.alloc(), &source)?;
-    assert!(&rt; made.spans.len() == 600);
-    for (number, span) in made.spans.iter().enumerate() {
-        assert!(&rt; span.first == 2 * number);
-        assert!(&rt; span.last == 2 * number + 1);
+    Ok(source)
+}
+
+/// Whether spans are of two statements each, one behind the other.
+fn are_in_turn(spans: &[Span]) -> bool {
+    for (number, span) in spans.iter().enumerate() {
+        let first = number.wrapping_mul(2);
+        if span.first != first || span.last != first.wrapping_add(1) {
+            return false;
+        }
     }
+    true
+}
+
+#[test]
+fn many_blocks(rt: HostRuntime) -> Result<(), Fail> {
+    let made = blocks_of(rt.alloc(), &with_blocks(rt.alloc(), 600)?)?;
+    assert!(rt; made.spans.len() == 600);
+    assert!(rt; are_in_turn(&made.spans));
     Ok(())
 }
 

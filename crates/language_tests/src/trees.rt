@@ -50,17 +50,27 @@ fn element(alloc: Global) -> Result<Access, AllocError> {
     })
 }
 
+/// (A(-9))
+fn left(alloc: Global) -> Result<Expr, AllocError> {
+    let inner = Expr::Element(element(alloc)?);
+    Ok(Expr::Parentheses(Box::new(alloc, inner)?))
+}
+
+/// MAX(N,.TRUE.), where N is 5
+fn right(alloc: Global) -> Result<Expr, AllocError> {
+    let arguments = Vec::from_array(alloc, [Expr::Parameter(name(b'N'), 5), Expr::Truth(true)])?;
+    Ok(Expr::Call(Intrinsic::Max, arguments))
+}
+
+fn boxed(alloc: Global, expr: Expr) -> Result<Box<Expr>, AllocError> {
+    Ok(Box::new(alloc, expr)?)
+}
+
 /// (A(-9)).EQ.MAX(N,.TRUE.), where N is 5
 fn comparison(alloc: Global) -> Result<Expr, AllocError> {
-    let inner = Expr::Element(element(alloc)?);
-    let left = Expr::Parentheses(Box::new(alloc, inner)?);
-    let arguments = Vec::from_array(alloc, [Expr::Parameter(name(b'N'), 5), Expr::Truth(true)])?;
-    let right = Expr::Call(Intrinsic::Max, arguments);
-    Ok(Expr::Binary(
-        Operator::Equal,
-        Box::new(alloc, left)?,
-        Box::new(alloc, right)?,
-    ))
+    let first = boxed(alloc, left(alloc)?)?;
+    let second = boxed(alloc, right(alloc)?)?;
+    Ok(Expr::Binary(Operator::Equal, first, second))
 }
 
 fn is_element(access: &Access, reference: Reference) -> bool {
