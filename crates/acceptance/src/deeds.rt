@@ -188,27 +188,30 @@ fn has_failed(
     assert!(*rt; files.put.is_empty());
 }
 
+/// What comes of a command of which so many of its calls go well.
+fn comes(rt: &HostRuntime, case: &Case, left: usize, calls: usize) {
+    let mut files = TestFiles::new(rt.alloc(), left);
+    let mut out = Vec::new(rt.alloc());
+    let mut nowhere = Vec::new(rt.alloc());
+    let status = obey(rt, &mut files, &mut out, &mut nowhere, case.command, 65_536);
+    if left < calls {
+        has_failed(rt, case, left, &files, &out, status);
+    } else {
+        has_succeeded(rt, case, &files, &out, status);
+    }
+}
+
+/// What comes of a command, of whose calls all but the last ones go well.
+fn comes_in_turn(rt: &HostRuntime, case: &Case) {
+    let calls = lines(case.calls);
+    for left in 0..=calls {
+        comes(rt, case, left, calls);
+    }
+}
+
 #[test]
 fn each_call_fails_in_turn(rt: HostRuntime) {
     for case in &CASES {
-        let calls = lines(case.calls);
-        for left in 0..=calls {
-            let mut files = TestFiles::new(rt.alloc(), left);
-            let mut out = Vec::new(rt.alloc());
-            let mut nowhere = Vec::new(rt.alloc());
-            let status = obey(
-                &rt,
-                &mut files,
-                &mut out,
-                &mut nowhere,
-                case.command,
-                65_536,
-            );
-            if left < calls {
-                has_failed(&rt, case, left, &files, &out, status);
-            } else {
-                has_succeeded(&rt, case, &files, &out, status);
-            }
-        }
+        comes_in_turn(&rt, case);
     }
 }

@@ -93,26 +93,78 @@ fn faults_into<R: AllocGlobal + Threads + Wait + Sync>(
     )
 }
 
+/// The schedule of a run that is shown whole.
+fn whole_schedule<R: Abort + AllocGlobal + Threads + Wait + Sync>(rt: &R) -> Result<Narrow, Fail> {
+    let mut whole = with_room(rt.alloc(), 4096)?;
+    shows_all(rt, &mut whole)?;
+    Ok(whole)
+}
+
+fn shows_all<R: Abort + AllocGlobal + Threads + Wait + Sync>(
+    rt: &R,
+    whole: &mut Narrow,
+) -> Result<(), Fail> {
+    let mut out = with_room(rt.alloc(), 64)?;
+    assert!(*rt; faults_into(rt, whole, &mut out)? == 2);
+    assert!(*rt; out.taken.as_slice() == FAULT_SHOWN);
+    Ok(())
+}
+
+/// A run with so much room for what it shows and for its schedule can't write all.
+fn falls_short<R: Abort + AllocGlobal + Threads + Wait + Sync>(
+    rt: &R,
+    shown: usize,
+    kept: usize,
+    whole: &[u8],
+) -> Result<(), AllocError> {
+    let mut schedule = with_room(rt.alloc(), kept)?;
+    let mut out = with_room(rt.alloc(), shown)?;
+    assert!(*rt; status_of(faults_into(rt, &mut schedule, &mut out)) == 4);
+    assert!(*rt; are_written(&schedule, &out, whole));
+    Ok(())
+}
+
+/// Whether a schedule is whole and what is shown a beginning, or the schedule a beginning with nothing
+/// shown.
+fn are_written(schedule: &Narrow, out: &Narrow, whole: &[u8]) -> bool {
+    if schedule.taken.as_slice() == whole {
+        return fills(out, FAULT_SHOWN);
+    }
+    fills(schedule, whole) && out.taken.is_empty()
+}
+
+/// Whether a writer has taken as much of a text as it has room for.
+fn fills(out: &Narrow, whole: &[u8]) -> bool {
+    out.taken.len() == out.room && whole.starts_with(out.taken.as_slice())
+}
+
+/// Each part of what is shown, with the whole schedule.
+fn shows_parts<R: Abort + AllocGlobal + Threads + Wait + Sync>(
+    rt: &R,
+    whole: &[u8],
+) -> Result<(), AllocError> {
+    for room in 0..FAULT_SHOWN.len() {
+        falls_short(rt, room, 4096, whole)?;
+    }
+    Ok(())
+}
+
+/// Each part of the schedule, with nothing shown.
+fn keeps_parts<R: Abort + AllocGlobal + Threads + Wait + Sync>(
+    rt: &R,
+    whole: &[u8],
+) -> Result<(), AllocError> {
+    for room in 0..whole.len() {
+        falls_short(rt, 64, room, whole)?;
+    }
+    Ok(())
+}
+
 #[test]
 fn writers_that_fail_in_a_run(rt: HostRuntime) -> Result<(), Fail> {
-    let mut whole = with_room(rt.alloc(), 4096)?;
-    let mut out = with_room(rt.alloc(), 64)?;
-    assert!(rt; faults_into(&rt, &mut whole, &mut out)? == 2);
-    assert!(rt; out.taken.as_slice() == FAULT_SHOWN);
-    for room in 0..FAULT_SHOWN.len() {
-        let mut schedule = with_room(rt.alloc(), 4096)?;
-        let mut out = with_room(rt.alloc(), room)?;
-        assert!(rt; status_of(faults_into(&rt, &mut schedule, &mut out)) == 4);
-        assert!(rt; out.taken.as_slice() == &FAULT_SHOWN[..room]);
-        assert!(rt; schedule.taken == whole.taken);
-    }
-    for room in 0..whole.taken.len() {
-        let mut schedule = with_room(rt.alloc(), room)?;
-        let mut out = with_room(rt.alloc(), 64)?;
-        assert!(rt; status_of(faults_into(&rt, &mut schedule, &mut out)) == 4);
-        assert!(rt; schedule.taken.as_slice() == &whole.taken[..room]);
-        assert!(rt; out.taken.is_empty());
-    }
+    let whole = whole_schedule(&rt)?;
+    shows_parts(&rt, &whole.taken)?;
+    keeps_parts(&rt, &whole.taken)?;
     Ok(())
 }
 
@@ -123,21 +175,39 @@ fn is_beginning(rt: &impl Abort, schedule: &Narrow, out: &Narrow) {
     assert!(*rt; schedule.taken.is_empty());
 }
 
+/// A run that is made again shows all.
+fn shows_again<R: Abort + AllocGlobal + Threads + Wait + Sync>(rt: &R) -> Result<(), AllocError> {
+    let mut schedule = with_room(rt.alloc(), 4096)?;
+    let mut out = with_room(rt.alloc(), 64)?;
+    let again = faults_into(rt, &mut schedule, &mut out);
+    assert!(*rt; again.expect(rt, "there is memory") == 2);
+    assert!(*rt; out.taken.as_slice() == FAULT_SHOWN);
+    Ok(())
+}
+
+/// Whether a run had its memory. One that had shows all.
+fn has_memory<R: Abort + AllocGlobal + Threads + Wait + Sync>(
+    rt: &R,
+    schedule: &mut Narrow,
+    out: &mut Narrow,
+) -> Result<bool, EngineFault> {
+    let first = faults_into(rt, schedule, out);
+    if let Err(EngineFault::Memory) = &first {
+        return Ok(false);
+    }
+    assert!(*rt; first? == 2);
+    assert!(*rt; out.taken.as_slice() == FAULT_SHOWN);
+    Ok(true)
+}
+
 #[test]
 fn want_of_memory_in_the_engine_of_runs(rt: HostRuntime) -> Result<(), Fail> {
     let mut schedule = with_room(rt.alloc(), 4096)?;
     let mut out = with_room(rt.alloc(), 64)?;
-    let first = faults_into(&rt, &mut schedule, &mut out);
-    if let Err(EngineFault::Memory) = &first {
+    if !has_memory(&rt, &mut schedule, &mut out)? {
         is_beginning(&rt, &schedule, &out);
-        let mut schedule = with_room(rt.alloc(), 4096)?;
-        let mut out = with_room(rt.alloc(), 64)?;
-        let again = faults_into(&rt, &mut schedule, &mut out);
-        assert!(rt; again.expect(&rt, "there is memory") == 2);
-        assert!(rt; out.taken.as_slice() == FAULT_SHOWN);
+        shows_again(&rt)?;
         return Err(AllocError.into());
     }
-    assert!(rt; first? == 2);
-    assert!(rt; out.taken.as_slice() == FAULT_SHOWN);
     Ok(())
 }
