@@ -3,8 +3,10 @@
 
 use commands::{Command, FileFault, NamedFiles, Threaded, obey};
 use std::alloc::{AllocError, Global};
-use std::io::{Error, ErrorKind, Result as IoResult};
+use std::io::{Eprint, Error, ErrorKind, Print, Result as IoResult};
 use std::process::Abort;
+use std::sync::Wait;
+use std::thread::Threads;
 
 /// The bytes of the files that are there.
 fn held(name: &str) -> Option<&'static [u8]> {
@@ -189,7 +191,12 @@ fn has_failed(
 }
 
 /// What comes of a command of which so many of its calls go well.
-fn comes(rt: &HostRuntime, case: &Case, left: usize, calls: usize) {
+fn comes<R: Abort + Print + Eprint + AllocGlobal + Threads + Wait + Sync>(
+    rt: &R,
+    case: &Case,
+    left: usize,
+    calls: usize,
+) {
     let mut files = TestFiles::new(rt.alloc(), left);
     let mut out = Vec::new(rt.alloc());
     let mut nowhere = Vec::new(rt.alloc());
@@ -202,7 +209,10 @@ fn comes(rt: &HostRuntime, case: &Case, left: usize, calls: usize) {
 }
 
 /// What comes of a command, of whose calls all but the last ones go well.
-fn comes_in_turn(rt: &HostRuntime, case: &Case) {
+fn comes_in_turn<R: Abort + Print + Eprint + AllocGlobal + Threads + Wait + Sync>(
+    rt: &R,
+    case: &Case,
+) {
     let calls = lines(case.calls);
     for left in 0..=calls {
         comes(rt, case, left, calls);
