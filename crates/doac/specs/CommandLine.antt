@@ -1,7 +1,9 @@
 -- The command lines of the program, as clap reads them.
 use Rattle.std.specs.Prelude.{◌≡◌, ◌≢◌, ◌<◌, ◌≤◌, ◌^◌, ⊤, ◌⊎◌, ℕ, Bool, true, false, codes, List, [], ◌∷◌, Option, Some, None, option_map}
 use Rattle.std.specs.Str.Parse.{IsNumeral, digits_value, without_leading_plus}
-use Rattle.clap.specs.Words.{App, IsAmong, Row, Rule, Text, fault_of, first_of, kind_of, new_app, new_rule, one_of, subcommand_of, with_rule, with_subcommand}
+use Rattle.clap.specs.Words.{App, app_of, IsAmong, Row, Rule, Text, fault_of, first_of, kind_of, new_app, new_rule, one_of, subcommand_of, with_rule, with_subcommand}
+use Rattle.clap.specs.declared.builder.command.Command.{Command as ClapCommand}
+use Rattle.clap.specs.declared.builder.command.Command.TheViews.{out-Command as fields_of}
 use Rattle.clap.specs.declared.error.Error.{Error}
 use Rattle.clap.specs.declared.error.kind.ErrorKind.TheVariants.{DisplayHelp, DisplayVersion, OutOfMemory}
 use Rattle.clap.specs.declared.builder.action.ArgAction.TheVariants.{Set, SetTrue}
@@ -114,6 +116,15 @@ abbrev pub doac : App
 doac =
     with_subcommands (explain ∷ code ∷ timeline ∷ draw ∷ upgrade ∷ replay ∷ run ∷ seq ∷ list ∷ check ∷ [])
     (wants_subcommand (new_app (codes "doac")))
+
+-- a command of clap's reads these words
+abbrev pub Reads : App → ClapCommand → Type 0
+Reads app c = app_of c ≡ app
+
+-- the same, and it hands no argument on to its subcommands
+pub record IsLine (app : App) (c : ClapCommand) : Type 0 where
+  pub reads : Reads app c
+  pub local : (fields_of c).has_globals ≡ false
 
 -- what clap makes of a flag
 abbrev pub IsFlag : Bool → Option Text → Type 0

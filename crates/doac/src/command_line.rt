@@ -1,9 +1,8 @@
 //! The command line, read by clap.
 
-ghost use Rattle.std.specs.Prelude.{◌≡◌, IfErr, IfOk, false, map};
-ghost use Rattle.clap.specs.Words.{app_of, new_app, rule_of, with_subcommand};
-ghost use Rattle.clap.specs.declared.builder.command.Command.TheViews.{out-Command as fields_of};
-ghost use Rattle.doac.specs.CommandLine.{Names, NamesNone, code, doac, draw, input, iterations, loop_number, number, out, processors, reason, run, schedule, schedule_out, slots, source, store, tally, timeline, upgrade, whole_input, why};
+ghost use Rattle.std.specs.Prelude.{◌≡◌, ◌∷◌, [], IfErr, IfOk, false, map};
+ghost use Rattle.clap.specs.Words.{App, Rule, new_app, rule_of, with_rule, with_subcommand};
+ghost use Rattle.doac.specs.CommandLine.{IsLine, Names, NamesNone, Reads, check, code, doac, draw, explain, input, iterations, list, loop_number, number, out, processors, reason, replay, run, schedule, schedule_out, seq, slots, source, store, tally, timeline, upgrade, whole_input, why, with_subcommands};
 
 use crate::command::{LineFault, held};
 use crate::help;
@@ -171,155 +170,238 @@ fn reason<'a>(alloc: Global) -> Arg<'a>
 
 /// A command of this name, with what stands at the beginning and at the end of its help.
 fn named<'a>(alloc: Global, name: &'a str, about: &'a str, ending: &'a str) -> clap::Command<'a>
-    ensures app { app_of result ≡ new_app name.entry.now }
-    ensures local { (fields_of result).has_globals ≡ false }
+    ensures { IsLine (new_app name.entry.now) result }
 {
     clap::Command::new(alloc, name)
         .about(about)
         .after_help(ending)
 }
 
-/// A command with the command line of `run` too.
-fn with_run<'a>(alloc: Global, app: clap::Command<'a>) -> Result<clap::Command<'a>, AllocError>
-    ensures { IfOk result (λ c. app_of c ≡ with_subcommand (app_of app.entry) run.top) }
+/// A command with one more argument, if there was memory for it.
+fn with<'a>(
+    line: Result<clap::Command<'a>, AllocError>,
+    argument: Arg<'a>,
+) -> Result<clap::Command<'a>, AllocError>
+    requires { argument.global ≡ false }
+    ensures { (app : App) (rule : Rule) → IfOk line.entry (IsLine app) → rule_of argument.entry ≡ rule
+        → IfOk result (IsLine (with_rule app rule)) }
 {
-    let run = named(
-        alloc,
-        "run",
-        "Runs a source in threads, iterations overlapping where they may",
-        help::RUN,
-    )
-    .arg(source(alloc))?
-    .arg(input(alloc))?
-    .arg(processors(alloc))?
-    .arg(slots(alloc))?
-    .arg(schedule_out(alloc))?
-    .arg(store(alloc))?
-    .arg(tally(alloc))?;
-    app.subcommand(run)
+    line?.arg(argument)
 }
 
-/// A command with the command line of `upgrade` too.
-fn with_upgrade<'a>(alloc: Global, app: clap::Command<'a>) -> Result<clap::Command<'a>, AllocError>
-    ensures { IfOk result (λ c. app_of c ≡ with_subcommand (app_of app.entry) upgrade.top) }
+/// The command line of `check`.
+fn checking<'a>(alloc: Global) -> Result<clap::Command<'a>, AllocError>
+    ensures { IfOk result (IsLine check) }
 {
-    let upgrade = named(
-        alloc,
-        "upgrade",
-        "Writes a schedule in the form that names what is picked",
-        help::UPGRADE,
-    )
-    .arg(source(alloc))?
-    .arg(whole_input(alloc))?
-    .arg(schedule(alloc))?
-    .arg(out(alloc))?;
-    app.subcommand(upgrade)
-}
-
-/// A command with the command line of `code` too.
-fn with_code<'a>(alloc: Global, app: clap::Command<'a>) -> Result<clap::Command<'a>, AllocError>
-    ensures { IfOk result (λ c. app_of c ≡ with_subcommand (app_of app.entry) code.top) }
-{
-    let code = named(
-        alloc,
-        "code",
-        "Shows the code that a source is compiled to, instruction by instruction",
-        help::CODE,
-    )
-    .arg(source(alloc))?;
-    app.subcommand(code)
-}
-
-/// A command with the command line of `draw` too.
-fn with_draw<'a>(alloc: Global, app: clap::Command<'a>) -> Result<clap::Command<'a>, AllocError>
-    ensures { IfOk result (λ c. app_of c ≡ with_subcommand (app_of app.entry) draw.top) }
-{
-    let draw = named(
-        alloc,
-        "draw",
-        "Draws a loop: what its iterations wait for, and where they tell",
-        help::DRAW,
-    )
-    .arg(source(alloc))?
-    .arg(picture(alloc))?
-    .arg(loop_number(alloc))?
-    .arg(iterations(alloc))?;
-    app.subcommand(draw)
-}
-
-/// A command with the command line of `timeline` too.
-fn with_timeline<'a>(alloc: Global, app: clap::Command<'a>) -> Result<clap::Command<'a>, AllocError>
-    ensures { IfOk result (λ c. app_of c ≡ with_subcommand (app_of app.entry) timeline.top) }
-{
-    let timeline = named(
-        alloc,
-        "timeline",
-        "Draws the run that a schedule describes: what each processor did, and when it waited",
-        help::TIMELINE,
-    )
-    .arg(source(alloc))?
-    .arg(whole_input(alloc))?
-    .arg(schedule(alloc))?
-    .arg(picture(alloc))?;
-    app.subcommand(timeline)
-}
-
-/// The program's command lines.
-fn parser<'a>(alloc: Global) -> Result<clap::Command<'a>, AllocError>
-    ensures { IfOk result (λ c. app_of c ≡ doac) }
-{
-    let check = named(
+    let line = Ok(named(
         alloc,
         "check",
         "Checks a source and writes ACCEPTED or REFUSED",
         help::CHECK,
-    )
-    .arg(source(alloc))?;
-    let list = named(
+    ));
+    with(line, source(alloc))
+}
+
+/// The command line of `list`.
+fn listing<'a>(alloc: Global) -> Result<clap::Command<'a>, AllocError>
+    ensures { IfOk result (IsLine list) }
+{
+    let line = Ok(named(
         alloc,
         "list",
         "Lists the loops of a source, and where iterations that overlap wait",
         help::LIST,
-    )
-    .arg(source(alloc))?
-    .arg(why(alloc))?;
-    let seq = named(
+    ));
+    let line = with(line, source(alloc));
+    with(line, why(alloc))
+}
+
+/// The command line of `code`.
+fn coding<'a>(alloc: Global) -> Result<clap::Command<'a>, AllocError>
+    ensures { IfOk result (IsLine code) }
+{
+    let line = Ok(named(
+        alloc,
+        "code",
+        "Shows the code that a source is compiled to, instruction by instruction",
+        help::CODE,
+    ));
+    with(line, source(alloc))
+}
+
+/// The command line of `seq`.
+fn running<'a>(alloc: Global) -> Result<clap::Command<'a>, AllocError>
+    ensures { IfOk result (IsLine seq) }
+{
+    let line = Ok(named(
         alloc,
         "seq",
         "Runs a source, one statement after another, and writes what it prints",
         help::SEQ,
-    )
-    .arg(source(alloc))?
-    .arg(input(alloc))?
-    .arg(store(alloc))?;
-    let replay = named(
+    ));
+    let line = with(line, source(alloc));
+    let line = with(line, input(alloc));
+    with(line, store(alloc))
+}
+
+/// The command line of `run`.
+fn threading<'a>(alloc: Global) -> Result<clap::Command<'a>, AllocError>
+    ensures { IfOk result (IsLine run) }
+{
+    let line = Ok(named(
+        alloc,
+        "run",
+        "Runs a source in threads, iterations overlapping where they may",
+        help::RUN,
+    ));
+    let line = with(line, source(alloc));
+    let line = with(line, input(alloc));
+    let line = with(line, processors(alloc));
+    let line = with(line, slots(alloc));
+    let line = with(line, schedule_out(alloc));
+    let line = with(line, store(alloc));
+    with(line, tally(alloc))
+}
+
+/// The command line of `replay`.
+fn replaying<'a>(alloc: Global) -> Result<clap::Command<'a>, AllocError>
+    ensures { IfOk result (IsLine replay) }
+{
+    let line = Ok(named(
         alloc,
         "replay",
         "Repeats a run of the machine turn by turn, and writes what it prints",
         help::REPLAY,
-    )
-    .arg(source(alloc))?
-    .arg(whole_input(alloc))?
-    .arg(schedule(alloc))?;
-    let explain = named(
+    ));
+    let line = with(line, source(alloc));
+    let line = with(line, whole_input(alloc));
+    with(line, schedule(alloc))
+}
+
+/// The command line of `upgrade`.
+fn upgrading<'a>(alloc: Global) -> Result<clap::Command<'a>, AllocError>
+    ensures { IfOk result (IsLine upgrade) }
+{
+    let line = Ok(named(
+        alloc,
+        "upgrade",
+        "Writes a schedule in the form that names what is picked",
+        help::UPGRADE,
+    ));
+    let line = with(line, source(alloc));
+    let line = with(line, whole_input(alloc));
+    let line = with(line, schedule(alloc));
+    with(line, out(alloc))
+}
+
+/// The command line of `draw`.
+fn drawing<'a>(alloc: Global) -> Result<clap::Command<'a>, AllocError>
+    ensures { IfOk result (IsLine draw) }
+{
+    let line = Ok(named(
+        alloc,
+        "draw",
+        "Draws a loop: what its iterations wait for, and where they tell",
+        help::DRAW,
+    ));
+    let line = with(line, source(alloc));
+    let line = with(line, picture(alloc));
+    let line = with(line, loop_number(alloc));
+    with(line, iterations(alloc))
+}
+
+/// The command line of `timeline`.
+fn timing<'a>(alloc: Global) -> Result<clap::Command<'a>, AllocError>
+    ensures { IfOk result (IsLine timeline) }
+{
+    let line = Ok(named(
+        alloc,
+        "timeline",
+        "Draws the run that a schedule describes: what each processor did, and when it waited",
+        help::TIMELINE,
+    ));
+    let line = with(line, source(alloc));
+    let line = with(line, whole_input(alloc));
+    let line = with(line, schedule(alloc));
+    with(line, picture(alloc))
+}
+
+/// The command line of `explain`.
+fn explaining<'a>(alloc: Global) -> Result<clap::Command<'a>, AllocError>
+    ensures { IfOk result (IsLine explain) }
+{
+    let line = Ok(named(
         alloc,
         "explain",
         "Explains a refusal, a fault or a serial loop by its number",
         help::EXPLAIN,
-    )
-    .arg(number(alloc))?
-    .arg(reason(alloc))?;
+    ));
+    let line = with(line, number(alloc));
+    with(line, reason(alloc))
+}
+
+/// A command with one subcommand more, if there was memory for both.
+fn adding<'a>(
+    app: Result<clap::Command<'a>, AllocError>,
+    line: Result<clap::Command<'a>, AllocError>,
+) -> Result<clap::Command<'a>, AllocError>
+    ensures { (base added : App) → IfOk app.entry (Reads base) → IfOk line.entry (IsLine added)
+        → IfOk result (Reads (with_subcommand base added.top)) }
+{
+    app?.subcommand(line?)
+}
+
+/// A command with the command lines that read a source or run it in order.
+fn with_sources<'a>(
+    alloc: Global,
+    app: Result<clap::Command<'a>, AllocError>,
+) -> Result<clap::Command<'a>, AllocError>
+    ensures { (base : App) → IfOk app.entry (Reads base)
+        → IfOk result (Reads (with_subcommands (seq ∷ list ∷ check ∷ []) base)) }
+{
+    let app = adding(app, checking(alloc));
+    let app = adding(app, listing(alloc));
+    adding(app, running(alloc))
+}
+
+/// A command with the command lines that run a source in threads, or read a schedule.
+fn with_schedules<'a>(
+    alloc: Global,
+    app: Result<clap::Command<'a>, AllocError>,
+) -> Result<clap::Command<'a>, AllocError>
+    ensures { (base : App) → IfOk app.entry (Reads base)
+        → IfOk result (Reads (with_subcommands (upgrade ∷ replay ∷ run ∷ []) base)) }
+{
+    let app = adding(app, threading(alloc));
+    let app = adding(app, replaying(alloc));
+    adding(app, upgrading(alloc))
+}
+
+/// A command with the command lines that draw, show or explain.
+fn with_pictures<'a>(
+    alloc: Global,
+    app: Result<clap::Command<'a>, AllocError>,
+) -> Result<clap::Command<'a>, AllocError>
+    ensures { (base : App) → IfOk app.entry (Reads base)
+        → IfOk result (Reads (with_subcommands (explain ∷ code ∷ timeline ∷ draw ∷ []) base)) }
+{
+    let app = adding(app, drawing(alloc));
+    let app = adding(app, timing(alloc));
+    let app = adding(app, coding(alloc));
+    adding(app, explaining(alloc))
+}
+
+/// The program's command lines.
+fn parser<'a>(alloc: Global) -> Result<clap::Command<'a>, AllocError>
+    ensures { IfOk result (Reads doac) }
+{
     let app = clap::Command::new(alloc, "doac")
         .about("Checks and runs FORTRAN 77 programs of INTEGER variables")
         .subcommand_required(true)
-        .version("0.1.0")
-        .subcommand(check)?
-        .subcommand(list)?
-        .subcommand(seq)?;
-    let app = with_run(alloc, app)?.subcommand(replay)?;
-    let app = with_draw(alloc, with_upgrade(alloc, app)?)?;
-    let app = with_timeline(alloc, app)?;
-    with_code(alloc, app)?.subcommand(explain)
+        .version("0.1.0");
+    let app = with_sources(alloc, Ok(app));
+    let app = with_schedules(alloc, app);
+    with_pictures(alloc, app)
 }
 
 /// Reads a command line, of which the first word is the program's name.
