@@ -1,6 +1,6 @@
 //! What the numbers of refusals and faults mean, and how that is printed.
 
-ghost use Rattle.std.specs.Prelude.{◌≡◌, IfSome, is_some};
+ghost use Rattle.std.specs.Prelude.{◌≡◌, ◌+◌, ◌≤◌, IfSome, is_some, length};
 ghost use Rattle.engines.specs.Explained as numbers;
 
 mod faults;
@@ -21,7 +21,7 @@ use std::io;
 const GREATEST: u8 = 61;
 
 /// What a number is that of.
-#[derive(Clone, Copy, Debug, PartialEq, Eq)]
+#[derive(Clone, Copy)]
 pub enum Origin {
     Refusal,
     Fault(Fault),
@@ -51,10 +51,12 @@ pub struct Explanation {
 impl Display for Trial {
     fn fmt<W: Write>(&self, f: &mut Formatter<W>) -> FmtResult {
         if !self.source.is_empty() {
-            write!(f, "\n{}", self.source)?;
+            f.write_str("\n")?;
+            f.write_str(self.source)?;
         }
         if !self.input.is_empty() {
-            write!(f, "\nwith the input\n\n{}", self.input)?;
+            f.write_str("\nwith the input\n\n")?;
+            f.write_str(self.input)?;
         }
         Ok(())
     }
@@ -111,6 +113,18 @@ fn is_within(least: u8, most: u8, number: u8) -> bool
     ensures { result ≡ numbers.is_within least most number }
 {
     least <= number && number <= most
+}
+
+/// The page of a number in a table whose pages have the numbers from the first to the last.
+fn page_in(pages: &[Explanation], first: u8, last: u8, number: u8) -> Option<Explanation>
+    requires order { first ≤ last }
+    requires whole { length pages.now + first ≡ last + 1 }
+    ensures number { IfSome result (λ explanation. explanation.number ≡ number) }
+    ensures whether { is_some result ≡ numbers.is_within first last number }
+{
+    let place = number.checked_sub(first)?;
+    let page = pages.get(usize::from(place))?;
+    Some(Explanation { number, ..*page })
 }
 
 /// What a refusal's number means.

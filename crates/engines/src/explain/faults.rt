@@ -3,7 +3,7 @@
 ghost use Rattle.std.specs.Prelude.{◌≡◌, IfSome, is_some};
 ghost use Rattle.engines.specs.Explained.{is_within};
 
-use crate::explain::{Explanation, Origin, Trial};
+use crate::explain::{Explanation, Origin, Trial, page_in};
 use ast::Fault;
 
 /// What the fault of a number means, if there is one.
@@ -11,16 +11,32 @@ pub fn page(number: u8) -> Option<Explanation>
     ensures number { IfSome result (λ explanation. explanation.number ≡ number) }
     ensures whether { is_some result ≡ is_within 1 6 number }
 {
-    match number {
-        1 => Some(OVERFLOW),
-        2 => Some(INDEX),
-        3 => Some(ZERO_DIVISOR),
-        4 => Some(ZERO_STEP),
-        5 => Some(END_OF_INPUT),
-        6 => Some(BAD_INPUT),
-        _ => None,
-    }
+    page_in(&TABLE, 1, 6, number)
 }
+
+/// The pages in the order of their numbers.
+const PAGES: [Explanation; 6] = [
+    OVERFLOW,
+    INDEX,
+    ZERO_DIVISOR,
+    ZERO_STEP,
+    END_OF_INPUT,
+    BAD_INPUT,
+];
+
+const _: () = prove!(PAGES[0].number == 1);
+
+const _: () = prove!(PAGES[1].number == 2);
+
+const _: () = prove!(PAGES[2].number == 3);
+
+const _: () = prove!(PAGES[3].number == 4);
+
+const _: () = prove!(PAGES[4].number == 5);
+
+const _: () = prove!(PAGES[5].number == 6);
+
+static TABLE: [Explanation; 6] = PAGES;
 
 const OVERFLOW: Explanation = Explanation {
     number: 1,

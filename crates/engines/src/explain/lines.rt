@@ -3,25 +3,45 @@
 ghost use Rattle.std.specs.Prelude.{◌≡◌, IfSome, is_some};
 ghost use Rattle.engines.specs.Explained.{is_within};
 
-use crate::explain::{Explanation, Origin, Trial};
+use crate::explain::{Explanation, Origin, Trial, page_in};
 
 /// What the rule of a number means, if it is one for lines.
 pub fn page(number: u8) -> Option<Explanation>
     ensures number { IfSome result (λ explanation. explanation.number ≡ number) }
     ensures whether { is_some result ≡ is_within 1 8 number }
 {
-    match number {
-        1 => Some(STRANGE_CHARACTER),
-        2 => Some(NO_LABEL),
-        3 => Some(LONE_CONTINUATION),
-        4 => Some(LONG_STATEMENT),
-        5 => Some(LABELLED_CONTINUATION),
-        6 => Some(LONG_SOURCE),
-        7 => Some(NO_END),
-        8 => Some(BEHIND_END),
-        _ => None,
-    }
+    page_in(&TABLE, 1, 8, number)
 }
+
+/// The pages in the order of their numbers.
+const PAGES: [Explanation; 8] = [
+    STRANGE_CHARACTER,
+    NO_LABEL,
+    LONE_CONTINUATION,
+    LONG_STATEMENT,
+    LABELLED_CONTINUATION,
+    LONG_SOURCE,
+    NO_END,
+    BEHIND_END,
+];
+
+const _: () = prove!(PAGES[0].number == 1);
+
+const _: () = prove!(PAGES[1].number == 2);
+
+const _: () = prove!(PAGES[2].number == 3);
+
+const _: () = prove!(PAGES[3].number == 4);
+
+const _: () = prove!(PAGES[4].number == 5);
+
+const _: () = prove!(PAGES[5].number == 6);
+
+const _: () = prove!(PAGES[6].number == 7);
+
+const _: () = prove!(PAGES[7].number == 8);
+
+static TABLE: [Explanation; 8] = PAGES;
 
 const STRANGE_CHARACTER: Explanation = Explanation {
     number: 1,

@@ -3,31 +3,88 @@
 ghost use Rattle.std.specs.Prelude.{◌≡◌, IfSome, is_some};
 ghost use Rattle.engines.specs.Explained.{is_within};
 
-use crate::explain::{Explanation, Origin, Trial};
+use crate::explain::{Explanation, Origin, Trial, page_in};
 
 /// What the rule of a number means, if it is one for whole programs.
 pub fn page(number: u8) -> Option<Explanation>
     ensures number { IfSome result (λ explanation. explanation.number ≡ number) }
     ensures whether { is_some result ≡ is_within 30 43 number }
 {
-    match number {
-        30 => Some(WRONG_ORDER),
-        31 => Some(NO_INTEGER),
-        32 => Some(TWO_MEANINGS),
-        33 => Some(WRONG_SUBSCRIPTS),
-        34 => Some(OPEN_RANGE),
-        35 => Some(WRONG_LAST_STATEMENT),
-        36 => Some(WRONG_BLOCK),
-        37 => Some(VARIABLE_IN_USE),
-        38 => Some(ASSIGNED_CONSTANT),
-        39 => Some(WRONG_BOUNDS),
-        40 => Some(LARGE_PROGRAM),
-        41 => Some(LABEL_TWICE),
-        42 => Some(NO_CONSTANT),
-        43 => Some(WRONG_KIND),
-        _ => None,
+    if number <= 36 {
+        first_page(number)
+    } else {
+        further_page(number)
     }
 }
+
+/// What the rule of a number means, if it is one of the first.
+fn first_page(number: u8) -> Option<Explanation>
+    ensures number { IfSome result (λ explanation. explanation.number ≡ number) }
+    ensures whether { is_some result ≡ is_within 30 36 number }
+{
+    page_in(&FIRST_TABLE, 30, 36, number)
+}
+
+/// What the rule of a number means, if it is one of the others.
+fn further_page(number: u8) -> Option<Explanation>
+    ensures number { IfSome result (λ explanation. explanation.number ≡ number) }
+    ensures whether { is_some result ≡ is_within 37 43 number }
+{
+    page_in(&FURTHER_TABLE, 37, 43, number)
+}
+
+/// The pages in the order of their numbers.
+const FIRST_PAGES: [Explanation; 7] = [
+    WRONG_ORDER,
+    NO_INTEGER,
+    TWO_MEANINGS,
+    WRONG_SUBSCRIPTS,
+    OPEN_RANGE,
+    WRONG_LAST_STATEMENT,
+    WRONG_BLOCK,
+];
+
+const _: () = prove!(FIRST_PAGES[0].number == 30);
+
+const _: () = prove!(FIRST_PAGES[1].number == 31);
+
+const _: () = prove!(FIRST_PAGES[2].number == 32);
+
+const _: () = prove!(FIRST_PAGES[3].number == 33);
+
+const _: () = prove!(FIRST_PAGES[4].number == 34);
+
+const _: () = prove!(FIRST_PAGES[5].number == 35);
+
+const _: () = prove!(FIRST_PAGES[6].number == 36);
+
+static FIRST_TABLE: [Explanation; 7] = FIRST_PAGES;
+
+const FURTHER_PAGES: [Explanation; 7] = [
+    VARIABLE_IN_USE,
+    ASSIGNED_CONSTANT,
+    WRONG_BOUNDS,
+    LARGE_PROGRAM,
+    LABEL_TWICE,
+    NO_CONSTANT,
+    WRONG_KIND,
+];
+
+const _: () = prove!(FURTHER_PAGES[0].number == 37);
+
+const _: () = prove!(FURTHER_PAGES[1].number == 38);
+
+const _: () = prove!(FURTHER_PAGES[2].number == 39);
+
+const _: () = prove!(FURTHER_PAGES[3].number == 40);
+
+const _: () = prove!(FURTHER_PAGES[4].number == 41);
+
+const _: () = prove!(FURTHER_PAGES[5].number == 42);
+
+const _: () = prove!(FURTHER_PAGES[6].number == 43);
+
+static FURTHER_TABLE: [Explanation; 7] = FURTHER_PAGES;
 
 const WRONG_ORDER: Explanation = Explanation {
     number: 30,

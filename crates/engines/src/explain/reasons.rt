@@ -1,6 +1,6 @@
 //! Reasons for which a loop stays serial.
 
-ghost use Rattle.std.specs.Prelude.{◌≡◌, IfSome, is_some};
+ghost use Rattle.std.specs.Prelude.{◌≡◌, IfSome, is_some, length};
 ghost use Rattle.engines.specs.Explained.{is_within};
 
 use std::fmt::{Display, Formatter, Result as FmtResult, Write};
@@ -48,16 +48,43 @@ pub fn serial_reason(number: u8) -> Option<Reason>
     ensures number { IfSome result (λ reason. reason.number ≡ number) }
     ensures whether { is_some result ≡ is_within 1 6 number }
 {
-    match number {
-        1 => Some(NO_STEP),
-        2 => Some(HAS_READ),
-        3 => Some(SHARED_VARIABLE),
-        4 => Some(MANY_SOURCES),
-        5 => Some(INSIDE),
-        6 => Some(REFUSED),
-        _ => None,
-    }
+    reason_in(&TABLE, number)
 }
+
+/// The reason of a number in a table of all.
+fn reason_in(reasons: &[Reason], number: u8) -> Option<Reason>
+    requires { length reasons.now ≡ 6 }
+    ensures number { IfSome result (λ reason. reason.number ≡ number) }
+    ensures whether { is_some result ≡ is_within 1 6 number }
+{
+    let place = number.checked_sub(1)?;
+    let reason = reasons.get(usize::from(place))?;
+    Some(Reason { number, ..*reason })
+}
+
+/// The reasons in the order of their numbers.
+const REASONS: [Reason; 6] = [
+    NO_STEP,
+    HAS_READ,
+    SHARED_VARIABLE,
+    MANY_SOURCES,
+    INSIDE,
+    REFUSED,
+];
+
+const _: () = prove!(REASONS[0].number == 1);
+
+const _: () = prove!(REASONS[1].number == 2);
+
+const _: () = prove!(REASONS[2].number == 3);
+
+const _: () = prove!(REASONS[3].number == 4);
+
+const _: () = prove!(REASONS[4].number == 5);
+
+const _: () = prove!(REASONS[5].number == 6);
+
+static TABLE: [Reason; 6] = REASONS;
 
 const NO_STEP: Reason = Reason {
     number: 1,

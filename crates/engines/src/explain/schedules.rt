@@ -4,24 +4,46 @@
 ghost use Rattle.std.specs.Prelude.{◌≡◌, ◌||◌, IfSome, is_some};
 ghost use Rattle.engines.specs.Explained.{is_within};
 
-use crate::explain::{Explanation, Origin, Trial};
+use crate::explain::{Explanation, Origin, Trial, page_in};
 
 /// What the refusal of a number means, if it is one of a schedule or of code.
 pub fn page(number: u8) -> Option<Explanation>
     ensures number { IfSome result (λ explanation. explanation.number ≡ number) }
     ensures whether { is_some result ≡ is_within 51 56 number || is_within 61 61 number }
 {
-    match number {
-        51 => Some(NO_HEADER),
-        52 => Some(NO_ENTRY),
-        53 => Some(NO_PROCESSOR),
-        54 => Some(NOT_POSSIBLE),
-        55 => Some(NOT_ENDED),
-        56 => Some(BEHIND_THE_END),
-        61 => Some(LONG_CODE),
-        _ => None,
+    if number == 61 {
+        page_in(&OF_CODE, 61, 61, number)
+    } else {
+        page_in(&TABLE, 51, 56, number)
     }
 }
+
+/// The pages of schedules in the order of their numbers.
+const PAGES: [Explanation; 6] = [
+    NO_HEADER,
+    NO_ENTRY,
+    NO_PROCESSOR,
+    NOT_POSSIBLE,
+    NOT_ENDED,
+    BEHIND_THE_END,
+];
+
+const _: () = prove!(PAGES[0].number == 51);
+
+const _: () = prove!(PAGES[1].number == 52);
+
+const _: () = prove!(PAGES[2].number == 53);
+
+const _: () = prove!(PAGES[3].number == 54);
+
+const _: () = prove!(PAGES[4].number == 55);
+
+const _: () = prove!(PAGES[5].number == 56);
+
+static TABLE: [Explanation; 6] = PAGES;
+
+/// The page of code.
+static OF_CODE: [Explanation; 1] = [LONG_CODE];
 
 /// The schedule of the program of END alone, on one processor.
 const WHOLE: Trial = Trial {

@@ -3,25 +3,45 @@
 ghost use Rattle.std.specs.Prelude.{◌≡◌, IfSome, is_some};
 ghost use Rattle.engines.specs.Explained.{is_within};
 
-use crate::explain::{Explanation, Origin, Trial};
+use crate::explain::{Explanation, Origin, Trial, page_in};
 
 /// What the rule of a number means, if it is one for single statements.
 pub fn page(number: u8) -> Option<Explanation>
     ensures number { IfSome result (λ explanation. explanation.number ≡ number) }
     ensures whether { is_some result ≡ is_within 20 27 number }
 {
-    match number {
-        20 => Some(NO_STATEMENT),
-        21 => Some(OPEN_TEXT),
-        22 => Some(REAL_CONSTANT),
-        23 => Some(LARGE_CONSTANT),
-        24 => Some(LONG_NAME),
-        25 => Some(NOT_WELL_FORMED),
-        26 => Some(DEEP_EXPRESSION),
-        27 => Some(LEFT_OUT),
-        _ => None,
-    }
+    page_in(&TABLE, 20, 27, number)
 }
+
+/// The pages in the order of their numbers.
+const PAGES: [Explanation; 8] = [
+    NO_STATEMENT,
+    OPEN_TEXT,
+    REAL_CONSTANT,
+    LARGE_CONSTANT,
+    LONG_NAME,
+    NOT_WELL_FORMED,
+    DEEP_EXPRESSION,
+    LEFT_OUT,
+];
+
+const _: () = prove!(PAGES[0].number == 20);
+
+const _: () = prove!(PAGES[1].number == 21);
+
+const _: () = prove!(PAGES[2].number == 22);
+
+const _: () = prove!(PAGES[3].number == 23);
+
+const _: () = prove!(PAGES[4].number == 24);
+
+const _: () = prove!(PAGES[5].number == 25);
+
+const _: () = prove!(PAGES[6].number == 26);
+
+const _: () = prove!(PAGES[7].number == 27);
+
+static TABLE: [Explanation; 8] = PAGES;
 
 const NO_STATEMENT: Explanation = Explanation {
     number: 20,
