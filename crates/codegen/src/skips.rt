@@ -11,7 +11,7 @@ use machine::{Act, Instr};
 use std::alloc::AllocError;
 
 /// A skip to the end of an IF's code, which isn't there yet: its place in the code, and its line.
-#[derive(Clone, Copy, Debug)]
+#[derive(Clone, Copy)]
 pub struct Pending {
     pub place: usize,
     pub line: Line,

@@ -1,7 +1,7 @@
 //! What is asked for.
 
 /// What the command line asks for of a run in threads.
-#[derive(Clone, Copy, Debug, PartialEq, Eq)]
+#[derive(Clone, Copy)]
 pub struct Threaded<'a> {
     /// The file of the source.
     pub source: &'a str,
@@ -20,7 +20,7 @@ pub struct Threaded<'a> {
 }
 
 /// What the command line asks for.
-#[derive(Clone, Copy, Debug, PartialEq, Eq)]
+#[derive(Clone, Copy)]
 pub enum Command<'a> {
     /// `check F`: whether the source of this file is in the profile.
     Check(&'a str),

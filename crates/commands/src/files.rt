@@ -30,7 +30,7 @@ pub trait NamedFiles {
 }
 
 /// The names of the files that a replay takes.
-#[derive(Clone, Copy, Debug, PartialEq, Eq)]
+#[derive(Clone, Copy)]
 pub struct Names<'a> {
     pub source: &'a str,
     pub input: &'a str,

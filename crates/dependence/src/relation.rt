@@ -25,7 +25,7 @@ pub enum Relation {
 }
 
 /// What the distance test gives.
-#[derive(Clone, Copy, Debug, PartialEq, Eq)]
+#[derive(Clone, Copy)]
 pub enum Found {
     /// Nothing.
     Nothing,

@@ -28,7 +28,7 @@ use std::alloc::{AllocError, Global};
 use std::io::{Read, Write};
 
 /// Which loop of a program is drawn, and how much of it.
-#[derive(Clone, Copy, Debug, PartialEq, Eq)]
+#[derive(Clone, Copy)]
 pub struct Portion {
     /// The loop's number, from 1.
     pub number: usize,

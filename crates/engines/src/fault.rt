@@ -34,7 +34,7 @@ pub enum EngineFault {
 }
 
 /// Why the bytes of a reader weren't all read.
-#[derive(Debug, Drop)]
+#[derive(Drop)]
 pub enum ReadFault {
     /// The reader failed, also for want of memory of its own.
     Reader(io::Error),

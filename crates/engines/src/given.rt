@@ -11,7 +11,7 @@ use std::alloc::Global;
 use std::io::Read;
 
 /// How a program is to be run, and what is wanted beside its records.
-#[derive(Clone, Copy, Debug, PartialEq, Eq)]
+#[derive(Clone, Copy)]
 pub struct Wants {
     /// How many processors there are to be, 1 to 64.
     pub processors: u64,

@@ -5,7 +5,7 @@ use remarks::Beyond;
 use std::fmt::{Display, Formatter, Result as FmtResult, Write};
 
 /// What is known beside the line.
-#[derive(Clone, Copy, Debug, PartialEq, Eq)]
+#[derive(Clone, Copy)]
 pub enum Note {
     /// Which subscript an INDEX was of.
     Subscript(Beyond),

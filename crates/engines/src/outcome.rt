@@ -7,7 +7,7 @@ use ast::{Fault, Line};
 
 /// How an engine's work on a source ended. Lines are counted from 1; a refusal for what an empty
 /// file lacks has line 0.
-#[derive(Clone, Copy, Debug, PartialEq, Eq)]
+#[derive(Clone, Copy)]
 pub enum Outcome {
     /// The source was accepted, and its run, if it was wanted, came to END or to a STOP.
     Completed,

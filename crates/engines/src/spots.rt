@@ -10,7 +10,7 @@ use dependence::{PlanArm, PlanStmt};
 use std::alloc::AllocError;
 
 /// Where an event is advanced.
-#[derive(Clone, Copy, Debug, PartialEq, Eq)]
+#[derive(Clone, Copy)]
 pub enum Spot {
     /// Behind the statement of this line.
     Behind(Line),

@@ -11,7 +11,7 @@ const MOST: u64 = 960;
 const CELLS: u64 = 4_000;
 
 /// An activity that a processor holds.
-#[derive(Clone, Copy, Debug, PartialEq, Eq)]
+#[derive(Clone, Copy, PartialEq, Eq)]
 pub enum Held {
     Main,
     /// The iteration of this number.
@@ -19,7 +19,7 @@ pub enum Held {
 }
 
 /// What came of an entry, beside its steps.
-#[derive(Clone, Copy, Debug, PartialEq, Eq)]
+#[derive(Clone, Copy, PartialEq, Eq)]
 pub enum Came {
     Nothing,
     /// The processor advanced an event.
@@ -33,7 +33,7 @@ pub enum Came {
 }
 
 /// What an iteration waits for that was parked at an await.
-#[derive(Clone, Copy, Debug, PartialEq, Eq)]
+#[derive(Clone, Copy)]
 pub struct Awaited {
     pub event: u32,
     /// The number of the iteration that is to advance the event.
@@ -41,7 +41,7 @@ pub struct Awaited {
 }
 
 /// An entry of a schedule, as it was made.
-#[derive(Clone, Copy, Debug, PartialEq, Eq)]
+#[derive(Clone, Copy)]
 pub struct Turn {
     /// The processor, from 0.
     pub processor: usize,
@@ -59,7 +59,7 @@ pub struct Turn {
 }
 
 /// What a processor did in the entries of a column.
-#[derive(Clone, Copy, Debug, PartialEq, Eq)]
+#[derive(Clone, Copy)]
 pub struct Cell {
     /// Whether an entry of the column is its.
     pub seen: bool,
@@ -92,7 +92,7 @@ const EMPTY: Cell = Cell {
 };
 
 /// What a processor did in the whole run.
-#[derive(Clone, Copy, Debug, PartialEq, Eq)]
+#[derive(Clone, Copy)]
 pub struct Lane {
     pub steps: u64,
     /// How often what it held had to wait.

@@ -41,7 +41,7 @@ pub struct SerialLoop<'r> {
 }
 
 /// Which loop is drawn, and how much of it.
-#[derive(Clone, Copy, Debug, PartialEq, Eq)]
+#[derive(Clone, Copy)]
 pub struct Frame {
     /// The loop's number, from 1.
     pub number: usize,

@@ -3,7 +3,7 @@
 use crate::svg::{Point, Size};
 
 /// The class of a mark, by which the style sheet says how it looks.
-#[derive(Clone, Copy, Debug, PartialEq, Eq)]
+#[derive(Clone, Copy)]
 pub struct Class {
     pub name: &'static [u8],
     /// Its hue, if it has one of those of events.

@@ -3,7 +3,7 @@
 use ast::{Line, Name};
 
 /// How a row looks.
-#[derive(Clone, Copy, Debug, PartialEq, Eq)]
+#[derive(Clone, Copy)]
 pub enum Look {
     /// As a statement of the source.
     Plain,
@@ -26,7 +26,7 @@ impl Look {
 }
 
 /// The statement of a line.
-#[derive(Clone, Copy, Debug, PartialEq, Eq)]
+#[derive(Clone, Copy)]
 pub struct Statement<'a> {
     pub line: Line,
     /// The text of the statement, as far as it stands in that line.
@@ -36,14 +36,14 @@ pub struct Statement<'a> {
 }
 
 /// The numbers of the sources that stand in a row, which are counted where there are too many.
-#[derive(Clone, Copy, Debug, PartialEq, Eq)]
+#[derive(Clone, Copy)]
 pub struct Counted {
     pub first: usize,
     pub last: usize,
 }
 
 /// A row: what each iteration has at this height.
-#[derive(Clone, Copy, Debug, PartialEq, Eq)]
+#[derive(Clone, Copy)]
 pub struct Row<'a> {
     /// The line in the source; of a made ELSE, that of its IF; of an end, that of its DO or IF.
     pub line: Line,
@@ -58,7 +58,7 @@ pub struct Row<'a> {
 }
 
 /// A dependence that is kept.
-#[derive(Clone, Copy, Debug, PartialEq, Eq)]
+#[derive(Clone, Copy)]
 pub struct Arrow {
     /// The event by which the sink's iteration waits; the first has the number 1.
     pub event: usize,
@@ -71,7 +71,7 @@ pub struct Arrow {
 }
 
 /// Where an event is advanced: behind what stands in a row.
-#[derive(Clone, Copy, Debug, PartialEq, Eq)]
+#[derive(Clone, Copy)]
 pub struct Advance {
     pub event: usize,
     pub row: usize,

@@ -29,14 +29,14 @@ pub const BOX: Size = Size {
 };
 
 /// A place of a picture: the box of a row in an iteration; both are counted from 0.
-#[derive(Clone, Copy, Debug, PartialEq, Eq)]
+#[derive(Clone, Copy)]
 pub struct Place {
     pub column: u128,
     pub row: usize,
 }
 
 /// The rows between which a dependence goes.
-#[derive(Clone, Copy, Debug, PartialEq, Eq)]
+#[derive(Clone, Copy)]
 pub struct Ends {
     pub source: usize,
     pub sink: usize,

@@ -19,7 +19,7 @@ const END_OF_LOOP: &[u8] = b"(end of the DO)";
 const END_OF_IF: &[u8] = b"(end of the IF)";
 
 /// A loop or an IF, behind which no row stands.
-#[derive(Clone, Copy, Debug, PartialEq, Eq)]
+#[derive(Clone, Copy)]
 struct Ended {
     line: Line,
     depth: u64,

@@ -9,14 +9,14 @@ use itoa::{Buffer, Integer};
 use std::alloc::{AllocError, Global};
 
 /// A point of a picture.
-#[derive(Clone, Copy, Debug, PartialEq, Eq)]
+#[derive(Clone, Copy)]
 pub struct Point {
     pub x: u128,
     pub y: u128,
 }
 
 /// How wide and how high something is.
-#[derive(Clone, Copy, Debug, PartialEq, Eq)]
+#[derive(Clone, Copy)]
 pub struct Size {
     pub width: u128,
     pub height: u128,

@@ -27,7 +27,7 @@ pub const MOST_EVENTS: usize = 64;
 
 /// A dependence that the tests don't refute: the numbers of its statements, and over how many
 /// iterations it goes. They are ordered by the sink, then by the source.
-#[derive(Clone, Copy, Debug, PartialEq, Eq, PartialOrd, Ord)]
+#[derive(Clone, Copy, PartialEq, Eq, PartialOrd, Ord)]
 pub struct Kept {
     pub sink: usize,
     pub source: usize,

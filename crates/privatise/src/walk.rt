@@ -4,7 +4,7 @@ ghost use Rattle.std.specs.Prelude.{◌≡◌};
 ghost use Rattle.privatise.specs.Walks as spec;
 
 /// What paths do with a scalar.
-#[derive(Clone, Copy, Debug, PartialEq, Eq)]
+#[derive(Clone, Copy)]
 pub enum Walk {
     /// Each path that comes to the end defines it, and none uses it before.
     Defined,

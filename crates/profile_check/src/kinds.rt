@@ -11,7 +11,7 @@ ghost use Rattle.profile_check.specs.Rules as rules;
 use ast::{Access, Bounds, Declarator, Definition, DoHead, Expr, Item, Kind, Operator, Prefix};
 
 /// The kind of a value.
-#[derive(Clone, Copy, Debug, PartialEq, Eq)]
+#[derive(Clone, Copy)]
 pub enum ValueKind {
     Integral,
     Logical,

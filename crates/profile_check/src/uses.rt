@@ -10,7 +10,7 @@ use ast::{Access, Bounds, Declarator, Definition, DoHead, Expr, Item, Kind, Name
 use std::alloc::AllocError;
 
 /// A name in a statement.
-#[derive(Clone, Copy, Debug)]
+#[derive(Clone, Copy)]
 pub struct Use {
     pub name: Name,
     /// With how many subscripts or arguments it stands.

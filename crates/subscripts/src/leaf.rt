@@ -13,7 +13,7 @@ use ast::{Expr, Reference};
 use loop_tree::LoopView;
 
 /// What an expression without parts is to a form.
-#[derive(Clone, Copy, Debug, PartialEq, Eq)]
+#[derive(Clone, Copy)]
 pub enum Leaf {
     Number(i64),
     /// The place of the scalar's name among the program's symbols.

@@ -11,7 +11,7 @@ use loop_tree::LoopView;
 use smallvec::SmallVec;
 
 /// So many times a scalar.
-#[derive(Clone, Copy, Debug, Default, PartialEq, Eq)]
+#[derive(Clone, Copy, Default)]
 pub struct Share {
     /// The place of the scalar's name among the program's symbols.
     pub cell: usize,
