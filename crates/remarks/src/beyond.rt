@@ -9,7 +9,7 @@ use std::fmt::{Display, Formatter, Result as FmtResult, Write};
 use values::{abs, apply_operator, apply_prefix, modulo, truth};
 
 /// A subscript that isn't within its bounds.
-#[derive(Clone, Copy, Debug, PartialEq, Eq)]
+#[derive(Clone, Copy)]
 pub struct Beyond {
     /// The array.
     pub name: Name,
@@ -207,8 +207,7 @@ fn place_of(name: Name, dimensions: &[Dimension], values: &[i64]) -> Result<usiz
     let mut place: usize = 0;
     let mut stride: usize = 1;
     for (number, (bounds, value)) in dimensions.iter().zip(values).enumerate() {
-        let Dimension { lower, upper } = *bounds;
-        if *value < lower || *value > upper {
+        if is_outside(*bounds, *value) {
             return Err(Some(Beyond {
                 name,
                 number: number.saturating_add(1),
@@ -216,10 +215,19 @@ fn place_of(name: Name, dimensions: &[Dimension], values: &[i64]) -> Result<usiz
                 bounds: *bounds,
             }));
         }
-        let width = upper.abs_diff(lower).saturating_add(1) as usize;
-        let distance = value.abs_diff(lower) as usize;
+        let distance = value.abs_diff(bounds.lower) as usize;
         place = place.saturating_add(stride.saturating_mul(distance));
-        stride = stride.saturating_mul(width);
+        stride = stride.saturating_mul(width(*bounds));
     }
     Ok(place)
+}
+
+/// Whether a subscript isn't within its bounds.
+fn is_outside(bounds: Dimension, value: i64) -> bool {
+    value < bounds.lower || value > bounds.upper
+}
+
+/// How many subscripts there are within bounds.
+fn width(bounds: Dimension) -> usize {
+    bounds.upper.abs_diff(bounds.lower).saturating_add(1) as usize
 }

@@ -3,7 +3,7 @@
 use crate::squeezed::{Squeezed, has_outer};
 
 /// What may stand next in an expression.
-#[derive(Clone, Copy, Debug, PartialEq, Eq)]
+#[derive(Clone, Copy)]
 enum Wanted {
     /// An operand, before which a sign may stand or not.
     Operand { may_sign: bool },
@@ -105,7 +105,7 @@ fn place_of(sign: u8, text: &[u8]) -> Option<usize> {
 }
 
 /// What came of reading on.
-#[derive(Clone, Copy, Debug, PartialEq, Eq)]
+#[derive(Clone, Copy)]
 enum Step {
     On,
     /// What stands here can't stand here.

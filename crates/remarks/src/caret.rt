@@ -5,7 +5,7 @@ use ast::Line;
 use bstr::ByteSlice;
 
 /// A place in a line: its column, from 0, and the line's text.
-#[derive(Clone, Copy, Debug, PartialEq, Eq)]
+#[derive(Clone, Copy)]
 pub struct Caret<'a> {
     pub line: Line,
     pub column: usize,

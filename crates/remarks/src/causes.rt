@@ -15,7 +15,7 @@ use std::alloc::{AllocError, Global};
 use std::fmt::{Display, Formatter, Result as FmtResult, Write};
 
 /// What a refusal is of.
-#[derive(Clone, Copy, Debug, PartialEq, Eq)]
+#[derive(Clone, Copy)]
 pub enum Cause {
     /// A name that isn't an integer.
     Real(Name),
@@ -71,7 +71,7 @@ pub enum Cause {
 }
 
 /// How many arguments an intrinsic function takes.
-#[derive(Clone, Copy, Debug, PartialEq, Eq)]
+#[derive(Clone, Copy)]
 enum Arguments {
     One,
     Two,
@@ -79,7 +79,7 @@ enum Arguments {
 }
 
 /// A DO or an IF that is open.
-#[derive(Clone, Copy, Debug, PartialEq, Eq)]
+#[derive(Clone, Copy)]
 enum Open {
     Range {
         label: Label,
@@ -109,23 +109,60 @@ pub fn cause_of(
         return Ok(None);
     }
     let statements = Squeezed::all(alloc, source)?;
-    let before = Before::of(alloc, &statements, line)?;
-    let Some(statement) = statements.iter().find(|statement| statement.line == line) else {
-        return Ok(None);
-    };
+    match statements.iter().find(|statement| statement.line == line) {
+        Some(statement) => cause_in(alloc, number, &statements, statement),
+        None => Ok(None),
+    }
+}
+
+/// What the refusal of a statement by this number is of.
+fn cause_in(
+    alloc: Global,
+    number: u8,
+    statements: &[Squeezed],
+    statement: &Squeezed,
+) -> Result<Option<Cause>, AllocError> {
     let names = mentions(alloc, statement)?;
     match number {
-        31 => real(alloc, &statements, &names),
-        32 => Ok(Declared::before(alloc, &statements, line)?.twice(statement, &names)),
-        33 => Ok(before.misfit(&names)),
-        38 => Ok(Declared::before(alloc, &statements, line)?.assigned(statement, &names)),
-        40 => Ok(Some(limit(&statements, &before, statement))),
-        42 => Ok(Declared::before(alloc, &statements, line)?.unknown(statement, &names)),
-        37 => Ok(before.active(statement, &names)),
+        31 => real(alloc, statements, &names),
         43 => Ok(wrong_kind(statement, &names)),
-        41 => Ok(before.labelled(statement)),
-        _ => Ok(before.open()),
+        32 | 38 | 42 => by_declarations(alloc, number, statements, statement, &names),
+        _ => by_place(alloc, number, statements, statement, &names),
     }
+}
+
+/// The same, where it goes by what the statements before declare.
+fn by_declarations(
+    alloc: Global,
+    number: u8,
+    statements: &[Squeezed],
+    statement: &Squeezed,
+    names: &[Mention],
+) -> Result<Option<Cause>, AllocError> {
+    let declared = Declared::before(alloc, statements, statement.line)?;
+    Ok(match number {
+        32 => declared.twice(statement, names),
+        38 => declared.assigned(statement, names),
+        _ => declared.unknown(statement, names),
+    })
+}
+
+/// The same, where it goes by what is open before, or by labels and counts.
+fn by_place(
+    alloc: Global,
+    number: u8,
+    statements: &[Squeezed],
+    statement: &Squeezed,
+    names: &[Mention],
+) -> Result<Option<Cause>, AllocError> {
+    let before = Before::of(alloc, statements, statement.line)?;
+    Ok(match number {
+        33 => before.misfit(names),
+        37 => before.active(statement, names),
+        40 => Some(limit(statements, &before, statement)),
+        41 => before.labelled(statement),
+        _ => before.open(),
+    })
 }
 
 /// The first name that isn't an integer.
@@ -339,80 +376,66 @@ impl Before {
 impl Display for Cause {
     fn fmt<W: Write>(&self, f: &mut Formatter<W>) -> FmtResult {
         match self {
-            Cause::Real(name) => {
-                let name = Visible::new(name.trimmed());
-                write!(
-                    f,
-                    "{name} doesn't begin with I to N, and no INTEGER statement names it"
-                )
-            }
             Cause::Misfit { name, rank, count } => write_misfit(f, *name, *rank, *count),
             Cause::Active { name, line } => {
-                let name = Visible::new(name.trimmed());
-                write!(
-                    f,
-                    "{name} is the variable of the DO in line {line}, which is open"
-                )
+                write_of(f, *name, " is the variable of the DO in line ")?;
+                write!(f, "{line}, which is open")
             }
-            Cause::Label { label, line } => write!(
-                f,
-                "the label {label} stands in line {line} too"
-            ),
-            Cause::Loop { label, line } => {
-                write!(
-                    f,
-                    "the DO in line {line} is open, which ends at the label {label}"
-                )
+            Cause::Declared { name, line } => {
+                write_of(f, *name, " is declared in line ")?;
+                write!(f, "{line} too")
             }
+            Cause::Constant { name, line } => {
+                write_of(f, *name, " is a constant, by line ")?;
+                write!(f, "{line}")
+            }
+            Cause::Label { label, line } => write_label(f, *label, *line),
+            Cause::Loop { label, line } => write_loop(f, *label, *line),
             Cause::Block(line) => write!(f, "the IF in line {line} is open"),
             Cause::Limit(limit) => f.write_str(limit),
             Cause::NoValue => f.write_str("a value here overflows, or is divided by zero"),
-            _ => write_named(f, *self),
+            _ => match self.named() {
+                Some((name, text)) => write_of(f, name, text),
+                None => Ok(()),
+            },
         }
     }
 }
 
-/// Writes what a declared name is.
-fn write_named<W: Write>(f: &mut Formatter<W>, cause: Cause) -> FmtResult {
-    match cause {
-        Cause::Declared { name, line } => write!(
-            f,
-            "{} is declared in line {line} too",
-            Visible::new(name.trimmed())
-        ),
-        Cause::Repeated(name) => write!(
-            f,
-            "{} is declared twice here",
-            Visible::new(name.trimmed())
-        ),
-        Cause::Function(name) => write!(
-            f,
-            "{} is a function of the language",
-            Visible::new(name.trimmed())
-        ),
-        Cause::Program(name) => write!(f, "{} is the program's name", Visible::new(name.trimmed())),
-        Cause::Constant { name, line } => write!(
-            f,
-            "{} is a constant, by line {line}",
-            Visible::new(name.trimmed())
-        ),
-        Cause::Unknown(name) => write!(
-            f,
-            "{} is no constant that is given before",
-            Visible::new(name.trimmed())
-        ),
-        Cause::Integer(name) => write!(
-            f,
-            "{} is an integer, and a logical value is wanted",
-            Visible::new(name.trimmed())
-        ),
-        Cause::Logical(name) => write!(
-            f,
-            "{} is an integer, and is given a logical value",
-            Visible::new(name.trimmed())
-        ),
-        _ => Ok(()),
+impl Cause {
+    /// The name that it is of, where nothing else is told, and what is told of that.
+    fn named(&self) -> Option<(Name, &'static str)> {
+        match self {
+            Cause::Real(name) => Some((
+                *name,
+                " doesn't begin with I to N, and no INTEGER statement names it",
+            )),
+            Cause::Repeated(name) => Some((*name, " is declared twice here")),
+            Cause::Function(name) => Some((*name, " is a function of the language")),
+            Cause::Program(name) => Some((*name, " is the program's name")),
+            Cause::Unknown(name) => Some((*name, " is no constant that is given before")),
+            Cause::Integer(name) => Some((*name, " is an integer, and a logical value is wanted")),
+            Cause::Logical(name) => Some((*name, " is an integer, and is given a logical value")),
+            _ => None,
+        }
     }
+}
+
+/// Writes a name, and this behind it.
+fn write_of<W: Write>(f: &mut Formatter<W>, name: Name, text: &str) -> FmtResult {
+    write!(f, "{}", Visible::new(name.trimmed()))?;
+    f.write_str(text)
+}
+
+fn write_label<W: Write>(f: &mut Formatter<W>, label: Label, line: Line) -> FmtResult {
+    write!(f, "the label {label} stands in line {line} too")
+}
+
+fn write_loop<W: Write>(f: &mut Formatter<W>, label: Label, line: Line) -> FmtResult {
+    write!(
+        f,
+        "the DO in line {line} is open, which ends at the label {label}"
+    )
 }
 
 fn write_misfit<W: Write>(
@@ -421,15 +444,19 @@ fn write_misfit<W: Write>(
     rank: usize,
     count: usize,
 ) -> FmtResult {
-    let visible = Visible::new(name.trimmed());
-    match (arguments_of(name), rank, count) {
-        (Some(Arguments::One), _, _) => write!(f, "{visible} takes one argument, not {count}"),
-        (Some(Arguments::Two), _, _) => write!(f, "{visible} takes two arguments, not {count}"),
-        (Some(Arguments::TwoOrMore), _, _) => {
-            write!(f, "{visible} takes two arguments or more, not {count}")
+    let text = match (arguments_of(name), rank, count) {
+        (Some(Arguments::One), _, _) => " takes one argument, not ",
+        (Some(Arguments::Two), _, _) => " takes two arguments, not ",
+        (Some(Arguments::TwoOrMore), _, _) => " takes two arguments or more, not ",
+        (None, 0, _) => {
+            return write_of(f, name, " is no array, and no function of the language");
         }
-        (None, 0, _) => write!(f, "{visible} is no array, and no function of the language"),
-        (None, _, 0) => write!(f, "{visible} is an array, and stands with its subscripts"),
-        (None, _, _) => write!(f, "{visible} has {rank} subscripts, not {count}"),
-    }
+        (None, _, 0) => return write_of(f, name, " is an array, and stands with its subscripts"),
+        (None, _, _) => {
+            write_of(f, name, " has ")?;
+            return write!(f, "{rank} subscripts, not {count}");
+        }
+    };
+    write_of(f, name, text)?;
+    write!(f, "{count}")
 }

@@ -24,7 +24,7 @@ const WORDS: [&[u8]; 7] = [
 ];
 
 /// A name in a statement.
-#[derive(Clone, Copy, Debug, PartialEq, Eq)]
+#[derive(Clone, Copy)]
 pub struct Mention {
     pub name: Name,
     /// How many subscripts or arguments stand behind it.

@@ -59,10 +59,18 @@ impl<'a> Display for VisibleLines<'a> {
 /// Writes a character, or its name where a terminal would obey it.
 fn write_visible<W: Write>(f: &mut Formatter<W>, character: char) -> FmtResult {
     if character.is_control() || is_directional(character) {
-        write!(f, "{}", character.escape_default())
+        write_escaped(f, character)
     } else {
         f.write_char(character)
     }
+}
+
+/// Writes the name of a character.
+fn write_escaped<W: Write>(f: &mut Formatter<W>, character: char) -> FmtResult {
+    for part in character.escape_default() {
+        f.write_char(part)?;
+    }
+    Ok(())
 }
 
 /// Whether a character changes the direction of the text behind it.

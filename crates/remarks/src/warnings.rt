@@ -3,9 +3,9 @@
 use crate::columns::{is_comment, label_of, unread};
 use crate::mentions::LONGEST_NAME;
 use crate::place::Place;
-use crate::usage::Usage;
+use crate::usage::{Seen, Usage};
 use crate::visible::Visible;
-use ast::{Kind, Line, Name, Node, Program, SymbolKind};
+use ast::{Kind, Line, Name, Node, Program, Symbol, SymbolKind};
 use bstr::ByteSlice;
 
 /// How many lines are warned of for one thing.
@@ -84,28 +84,24 @@ fn is_telling(byte: &u8) -> bool {
 
 fn warn_of_names<R: Eprint>(rt: &R, file: &str, program: &Program, usage: &Usage) {
     for (symbol, seen) in program.symbols.iter().zip(usage.symbols.iter()) {
-        if let SymbolKind::Constant(_) = symbol.kind {
-            continue;
+        if let Some((line, told)) = told_of(program, symbol, *seen) {
+            let place = Place { file, line };
+            let name = Visible::new(symbol.name.trimmed());
+            let _ = eprintln!(rt; "{place}warning: {name} {told}");
         }
-        let name = Visible::new(symbol.name.trimmed());
-        match (seen.first_read, seen.is_given) {
-            (None, false) => {
-                let line = declared_at(&program.body, symbol.name);
-                let place = Place { file, line };
-                let _ = eprintln!(rt; "{place}warning: {name} is never used");
-            }
-            (Some(line), false) => {
-                let place = Place { file, line };
-                let _ = eprintln!(rt; "{place}warning: {name} never gets a value, so it is 0");
-            }
-            (None, true) => {
-                if let Some(line) = seen.first_assigned {
-                    let place = Place { file, line };
-                    let _ = eprintln!(rt; "{place}warning: {name} is assigned and never read");
-                }
-            }
-            (Some(_), true) => {}
-        }
+    }
+}
+
+/// What is told of a variable by how it is used, and the line that is meant.
+fn told_of(program: &Program, symbol: &Symbol, seen: Seen) -> Option<(Line, &'static str)> {
+    if let SymbolKind::Constant(_) = symbol.kind {
+        return None;
+    }
+    match (seen.first_read, seen.is_given) {
+        (None, false) => Some((declared_at(&program.body, symbol.name), "is never used")),
+        (Some(line), false) => Some((line, "never gets a value, so it is 0")),
+        (None, true) => Some((seen.first_assigned?, "is assigned and never read")),
+        (Some(_), true) => None,
     }
 }
 

@@ -10,7 +10,7 @@ use std::alloc::{AllocError, Global};
 const PROGRAM: &[u8] = b"PROGRAM";
 
 /// What a statement declares of a name.
-#[derive(Clone, Copy, Debug, PartialEq, Eq)]
+#[derive(Clone, Copy)]
 struct Entry {
     name: Name,
     line: Line,
