@@ -12,7 +12,7 @@ use crate::picture::{Counted, Look, LoopPicture, Row, Statement};
 use crate::places::{BOX, Place, corner, exit, place_in, width};
 use crate::style::SHEET;
 use crate::svg::{Point, Size, append_marks, opening};
-use ast::Name;
+use ast::{Line, Name};
 use std::alloc::{AllocError, Global};
 
 /// How many characters of a statement have room beside the boxes.
@@ -42,23 +42,34 @@ fn cut(alloc: Global, text: &[u8], room: usize, goes_on: bool) -> Result<Vec<u8>
     Ok(shown)
 }
 
+/// Appends the first private names, one behind another.
+fn append_names(text: &mut Vec<u8>, names: &[Name]) -> Result<(), AllocError> {
+    text.extend_from_slice(b"each iteration has its own")?;
+    for name in names.iter().take(NAMED) {
+        text.extend_from_slice(b" ")?;
+        text.extend_from_slice(name.trimmed())?;
+    }
+    Ok(())
+}
+
 /// Private names, one behind another.
 fn private(alloc: Global, names: &[Name]) -> Result<Vec<u8>, AllocError> {
     let mut text = Vec::new(alloc);
     if names.is_empty() {
         return Ok(text);
     }
-    text.extend_from_slice(b"each iteration has its own")?;
-    for name in names.iter().take(NAMED) {
-        text.extend_from_slice(b" ")?;
-        text.extend_from_slice(name.trimmed())?;
-    }
-    let more = names.len().saturating_sub(NAMED);
-    if more > 0 {
-        let told = format!(in alloc; " and {more} more")?;
-        text.extend_from_slice(told.as_bytes())?;
-    }
+    append_names(&mut text, names)?;
+    append_more(alloc, &mut text, names.len().saturating_sub(NAMED))?;
     Ok(text)
+}
+
+/// Appends how many names more there are, if there are more.
+fn append_more(alloc: Global, text: &mut Vec<u8>, more: usize) -> Result<(), AllocError> {
+    if more == 0 {
+        return Ok(());
+    }
+    let told = format!(in alloc; " and {more} more")?;
+    text.extend_from_slice(told.as_bytes())
 }
 
 /// How wide so many iterations are, or as far as the narrowest picture has room.
@@ -93,6 +104,12 @@ fn add_statement(
     add_words(alloc, marks, class, at, &text)
 }
 
+/// What the box says of itself that shows the whole iteration of a loop around it.
+fn title_around(alloc: Global, line: Line) -> Result<Vec<u8>, AllocError> {
+    let title = format!(in alloc; "each iteration of the loop in line {line} has all of these")?;
+    Vec::from_slice(alloc, title.as_bytes())
+}
+
 /// Adds the DO of the loop around it that is in the way, the whole of whose iteration a box shows.
 fn add_around(
     alloc: Global,
@@ -111,9 +128,7 @@ fn add_around(
         width: across(picture.columns),
         height: BOX.height,
     };
-    let Statement { line, .. } = around;
-    let title = format!(in alloc; "each iteration of the loop in line {line} has all of these")?;
-    let title = Vec::from_slice(alloc, title.as_bytes())?;
+    let title = title_around(alloc, around.line)?;
     marks.push(Mark::Tile(Class::plain(b"marked"), corner, size, title))?;
     let inside = Point {
         x: at.x.saturating_add(10),
@@ -141,8 +156,8 @@ fn add_head(
     }
 }
 
-/// Adds what is said above the rows.
-fn add_heading(
+/// Adds which loop it is.
+fn add_top(
     alloc: Global,
     marks: &mut Vec<Mark>,
     picture: &LoopPicture<'_>,
@@ -154,7 +169,16 @@ fn add_heading(
     };
     let heading = format!(in alloc; "Loop {number}, line {line}: {says}")?;
     let top = Point { x: 20, y: 30 };
-    add_words(alloc, marks, b"heading", top, heading.as_bytes())?;
+    add_words(alloc, marks, b"heading", top, heading.as_bytes())
+}
+
+/// Adds what is said above the rows.
+fn add_heading(
+    alloc: Global,
+    marks: &mut Vec<Mark>,
+    picture: &LoopPicture<'_>,
+) -> Result<(), AllocError> {
+    add_top(alloc, marks, picture)?;
     match (&picture.around, &picture.serial) {
         (Some(around), Some(reason)) => add_around(alloc, marks, picture, around, reason),
         _ => add_head(alloc, marks, picture),
@@ -171,6 +195,12 @@ fn classes(look: Look) -> (&'static [u8], &'static [u8]) {
     }
 }
 
+/// Adds the number of a line.
+fn add_line(alloc: Global, marks: &mut Vec<Mark>, at: Point, line: Line) -> Result<(), AllocError> {
+    let told = format!(in alloc; "{line}")?;
+    add_words(alloc, marks, b"faint right", at, told.as_bytes())
+}
+
 /// Adds what stands to the left of a row's boxes.
 fn add_label(
     alloc: Global,
@@ -180,9 +210,7 @@ fn add_label(
 ) -> Result<(), AllocError> {
     let y = corner(place_in(0, number)).y.saturating_add(13);
     if row.look.is_in_source() {
-        let line = format!(in alloc; "{}", row.line)?;
-        let at = Point { x: 44, y };
-        add_words(alloc, marks, b"faint right", at, line.as_bytes())?;
+        add_line(alloc, marks, Point { x: 44, y }, row.line)?;
     }
     let depth = u128::from(row.depth.min(DEEPEST));
     let x = 56u128.saturating_add(depth.saturating_mul(14));
@@ -269,6 +297,22 @@ fn has_iteration(picture: &LoopPicture<'_>, column: u64) -> bool {
     }
 }
 
+/// Adds the number of an iteration, which the loop has or has not.
+fn add_above(
+    alloc: Global,
+    marks: &mut Vec<Mark>,
+    at: Point,
+    number: u64,
+    has: bool,
+) -> Result<(), AllocError> {
+    let told = if has {
+        format!(in alloc; "iteration {number}")?
+    } else {
+        format!(in alloc; "(iteration {number})")?
+    };
+    add_words(alloc, marks, b"faint middle", at, told.as_bytes())
+}
+
 /// Adds an iteration.
 fn add_column(
     alloc: Global,
@@ -281,14 +325,8 @@ fn add_column(
         x: head.x.saturating_add(BOX.width.wrapping_div(2)),
         y: head.y.saturating_sub(14),
     };
-    let number = column.saturating_add(1);
     let has = has_iteration(picture, column);
-    let told = if has {
-        format!(in alloc; "iteration {number}")?
-    } else {
-        format!(in alloc; "(iteration {number})")?
-    };
-    add_words(alloc, marks, b"faint middle", at, told.as_bytes())?;
+    add_above(alloc, marks, at, column.saturating_add(1), has)?;
     add_boxes(alloc, marks, &picture.rows, column, has)
 }
 

@@ -73,7 +73,7 @@ const RETIRED: &str = "the iteration retired";
 const ENDED: &str = "the run ended";
 
 /// How a run ended, and what it is compared with.
-#[derive(Clone, Copy, Debug, PartialEq, Eq)]
+#[derive(Clone, Copy)]
 pub struct Ending<'a> {
     /// In words.
     pub words: &'a [u8],
@@ -94,7 +94,7 @@ fn wide(columns: u64) -> u128 {
 }
 
 /// A stretch of columns in which a processor holds one activity.
-#[derive(Clone, Copy, Debug, PartialEq, Eq)]
+#[derive(Clone, Copy)]
 struct Stretch {
     first: u64,
     last: u64,
@@ -145,9 +145,21 @@ fn append_stretch(
         width: all.saturating_sub(1).max(1),
         height: BAR,
     };
-    let title = title_of(alloc, processor, stretch)?;
-    append_tile(out, class_of(stretch), at, size, title.as_bytes())?;
+    append_bar(alloc, out, processor, stretch, at, size)?;
     append_label(alloc, out, stretch, at, size)
+}
+
+/// Appends the bar of a stretch, without its letters.
+fn append_bar(
+    alloc: Global,
+    out: &mut Vec<u8>,
+    processor: usize,
+    stretch: Stretch,
+    at: Point,
+    size: Size,
+) -> Result<(), AllocError> {
+    let title = title_of(alloc, processor, stretch)?;
+    append_tile(out, class_of(stretch), at, size, title.as_bytes())
 }
 
 /// Appends the letters on a stretch's bar, where they have room.
@@ -336,8 +348,8 @@ fn append_line(out: &mut Vec<u8>, gathered: &Gathered) -> Result<(), AllocError>
     Ok(())
 }
 
-/// Appends the curve of open iterations.
-fn append_curve(alloc: Global, out: &mut Vec<u8>, gathered: &Gathered) -> Result<(), AllocError> {
+/// Appends the curve itself.
+fn append_path(out: &mut Vec<u8>, gathered: &Gathered) -> Result<(), AllocError> {
     append_class(out, b"<path class=\"", Class::plain(b"curve"))?;
     out.extend_from_slice(b" d=\"M")?;
     append_number(out, LEFT)?;
@@ -346,10 +358,21 @@ fn append_curve(alloc: Global, out: &mut Vec<u8>, gathered: &Gathered) -> Result
     append_line(out, gathered)?;
     out.extend_from_slice(b"V")?;
     append_number(out, BASE)?;
-    out.extend_from_slice(b"Z\"><title>open iterations</title></path>\n")?;
+    out.extend_from_slice(b"Z\"><title>open iterations</title></path>\n")
+}
+
+/// Appends how many iterations were open at most.
+fn append_highest(alloc: Global, out: &mut Vec<u8>, gathered: &Gathered) -> Result<(), AllocError> {
     let highest = format!(in alloc; "{}", highest(gathered))?;
     let class = Class::plain(b"faint right");
-    append_words(out, class, Point { x: 122, y: 94 }, highest.as_bytes())?;
+    append_words(out, class, Point { x: 122, y: 94 }, highest.as_bytes())
+}
+
+/// Appends the curve of open iterations.
+fn append_curve(alloc: Global, out: &mut Vec<u8>, gathered: &Gathered) -> Result<(), AllocError> {
+    append_path(out, gathered)?;
+    append_highest(alloc, out, gathered)?;
+    let class = Class::plain(b"faint right");
     append_words(out, class, Point { x: 122, y: 122 }, b"iterations open")?;
     append_words(out, class, Point { x: 122, y: 148 }, b"0")
 }
@@ -498,6 +521,31 @@ fn append_meanings(alloc: Global, out: &mut Vec<u8>, y: u128) -> Result<(), Allo
     )
 }
 
+/// Appends how many processors a run had, and how many iterations could be open.
+fn append_top(alloc: Global, out: &mut Vec<u8>, gathered: &Gathered) -> Result<(), AllocError> {
+    let Gathered { slots, .. } = gathered;
+    let processors = gathered.lanes.len();
+    let heading = format!(in alloc;
+        "A run; processors: {processors}, iterations that may be open: {slots}"
+    )?;
+    let class = Class::plain(b"heading");
+    append_words(out, class, Point { x: 20, y: 30 }, heading.as_bytes())
+}
+
+/// Appends what goes from left to right.
+fn append_axis(alloc: Global, out: &mut Vec<u8>, gathered: &Gathered) -> Result<(), AllocError> {
+    let Gathered {
+        entries,
+        columns,
+        ..
+    } = gathered;
+    let axis = format!(in alloc;
+        "from left to right: the {entries} entries of its schedule, in {columns} columns"
+    )?;
+    let class = Class::plain(b"faint");
+    append_words(out, class, Point { x: 20, y: 52 }, axis.as_bytes())
+}
+
 /// Appends what stands above the lanes.
 fn append_heading(
     alloc: Global,
@@ -505,37 +553,27 @@ fn append_heading(
     gathered: &Gathered,
     ending: &Ending<'_>,
 ) -> Result<(), AllocError> {
-    let Gathered {
-        entries,
-        slots,
-        columns,
-        ..
-    } = gathered;
-    let processors = gathered.lanes.len();
-    let heading = format!(in alloc;
-        "A run; processors: {processors}, iterations that may be open: {slots}"
-    )?;
-    let class = Class::plain(b"heading");
-    append_words(out, class, Point { x: 20, y: 30 }, heading.as_bytes())?;
-    let axis = format!(in alloc;
-        "from left to right: the {entries} entries of its schedule, in {columns} columns"
-    )?;
-    let class = Class::plain(b"faint");
-    append_words(out, class, Point { x: 20, y: 52 }, axis.as_bytes())?;
+    append_top(alloc, out, gathered)?;
+    append_axis(alloc, out, gathered)?;
     let class = Class::plain(if ending.early { b"early" } else { b"faint" });
     append_words(out, class, Point { x: 20, y: 72 }, ending.words)
+}
+
+/// Appends the name of a processor beside its lane.
+fn append_name(alloc: Global, out: &mut Vec<u8>, processor: usize) -> Result<(), AllocError> {
+    let at = corner(processor, 0, 0);
+    let name = format!(in alloc; "processor {processor}")?;
+    let beside = Point {
+        x: 122,
+        y: at.y.saturating_add(15),
+    };
+    append_words(out, Class::plain(b"right"), beside, name.as_bytes())
 }
 
 /// Appends the lanes of all processors.
 fn append_lanes(alloc: Global, out: &mut Vec<u8>, gathered: &Gathered) -> Result<(), AllocError> {
     for processor in 0..gathered.lanes.len() {
-        let at = corner(processor, 0, 0);
-        let name = format!(in alloc; "processor {processor}")?;
-        let beside = Point {
-            x: 122,
-            y: at.y.saturating_add(15),
-        };
-        append_words(out, Class::plain(b"right"), beside, name.as_bytes())?;
+        append_name(alloc, out, processor)?;
         append_lane(alloc, out, gathered, processor)?;
         append_lane_marks(alloc, out, gathered, processor)?;
     }

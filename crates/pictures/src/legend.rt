@@ -16,7 +16,7 @@ const PITCH: u128 = 22;
 const LEFT: u128 = 20;
 
 /// The lines that have been written, and those to come.
-#[derive(Clone, Copy, Debug, PartialEq, Eq)]
+#[derive(Clone, Copy)]
 struct Pen {
     y: u128,
 }
@@ -68,6 +68,22 @@ fn unseen(arrow: &Arrow, columns: u64) -> &'static str {
     }
 }
 
+/// A dependence in words.
+fn told_of(alloc: Global, arrow: &Arrow, columns: u64) -> Result<Vec<u8>, AllocError> {
+    let Arrow {
+        event,
+        source_line,
+        sink_line,
+        ..
+    } = arrow;
+    let later = later(alloc, arrow.distance)?;
+    let unseen = unseen(arrow, columns);
+    let told = format!(in alloc;
+        "event {event}: line {source_line} comes before line {sink_line}{later}{unseen}"
+    )?;
+    Vec::from_slice(alloc, told.as_bytes())
+}
+
 /// Adds a dependence in words.
 fn add_told(
     alloc: Global,
@@ -76,19 +92,8 @@ fn add_told(
     arrow: &Arrow,
     columns: u64,
 ) -> Result<(), AllocError> {
-    let Arrow {
-        event,
-        distance,
-        source_line,
-        sink_line,
-    } = arrow;
-    let later = later(alloc, *distance)?;
-    let unseen = unseen(arrow, columns);
-    let told = format!(in alloc;
-        "event {event}: line {source_line} comes before line {sink_line}{later}{unseen}"
-    )?;
-    let told = Vec::from_slice(alloc, told.as_bytes())?;
-    Ok(marks.push(Mark::Words(class_of(b"told", *event), pen.next(), told))?)
+    let told = told_of(alloc, arrow, columns)?;
+    Ok(marks.push(Mark::Words(class_of(b"told", arrow.event), pen.next(), told))?)
 }
 
 fn add_all_told(
@@ -101,12 +106,21 @@ fn add_all_told(
     for arrow in arrows.iter().take(TOLD) {
         add_told(alloc, marks, pen, arrow, columns)?;
     }
-    let more = arrows.len().saturating_sub(TOLD);
-    if more > 0 {
-        let told = format!(in alloc; "and {more} more")?;
-        add_words(alloc, marks, b"faint", pen.next(), told.as_bytes())?;
+    match arrows.len().saturating_sub(TOLD) {
+        0 => Ok(()),
+        more => add_more(alloc, marks, pen, more),
     }
-    Ok(())
+}
+
+/// Adds how many dependences more there are.
+fn add_more(
+    alloc: Global,
+    marks: &mut Vec<Mark>,
+    pen: &mut Pen,
+    more: usize,
+) -> Result<(), AllocError> {
+    let told = format!(in alloc; "and {more} more")?;
+    add_words(alloc, marks, b"faint", pen.next(), told.as_bytes())
 }
 
 /// Whether more iterations are drawn than the loop has.

@@ -72,6 +72,20 @@ pub fn class_of(name: &'static [u8], event: usize) -> Class {
     }
 }
 
+/// What the mark of what is awaited says of itself.
+fn title_of_await(alloc: Global, arrow: &Arrow) -> Result<Vec<u8>, AllocError> {
+    let Arrow {
+        event,
+        distance,
+        sink_line,
+        ..
+    } = arrow;
+    let title = format!(in alloc;
+        "before line {sink_line} it awaits event {event} of the iteration {distance} before"
+    )?;
+    Vec::from_slice(alloc, title.as_bytes())
+}
+
 /// Adds the mark of what is awaited in a row of an iteration, behind so many others.
 fn add_awaited(
     alloc: Global,
@@ -82,17 +96,9 @@ fn add_awaited(
     column: u64,
 ) -> Result<(), AllocError> {
     let at = from_left(entry(place_in(column, row)), before);
-    let Arrow {
-        event,
-        distance,
-        sink_line,
-        ..
-    } = arrow;
-    let title = format!(in alloc;
-        "before line {sink_line} it awaits event {event} of the iteration {distance} before"
-    )?;
-    let title = Vec::from_slice(alloc, title.as_bytes())?;
-    let disc = Mark::Disc(class_of(b"await", *event), at, *event, title);
+    let event = arrow.event;
+    let title = title_of_await(alloc, arrow)?;
+    let disc = Mark::Disc(class_of(b"await", event), at, event, title);
     add_disc(alloc, marks, at, disc, before)
 }
 
@@ -120,6 +126,12 @@ pub fn add_awaits(
     Ok(())
 }
 
+/// What the mark of an advance says of itself.
+fn title_of_advance(alloc: Global, event: usize) -> Result<Vec<u8>, AllocError> {
+    let title = format!(in alloc; "it advances event {event}")?;
+    Vec::from_slice(alloc, title.as_bytes())
+}
+
 /// Adds the mark of an advance in an iteration, behind so many others.
 fn add_advanced(
     alloc: Global,
@@ -130,8 +142,7 @@ fn add_advanced(
 ) -> Result<(), AllocError> {
     let Advance { event, row } = advance;
     let at = from_right(exit(place_in(column, row)), before);
-    let title = format!(in alloc; "it advances event {event}")?;
-    let title = Vec::from_slice(alloc, title.as_bytes())?;
+    let title = title_of_advance(alloc, event)?;
     let disc = Mark::Disc(class_of(b"advance", event), at, event, title);
     add_disc(alloc, marks, at, disc, before)
 }
