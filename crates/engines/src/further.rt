@@ -64,16 +64,17 @@ impl Rest {
 
     /// Leaves the refused statement out: whether what is left has a refusal that is worth telling.
     fn strike(&mut self, alloc: Global) -> Result<bool, AllocError> {
-        let statement = Squeezed::of(alloc, &self.source, self.line)?;
-        if !is_of_text(self.number) && !(is_of_rule(self.number) && is_simple(&statement.text)) {
+        let is_simple = is_simple_in(alloc, &self.source, self.line)?;
+        if !is_of_text(self.number) && !(is_of_rule(self.number) && is_simple) {
             return Ok(false);
         }
-        self.is_sure = self.is_sure && is_simple(&statement.text);
-        self.source = if self.number == LABEL_TWICE {
-            unlabelled(alloc, &self.source, self.line)?
-        } else {
-            without(alloc, &self.source, self.line)?
-        };
+        self.is_sure = self.is_sure && is_simple;
+        self.source = struck(alloc, &self.source, self.number, self.line)?;
+        self.judge(alloc)
+    }
+
+    /// Judges what is left: whether it has a refusal that is worth telling.
+    fn judge(&mut self, alloc: Global) -> Result<bool, AllocError> {
         match judged(alloc, &self.source)? {
             Verdict::Accepted(_) => Ok(false),
             Verdict::Refused { number, line } => {
@@ -105,6 +106,22 @@ fn is_simple(text: &[u8]) -> bool {
         || text.starts_with(b"READ")
         || text.starts_with(b"WRITE")
         || has_outer(b'=', text) && !has_outer(b',', text)
+}
+
+/// Whether no other statement stands on the one that begins in a line.
+fn is_simple_in(alloc: Global, source: &[u8], line: Line) -> Result<bool, AllocError> {
+    let statement = Squeezed::of(alloc, source, line)?;
+    Ok(is_simple(&statement.text))
+}
+
+/// A source without the statement that was refused by a number, or without its label where that stands
+/// twice.
+fn struck(alloc: Global, source: &[u8], number: u8, line: Line) -> Result<Vec<u8>, AllocError> {
+    if number == LABEL_TWICE {
+        unlabelled(alloc, source, line)
+    } else {
+        without(alloc, source, line)
+    }
 }
 
 /// A source in which the statement that begins in a line has lost its label.

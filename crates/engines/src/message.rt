@@ -40,24 +40,15 @@ impl<'a> Message<'a> {
                 (refusal(number)?, Line::try_from(line).unwrap_or(Line::MAX))
             }
         };
-        let hint = match explanation.origin {
-            Origin::Refusal => hint_of_source(alloc, source, explanation.number, line),
-            Origin::Schedule => hint_of_line(source, explanation.number, line),
-            Origin::Fault(_) => None,
-        };
-        let cause = match explanation.origin {
-            Origin::Refusal => cause_of(alloc, source, explanation.number, line).unwrap_or(None),
-            _ => None,
-        };
         Some(Message {
             file,
             line,
             text: text_of_line(source, line),
             caret: caret_of(alloc, source, explanation.number, line),
             explanation,
-            cause,
+            cause: cause_in(alloc, source, &explanation, line),
             note: None,
-            hint,
+            hint: hint_in(alloc, source, &explanation, line),
             is_further: false,
         })
     }
@@ -78,49 +69,88 @@ impl<'a> Message<'a> {
 
 impl<'a> Display for Message<'a> {
     fn fmt<W: Write>(&self, f: &mut Formatter<W>) -> FmtResult {
+        self.write_head(f)?;
+        self.write_line(f)?;
+        self.write_rest(f)?;
+        if self.is_further {
+            return Ok(());
+        }
+        let number = self.explanation.number;
+        writeln!(f, "For what this means, try 'doac explain {number}'.")
+    }
+}
+
+impl<'a> Message<'a> {
+    /// Writes where it is, and what is wrong.
+    fn write_head<W: Write>(&self, f: &mut Formatter<W>) -> FmtResult {
         let Explanation {
             number,
-            origin,
             sentence,
             ..
         } = &self.explanation;
-        let verdict = match origin {
-            Origin::Refusal => "refused",
-            Origin::Fault(_) => "fault",
-            Origin::Schedule => "schedule refused",
+        let verdict = verdict_of(self.explanation.origin);
+        let place = Place {
+            file: self.file,
+            line: self.line,
         };
-        write!(
-            f,
-            "{}",
-            Place {
-                file: self.file,
-                line: self.line
-            }
-        )?;
         if self.is_further {
-            writeln!(f, "also {verdict}, by {number}: {sentence}")?;
+            writeln!(f, "{place}also {verdict}, by {number}: {sentence}")
         } else {
-            writeln!(f, "{verdict}: {sentence}")?;
+            writeln!(f, "{place}{verdict}: {sentence}")
         }
+    }
+
+    /// Writes the line itself, and what stands below it.
+    fn write_line<W: Write>(&self, f: &mut Formatter<W>) -> FmtResult {
         if let Some(text) = self.text {
             writeln!(f, "{}", Visible::new(text))?;
         }
-        if let Some(caret) = &self.caret {
-            write_caret(f, self.line, caret)?;
+        match &self.caret {
+            Some(caret) => write_caret(f, self.line, caret),
+            None => Ok(()),
         }
+    }
+
+    /// Writes what more is known, and the hint.
+    fn write_rest<W: Write>(&self, f: &mut Formatter<W>) -> FmtResult {
         if let Some(cause) = &self.cause {
             writeln!(f, "{cause}")?;
         }
         if let Some(note) = &self.note {
             writeln!(f, "{note}")?;
         }
-        if let Some(hint) = self.hint {
-            writeln!(f, "hint: {hint}")?;
+        match self.hint {
+            Some(hint) => writeln!(f, "hint: {hint}"),
+            None => Ok(()),
         }
-        if self.is_further {
-            return Ok(());
-        }
-        writeln!(f, "For what this means, try 'doac explain {number}'.")
+    }
+}
+
+fn verdict_of(origin: Origin) -> &'static str {
+    match origin {
+        Origin::Refusal => "refused",
+        Origin::Fault(_) => "fault",
+        Origin::Schedule => "schedule refused",
+    }
+}
+
+fn hint_in(
+    alloc: Global,
+    source: &[u8],
+    explanation: &Explanation,
+    line: Line,
+) -> Option<&'static str> {
+    match explanation.origin {
+        Origin::Refusal => hint_of_source(alloc, source, explanation.number, line),
+        Origin::Schedule => hint_of_line(source, explanation.number, line),
+        Origin::Fault(_) => None,
+    }
+}
+
+fn cause_in(alloc: Global, source: &[u8], explanation: &Explanation, line: Line) -> Option<Cause> {
+    match explanation.origin {
+        Origin::Refusal => cause_of(alloc, source, explanation.number, line).unwrap_or(None),
+        _ => None,
     }
 }
 

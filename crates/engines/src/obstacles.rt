@@ -2,7 +2,7 @@
 
 use crate::driving::{make, new_core};
 use crate::verdict::{Verdict, judged};
-use ast::Name;
+use ast::{Name, Program};
 use codegen::compile;
 use machine::{Code, Done, Frame, Next, stands_local, stands_next};
 use remarks::Visible;
@@ -17,7 +17,7 @@ const FIRST_LINE: usize = 3;
 const BURST: u32 = 1024;
 
 /// The shared step that stands next.
-#[derive(Clone, Copy, Debug, PartialEq, Eq)]
+#[derive(Clone, Copy)]
 pub enum SharedStep {
     Load(Option<Name>),
     Store(Option<Name>),
@@ -34,7 +34,7 @@ pub enum SharedStep {
 }
 
 /// Why an entry can't be made.
-#[derive(Clone, Copy, Debug, PartialEq, Eq)]
+#[derive(Clone, Copy)]
 pub enum Obstacle {
     /// The run has ended.
     Ended,
@@ -62,7 +62,7 @@ pub enum Obstacle {
 }
 
 /// An obstacle that a processor meets.
-#[derive(Clone, Copy, Debug, PartialEq, Eq)]
+#[derive(Clone, Copy)]
 pub struct Met {
     processor: u8,
     obstacle: Obstacle,
@@ -78,13 +78,39 @@ impl Met {
         schedule: &[u8],
         line: usize,
     ) -> Option<Self> {
-        let Verdict::Accepted(program) = judged(alloc, source).ok()? else {
-            return None;
-        };
-        let compiled = compile(alloc, &program).ok()?;
-        let schedule = Schedule::parse(alloc, schedule).ok()?;
-        let place = line.checked_sub(FIRST_LINE)?;
-        met_at(alloc, &compiled.code, input, &schedule, place).unwrap_or(None)
+        match judged(alloc, source) {
+            Ok(Verdict::Accepted(program)) => met_in(alloc, &program, input, schedule, line),
+            _ => None,
+        }
+    }
+}
+
+/// What an entry in a line of a schedule's text meets in a run of a program.
+fn met_in(
+    alloc: Global,
+    program: &Program,
+    input: &[u8],
+    schedule: &[u8],
+    line: usize,
+) -> Option<Met> {
+    match compile(alloc, program) {
+        Ok(compiled) => met_by_code(alloc, &compiled.code, input, schedule, line),
+        Err(_) => None,
+    }
+}
+
+/// What an entry in a line of a schedule's text meets in a run of code.
+fn met_by_code(
+    alloc: Global,
+    code: &Code,
+    input: &[u8],
+    schedule: &[u8],
+    line: usize,
+) -> Option<Met> {
+    let place = line.checked_sub(FIRST_LINE)?;
+    match Schedule::parse(alloc, schedule) {
+        Ok(schedule) => met_at(alloc, code, input, &schedule, place).unwrap_or(None),
+        Err(_) => None,
     }
 }
 

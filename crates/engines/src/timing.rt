@@ -23,23 +23,26 @@ use ast::{End, Program};
 use bstr::ByteSlice;
 use codegen::{CompileRefusal, compile};
 use machine::Code;
-use pictures::{Ending, timeline as draw_run};
+use pictures::{Ending, Gathered, timeline as draw_run};
 use replay::{ReplayRefusal, Schedule, replay};
 use std::alloc::{AllocError, Global};
 use std::io::{Read, Write};
+
+/// How a run ended, in words, by the line that says so, if one does.
+fn words_of(alloc: Global, told: &[u8]) -> Result<Vec<u8>, AllocError> {
+    if told.is_empty() {
+        return Vec::from_slice(alloc, b"it came to END");
+    }
+    let mut words = Vec::from_slice(alloc, b"it ended with ")?;
+    words.extend_from_slice(told)?;
+    Ok(words)
+}
 
 /// How a run ended, in words.
 fn words(alloc: Global, end: End) -> Result<Vec<u8>, AllocError> {
     let mut line = Vec::new(alloc);
     append_end(&mut line, end, &mut [], false)?;
-    let mut words = Vec::from_slice(alloc, b"it came to END")?;
-    let told = line.as_slice().trim();
-    if !told.is_empty() {
-        words.clear();
-        words.extend_from_slice(b"it ended with ")?;
-        words.extend_from_slice(told)?;
-    }
-    Ok(words)
+    words_of(alloc, line.as_slice().trim())
 }
 
 /// Whether a run ended with a fault or a STOP.
@@ -58,15 +61,26 @@ fn text_of(
     schedule: &Schedule,
     end: End,
 ) -> Result<Vec<u8>, AllocError> {
+    let alone = steps_alone(alloc, code, input)?;
     let gathered = watched(alloc, code, input, schedule)?;
+    drawn_run(alloc, &gathered, end, alone)
+}
+
+/// The text of the picture of a run of which this was gathered.
+fn drawn_run(
+    alloc: Global,
+    gathered: &Gathered,
+    end: End,
+    alone: u128,
+) -> Result<Vec<u8>, AllocError> {
     let words = words(alloc, end)?;
     let ending = Ending {
         words: &words,
         early: is_early(end),
         made: gathered.made(),
-        alone: steps_alone(alloc, code, input)?,
+        alone,
     };
-    draw_run(alloc, &gathered, &ending)
+    draw_run(alloc, gathered, &ending)
 }
 
 /// What drawing the run of a schedule comes to.
