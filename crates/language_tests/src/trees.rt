@@ -4,8 +4,8 @@ ghost use Rattle.std.specs.Prelude.{◌≡◌, ◌∷◌, codes};
 
 use crate::nests::trees_of;
 use ast::{
-    Access, Arm, Bounds, Declarator, Definition, Dimension, DoHead, Expr, Intrinsic, Item, Kind,
-    Line, Name, Node, Operator, Prefix, Program, RefId, Reference, Stmt, Store, Symbol, SymbolKind,
+    Access, Bounds, Declarator, Definition, Dimension, DoHead, Expr, Intrinsic, Item, Kind, Line,
+    Name, Operator, Prefix, Program, RefId, Reference, Stmt, Store, Symbol, SymbolKind,
 };
 use expressions::reference_to;
 use std::alloc::{AllocError, Global};
@@ -254,44 +254,10 @@ fn want_of_memory_in_statements(rt: HostRuntime) -> Result<(), Fail> {
     copy_each(&rt, rt.alloc(), &list)
 }
 
-// ---- programs and stores
+// ---- stores
 
-/// DO with a STOP in its range, and IF with an ELSE
+/// A program with an array, a scalar and a constant
 fn program(alloc: Global) -> Result<Program, AllocError> {
-    let variable = Reference {
-        name: name(b'K'),
-        id: RefId(0),
-        cell: 1,
-    };
-    let head = DoHead {
-        terminal: 30,
-        variable,
-        first: Expr::Constant(1),
-        last: Expr::Constant(3),
-        step: None,
-    };
-    let stop = Stmt {
-        line: 15,
-        label: Some(30),
-        kind: Kind::Stop,
-    };
-    let range = Vec::from_array(alloc, [Node::Plain(stop)])?;
-    let next = Stmt {
-        line: 7,
-        label: Some(14),
-        kind: Kind::Continue,
-    };
-    let taken = Arm {
-        line: 8,
-        condition: Some(Expr::Truth(false)),
-        body: Vec::from_array(alloc, [Node::Plain(next)])?,
-    };
-    let other = Arm {
-        line: 10,
-        condition: None,
-        body: Vec::new(alloc),
-    };
-    let arms = Vec::from_array(alloc, [taken, other])?;
     let dimension = Dimension {
         lower: -1,
         upper: 1,
@@ -310,91 +276,9 @@ fn program(alloc: Global) -> Result<Program, AllocError> {
     };
     Ok(Program {
         symbols: Vec::from_array(alloc, [array, scalar, constant])?,
-        body: Vec::from_array(alloc, [Node::Loop(6, head, range), Node::Choice(arms)])?,
-        statements: 9,
+        body: Vec::new(alloc),
+        statements: 1,
     })
-}
-
-fn are_symbols(symbols: &[Symbol]) -> bool {
-    match symbols {
-        [
-            Symbol {
-                name: array,
-                kind: SymbolKind::Variable(dimensions),
-            },
-            Symbol {
-                name: scalar,
-                kind: SymbolKind::Variable(none),
-            },
-            Symbol {
-                name: constant,
-                kind: SymbolKind::Constant(5),
-            },
-        ] => {
-            *array == name(b'A')
-                && *scalar == name(b'K')
-                && *constant == name(b'N')
-                && matches!(dimensions.as_slice(), [dimension] if dimension.lower == -1 && dimension.upper == 1)
-                && none.is_empty()
-        }
-        _ => false,
-    }
-}
-
-fn is_plain(body: &[Node], line: Line) -> bool {
-    match body {
-        [Node::Plain(stmt)] => stmt.line == line && is_statement(stmt),
-        _ => false,
-    }
-}
-
-fn is_loop(node: &Node) -> bool {
-    match node {
-        Node::Loop(6, head, range) => head.terminal == 30
-            && head.variable.name == name(b'K')
-            && head.variable.cell == 1
-            && matches!(&head.last, Expr::Constant(3))
-            && head.step.is_none()
-            && is_plain(range, 15),
-        _ => false,
-    }
-}
-
-fn is_choice(node: &Node) -> bool {
-    match node {
-        Node::Choice(arms) => match arms.as_slice() {
-            [taken, other] => taken.line == 8
-                && matches!(&taken.condition, Some(Expr::Truth(false)))
-                && is_plain(&taken.body, 7)
-                && other.line == 10
-                && other.condition.is_none()
-                && other.body.is_empty(),
-            _ => false,
-        },
-        _ => false,
-    }
-}
-
-fn is_program(program: &Program) -> bool {
-    are_symbols(&program.symbols)
-        && program.statements == 9
-        && match program.body.as_slice() {
-            [first, second] => is_loop(first) && is_choice(second),
-            _ => false,
-        }
-}
-
-#[test]
-fn want_of_memory_in_programs(rt: HostRuntime) -> Result<(), Fail> {
-    let given = program(rt.alloc())?;
-    match given.try_copy() {
-        Ok(copy) => assert!(rt; is_program(&copy)),
-        Err(error) => {
-            assert!(rt; is_program(&given.try_copy().expect(&rt, "there is memory")));
-            return Err(error.into());
-        }
-    }
-    Ok(())
 }
 
 fn is_store(store: &Store) -> bool {

@@ -67,6 +67,16 @@ fn run(rt: &(impl Abort + AllocGlobal), code: &Code) -> Result<Vec<u8>, CoreRefu
     text_of_run(rt, &mut core)
 }
 
+/// Whether a run of code has this schedule.
+fn has_schedule(
+    rt: &(impl Abort + AllocGlobal),
+    code: &Code,
+    wanted: &[u8],
+) -> Result<bool, CoreRefusal> {
+    let text = run(rt, code)?;
+    Ok(text.as_slice() == wanted)
+}
+
 /// The text of the upgrade of a schedule that leads to the end.
 fn upgraded_text(
     alloc: Global,
@@ -82,6 +92,17 @@ fn upgrade_of(alloc: Global, code: &Code, text: &[u8]) -> Result<Vec<u8>, Replay
     upgraded_text(alloc, code, &parsed(alloc, text)?)
 }
 
+/// Whether a schedule is upgraded to this one.
+fn upgrades_to(
+    alloc: Global,
+    code: &Code,
+    text: &[u8],
+    wanted: &[u8],
+) -> Result<bool, ReplayRefusal> {
+    let upgrade = upgrade_of(alloc, code, text)?;
+    Ok(upgrade.as_slice() == wanted)
+}
+
 /// The schedule of the run of a loop of two iterations.
 const TEXT: &[u8] =
     b"DOACROSS SCHEDULE 2\n1 1\n0 M\n0 2\n0 0\n0 0\n0 T\n0 0\n0 T\n0 0\n0 M\n0 0\n0 0\n";
@@ -89,8 +110,8 @@ const TEXT: &[u8] =
 #[test]
 fn want_of_memory_in_cores(rt: HostRuntime) -> Result<(), Fail> {
     let code = assembled(&rt, &LOOP)?;
-    assert!(rt; run(&rt, &code)?.as_slice() == TEXT);
-    assert!(rt; upgrade_of(rt.alloc(), &code, TEXT)?.as_slice() == TEXT);
+    assert!(rt; has_schedule(&rt, &code, TEXT)?);
+    assert!(rt; upgrades_to(rt.alloc(), &code, TEXT, TEXT)?);
     Ok(())
 }
 
@@ -102,8 +123,8 @@ const FIRST_END: &[u8] = b"DOACROSS SCHEDULE 1\n1 1\n0 0\n0 0\n";
 #[test]
 fn end_alone(rt: HostRuntime) -> Result<(), Fail> {
     let code = assembled(&rt, &[Does::Halt])?;
-    assert!(rt; run(&rt, &code)?.as_slice() == NAMED_END);
-    assert!(rt; upgrade_of(rt.alloc(), &code, FIRST_END)?.as_slice() == NAMED_END);
+    assert!(rt; has_schedule(&rt, &code, NAMED_END)?);
+    assert!(rt; upgrades_to(rt.alloc(), &code, FIRST_END, NAMED_END)?);
     Ok(())
 }
 

@@ -181,10 +181,16 @@ fn each_driver(
     each_way(rt, &case, burst)
 }
 
+/// The runs of a worked program, in bursts of so many instructions.
+fn program(rt: &(impl Abort + AllocGlobal), row: &Worked, burst: u32) -> Result<(), Fail> {
+    let code = compiled(rt.alloc(), row.source)?;
+    each_driver(rt, row, &code, burst)
+}
+
 /// The runs of all worked programs, in bursts of so many instructions.
 fn each_program(rt: &(impl Abort + AllocGlobal), burst: u32) -> Result<(), Fail> {
     for row in &WORKED {
-        each_driver(rt, row, &compiled(rt.alloc(), row.source)?, burst)?;
+        program(rt, row, burst)?;
     }
     Ok(())
 }

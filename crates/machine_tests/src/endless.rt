@@ -90,6 +90,16 @@ fn all_run<R: Abort + AllocGlobal + Threads + Wait + Sync>(
     Ok(())
 }
 
+/// The runs of a source come to an answer.
+fn come_to<R: Abort + AllocGlobal + Threads + Wait + Sync>(
+    rt: &R,
+    source: &[u8],
+    answer: &Answer,
+) -> Result<(), Fail> {
+    let code = compiled(rt.alloc(), source)?;
+    all_run(rt, &code, answer)
+}
+
 /// The runs of a source come to what the sequential program says.
 fn all_end<R: Abort + AllocGlobal + Threads + Wait + Sync>(
     rt: &R,
@@ -100,7 +110,7 @@ fn all_end<R: Abort + AllocGlobal + Threads + Wait + Sync>(
     let answer = sequential(rt.alloc(), source, b"")?;
     assert!(rt; answer.output.as_slice() == output);
     assert!(rt; answer.end == end);
-    all_run(rt, &compiled(rt.alloc(), source)?, &answer)
+    come_to(rt, source, &answer)
 }
 
 #[test]

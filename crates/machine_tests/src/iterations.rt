@@ -266,6 +266,19 @@ const WAYS: [(u64, u32); 9] = [
     (4, 1_024),
 ];
 
+/// How the run of a code ends with so many slots and such bursts.
+fn one_ends(
+    rt: &(impl Abort + AllocGlobal),
+    code: &Code,
+    way: (u64, u32),
+    output: &[u8],
+    end: End,
+) -> Result<(), Fail> {
+    let (slots, burst) = way;
+    let core = driven(rt, code, slots, burst)?;
+    ends_so(rt, &core, output, end)
+}
+
 /// How each run of a code ends, whatever its slots and bursts.
 fn each_ends(
     rt: &(impl Abort + AllocGlobal),
@@ -273,8 +286,8 @@ fn each_ends(
     output: &[u8],
     end: End,
 ) -> Result<(), Fail> {
-    for (slots, burst) in WAYS {
-        ends_so(rt, &driven(rt, code, slots, burst)?, output, end)?;
+    for way in WAYS {
+        one_ends(rt, code, way, output, end)?;
     }
     Ok(())
 }
@@ -305,11 +318,17 @@ fn has_stored(core: &Core<'_>) -> Result<bool, AllocError> {
     })
 }
 
+/// Whether a run of a code ends with what is to be stored.
+fn stores_all(rt: &impl AllocGlobal, code: &Code) -> Result<bool, Fail> {
+    let core = driven(rt, code, 3, 1)?;
+    Ok(has_stored(&core)?)
+}
+
 #[test]
 fn elements_and_records_in_order(rt: HostRuntime) -> Result<(), Fail> {
     let code = assembled(&rt, &MAIN, &[&ELEMENT, &RECORD])?;
     each_ends(&rt, &code, b" 1\n 2\n 3\n 4\n 40 5\n", End::Done)?;
-    assert!(rt; has_stored(&driven(&rt, &code, 3, 1)?)?);
+    assert!(rt; stores_all(&rt, &code)?);
     Ok(())
 }
 
@@ -546,6 +565,17 @@ fn is_of_another(
     Ok(is_taken(rt, core)?)
 }
 
+/// Work of a core is handed in to that of a code.
+fn is_of_a_stranger(
+    rt: &(impl Abort + AllocGlobal),
+    code: &Code,
+    stranger: &Core<'_>,
+    processor: usize,
+) -> Result<(), Fail> {
+    let mut core = holding(rt, code)?;
+    is_of_another(rt, &mut core, stranger, processor)
+}
+
 /// Work of one code's core is handed in to another one's.
 fn is_of_another_core(
     rt: &(impl Abort + AllocGlobal),
@@ -553,8 +583,8 @@ fn is_of_another_core(
     other: &Code,
     processor: usize,
 ) -> Result<(), Fail> {
-    let mut core = holding(rt, code)?;
-    is_of_another(rt, &mut core, &holding(rt, other)?, processor)
+    let stranger = holding(rt, other)?;
+    is_of_a_stranger(rt, code, &stranger, processor)
 }
 
 #[test]

@@ -29,19 +29,25 @@ fn takes_turns<R: Wait>(rt: &R, core: &Mutex<Core<'_>>, q: usize) -> bool {
     false
 }
 
-/// Two threads take turns at a core until its run has ended. The answer is the sequential one.
-fn is_shared<R: Abort + AllocGlobal + Threads + Wait + Sync>(
-    rt: &R,
-    code: &Code,
-) -> Result<(), Fail> {
-    let core = Mutex::new(core_of(rt.alloc(), code, b"", 2, 2)?);
+/// A core at which two threads have taken turns until its run had ended.
+fn shared<'c, R: Abort + Threads + Wait + Sync>(rt: &R, core: Core<'c>) -> Core<'c> {
+    let core = Mutex::new(core);
     let ended = join(
         rt,
         || takes_turns(rt, &core, 0),
         || takes_turns(rt, &core, 1),
     );
     assert!(*rt; ended == (true, true));
-    is_sequential(rt, &core.into_inner(), SQUARES)
+    core.into_inner()
+}
+
+/// Two threads take turns at a core until its run has ended. The answer is the sequential one.
+fn is_shared<R: Abort + AllocGlobal + Threads + Wait + Sync>(
+    rt: &R,
+    code: &Code,
+) -> Result<(), Fail> {
+    let core = shared(rt, core_of(rt.alloc(), code, b"", 2, 2)?);
+    is_sequential(rt, &core, SQUARES)
 }
 
 #[test]

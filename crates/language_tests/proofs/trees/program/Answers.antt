@@ -10,4 +10,4 @@ unfolding IsDistinct
 three symbols e = subst (λ (names : List (List ℕ)). IsDistinct same_name names) (sym e) ((refl, (refl, tt)), ((refl, tt), (tt, tt)))
 
 pub invariant_of-result-clause-distinct : goal.invariant_of-result-clause-distinct
-invariant_of-result-clause-distinct c = three (map symbol c.in_ok-from_array-2.field-0.items) (search rules)
+invariant_of-result-clause-distinct c = three (map symbol c.in_ok-from_array.field-0.items) (search rules)
