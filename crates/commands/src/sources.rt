@@ -11,9 +11,10 @@ use crate::fault::FileFault;
 use crate::files::NamedFiles;
 use crate::told::{refuse_file, tell, tell_run, warn_of_run};
 use engines::{
-    EngineFault, Survey, Verdict, judged, say_why_serial, seq_noted, surveyed, tell_further,
-    tell_loops, tell_verdict,
+    EngineFault, Survey, Verdict, judged, seq_noted, surveyed, tell_further, tell_loops,
+    tell_verdict,
 };
+use explanations::say_why_serial;
 use remarks::warn;
 use std::io::Write;
 

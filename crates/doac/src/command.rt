@@ -8,7 +8,7 @@ ghost use Rattle.doac.specs.declared.command.LineFault.TheVariants.{Memory, NoPo
 use clap::ArgMatches;
 use clap::error::ErrorKind;
 use commands::{Command, Threaded};
-use engines::explain::{is_explained, is_reason};
+use explanations::explain::{is_explained, is_reason};
 use std::alloc::AllocError;
 use thiserror::Error;
 

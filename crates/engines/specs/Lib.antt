@@ -4,7 +4,6 @@ pub mod Coded
 pub mod Drawing
 pub mod Drawn
 pub mod Engines
-pub mod Explained
 pub mod Listing
 pub mod Lists
 pub mod Reading

@@ -13,7 +13,7 @@ use Rattle.ast.specs.Symbols.{Extent, Symbol, width, dimensions_of, size}
 use Rattle.ast.specs.declared.fault.End.{End}
 use Rattle.ast.specs.declared.fault.End.TheVariants.{Done, Stopped, Fault as Faulted}
 use Rattle.ast.specs.declared.fault.Fault.{Fault}
-use Rattle.ast.specs.declared.fault.Fault.TheVariants.{Overflow, Index, ZeroDivisor, ZeroStep, EndOfInput, BadInput}
+use Rattle.explanations.specs.Faults.{fault_name, fault_number}
 
 -- the number of a line, and the LF
 abbrev pub at_line : ℕ → List ℕ
@@ -37,22 +37,6 @@ abbrev pub no_schedule : ℕ → ℕ → List ℕ
 no_schedule number line = codes "SCHEDULE " ++ decimal number ++ at_line line
 
 -- ---- ends of a run
-
-abbrev pub fault_number : Fault → ℕ
-fault_number Overflow = 1
-fault_number Index = 2
-fault_number ZeroDivisor = 3
-fault_number ZeroStep = 4
-fault_number EndOfInput = 5
-fault_number BadInput = 6
-
-abbrev pub fault_name : Fault → List ℕ
-fault_name Overflow = codes "OVERFLOW"
-fault_name Index = codes "INDEX"
-fault_name ZeroDivisor = codes "ZERO DIVISOR"
-fault_name ZeroStep = codes "ZERO STEP"
-fault_name EndOfInput = codes "END OF INPUT"
-fault_name BadInput = codes "BAD INPUT"
 
 -- the line of a fault
 abbrev pub faulted : Fault → ℕ → List ℕ

@@ -5,8 +5,9 @@ ghost use Rattle.machine.specs.CodeView.{code_of, loop_of, part};
 ghost use Rattle.machine.specs.Next.{is_own};
 ghost use Rattle.engines.specs.CodeLines as spec;
 
-use crate::shown::{append_line, append_number};
+use crate::shown::append_line;
 use ast::{Operator, Prefix};
+use explanations::append_number;
 use machine::{Act, Await, Axis, Code, Instr, Loop, Piece, Variable};
 use std::alloc::{AllocError, Global};
 

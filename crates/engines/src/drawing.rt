@@ -13,12 +13,12 @@ ghost use Rattle.engines.specs.Schedules.{LeavesBoth};
 use crate::drawn::Drawn;
 use crate::fault::{EngineFault, ReadFault};
 use crate::page::refused;
-use crate::serial::{Hindrance, hindrance_of};
 use crate::streams::read_all;
 use crate::survey::{Survey, surveyed};
 use ast::{Node, Program};
 use codegen::LoopReport;
 use dependence::{LoopPlan, PlanStmt};
+use explanations::{Hindrance, hindrance_of};
 use loop_tree::{LoopTree, ScalarSet, loops};
 use pictures::{
     Frame, LoopPicture, OpenLoop, SerialLoop, draw as draw_loop, lines_of, open_picture,

@@ -9,12 +9,12 @@ ghost use Rattle.engines.specs.Listing.{InByteOrder, Lines, LinesWhy, Listing, L
 ghost use Rattle.engines.specs.Shown.{Extends};
 ghost use Rattle.engines.specs.declared.spots.Spot.TheVariants.{Behind};
 
-use crate::shown::{append_line, append_number};
+use crate::shown::append_line;
 use crate::spots::{Spot, add_spots};
-use crate::why::why;
 use ast::{Line, Name};
 use codegen::LoopReport;
 use dependence::{LoopPlan, PlanStmt};
+use explanations::{append_number, why};
 use loop_tree::LoopTree;
 use std::alloc::{AllocError, Global};
 

@@ -1,11 +1,11 @@
 //! What standard error says of a refusal or a fault.
 
-use crate::explain::{Explanation, Origin, fault, refusal};
 use crate::note::Note;
 use crate::outcome::Outcome;
-use crate::shown::fault_number;
 use ast::Line;
 use bstr::ByteSlice;
+use explanations::explain::{Explanation, Origin, fault, refusal};
+use explanations::fault_number;
 use remarks::{
     Caret, Cause, Place, Squeezed, Visible, break_place, cause_of, hint, hint_of_schedule,
 };

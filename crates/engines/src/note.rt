@@ -1,6 +1,6 @@
 //! What is known of a fault or of a refused schedule beside its line.
 
-use crate::obstacles::Met;
+use explanations::Met;
 use remarks::Beyond;
 use std::fmt::{Display, Formatter, Result as FmtResult, Write};
 

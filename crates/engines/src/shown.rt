@@ -1,19 +1,11 @@
 //! Lines of standard output.
 
-ghost use Rattle.std.specs.Prelude.{◌≡◌, ◌++◌, OnOk, decimal};
-ghost use Rattle.engines.specs.Shown.{accepted_with, at_line, no_schedule, refused, faulted, stopped, fault_name, fault_number};
+ghost use Rattle.std.specs.Prelude.{◌≡◌, ◌++◌, OnOk};
+ghost use Rattle.engines.specs.Shown.{accepted_with, at_line, no_schedule, refused, faulted, stopped};
 
 use ast::{Fault, Line};
-use itoa::{Buffer, Integer};
+use explanations::{append_number, fault_name, fault_number};
 use std::alloc::AllocError;
-
-/// Appends a number in shortest decimal.
-pub fn append_number<I: Integer>(out: &mut Vec<u8>, number: I) -> Result<(), AllocError>
-    ensures { OnOk result (out.new.items ≡ out.old.items ++ I.text number) }
-{
-    let mut buffer = Buffer::new();
-    out.extend_from_slice(buffer.format(number).as_bytes())
-}
 
 /// Appends the number of a source line, and ends the line of output.
 pub fn append_line(out: &mut Vec<u8>, line: Line) -> Result<(), AllocError>
@@ -53,34 +45,6 @@ pub fn append_no_schedule(out: &mut Vec<u8>, number: u8, line: usize) -> Result<
     out.extend_from_slice(b" LINE ")?;
     append_number(out, line)?;
     out.extend_from_slice(b"\n")
-}
-
-/// The number of a fault.
-pub fn fault_number(fault: Fault) -> u8
-    ensures { result ≡ fault_number fault }
-{
-    match fault {
-        Fault::Overflow => 1,
-        Fault::Index => 2,
-        Fault::ZeroDivisor => 3,
-        Fault::ZeroStep => 4,
-        Fault::EndOfInput => 5,
-        Fault::BadInput => 6,
-    }
-}
-
-/// The name of a fault.
-pub fn fault_name(fault: Fault) -> &'static [u8]
-    ensures { result.now ≡ fault_name fault }
-{
-    match fault {
-        Fault::Overflow => b"OVERFLOW",
-        Fault::Index => b"INDEX",
-        Fault::ZeroDivisor => b"ZERO DIVISOR",
-        Fault::ZeroStep => b"ZERO STEP",
-        Fault::EndOfInput => b"END OF INPUT",
-        Fault::BadInput => b"BAD INPUT",
-    }
 }
 
 /// Appends the line of a fault.

@@ -9,8 +9,8 @@ ghost use Rattle.engines.specs.View.{row_view};
 
 use crate::row::Row;
 use crate::rows::sort_by_name;
-use crate::shown::append_number;
 use ast::{Dimension, Name, SymbolKind};
+use explanations::append_number;
 use std::alloc::AllocError;
 
 /// The subscript that is so far above the lower one of two bounds.

@@ -1,6 +1,6 @@
 //! References and expressions, as a source spells them but for its blanks.
 
-use crate::shown::append_number;
+use crate::number::append_number;
 use ast::{Access, Expr, Intrinsic, Name, Operator, Prefix};
 use std::alloc::AllocError;
 

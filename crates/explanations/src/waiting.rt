@@ -1,7 +1,7 @@
 //! Why iterations of a loop wait for one another, or needn't, in words.
 
+use crate::number::append_number;
 use crate::serial::hindrance_of;
-use crate::shown::append_number;
 use crate::spelled::append_reference;
 use ast::{Line, Name, RefId};
 use codegen::LoopReport;

@@ -1,7 +1,7 @@
 //! Reasons for which a loop stays serial.
 
 ghost use Rattle.std.specs.Prelude.{◌≡◌, IfSome, is_some, length};
-ghost use Rattle.engines.specs.Explained.{is_within};
+ghost use Rattle.explanations.specs.Explained.{is_within};
 
 use std::fmt::{Display, Formatter, Result as FmtResult, Write};
 

@@ -1,7 +1,7 @@
 //! The faults, each with a program that has it and one that is cured.
 
 ghost use Rattle.std.specs.Prelude.{◌≡◌, IfSome, is_some};
-ghost use Rattle.engines.specs.Explained.{is_within};
+ghost use Rattle.explanations.specs.Explained.{is_within};
 
 use crate::explain::{Explanation, Origin, Trial, page_in};
 use ast::Fault;

@@ -2,7 +2,7 @@
 //! cured; and that of code that is too long.
 
 ghost use Rattle.std.specs.Prelude.{◌≡◌, ◌||◌, IfSome, is_some};
-ghost use Rattle.engines.specs.Explained.{is_within};
+ghost use Rattle.explanations.specs.Explained.{is_within};
 
 use crate::explain::{Explanation, Origin, Trial, page_in};
 
@@ -41,6 +41,8 @@ const _: () = prove!(PAGES[4].number == 55);
 const _: () = prove!(PAGES[5].number == 56);
 
 static TABLE: [Explanation; 6] = PAGES;
+
+const _: () = prove!(LONG_CODE.number == 61);
 
 /// The page of code.
 static OF_CODE: [Explanation; 1] = [LONG_CODE];

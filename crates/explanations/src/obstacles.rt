@@ -1,10 +1,10 @@
 //! Why an entry of a schedule can't be made.
 
-use crate::driving::{make, new_core};
-use crate::verdict::{Verdict, judged};
+use crate::making::{make, new_core};
 use ast::{Name, Program};
 use codegen::compile;
 use machine::{Code, Done, Frame, Next, stands_local, stands_next};
+use profile_check::program;
 use remarks::Visible;
 use replay::{Act, Choice, Core, Entry, Schedule};
 use std::alloc::{AllocError, Global};
@@ -78,9 +78,9 @@ impl Met {
         schedule: &[u8],
         line: usize,
     ) -> Option<Self> {
-        match judged(alloc, source) {
-            Ok(Verdict::Accepted(program)) => met_in(alloc, &program, input, schedule, line),
-            _ => None,
+        match program(alloc, source) {
+            Ok(program) => met_in(alloc, &program, input, schedule, line),
+            Err(_) => None,
         }
     }
 }
@@ -114,7 +114,7 @@ fn met_by_code(
     }
 }
 
-/// What the entry at a place meets, once those before it are made.
+/// What the entry at a place of a schedule meets.
 fn met_at(
     alloc: Global,
     code: &Code,
@@ -127,17 +127,26 @@ fn met_at(
     let Some(mut core) = new_core(alloc, code, input, processors, slots)? else {
         return Ok(None);
     };
+    met_behind(&mut core, schedule, place)
+}
+
+/// What the entry at a place meets, once those before it are made.
+fn met_behind(
+    core: &mut Core<'_>,
+    schedule: &Schedule,
+    place: usize,
+) -> Result<Option<Met>, AllocError> {
     let mut entries = schedule.entries();
     for _ in 0..place {
         match entries.next() {
             Some(entry) => {
-                let _ = make(&mut core, entry)?;
+                let _ = make(core, entry)?;
             }
             None => return Ok(None),
         }
     }
     match entries.next() {
-        Some(entry) => met_by(&core, entry),
+        Some(entry) => met_by(core, entry),
         None => Ok(None),
     }
 }

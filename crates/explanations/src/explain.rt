@@ -1,7 +1,7 @@
 //! What the numbers of refusals and faults mean, and how that is printed.
 
 ghost use Rattle.std.specs.Prelude.{◌≡◌, ◌+◌, ◌≤◌, IfSome, is_some, length};
-ghost use Rattle.engines.specs.Explained as numbers;
+ghost use Rattle.explanations.specs.Explained as numbers;
 
 mod faults;
 mod lines;
@@ -10,7 +10,7 @@ mod reasons;
 mod schedules;
 mod statements;
 
-use crate::shown::fault_name;
+use crate::fault::fault_name;
 use ast::Fault;
 pub use reasons::{Reason, is_reason, serial_reason};
 use remarks::Visible;
