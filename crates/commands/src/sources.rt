@@ -14,7 +14,7 @@ use engines::{
     EngineFault, Survey, Verdict, judged, seq_noted, surveyed, tell_further, tell_loops,
     tell_verdict,
 };
-use explanations::say_why_serial;
+use reasons::say_why_serial;
 use remarks::warn;
 use std::io::Write;
 

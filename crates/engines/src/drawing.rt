@@ -18,12 +18,12 @@ use crate::survey::{Survey, surveyed};
 use ast::{Node, Program};
 use codegen::LoopReport;
 use dependence::{LoopPlan, PlanStmt};
-use explanations::{Hindrance, hindrance_of};
 use loop_tree::{LoopTree, ScalarSet, loops};
 use pictures::{
     Frame, LoopPicture, OpenLoop, SerialLoop, draw as draw_loop, lines_of, open_picture,
     serial_picture,
 };
+use reasons::{Hindrance, hindrance_of};
 use std::alloc::{AllocError, Global};
 use std::io::{Read, Write};
 

@@ -14,8 +14,9 @@ use crate::spots::{Spot, add_spots};
 use ast::{Line, Name};
 use codegen::LoopReport;
 use dependence::{LoopPlan, PlanStmt};
-use explanations::{append_number, why};
+use explanations::append_number;
 use loop_tree::LoopTree;
+use reasons::why;
 use std::alloc::{AllocError, Global};
 
 /// Appends the beginning of a loop's line.

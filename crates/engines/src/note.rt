@@ -1,6 +1,6 @@
 //! What is known of a fault or of a refused schedule beside its line.
 
-use explanations::Met;
+use reasons::Met;
 use remarks::Beyond;
 use std::fmt::{Display, Formatter, Result as FmtResult, Write};
 

@@ -1,11 +1,11 @@
 //! Why iterations of a loop wait for one another, or needn't, in words.
 
-use crate::number::append_number;
 use crate::serial::hindrance_of;
 use crate::spelled::append_reference;
 use ast::{Line, Name, RefId};
 use codegen::LoopReport;
 use dependence::{LoopPlan, Reason, Relation, Relations, Run};
+use explanations::append_number;
 use loop_tree::{LoopTree, LoopView, Occurrence};
 use remarks::early_use;
 use std::alloc::{AllocError, Global};

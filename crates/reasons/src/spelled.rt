@@ -1,7 +1,7 @@
 //! References and expressions, as a source spells them but for its blanks.
 
-use crate::number::append_number;
 use ast::{Access, Expr, Intrinsic, Name, Operator, Prefix};
+use explanations::append_number;
 use std::alloc::AllocError;
 
 /// What stands for an operator.
