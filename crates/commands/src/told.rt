@@ -6,7 +6,8 @@ ghost use Rattle.commands.specs.Statuses.{Ends, IsPage, OfPrint, exit_of};
 
 use crate::fault::FileFault;
 use crate::files::{NamedFiles, Names};
-use engines::{EngineFault, LastRecord, Message, Note, Outcome, Page, Sequential, Texts, known_of};
+use engines::{EngineFault, Note, Outcome, Page, Sequential, Texts, known_of};
+use messages::{LastRecord, Message};
 use reasons::Met;
 use remarks::{Place, warn_of_columns};
 use std::io::{self, Write};

@@ -1,10 +1,9 @@
 //! What else is wrong with a source, behind its first refusal.
 
 use crate::message::Message;
-use crate::outcome::Outcome;
-use crate::verdict::{Verdict, judged};
 use ast::Line;
 use bstr::ByteSlice;
+use engines::{Outcome, Verdict, judged};
 use remarks::{LABEL_COLUMNS, Squeezed, has_outer, is_blank, is_comment, is_continuation};
 use std::alloc::{AllocError, Global};
 

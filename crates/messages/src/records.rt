@@ -1,9 +1,8 @@
 //! Where in its input a run came to a fault.
 
-use crate::fault::EngineFault;
-use crate::outcome::Outcome;
 use ast::{Fault, Line};
 use bstr::ByteSlice;
+use engines::{EngineFault, Outcome};
 use remarks::{Place, Visible};
 use std::fmt::{Display, Formatter, Result as FmtResult, Write};
 

@@ -1,9 +1,8 @@
 //! What standard error says of a refusal or a fault.
 
-use crate::note::Note;
-use crate::outcome::Outcome;
 use ast::Line;
 use bstr::ByteSlice;
+use engines::{Note, Outcome};
 use explanations::explain::{Explanation, Origin, fault, refusal};
 use explanations::fault_number;
 use remarks::{
