@@ -26,9 +26,6 @@ module _ (F L : Type 0) (view : F → View F L) (trips : L → ℕ) (begin : L �
   abbrev Alone : Ghost L → State F L → Type 0
   Alone g z = Good F L view trips begin Hidden Fixed start Valid 1 origin answer g z
 
-  abbrev Reaches : State F L → Type 0
-  Reaches z = Comes F L view trips begin (initial f input) z
-
   good_alone : (z : State F L) → Comes F L view trips begin (initial f input) z → (h : Ghost L) × Good F L view trips begin Hidden Fixed start Valid 1 origin answer h z
   good_alone z c =
       good_run F L view trips begin 1 Hidden Fixed Named start Valid 1 origin answer means loops c.0 (between main) (initial f input) z (good_init F L view trips begin Hidden Fixed start Valid 1 answer main f input stands) c.1

@@ -20,10 +20,6 @@ use Rattle.machine.specs.Code.{Cell}
 use Rattle.expr_code.specs.Places.{Places, loop_index, in_store, dimensions_at, home, is_loop_name, number_in, private_or_stored}
 use Rattle.codegen.proofs.GoodPaths.{GoodPaths, AtIn, Begins, Meets}
 
-count : Terms → ℕ
-count no_terms = 0
-count (then_term e es) = suc (count es)
-
 -- values of subscripts that are equal
 agree : (l : Loop) (held : ℕ → ℤ) (i j : ℤ) (es fs : Terms) (vs ws : List ℤ) → AllMayBe l held i es vs → AllMayBe l held j fs ws → vs ≡ ws → MayAgree l held i j es fs
 agree l held i j no_terms no_terms vs ws a b e = tt
@@ -38,9 +34,6 @@ agree l held i j (then_term g es) (then_term f fs) vs ws a b e =
     rest : List ℤ → List ℤ
     rest [] = []
     rest (x ∷ xs) = xs
-
-same_is : (x y : List ℕ) → same_name x y ≡ true → x ≡ y
-same_is x y h = same_text x y (sym h)
 
 itself : (x : List ℕ) → same_name x x ≡ true
 itself x = nat_list_eq_equiv.refl x

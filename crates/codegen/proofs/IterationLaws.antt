@@ -27,9 +27,6 @@ put_cases {A} f k v i x h = ⊎_elim
 
 -- ---- stores
 
-same_cell : Cell → Cell → Bool
-same_cell c d = same_name c.name d.name && (c.place == d.place)
-
 pub cases_cell : (c d : Cell) → (c ≡ d) ⊎ (c ≡ d → ⊥)
 cases_cell c d = by (same_name c.name d.name) (c.place == d.place) refl refl
   where

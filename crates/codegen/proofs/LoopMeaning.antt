@@ -116,9 +116,6 @@ module _ (code : Code) (l : Opened) (p : Places) (body : PlanBlock) (fixed : Cel
   not_home : (c : Cell) (x : ℕ) (o : Home) → x < length p.privates → home_of p c.name ≡ o → (o ≡ private_scalar x → ⊥) → c ≡ scalar code p.privates x → ⊥
   not_home c x o below e ne h = ne (sym e ∙ ap (λ (d : Cell). home_of p d.name) h ∙ w.homes x below)
 
-  retired : StoreOf → List (Option ℤ) → StoreOf
-  retired τ ps = put_cells τ (defined_cells code (loop_at code l.number).privates ps)
-
   unchanged : (τ : StoreOf) (ps : List (Option ℤ)) (c : Cell) → length ps ≡ length p.privates → ((x : ℕ) → x < length p.privates → c ≡ scalar code p.privates x → ⊥) → cell_value (put_cells τ (defined_cells code (loop_at code l.number).privates ps)) c ≡ cell_value τ c
   unchanged τ ps c len h = left_other code p.privates (loop_at code l.number).privates ps τ c w.aligned len h
 

@@ -14,9 +14,6 @@ use Rattle.codegen.proofs.IterationSteps.{In}
 use Rattle.codegen.proofs.OpenedProgram.{ArmsMatch, BlockMatches, LoopMatches, NodeMatches}
 use Rattle.codegen.specs.Program.{IsCodeOf, Planned, number_from, opened_by}
 
-abbrev refs : List Term → List Ref
-refs es = expressions_references es
-
 abbrev pub size : List Term → ℕ
 size es = length (expressions_references es)
 

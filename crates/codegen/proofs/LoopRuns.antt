@@ -176,9 +176,6 @@ module _ (start : ℕ → Process) (total : ℕ) (Named : ℕ → Type 0) (plan 
   step_keeps s t k inv st = subst (Inv start total σ) (sym st.is) (keeps_all start total Named plan σ s inv k st.below (rest start s k) refl st.may)
 
   module _ (s : Inside) (inv : Inv start total σ s) where
-    -- who passed an await knows that the earlier ones have advanced
-    pub waits : (i j e d : ℕ) → In (awaited e d) (history start s j) → i + d ≤ j → In (advanced e) (history start s i)
-    waits i j e d h le = let p = inv.passed j e d h in inv.advanced_by i e (omega arith)
 
     -- each open iteration up to the first that faults stands where its own sequential run stands
     pub stands : (k : ℕ) → k < total → (ls : List (List ℤ)) (τ : StoreOf) → sequential start k σ ≡ went ls τ → Stands start s k τ
@@ -264,26 +261,6 @@ module _ (start : ℕ → Process) (total : ℕ) (Named : ℕ → Type 0) (plan 
         let q = inv.advanced_in j e (plan.each j (s.past j) e named (inv.retired j (omega arith))) in omega arith)
         (λ z. omega arith)
         (cases_lt 0 s.low)
-
-    abbrev IsFault : Process → Type 0
-    IsFault (fault f) = Unit {0}
-    IsFault _ = ⊥
-
-    lowest_by : (P : Process) → rest start s s.low ≡ P → s.low < total → Possible P s s.low ⊎ IsFault P
-    lowest_by (load r c κ) e lt = inl tt
-    lowest_by (store r c v P) e lt = inl tt
-    lowest_by (print v P) e lt = inl tt
-    lowest_by (await x d P) e lt =
-        let a = plan.far s.low (s.past s.low) x d (subst (λ p. Awaits p x d) (sym e) (refl, refl)) in
-        let b = reached x a.1 in inl (omega arith)
-    lowest_by (advance x P) e lt = inl (may_advance s.low x lt (subst (λ p. Advances p x) (sym e) refl))
-    lowest_by (tick P) e lt = inl tt
-    lowest_by (fault f) e lt = inr tt
-    lowest_by (leave ps) e lt = inl refl
-    lowest_by gone e lt = let l = inv.has_left s.low (plan.lasts s.low (s.past s.low) e) in absurd (omega arith)
-
-    pub lowest : s.low < total → Possible (rest start s s.low) s s.low ⊎ IsFault (rest start s s.low)
-    lowest = lowest_by (rest start s s.low) refl
 
 -- ---- what iterations were given, and printed
 

@@ -197,21 +197,6 @@ module _ (p : Places) (sized : list_all is_sized p.symbols ≡ true) (code : Cod
 
 -- ---- lists that code cites by number
 
-has_all : {X : Type 0} (before xs all : List X) → all ≡ before ++ xs → length all ≤ 2 ^ 32 → HasList all (length before) xs
-has_all before [] all e few = tt
-has_all {X} before (x ∷ xs) all e few =
-    let near : length before < 2 ^ 32 = let k = length-append before (x ∷ xs) in let l = ap length e in omega (arith, few, k, l) in
-    let next : all ≡ (before ++ (x ∷ [])) ++ xs = e ∙ sym (append_assoc before (x ∷ []) xs) in
-    let count : length (before ++ (x ∷ [])) ≡ length before + 1 = length-append before (x ∷ []) in (
-      ap (λ (ys : List X). slice_get ys (length before)) e ∙ seam before xs x,
-      near,
-      subst (λ (n : ℕ). HasList all n xs) count (has_all (before ++ (x ∷ [])) xs all next few),
-    )
-  where
-    seam : (ys zs : List X) (y : X) → slice_get (ys ++ (y ∷ zs)) (length ys) ≡ Some y
-    seam [] zs y = refl
-    seam (w ∷ ys) zs y = seam ys zs y
-
 -- ---- each record is printed by an instruction; main awaits nothing
 
 module _ (p : Places) where

@@ -142,10 +142,6 @@ module _ (code : Code) (may : ℕ → ℤ → ℤ → Bool) (places : ℕ → Pl
     pub claims : (qs : List ℕ) (m : Machine) → 0 < p → 0 < s → CodeRun code s p (Init code input) qs m → Claims Frame Opened (view code) trips_of (begin code) s Hidden Fixed Named (starts code may places bodies fixed) (Valid code may) p loops (record { main = main; store = zeros; input = taken_in; output = [] }) answer m
     claims qs m some_p some_s run = claimed Frame Opened (view code) trips_of (begin code) s Hidden Fixed Named (starts code may places bodies fixed) (Valid code may) p loops main (main_frame code) input answer means standing some_p some_s qs m run
 
-    -- the program doesn't break off, or one iteration is open at a time
-    abbrev Mode : Type 0
-    Mode = ((τ : StoreOf) × (t : List ℕ) × (answer ≡ done τ t)) ⊎ ((s ≡ 1) ⊎ ((l : Opened) → Valid code may l → ⊥))
-
     module _ (mode : ((τ : StoreOf) × (t : List ℕ) × (answer ≡ done τ t)) ⊎ ((s ≡ 1) ⊎ ((l : Opened) → Valid code may l → ⊥))) where
       abbrev alone : ℕ
       alone = alone_takes Frame Opened (view code) trips_of (begin code) s Hidden Fixed Named (starts code may places bodies fixed) (Valid code may) p loops main (main_frame code) input answer means standing mode
@@ -199,12 +195,11 @@ module _ (code : Code) (may : ℕ → ℤ → ℤ → Bool) (places : ℕ → Pl
             let x = ended_by m (seq program input) (seq program input).end e refl (c.final e h) in
             record { is = h ∙ ap (λ (d : End). Some d) x.0; printed = x.1; stored = λ d name place. ap (λ (σ : StoreOf). σ name place) (x.2 (x.0 ∙ d)) };
         next = λ going. let g = c.goes going in (g.0, g.2, g.1, g.3);
+        held = c.held;
       }
 
   -- every state of every run is as those of the run alone
   module _ (xs : List Planned) (names : (l : Opened) (x : Planned) (e d : ℕ) → slice_get xs l.number ≡ Some x → Names x.plan e d → Named l e) (input : List ℕ) (p s : ℕ) (m : Machine) where
-    abbrev Starts : Opened → StoreOf → ℕ → Process
-    Starts = starts code may places bodies fixed
 
     abbrev means_so : (x : Outcome) → whole Opened trips_of (starts code may places bodies fixed) x (main code may places bodies fixed opens Hidden Fixed Named loops program compiled input) zeros (record { left = []; records = records_of input }) [] ≡ told (seq program input)
     means_so = means code may places bodies fixed opens Hidden Fixed Named loops program compiled input

@@ -125,10 +125,6 @@ module _ (A : Type 0) (D : Doing A) (p : Places) (meant : A → List ℤ → Run
   abbrev after : A → Run → Outcome
   after a run = meant a [] run
 
-  -- a reference's dimensions are found by its name
-  abbrev Known : Ref → Type 0
-  Known r = dimensions_in p.symbols r.name ≡ dimensions_at p.symbols r.cell
-
   -- the variable isn't the open loop's
   abbrev Free : Home → Type 0
   Free loop_index = ⊥

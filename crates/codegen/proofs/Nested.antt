@@ -81,9 +81,6 @@ numbered_above : (all : List Loop) (n : ℕ) (l : Loop) → loop_numbered all n 
 numbered_above all zero l h = cc
 numbered_above all (suc n) l h = let g = slice_get_within all n l h in (omega arith, omega (arith, g))
 
-same_number : (i j : ℕ) → Some i ≡ Some j → i ≡ j
-same_number i j e = cc
-
 -- one step more finds no other loop where there are steps for all
 one_step : (all : List Loop) → AreNested all → (n : ℕ) (l : Loop) → ((m : ℕ) → l.around ≡ Some m → m ≤ n) → around_in (suc n) all l ≡ around_in n all l
 one_step all nested zero l low = by (loop_around all l) refl
@@ -192,13 +189,3 @@ pub noted_next : (all : List Loop) (noted : List Bool) (l : Loop) (placed : Plac
     → AreNoted all (noted ++ (is_noted noted l.around || placed.suits) ∷ [])
 noted_next all noted l placed nested are h p =
     noted_more all noted l (is_noted noted l.around || placed.suits) are h (or_suits l (loops_around all l) (is_noted noted l.around) placed (noted_inside all noted l nested are h) p)
-
-pub none_noted : (all : List Loop) → AreNoted all (false ∷ [])
-none_noted all = record {
-  none = refl;
-  each = first;
-}
-  where
-    first : (n : ℕ) (l : Loop) → n < 1 → loop_numbered all n ≡ Some l → IsInside (l ∷ loops_around all l) (is_noted (false ∷ []) (Some n))
-    first zero l h e = cc
-    first (suc n) l h e = absurd (omega (arith, h))

@@ -23,10 +23,6 @@ abbrev pub sum : ℕ → ℕ → (ℕ → ℕ) → ℕ
 sum zero k f = 0
 sum (suc n) k f = f k + sum n (suc k) f
 
-sum_le : (n k : ℕ) (f g : ℕ → ℕ) → ((i : ℕ) → f i ≤ g i) → sum n k f ≤ sum n k g
-sum_le zero k f g h = omega arith
-sum_le (suc n) k f g h = let a = h k in let b = sum_le n (suc k) f g h in omega arith
-
 sum_more : (n k j : ℕ) (f g : ℕ → ℕ) → k ≤ j → j < k + n → ((i : ℕ) → (i ≡ j → ⊥) → f i ≤ g i) → f j + 1 ≤ g j → sum n k f + 1 ≤ sum n k g
 sum_more zero k j f g le lt h at = absurd (omega arith)
 sum_more (suc n) k j f g le lt h at = ⊎_elim

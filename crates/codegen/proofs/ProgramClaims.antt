@@ -6,12 +6,12 @@ use Rattle.ast.specs.Store.{StoreOf, zeros}
 use Rattle.ast.specs.declared.fault.End.{End}
 use Rattle.ast.specs.declared.fault.End.TheVariants.{Done, Stopped, Fault as Faulted}
 use Rattle.machine.specs.Code.{Cell}
-use Rattle.machine.specs.State.{State, Step, Run, initial, put_cell, put_cells}
+use Rattle.machine.specs.State.{State, Who, Step, Run, initial, put_cell, put_cells}
 use Rattle.machine.specs.View.{Input, View}
 use Rattle.codegen.specs.Headline.{IsBeginning}
 use Rattle.codegen.proofs.IterationSteps.{Process, Whole, cell_value, sequential, stopped, went}
 use Rattle.codegen.proofs.LoopRuns.{list_of, output, pasts, shown}
-use Rattle.codegen.proofs.ProgramGoes.{goes_on, good_init, good_run}
+use Rattle.codegen.proofs.ProgramGoes.{goes_on, held_goes, good_init, good_run}
 use Rattle.codegen.proofs.ProgramStanding.{Between, Final, Ghost, Good, Loops, MainStands, Within, between, inner, within}
 use Rattle.codegen.proofs.Outcomes.{text_of, Outcome, done, failed, then_do}
 use Rattle.codegen.proofs.ProgramSteps.{Main, take, keep, say, get, work, crash, halt, open_loop, astray, seen, Here, alone_is, meaning, whole}
@@ -52,6 +52,7 @@ module _ (F L : Type 0) (view : F → View F L) (trips : L → ℕ) (begin : L �
   pub record Claims (origin : Here L) (answer : Outcome) (m : State F L) : Type 0 where
     pub final : (e : End) → m.ended ≡ Some e → Final e m answer
     pub goes : m.ended ≡ None → (q : ℕ) × (q < p) × (n : State F L) × Step F L view trips begin slots m q n
+    pub held : m.ended ≡ None → (q : ℕ) (u : Who) → m.held q ≡ Some u → (n : State F L) × Step F L view trips begin slots m q n
     pub begins : IsBeginning m.output (text_of answer)
 
   module _ (origin : Here L) (answer : Outcome) (means : (x : Outcome) → meaning L trips start x origin ≡ answer) (m : State F L) (some_p : 0 < p) (some_s : 0 < slots) where
@@ -80,6 +81,7 @@ module _ (F L : Type 0) (view : F → View F L) (trips : L → ℕ) (begin : L �
         record {
           final = good.final;
           goes = λ going. goes_on F L view trips begin slots Hidden Fixed Named start Valid p origin answer means loops (between M) m good going some_p some_s;
+          held = held_goes F L view trips begin slots Hidden Fixed Named start Valid p origin answer means loops (between M) m good;
           begins = subst (λ (d : Outcome). IsBeginning m.output (text_of d)) same (whole_begins L trips start m.output lost (begins_same m.output) M m.store m.input m.output (begins_same m.output));
         }
     claims (within l ι past before xs M) good =
@@ -94,6 +96,7 @@ module _ (F L : Type 0) (view : F → View F L) (trips : L → ℕ) (begin : L �
         record {
           final = good.final;
           goes = λ going. goes_on F L view trips begin slots Hidden Fixed Named start Valid p origin answer means loops (within l ι past before xs M) m good going some_p some_s;
+          held = held_goes F L view trips begin slots Hidden Fixed Named start Valid p origin answer means loops (within l ι past before xs M) m good;
           begins = over m.ended refl (within l ι past before xs M) good (λ going.
               let first : IsBeginning m.output (text_of (seen (start l ι) before w)) = (o.0, lead ∙ ap (λ (t : List ℕ). t ++ o.0) (sym (W.printed going))) in
               subst (λ (d : Outcome). IsBeginning m.output (text_of d)) same

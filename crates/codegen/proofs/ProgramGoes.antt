@@ -1,4 +1,4 @@
--- No state that hasn't ended is without a next step.
+-- No state that hasn't ended is without a next step, and each activity that is held has one.
 use Rattle.std.proofs.Common.{◌≡◌, ◌∙◌, ℕ, zero, suc, ◌+◌, ◌-◌, ◌<◌, ◌≤◌, ℤ, List, [], ◌∷◌, ◌++◌, Option, Some, None, ◌⊎◌, inl, inr, refl, sym, subst, ⊎_elim, arith}
 use Rattle.std.proofs.lemmas.Bool.{cases_eq, cases_lt}
 use Rattle.ast.specs.Input.{records_of}
@@ -32,6 +32,10 @@ module _ (F L : Type 0) (view : F → View F L) (trips : L → ℕ) (begin : L �
 
   abbrev Goes : State F L → Type 0
   Goes m = (q : ℕ) × (q < p) × (n : State F L) × Step F L view trips begin slots m q n
+
+  -- processor q has a step
+  abbrev Moves : State F L → ℕ → Type 0
+  Moves m q = (n : State F L) × Step F L view trips begin slots m q n
 
   module _ (l : L) (ι : StoreOf) (past : ℕ → List ℤ) (before : List ℕ) (xs : List (Cell × ℤ)) (M : Main L) (m : State F L) (good : G (within l ι past before xs M) m) where
     abbrev W : Within F L view trips begin Hidden Fixed start Valid p origin answer l ι past before xs M m
@@ -90,6 +94,25 @@ module _ (F L : Type 0) (view : F → View F L) (trips : L → ℕ) (begin : L �
     lowest_reached (fault f) eq w h = subst (Reached m) (sym h) (omega arith)
     lowest_reached _ eq w h = absurd h
 
+    within_held : m.ended ≡ None → (q : ℕ) (u : Who) → m.held q ≡ Some u → Moves m q
+    within_held going q (iteration k) hold =
+        let here = (good.places).holds q k hold in
+        let tk = W.ticket in
+        let o = (good.places).opened k here.0 here.1 in
+        let a = W.active k o.0 o.1 in
+        let c = can q k here.0 (omega arith) o.0 (after (start l ι k) (past k)) refl a.0 in
+        (c.0, record { going = going; turn = subst (λ o. Turn F L view trips begin slots o m q c.0) (sym hold) (o.0, o.1, c.1) })
+    within_held going q the_main hold =
+        let at = W.at in
+        ⊎_elim
+        (λ lt.
+        let n : State F L = record m { waiting = Some (until_retired (trips l)); held = put_at m.held q None } in
+        (n, record { going = going; turn = subst (λ o. Turn F L view trips begin slots o m q n) (sym hold) (subst (λ V. MainMove trips V m q n) (sym at.2) (l, W.loop, inr (lt, refl))) }))
+        (λ ge.
+        let n : State F L = record m { main = at.1 l; store = put_cells m.store (at.0 l); loop = None } in
+        (n, record { going = going; turn = subst (λ o. Turn F L view trips begin slots o m q n) (sym hold) (subst (λ V. MainMove trips V m q n) (sym at.2) (l, W.loop, inl (ge, refl))) }))
+        (cases_lt m.retired (trips l))
+
     within_goes : m.ended ≡ None → 0 < p → 0 < slots → Goes m
     within_goes going some_p some_s = ⊎_elim
         (λ b. busy b.0 b.1 b.2 b.3)
@@ -121,23 +144,7 @@ module _ (F L : Type 0) (view : F → View F L) (trips : L → ℕ) (begin : L �
         (busy_or_idle m.held p)
       where
         busy : (q : ℕ) → q < p → (u : Who) → m.held q ≡ Some u → Goes m
-        busy q below (iteration k) hold =
-            let here = (good.places).holds q k hold in
-            let tk = W.ticket in
-            let o = (good.places).opened k here.0 here.1 in
-            let a = W.active k o.0 o.1 in
-            let c = can q k here.0 (omega arith) o.0 (after (start l ι k) (past k)) refl a.0 in
-            (q, below, c.0, record { going = going; turn = subst (λ o. Turn F L view trips begin slots o m q c.0) (sym hold) (o.0, o.1, c.1) })
-        busy q below the_main hold =
-            let at = W.at in
-            ⊎_elim
-            (λ lt.
-            let n : State F L = record m { waiting = Some (until_retired (trips l)); held = put_at m.held q None } in
-            (q, below, n, record { going = going; turn = subst (λ o. Turn F L view trips begin slots o m q n) (sym hold) (subst (λ V. MainMove trips V m q n) (sym at.2) (l, W.loop, inr (lt, refl))) }))
-            (λ ge.
-            let n : State F L = record m { main = at.1 l; store = put_cells m.store (at.0 l); loop = None } in
-            (q, below, n, record { going = going; turn = subst (λ o. Turn F L view trips begin slots o m q n) (sym hold) (subst (λ V. MainMove trips V m q n) (sym at.2) (l, W.loop, inl (ge, refl))) }))
-            (cases_lt m.retired (trips l))
+        busy q below u hold = let c = within_held going q u hold in (q, below, c.0, c.1)
 
   module _ (m : State F L) where
     main_can : (M : Main L) → m.ended ≡ None → G (between M) m → (q : ℕ) → MainStands F L view Valid M m.main → (n : State F L) × MainMove trips (view m.main) m q n
@@ -154,11 +161,19 @@ module _ (F L : Type 0) (view : F → View F L) (trips : L → ℕ) (begin : L �
         let n : State F L = record m { main = st.1; loop = Some l; counts = λ e. 0; retired = 0; ticket = 0 } in
         (n, subst (λ (V : View F L). MainMove trips V m q n) (sym st.2) (none_open (Active F) p m.retired m.ticket m.iterations m.parked m.waiting m.held good.places q B.none, refl))
 
+    between_held : (M : Main L) → G (between M) m → m.ended ≡ None → (q : ℕ) (u : Who) → m.held q ≡ Some u → Moves m q
+    between_held M good going q the_main hold =
+        let B : Between F L view trips begin Hidden Fixed start Valid p origin answer M m = good.kept in
+        let c = main_can M going good q B.at in
+        (c.0, record { going = going; turn = subst (λ o. Turn F L view trips begin slots o m q c.0) (sym hold) c.1 })
+    between_held M good going q (iteration k) hold =
+        let B : Between F L view trips begin Hidden Fixed start Valid p origin answer M m = good.kept in
+        let o = (good.places).holds q k hold in
+        let e = B.none in absurd (omega arith)
+
     between_goes : (M : Main L) → G (between M) m → m.ended ≡ None → 0 < p → Goes m
     between_goes M good going some_p = ⊎_elim
-        (λ held.
-        let c = main_can M going good held.0 B.at in
-        (held.0, held.1, c.0, record { going = going; turn = subst (λ o. Turn F L view trips begin slots o m held.0 c.0) (sym held.2) c.1 }))
+        (λ held. let c = between_held M good going held.0 the_main held.2 in (held.0, held.1, c.0, c.1))
         (λ parked. ⊎_elim
         (λ b. busy parked b.0 b.1 b.2 b.3)
         (λ idle. picked parked (idle 0 (omega arith)))
@@ -182,6 +197,11 @@ module _ (F L : Type 0) (view : F → View F L) (trips : L → ℕ) (begin : L �
   pub goes_on : (g : Ghost L) (m : State F L) → G g m → m.ended ≡ None → 0 < p → 0 < slots → Goes m
   goes_on (between M) m good going some_p some_s = between_goes m M good going some_p
   goes_on (within l ι past before xs M) m good going some_p some_s = within_goes l ι past before xs M m good going some_p some_s
+
+  -- nor does anything that is held wait there
+  pub held_goes : (g : Ghost L) (m : State F L) → G g m → m.ended ≡ None → (q : ℕ) (u : Who) → m.held q ≡ Some u → Moves m q
+  held_goes (between M) m good going q u hold = between_held m M good going q u hold
+  held_goes (within l ι past before xs M) m good going q u hold = within_held l ι past before xs M m good going q u hold
 
   pub good_run : (qs : List ℕ) (g : Ghost L) (m n : State F L) → G g m → Run F L view trips begin slots p m qs n → (h : Ghost L) × G h n
   good_run [] g m n good r = (g, subst (G g) r good)

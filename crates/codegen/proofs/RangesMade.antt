@@ -30,15 +30,6 @@ planned_next ls rs k l r h b i =
     let next : k + 1 ≡ suc k = omega arith in
     from_here ls rs k l r (subst (λ (n : ℕ). loop_numbered ls n ≡ Some l) next h) b (sym i) ∙ ap (λ (n : ℕ). planned_by l (plan_of r.plan) ++ planned_in (drop n ls) (drop n rs)) (sym next)
 
-none_left : {X : Type 0} (xs : List X) (k : ℕ) → length xs ≤ k → drop k xs ≡ []
-none_left [] zero h = refl
-none_left [] (suc k) h = refl
-none_left (x ∷ xs) zero h = absurd (omega (arith, h))
-none_left (x ∷ xs) (suc k) h = none_left xs k (omega (arith, h))
-
-pub all_planned : (ls : List Loop) (rs : List LoopReport) (k : ℕ) → length ls ≤ k → planned_in (drop k ls) (drop k rs) ≡ []
-all_planned ls rs k h = ap (λ (ms : List Loop). planned_in ms (drop k rs)) (none_left ls k h)
-
 -- ---- ranges one behind the other
 
 pub with_more : (symbols : List Symbol) (xs ys : List Planned) (m : Made) → with_ranges symbols (xs ++ ys) m ≡ with_ranges symbols ys (with_ranges symbols xs m)

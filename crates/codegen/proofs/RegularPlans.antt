@@ -118,9 +118,6 @@ module _ (symbols : List Symbol) (x : Planned) (g : GoodPlan x.loop x.plan) (sam
   abbrev l : Loop
   l = x.loop
 
-  abbrev pl : Places
-  pl = range_places symbols x
-
   occurrence : (es : Terms) (q : Ref) → StandsIn x.loop q es → is_placed symbols q ≡ true
   occurrence es q st = subst (λ (z : Ref). is_placed symbols z ≡ true) st.2 (r.placed st.0 st.1)
 

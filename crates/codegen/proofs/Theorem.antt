@@ -85,9 +85,6 @@ module _ (t : ProgramTree) (xs : List Planned) (some : Planned) (code : Code) (w
     o : Opens t.symbols (get_or xs l.number some)
     o = opens l.number h
 
-    g : GoodLoop t.symbols (get_or xs l.number some)
-    g = good l.number h
-
     step : ℤ
     step = (loop_at code l.number).step
 

@@ -1,6 +1,7 @@
 -- The headline: whatever processors move, a run of a program's code that ends has printed and stored what
 -- the sequential program does, or, where that program faults or stops, has printed its output so far and
--- reports that fault or stop; and no run that hasn't ended is without a next step.
+-- reports that fault or stop; and no run that hasn't ended is without a next step, nor is any activity that
+-- a processor holds there.
 use Rattle.std.specs.Prelude.{◌≡◌, ◌<◌, ◌≤◌, ◌+◌, ◌*◌, ◌⊎◌, ℕ, List, ◌++◌, length, Some, None}
 use Rattle.ast.specs.Meaning.{seq}
 use Rattle.ast.specs.Program.{ProgramTree}
@@ -8,18 +9,20 @@ use Rattle.ast.specs.declared.fault.End.{End}
 use Rattle.ast.specs.declared.fault.End.TheVariants.{Done}
 use Rattle.machine.specs.Code.{Code}
 use Rattle.machine.specs.Solo.{Solo}
-use Rattle.machine.specs.State.{Machine, AreSizes, CodeStep, CodeRun, Init, Ended}
+use Rattle.machine.specs.State.{Machine, Who, AreSizes, CodeStep, CodeRun, Init, Ended}
 
 -- a text is a beginning of another
 abbrev pub IsBeginning : List ℕ → List ℕ → Type 0
 IsBeginning xs ys = (more : List ℕ) × (ys ≡ xs ++ more)
 
 -- A state of a run has printed a beginning of what the sequential program prints; if it has ended, its
--- answer is the sequential program's; if it hasn't, some processor has a step.
+-- answer is the sequential program's; if it hasn't, some processor has a step, and each that holds an
+-- activity has one: what it holds can go on, or be parked.
 pub record Agrees (code : Code) (program : ProgramTree) (input : List ℕ) (p s : ℕ) (m : Machine) : Type 0 where
   pub beginning : IsBeginning m.output (seq program input).output
   pub answer : (e : End) → m.ended ≡ Some e → Ended m (seq program input).output (seq program input).end (seq program input).store
   pub next : m.ended ≡ None → (q : ℕ) × (n : Machine) × (q < p) × CodeStep code s m q n
+  pub held : m.ended ≡ None → (q : ℕ) (u : Who) → m.held q ≡ Some u → (n : Machine) × CodeStep code s m q n
 
 -- The headline, for all inputs, processors, open iterations and runs.
 abbrev pub Headline : Code → ProgramTree → Type 0

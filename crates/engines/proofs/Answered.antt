@@ -74,11 +74,6 @@ stored_as (x ∷ xs) (s ∷ ss) a b same are =
     let rest : variables_in xs ≡ variables_for ss = cc in
     rw (name, many, same_values (a s.name) (b s.name) (same s.name) 0 (size s.sort), stored_as xs ss a b same rest) refl
 
-pub many_cells : (tree : ProgramTree) (code : Code) (m : Machine) (answer : Answer) → IsCompiled tree code → IsAnswer code m answer → length (cells answer.store) ≡ length tree.symbols
-many_cells tree code m answer compiled is =
-    ap length is.store ∙ length-map code.variables (λ x. (x.name.letters, values_from (m.store x.name.letters) 0 x.size))
-    ∙ sym (length-map code.variables (λ x. (x.name.letters, x.size))) ∙ ap length compiled.2.variables ∙ length-map tree.symbols (λ s. (s.name, size s.sort))
-
 -- ---- what is shown of the answer
 
 -- the rows count at END alone

@@ -5,6 +5,5 @@ pub mod Listings
 pub mod Pages
 pub mod Replayed
 pub mod StoreRows
-pub mod Subscripts
 pub mod Surveys
 pub mod Upgrading

@@ -1,5 +1,4 @@
-//! The engines of the commands: what each writes of its texts, over any readers and writers, and what
-//! is said of them beside it.
+//! The engines of the commands: what each writes of its texts, over any readers and writers.
 #![tactic(auto)]
 
 mod code_lines;

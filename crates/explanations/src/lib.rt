@@ -1,4 +1,4 @@
-//! What the numbers of refusals, faults and schedules mean, at length.
+//! What the numbers of refusals, faults, schedules and reasons mean, at length, and how they are written.
 #![tactic(auto)]
 
 pub mod explain;

@@ -135,8 +135,9 @@ fn run_call<'c, C: Call + Send + Sync, G: Gate + Sync, R: Threads + Wait + Sync>
 /// # Errors
 ///
 /// 57 where p or s is out of its range; 58 where a thread couldn't be started, whatever else was met;
-/// 59 where code, made by hand, has come to a state from which no step leads; and want of memory,
-/// with the output of the state in which it was met.
+/// 59 where code, made by hand, has come to a state in which a processor holds an activity that has no
+/// step, or from which no step leads; and want of memory, with the output of the state in which it
+/// was met.
 pub fn run<G: Gate + Sync, R: Threads + Wait + Sync>(
     rt: &R,
     alloc: Global,
