@@ -39,6 +39,7 @@ pub mod Nesting
 pub mod NodeParts
 pub mod Numbering
 pub mod OnePlace
+pub mod OneStep
 pub mod OpenedLoop
 pub mod OpenedProgram
 pub mod OpenedReports

@@ -15,7 +15,7 @@ use Rattle.dependence.specs.Plan.{PlanBlock}
 use Rattle.machine.specs.Code.{Code, Cell}
 use Rattle.machine.specs.Frame.{Frame}
 use Rattle.machine.specs.Solo.{Solo}
-use Rattle.machine.specs.State.{Machine, AreSizes, CodeRun, Init, end_of}
+use Rattle.machine.specs.State.{Machine, AreSizes, CodeRun, CodeStep, Init, end_of}
 use Rattle.machine.specs.View.{Cause, Input, begin, main_frame, stop_at, failure, trips_of, view}
 use Rattle.machine.specs.declared.code.Open.{Open as Opened}
 use Rattle.machine.specs.declared.instr.Act.TheVariants as acts
@@ -24,7 +24,7 @@ use Rattle.expr_code.specs.Places.{Places}
 use Rattle.expr_code.proofs.Standing.{HasAt, at, seen}
 use Rattle.codegen.specs.Emitted.{block_awaits, block_code, block_records}
 use Rattle.codegen.specs.Alone.{AllRetire, Before, BreaksOff}
-use Rattle.codegen.specs.Headline.{Headline, IsBeginning}
+use Rattle.codegen.specs.Headline.{HasOneStep, Headline, IsBeginning}
 use Rattle.codegen.specs.Plain.{plain_block}
 use Rattle.codegen.specs.Process.{block_into}
 use Rattle.codegen.specs.Program.{Planned, main_places}
@@ -37,7 +37,8 @@ use Rattle.codegen.proofs.MainStanding.{Goes, Opens, main_does}
 use Rattle.codegen.proofs.MainSteps.{Valid, main_acts, main_doing, meant}
 use Rattle.codegen.proofs.Meaning.{going_told, then_told}
 use Rattle.codegen.proofs.Outcomes.{Outcome, done, failed, text_of, told, told_by}
-use Rattle.codegen.proofs.ProgramBound.{alone_takes, bounded as most_steps, carried as to_end, exactly, weighed}
+use Rattle.codegen.proofs.OneStep.{same_step}
+use Rattle.codegen.proofs.ProgramBound.{alone_takes, bounded as most_steps, carried as to_end, exactly, narrow, weighed}
 use Rattle.codegen.proofs.ProgramClaims.{Claims, claimed}
 use Rattle.codegen.proofs.IterationSteps.{Process, after}
 use Rattle.codegen.proofs.LoopRuns.{reached}
@@ -161,12 +162,27 @@ module _ (code : Code) (may : ℕ → ℤ → ℤ → Bool) (places : ℕ → Pl
       exactly Frame Opened (view code) trips_of (begin code) 1 Hidden Fixed Named (starts code may places bodies fixed) (Valid code may) 1 loops main (main_frame code) input answer means standing (inr (inl refl))
       o.turns o.last o.run o.end o.ended w o.weight
 
-  pub ends : (w : ℕ) × Solo code input w × ((v : ℕ) → Solo code input v → v ≡ w)
+  one_step : HasOneStep code input
+  one_step qs m run going =
+      let c = claims 1 1 qs m (omega arith) (omega arith) run in
+      let g = c.goes going in
+      let lt = g.1 in
+      let z : g.0 ≡ 0 = omega arith in
+      let st : CodeStep code 1 m 0 g.2 = subst (λ (q : ℕ). CodeStep code 1 m q g.2) z g.3 in
+      let is = narrow Frame Opened (view code) trips_of (begin code) 1 Hidden Fixed Named (starts code may places bodies fixed) (Valid code may) 1 loops main (main_frame code) input answer means standing (inr (inl refl)) refl qs m run going in (
+        g.2,
+        st,
+        λ q o below other.
+            let y : q ≡ 0 = omega arith in
+            same_step Frame Opened (view code) trips_of (begin code) m o g.2 0 is (subst (λ (r : ℕ). CodeStep code 1 m r o) y other) st,
+      )
+
+  pub ends : HasOneStep code input × (w : ℕ) × Solo code input w × ((v : ℕ) → Solo code input v → v ≡ w)
   ends =
       let c = goes_to_end 1 1 (inr (inl refl)) (omega arith) (omega arith) [] (Init code input) refl in
       let w = weighed Frame Opened (view code) trips_of (begin code) 1 Hidden Fixed Named (starts code may places bodies fixed) (Valid code may) 1 loops main (main_frame code) input answer means standing (inr (inl refl)) c.0 c.1 c.2 in
       let solo : Solo code input w.0 = record { turns = c.0; last = c.1; run = c.2; end = c.3; ended = c.4; weight = w.1 } in
-      (w.0, solo, λ v other. solo_is v other ∙ sym (solo_is w.0 solo))
+      (one_step, w.0, solo, λ v other. solo_is v other ∙ sym (solo_is w.0 solo))
 
   mode_of : (s : ℕ) → ((seq program input).end ≡ Done) ⊎ (s ≡ 1) → ((τ : StoreOf) × (t : List ℕ) × (answer ≡ done τ t)) ⊎ ((s ≡ 1) ⊎ ((l : Opened) → Valid code may l → ⊥))
   mode_of s (inl e) = inl ((seq program input).store, (seq program input).output, ap (λ (d : End). told_by d (seq program input)) e)

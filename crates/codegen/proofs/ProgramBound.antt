@@ -13,6 +13,7 @@ use Rattle.machine.specs.View.{Cause, failure, stop_at, Input, View}
 use Rattle.codegen.proofs.IterationLaws.{put_same, put_other}
 use Rattle.codegen.proofs.IterationSteps.{Process, load, await, fault, leave, gone, after, run, Whole, went, stopped, add, going, joined, finish, sequential}
 use Rattle.codegen.proofs.LoopRuns.{pasts, finished, faulted}
+use Rattle.codegen.proofs.OneStep.{IsNarrow, some_same}
 use Rattle.codegen.proofs.ProgramGoes.{goes_on, good_init}
 use Rattle.codegen.proofs.ProgramMoves.{Change, acted, parks, picks, begins, works, opens_up, joins, main_parks, main_picked, ends_main, breaks_off, step_out}
 use Rattle.codegen.proofs.ProgramStanding.{WaitsFor, MainStands, Loops, Ghost, between, within, inner, Between, Within, Good, Final}
@@ -727,6 +728,29 @@ module _ (F L : Type 0) (view : F → View F L) (trips : L → ℕ) (begin : L �
         let v = weight_of qs o.ghost r.0 n o.good r.3 in
         (b.0 + v.0, (b.0, v.0, b.1, v.1, refl))
 
+    -- with one open iteration no two things may be taken up
+    narrow_of : slots ≡ 1 → (g : Ghost L) (m : State F L) → G g m → (steps acting : ℕ) → Counted g m steps acting → IsNarrow F L trips m
+    narrow_of e (between M) m good steps acting c =
+        let B : Between F L view trips begin Hidden Fixed start Valid p origin answer M m = good.kept in
+        record {
+          narrow = let z = B.none in omega arith;
+          behind = (good.places).behind;
+          below = λ l h. let z : None ≡ Some l = sym B.loop ∙ h in cc;
+          parked = (good.places).waits;
+          within = λ k w h. let o = (good.places).waits k w h in let z = B.none in absurd (omega arith);
+          joined = λ w l h i r. let z : None ≡ Some l = sym B.loop ∙ i in cc;
+        }
+    narrow_of e (within l ι past before xs M) m good steps acting c =
+        let W : Within F L view trips begin Hidden Fixed start Valid p origin answer l ι past before xs M m = good.kept in
+        record {
+          narrow = let z = c.narrow in omega arith;
+          behind = (good.places).behind;
+          below = λ j h. subst (λ (i : L). m.ticket ≤ trips i) (some_same l j (sym W.loop ∙ h)) W.ticket;
+          parked = (good.places).waits;
+          within = λ k w h. (l, W.loop);
+          joined = λ w j h i r. subst (λ (x : L). trips x ≤ m.retired) (some_same l j (sym W.loop ∙ i)) (subst (Reached m) (W.waits_main w h) r);
+        }
+
     abbrev ToEnd : State F L → Type 0
     ToEnd m = (qs : List ℕ) × (n : State F L) × Run F L view trips begin slots p m qs n × (e : End) × (n.ended ≡ Some e)
 
@@ -774,6 +798,12 @@ module _ (F L : Type 0) (view : F → View F L) (trips : L → ℕ) (begin : L �
       let x = tally_run F L view trips begin slots Hidden Fixed Named start Valid p origin answer means loops mode qs (between M) (initial f input) m good_first 0 0 first_tally r w wt in
       let c = x.2 in
       let z = c.last e h in omega arith
+
+  pub narrow : slots ≡ 1 → (qs : List ℕ) (m : State F L) → Run F L view trips begin slots p (initial f input) qs m → m.ended ≡ None → IsNarrow F L trips m
+  narrow e qs m r going =
+      let w = weight_of F L view trips begin slots Hidden Fixed Named start Valid p origin answer means loops mode qs (between M) (initial f input) m good_first r in
+      let x = tally_run F L view trips begin slots Hidden Fixed Named start Valid p origin answer means loops mode qs (between M) (initial f input) m good_first 0 0 first_tally r w.0 w.1 in
+      narrow_of F L view trips begin slots Hidden Fixed Named start Valid p origin answer means loops mode e x.0 m x.1 (0 + length qs) (0 + w.0) ((x.2).going going)
 
   -- each run has a weight
   pub weighed : (qs : List ℕ) (m : State F L) (r : Run F L view trips begin slots p (initial f input) qs m) → (w : ℕ) × Weight F L view trips begin slots p (initial f input) qs m r w

@@ -32,9 +32,15 @@ Headline code program =
 
 -- ---- how long runs are
 
--- for every input the run alone ends, and its steps are one number
+-- a run alone has exactly one next step in each state that hasn't ended
+abbrev pub HasOneStep : Code → List ℕ → Type 0
+HasOneStep code input =
+    (qs : List ℕ) (m : Machine) → CodeRun code 1 1 (Init code input) qs m → m.ended ≡ None
+    → (n : Machine) × CodeStep code 1 m 0 n × ((q : ℕ) (o : Machine) → q < 1 → CodeStep code 1 m q o → o ≡ n)
+
+-- for every input the run alone goes one way, and ends, and its steps are one number
 abbrev pub Ends : Code → Type 0
-Ends code = (input : List ℕ) → (w : ℕ) × Solo code input w × ((v : ℕ) → Solo code input v → v ≡ w)
+Ends code = (input : List ℕ) → HasOneStep code input × (w : ℕ) × Solo code input w × ((v : ℕ) → Solo code input v → v ≡ w)
 
 -- the sequential program comes to its end, without a fault or a STOP before it, or one iteration is open at
 -- a time: else iterations behind one that breaks off may go on for as long as they like
