@@ -187,7 +187,6 @@ module _ (F L : Type 0) (view : F → View F L) (trips : L → ℕ) (begin : L �
     pub going : y.ended ≡ None
 
   module _ (l : L) (ι : StoreOf) (before : List ℕ) (ls : List (List ℤ)) (τ : StoreOf) (seq : sequential (start l ι) (trips l) ι ≡ went ls τ) where
-
     abbrev Joins : State F L → Type 0
     Joins z = (y : State F L) × Joined l τ (before ++ shown (start l ι) 0 ls) z y
 

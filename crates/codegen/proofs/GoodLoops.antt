@@ -65,7 +65,6 @@ pub record GoodLoop (symbols : List Symbol) (x : Planned) : Type 0 where
   pub nonzero : int_eq step (pos 0) ≡ false
 
 module _ (symbols : List Symbol) (code : Code) (n : ℕ) (x : Planned) (g : GoodLoop symbols x) (sized : list_all is_sized symbols ≡ true) (variables : HasVariables code symbols) (few_symbols : length symbols ≤ 2 ^ 32) (place : ℕ) (entry : loop_at code n ≡ loop_entry symbols place x) where
-
   -- the cell of a scalar
   short_cell : (r : Ref) → is_placed symbols r ≡ true → dimensions_at symbols r.cell ≡ [] → cell_at (slice_get code.variables (short r.cell)) 0 ≡ Some (record { name = r.name; place = 0 })
   short_cell r p d =

@@ -176,7 +176,6 @@ module _ (start : ℕ → Process) (total : ℕ) (Named : ℕ → Type 0) (plan 
   step_keeps s t k inv st = subst (Inv start total σ) (sym st.is) (keeps_all start total Named plan σ s inv k st.below (rest start s k) refl st.may)
 
   module _ (s : Inside) (inv : Inv start total σ s) where
-
     -- each open iteration up to the first that faults stands where its own sequential run stands
     pub stands : (k : ℕ) → k < total → (ls : List (List ℤ)) (τ : StoreOf) → sequential start k σ ≡ went ls τ → Stands start s k τ
     stands k lt ls τ e = record {

@@ -216,7 +216,6 @@ module _ (code : Code) (may : ℕ → ℤ → ℤ → Bool) (places : ℕ → Pl
 
   -- every state of every run is as those of the run alone
   module _ (xs : List Planned) (names : (l : Opened) (x : Planned) (e d : ℕ) → slice_get xs l.number ≡ Some x → Names x.plan e d → Named l e) (input : List ℕ) (p s : ℕ) (m : Machine) where
-
     abbrev means_so : (x : Outcome) → whole Opened trips_of (starts code may places bodies fixed) x (main code may places bodies fixed opens Hidden Fixed Named loops program compiled input) zeros (record { left = []; records = records_of input }) [] ≡ told (seq program input)
     means_so = means code may places bodies fixed opens Hidden Fixed Named loops program compiled input
 

@@ -177,7 +177,6 @@ module _ (symbols : List Symbol) (l : Loop) (line : ℕ) (privates : List (List 
   module _ (index : ℤ) (opened : StoreOf)
       -- a scalar that gets a value is among those to which the range gives values
       (assigned : (r : Ref) (es : Terms) → StandsIn l r es → (o : Occurrence) → In o l.references → o.ref ≡ r → o.defines ≡ true → dimensions_in symbols r.name ≡ [] → is_assigned l r.name ≡ true) where
-
     not_fixed : (r : Ref) (n : ℕ) (b : Bool) (ds : List Extent) → is_assigned l r.name ≡ b → dimensions_in symbols r.name ≡ ds → (ds ≡ [] → b ≡ true) → fixed_in symbols l (record { name = r.name; place = n }) ≡ false
     not_fixed r n true ds e d h = by ds d
       where

@@ -10,7 +10,9 @@ ghost use Rattle.commands.specs.Statuses.{Ends, EndsSeq};
 use crate::fault::FileFault;
 use crate::files::NamedFiles;
 use crate::told::{refuse_file, tell, tell_run, warn_of_run};
-use engines::{EngineFault, Survey, Verdict, judged, seq_noted, surveyed, tell_loops, tell_verdict};
+use engines::{
+    EngineFault, Survey, Verdict, judged, seq_noted, surveyed, tell_loops, tell_verdict,
+};
 use messages::tell_further;
 use reasons::say_why_serial;
 use remarks::warn;
