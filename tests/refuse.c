@@ -1,5 +1,5 @@
-/* Preloaded into a program by `failures`. It refuses calls and makes reads and writes short, as these
-   words of the environment say:
+/* Preloaded into a program by `failures` and `.ci/allocations`. It refuses calls and makes reads and
+   writes short, as these words of the environment say:
 
    REFUSE=CALL:N   the Nth call of CALL fails; REFUSE=CALL:N+ that one and each behind it. CALL is memory
                    (malloc and realloc), open, read, write, sync, rename or thread. Standard error isn't
