@@ -61,7 +61,6 @@ pub enum Intrinsic {
 }
 
 /// An expression, integer or logical.
-#[derive(Drop)]
 #[cycle(expression)]
 pub enum Expr {
     /// A constant, from 0 to 9223372036854775807.
@@ -86,6 +85,24 @@ pub struct Access {
     pub reference: Reference,
     /// The subscripts, none of a scalar.
     pub subscripts: Vec<Expr>,
+}
+
+// Written out, so that each place where an expression is dropped has one call in place of an arm for
+// each form.
+impl Drop for Expr {
+    #[cycle(dropping)]
+    fn drop(self) {
+        match self {
+            Expr::Constant(_) => {}
+            Expr::Truth(_) => {}
+            Expr::Parameter(_, _) => {}
+            Expr::Element(_) => {}
+            Expr::Call(_, _) => {}
+            Expr::Parentheses(_) => {}
+            Expr::Unary(_, _) => {}
+            Expr::Binary(_, _, _) => {}
+        }
+    }
 }
 
 #[cycle(copies)]

@@ -39,7 +39,6 @@ pub struct Symbol {
 
 /// A program. Its references hold the places of their names among the symbols, and they are
 /// numbered from 0 in order of evaluation.
-#[derive(Drop)]
 pub struct Program {
     /// What its names stand for, each name once.
     pub symbols: Vec<Symbol>,
@@ -54,6 +53,16 @@ pub struct Program {
     ghost shallow: { are_shallow (block_view body.items) ≡ true } by { Prim.hlevel props },
     ghost regular: { is_regular (map symbol symbols.items) (block_view body.items) ≡ true } by { Prim.hlevel props },
     ghost fitting: { are_fitting (block_view body.items) ≡ true } by { Prim.hlevel props },
+}
+
+impl Drop for Program {
+    fn drop(self) {
+        let Program {
+            symbols: _,
+            body: _,
+            statements: _,
+        } = self;
+    }
 }
 
 impl Symbol {

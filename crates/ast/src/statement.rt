@@ -23,11 +23,16 @@ pub enum Item {
 }
 
 /// The bounds of one dimension of an array.
-#[derive(Drop)]
 pub struct Bounds {
     /// The lower bound, 1 where it is absent.
     pub lower: Option<Expr>,
     pub upper: Expr,
+}
+
+impl Drop for Bounds {
+    fn drop(self) {
+        let Bounds { lower: _, upper: _ } = self;
+    }
 }
 
 /// A name that a statement declares.
@@ -46,7 +51,6 @@ pub struct Definition {
 }
 
 /// What a DO statement says.
-#[derive(Drop)]
 pub struct DoHead {
     /// The label of the terminal statement.
     pub terminal: Label,
@@ -58,6 +62,18 @@ pub struct DoHead {
     pub last: Expr,
     /// The incrementation parameter, 1 where it is absent.
     pub step: Option<Expr>,
+}
+
+impl Drop for DoHead {
+    fn drop(self) {
+        let DoHead {
+            terminal: _,
+            variable: _,
+            first: _,
+            last: _,
+            step: _,
+        } = self;
+    }
 }
 
 /// What a statement does.

@@ -9,12 +9,20 @@ use crate::table::Table;
 use std::alloc::{AllocError, Global};
 
 /// The values of a program's variables: each name once.
-#[derive(Drop)]
 pub struct Store {
     /// The names, in the order of the program's symbols.
     table: Table,
     /// The elements of the first name in storage order, then those of the second one, and so on.
     numbers: Vec<i64>,
+}
+
+impl Drop for Store {
+    fn drop(self) {
+        let Store {
+            table: _,
+            numbers: _,
+        } = self;
+    }
 }
 
 /// The element at a place, if there is one.

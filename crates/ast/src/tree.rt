@@ -8,7 +8,6 @@ use crate::statement::{DoHead, Line, Stmt, copy_of_optional};
 use std::alloc::{AllocError, Global};
 
 /// A statement of a program with what belongs to it.
-#[derive(Drop)]
 #[cycle(tree)]
 pub enum Node {
     /// A statement that holds no others.
@@ -17,6 +16,17 @@ pub enum Node {
     Loop(Line, DoHead, Vec<Node>),
     /// An IF with its arms. A logical IF has one.
     Choice(Vec<Arm>),
+}
+
+impl Drop for Node {
+    #[cycle(dropping)]
+    fn drop(self) {
+        match self {
+            Node::Plain(_) => {}
+            Node::Loop(_, _, _) => {}
+            Node::Choice(_) => {}
+        }
+    }
 }
 
 /// An arm of an IF.

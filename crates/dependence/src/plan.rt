@@ -5,7 +5,6 @@ use ast::{DoHead, Expr, Line, Stmt};
 use loop_tree::ScalarSet;
 
 /// A statement of a plan's body.
-#[derive(Drop)]
 #[cycle(plan)]
 pub enum PlanStmt {
     /// Waits until the iteration so many before this one has advanced the event.
@@ -18,6 +17,19 @@ pub enum PlanStmt {
     Loop(Line, DoHead, Vec<PlanStmt>),
     /// An IF: its arms, and, where it has no ELSE, the body of one that was made for it.
     Choice(Vec<PlanArm>, Option<Vec<PlanStmt>>),
+}
+
+impl Drop for PlanStmt {
+    #[cycle(dropping)]
+    fn drop(self) {
+        match self {
+            PlanStmt::Await(_, _) => {}
+            PlanStmt::Advance(_) => {}
+            PlanStmt::Plain(_) => {}
+            PlanStmt::Loop(_, _, _) => {}
+            PlanStmt::Choice(_, _) => {}
+        }
+    }
 }
 
 /// An arm of an IF of a plan.

@@ -14,12 +14,20 @@ use std::alloc::{AllocError, Global};
 const ASKED: usize = 8;
 
 /// Relations of pairs, in order: of a reference in an iteration, and of one in a later iteration.
-#[derive(Drop)]
 pub struct Relations {
     pub runs: Vec<Run>,
     /// The relations that runs name by their numbers, from 0.
     pub different: Vec<Relation>,
     ghost numbered: { are_numbered (length different.items) runs.items ≡ true } by { Prim.hlevel props },
+}
+
+impl Drop for Relations {
+    fn drop(self) {
+        let Relations {
+            runs: _,
+            different: _,
+        } = self;
+    }
 }
 
 /// A number in 32 bits. One beyond these is want of memory: so many references have no place.

@@ -154,7 +154,7 @@ fn long_list(alloc: Global, count: usize) -> Result<Vec<u8>, AllocError> {
 
 #[test]
 fn long_lists(rt: HostRuntime) -> Result<(), Fail> {
-    match expr(rt.alloc(), &long_list(rt.alloc(), 1_000)?, LINE)? {
+    match &expr(rt.alloc(), &long_list(rt.alloc(), 1_000)?, LINE)? {
         Expr::Element(access) => assert!(rt; access.subscripts.len() == 1_000),
         _ => panic!(rt; "a name with a list"),
     }

@@ -94,7 +94,7 @@ fn is_left(expr: &Expr) -> bool {
 fn is_right(expr: &Expr) -> bool {
     match expr {
         Expr::Call(Intrinsic::Max, arguments) => match arguments.as_slice() {
-            [Expr::Parameter(n, 5), Expr::Truth(true)] => *n == name(b'N'),
+            [Expr::Parameter(n, 5), Expr::Truth(holds)] => *holds && *n == name(b'N'),
             _ => false,
         },
         _ => false,

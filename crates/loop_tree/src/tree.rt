@@ -16,11 +16,16 @@ use ast::{DoHead, Line, Node, RefId, Reference};
 use std::alloc::Global;
 
 /// The loops of a program, numbered from 1 in the order of the text.
-#[derive(Drop)]
 pub struct LoopTree<'p> {
     collected: Collected<'p>,
     ghost numbered: { are_numbered 0 (refs (collected_of collected).references) ≡ true } by { Prim.hlevel props },
     ghost told: { list_all (λ l. are_told (known l)) (loops_in (collected_of collected)) ≡ true } by { Prim.hlevel props },
+}
+
+impl Drop for LoopTree<'_> {
+    fn drop(self) {
+        let LoopTree { collected: _ } = self;
+    }
 }
 
 /// One of the loops of a program.

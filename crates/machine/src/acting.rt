@@ -272,23 +272,23 @@ pub fn act(
     ensures privates { IsNot result → privates.new ≡ privates.old }
     ensures counters { IsNot result → counters.new ≡ counters.old }
 {
-    match act {
-        Act::Constant(value) => push_value(slots, cursor, *value),
-        Act::Private(x) => push_private(slots, privates, cursor, *x),
-        Act::SetPrivate(x) => set_private(slots, privates, cursor, *x),
+    match *act {
+        Act::Constant(value) => push_value(slots, cursor, value),
+        Act::Private(x) => push_private(slots, privates, cursor, x),
+        Act::SetPrivate(x) => set_private(slots, privates, cursor, x),
         Act::Index => push_value(slots, cursor, *index),
-        Act::Binary(operator) => make_two(slots, cursor, Pair::Plain(*operator)),
+        Act::Binary(operator) => make_two(slots, cursor, Pair::Plain(operator)),
         Act::Modulo => make_two(slots, cursor, Pair::Modulo),
         Act::Greatest => make_two(slots, cursor, Pair::Greatest),
         Act::Least => make_two(slots, cursor, Pair::Least),
-        Act::Unary(prefix) => make_one(slots, cursor, Single::Signed(*prefix)),
+        Act::Unary(prefix) => make_one(slots, cursor, Single::Signed(prefix)),
         Act::Absolute => make_one(slots, cursor, Single::Absolute),
-        Act::Check(above, axis) => check(slots, cursor, *above, *axis),
-        Act::Skip(n) => Went::On(skip(cursor, *n)),
-        Act::SkipUnless(n) => skip_unless(slots, cursor, *n),
-        Act::Back(n) => Went::On(back(cursor, *n)),
+        Act::Check(above, axis) => check(slots, cursor, above, axis),
+        Act::Skip(n) => Went::On(skip(cursor, n)),
+        Act::SkipUnless(n) => skip_unless(slots, cursor, n),
+        Act::Back(n) => Went::On(back(cursor, n)),
         Act::SetUp => set_up(slots, counters, cursor),
-        Act::CountDown(n) => count_down(counters, cursor, *n),
+        Act::CountDown(n) => count_down(counters, cursor, n),
         Act::Step => push_step(slots, counters, cursor),
         Act::Load(_)
         | Act::LoadElement(_)

@@ -22,7 +22,6 @@ pub struct Counter {
 ///
 /// Operands and serial loops stand on stacks of a fixed number of slots, which grow from the last
 /// slot to the first.
-#[derive(Drop)]
 pub struct Frame {
     pub(crate) place: usize,
     pub(crate) slots: SmallVec<i64, 16>,
@@ -36,6 +35,23 @@ pub struct Frame {
     pub(crate) index: i64,
     /// The fault that is to be reported, and the line of its statement.
     pub(crate) fault: Option<(Fault, Line)>,
+}
+
+// Written out, so that each place where a frame is dropped has one call in place of many.
+impl Drop for Frame {
+    fn drop(self) {
+        let Frame {
+            place: _,
+            slots: _,
+            top: _,
+            privates: _,
+            counters: _,
+            inner: _,
+            number: _,
+            index: _,
+            fault: _,
+        } = self;
+    }
 }
 
 /// So many private scalars, none of them defined.

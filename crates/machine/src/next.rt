@@ -294,7 +294,7 @@ fn shared<'c>(code: &'c Code, frame: &Frame, act: &Act, line: Line) -> Option<Ne
     requires place { frame.now.place < 2 ^ 63 }
     ensures { MatchOption result (is_own act.now ≡ true) (Tells (code_of code.now) (frame_of frame.now) (act_view (code_of code.now) act.now line (frame_of frame.now))) }
 {
-    match act {
+    match *act {
         Act::Constant(_)
         | Act::Private(_)
         | Act::SetPrivate(_)
@@ -312,19 +312,19 @@ fn shared<'c>(code: &'c Code, frame: &Frame, act: &Act, line: Line) -> Option<Ne
         | Act::SetUp
         | Act::CountDown(_)
         | Act::Step => None,
-        Act::Load(x) => Some(scalar_load(code, frame, *x)),
-        Act::LoadElement(x) => Some(element_load(code, frame, *x)),
-        Act::Store(x) => Some(scalar_store(code, frame, *x)),
-        Act::StoreElement(x) => Some(element_store(code, frame, *x)),
-        Act::Print(r) => Some(print(code, frame, *r)),
+        Act::Load(x) => Some(scalar_load(code, frame, x)),
+        Act::LoadElement(x) => Some(element_load(code, frame, x)),
+        Act::Store(x) => Some(scalar_store(code, frame, x)),
+        Act::StoreElement(x) => Some(element_store(code, frame, x)),
+        Act::Print(r) => Some(print(code, frame, r)),
         Act::TakeRecord => Some(Next::TakeRecord { line }),
         Act::TakeValue => Some(take_value(frame, line)),
         Act::DropRecord => Some(Next::DropRecord),
-        Act::Await(a) => Some(await_at(code, frame, *a)),
-        Act::Advance(e) => Some(advance(frame, *e)),
-        Act::Open(n) => Some(open(code, frame, *n)),
+        Act::Await(a) => Some(await_at(code, frame, a)),
+        Act::Advance(e) => Some(advance(frame, e)),
+        Act::Open(n) => Some(open(code, frame, n)),
         Act::Join => Some(Next::Join { line }),
-        Act::Retire(n) => Some(retire(code, frame, *n)),
+        Act::Retire(n) => Some(retire(code, frame, n)),
         Act::Stop => Some(Next::Stop { line }),
         Act::Halt => Some(Next::Halt),
     }

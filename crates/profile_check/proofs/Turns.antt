@@ -53,3 +53,11 @@ bound_turn v c (x ∷ xs) zero y = refl
 bound_turn v c (x ∷ xs) (suc i) y =
     let s : suc i + 1 ≡ suc (i + 1) = omega arith in
     ap (λ (n : ℕ). total c (map v (drop n (x ∷ set xs i y)))) s ∙ bound_turn v c xs i y ∙ sym (ap (λ (n : ℕ). total c (map v (drop n (x ∷ xs)))) s)
+
+-- what stands in a vector whose elements were worked on in their places
+pub written_back : {X : Type 0} (n : ℕ) (xs ys : List X) → n ≡ length xs → length ys ≡ length xs → take n (ys ++ drop (length ys) xs) ≡ ys
+written_back zero xs [] h k = refl
+written_back zero xs (y ∷ ys) h k = absurd (omega (arith, h, k))
+written_back (suc n) [] ys h k = absurd (omega (arith, h))
+written_back (suc n) (x ∷ xs) [] h k = absurd (omega (arith, k))
+written_back {X = X} (suc n) (x ∷ xs) (y ∷ ys) h k = ap (λ (zs : List X). y ∷ zs) (written_back n xs ys (omega (arith, h)) (omega (arith, k)))

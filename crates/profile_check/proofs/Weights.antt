@@ -6,8 +6,8 @@ use Rattle.ast.specs.declared.expression.Expr.{Expr}
 
 abbrev mutual
   pub weight : Term → ℕ
-  weight (element r es) = weight_terms es + 5
-  weight (call f es) = weight_terms es + 5
+  weight (element r es) = weight_terms es + 6
+  weight (call f es) = weight_terms es + 6
   weight (parentheses e) = weight e + 2
   weight (unary p e) = weight e + 2
   weight (binary o a b) = weight a + weight b + 2

@@ -36,7 +36,6 @@ const MOST_NESTED: usize = 16;
 const MOST_NAMES: usize = 512;
 
 /// What is declared.
-#[derive(Drop)]
 pub struct Declarations {
     /// The program's name.
     pub program: Option<Name>,
@@ -52,6 +51,20 @@ pub struct Declarations {
     pub elements: u32,
     /// All names, in order of first appearance.
     pub names: IndexSet<Name>,
+}
+
+impl Drop for Declarations {
+    fn drop(self) {
+        let Declarations {
+            program: _,
+            typed: _,
+            objects: _,
+            arrays: _,
+            constants: _,
+            elements: _,
+            names: _,
+        } = self;
+    }
 }
 
 #[tactic(auto, using(crate::proofs::Entries::names_length))]

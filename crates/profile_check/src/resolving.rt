@@ -1,17 +1,16 @@
 //! What the names of a tree stand for, and the numbers of its references.
 
-ghost use Rattle.std.specs.Prelude.{◌≡◌, ◌+◌, ◌<◌, ◌≤◌, ◌^◌, length, map, option_map};
-ghost use Rattle.ast.specs.Tree as tree;
+ghost use Rattle.std.specs.Prelude.{◌≡◌, ◌+◌, ◌<◌, ◌≤◌, ◌^◌, length, map, []};
 ghost use Rattle.ast.specs.Tree.{terms};
 ghost use Rattle.ast.specs.View.{access as access_of, head as head_of, item as item_of, kind as kind_of, letters, optional_term, ref, term};
 ghost use Rattle.profile_check.specs.Resolving as spec;
 ghost use Rattle.profile_check.specs.Declarations.{constant_named};
-ghost use Rattle.profile_check.specs.ResolvingView.{table_of};
-ghost use Rattle.std.specs.Prelude.{[]};
+ghost use Rattle.profile_check.specs.ResolvingView.{all_at, alone_at, count_in, count_items, count_listed, count_named, count_targets, count_terms_in};
+ghost use Rattle.profile_check.specs.ResolvingView.{head_at, item_at, items_at, kind_at, named, named_at, optional_at, resolved_at};
+ghost use Rattle.profile_check.specs.ResolvingView.{table_of, target_at, targets_at, terms_at, written_at};
 
 use crate::declarations::Declarations;
 use ast::{Access, DoHead, Expr, Intrinsic, Item, Kind, Name, RefId, Reference};
-use std::alloc::Global;
 
 /// The intrinsic function of a name.
 fn intrinsic_named(name: &Name) -> Option<Intrinsic>
@@ -48,13 +47,6 @@ fn number(reference: &mut Reference, declarations: &Declarations, next: usize)
         .unwrap_or(0);
 }
 
-/// Takes an expression out of its place.
-fn taken(place: &mut Expr) -> Expr
-    ensures { result ≡ place.old }
-{
-    std::mem::replace(place, Expr::Truth(false))
-}
-
 /// The constant of a name.
 #[tactic(auto, using(crate::proofs::Entries::constant_found))]
 fn constant_of(declarations: &Declarations, name: &Name) -> Option<i64>
@@ -63,99 +55,134 @@ fn constant_of(declarations: &Declarations, name: &Name) -> Option<i64>
     declarations.constants.get(name).copied()
 }
 
-/// An element, its reference numbered.
-fn element(
-    mut reference: Reference,
-    subscripts: Vec<Expr>,
-    declarations: &Declarations,
-    next: usize,
-) -> Expr
-    ensures { term result ≡ tree.element (spec.numbered (table_of declarations.now) next (ref reference)) (terms (map term subscripts.items)) }
-{
-    number(&mut reference, declarations, next);
-    Expr::Element(Access {
-        reference,
-        subscripts,
-    })
-}
-
-/// A name alone, a constant or a variable; the number after it.
-fn alone(
-    reference: Reference,
-    list: Vec<Expr>,
-    declarations: &Declarations,
-    next: usize,
-) -> (Expr, usize)
-    requires bounded { next + 1 < 2 ^ 64 }
-    requires empty { list.items ≡ [] }
-    ensures tree { term result.0 ≡ spec.alone (table_of declarations.now) next (ref reference) (constant_named (table_of declarations.now).constants reference.name.letters) }
-    ensures after { result.1 ≡ next + spec.count (term result.0) }
-    ensures bound { result.1 ≤ next + 1 }
-{
-    match constant_of(declarations, &reference.name) {
-        Some(value) => (Expr::Parameter(reference.name, value), next),
-        None => (element(reference, list, declarations, next), next + 1),
-    }
-}
-
-/// A name with what stands behind it in parentheses, resolved: a call or an element; the number
+/// A name alone: what it is where it is a constant, and otherwise a variable, numbered; the number
 /// after it.
-fn with_list(
-    reference: Reference,
-    list: Vec<Expr>,
+fn resolve_alone(
+    access: &mut Access,
     declarations: &Declarations,
     next: usize,
-) -> (Expr, usize)
-    requires { next + 1 < 2 ^ 64 }
-    ensures tree { term result.0 ≡ spec.list_at (table_of declarations.now) next (ref reference) (terms (map term list.items)) (spec.intrinsic_named reference.name.letters) }
-    ensures after { result.1 + spec.count_terms (terms (map term list.items)) ≡ next + spec.count (term result.0) }
+) -> (Option<Expr>, usize)
+    requires bounded { next + 1 < 2 ^ 64 }
+    requires empty { access.old.subscripts.items ≡ [] }
+    ensures tree { named access.new result.0 ≡ alone_at declarations.now next access.old.reference }
+    ensures after { result.1 ≡ next + count_named access.new result.0 }
     ensures bound { result.1 ≤ next + 1 }
 {
-    match intrinsic_named(&reference.name) {
-        Some(intrinsic) => (Expr::Call(intrinsic, list), next),
-        None => (element(reference, list, declarations, next), next + 1),
+    match constant_of(declarations, &access.reference.name) {
+        Some(value) => (Some(Expr::Parameter(access.reference.name, value)), next),
+        None => {
+            number(&mut access.reference, declarations, next);
+            (None, next + 1)
+        }
     }
 }
 
-/// An expression resolved, its references numbered from `next` on; the number after them.
+/// Takes a list out of its place.
+fn taken(place: &mut Vec<Expr>) -> Vec<Expr>
+    ensures { result.items ≡ place.old.items }
+{
+    let none = Vec::new(*place.allocator());
+    std::mem::replace(place, none)
+}
+
+/// A name whose list behind it is resolved: a call, and otherwise an element, numbered; the number
+/// after it.
+fn resolve_name(
+    access: &mut Access,
+    declarations: &Declarations,
+    next: usize,
+) -> (Option<Expr>, usize)
+    requires { next + 1 < 2 ^ 64 }
+    ensures tree { named access.new result.0 ≡ named_at declarations.now next access.old }
+    ensures after { result.1 + count_listed access.old ≡ next + count_named access.new result.0 }
+    ensures bound { result.1 ≤ next + 1 }
+{
+    match intrinsic_named(&access.reference.name) {
+        Some(intrinsic) => {
+            let arguments = taken(&mut access.subscripts);
+            (Some(Expr::Call(intrinsic, arguments)), next)
+        }
+        None => {
+            number(&mut access.reference, declarations, next);
+            (None, next + 1)
+        }
+    }
+}
+
+/// Resolves an expression in its place, its references numbered from `next` on; the number after
+/// them.
 #[cycle(resolve)]
-fn resolved(expression: Expr, declarations: &Declarations, next: usize) -> (Expr, usize)
-    requires { next + spec.count (term expression) < 2 ^ 64 }
-    ensures tree { term result.0 ≡ spec.resolved (table_of declarations.now) next (term expression) }
-    ensures after { result.1 ≡ next + spec.count (term result.0) }
-    ensures bound { result.1 ≤ next + spec.count (term expression) }
+fn resolve(expression: &mut Expr, declarations: &Declarations, next: usize) -> usize
+    requires { next + spec.count (term expression.old) < 2 ^ 64 }
+    ensures tree { term expression.new ≡ resolved_at declarations.now next (term expression.old) }
+    ensures after { result ≡ next + spec.count (term expression.new) }
+    ensures bound { result ≤ next + spec.count (term expression.old) }
 {
     match expression {
-        Expr::Constant(number) => (Expr::Constant(number), next),
-        Expr::Truth(holds) => (Expr::Truth(holds), next),
-        Expr::Parameter(name, number) => (Expr::Parameter(name, number), next),
+        Expr::Constant(_) | Expr::Truth(_) | Expr::Parameter(_, _) => next,
         Expr::Element(access) => {
-            let Access {
-                reference,
-                subscripts,
-            } = access;
-            if subscripts.is_empty() {
-                return alone(reference, subscripts, declarations, next);
+            let (other, after) = resolve_element(access, declarations, next);
+            if let Some(other) = other {
+                *expression = other;
             }
-            with_subscripts(reference, subscripts, declarations, next)
+            after
         }
-        Expr::Call(intrinsic, arguments) => {
-            let (arguments, after) = resolved_terms(arguments, declarations, next);
-            (Expr::Call(intrinsic, arguments), after)
+        Expr::Call(_, arguments) => resolve_terms(arguments, declarations, next),
+        Expr::Parentheses(inner) => resolve_box(inner, declarations, next),
+        Expr::Unary(_, operand) => resolve_box(operand, declarations, next),
+        Expr::Binary(_, left, right) => {
+            let between = resolve_box(left, declarations, next);
+            resolve_box(right, declarations, between)
         }
-        Expr::Parentheses(inner) => {
-            let (inner, after) = resolved_box(inner, declarations, next);
-            (Expr::Parentheses(inner), after)
-        }
-        Expr::Unary(prefix, operand) => {
-            let (operand, after) = resolved_box(operand, declarations, next);
-            (Expr::Unary(prefix, operand), after)
-        }
-        Expr::Binary(operator, left, right) => {
-            let (left, between) = resolved_box(left, declarations, next);
-            let (right, after) = resolved_box(right, declarations, between);
-            (Expr::Binary(operator, left, right), after)
-        }
+    }
+}
+
+/// Resolves an expression in its box; the number after its references.
+#[cycle(resolve)]
+fn resolve_box(place: &mut Box<Expr>, declarations: &Declarations, next: usize) -> usize
+    requires { next + spec.count (term place.old.value) < 2 ^ 64 }
+    ensures tree { term place.new.value ≡ resolved_at declarations.now next (term place.old.value) }
+    ensures after { result ≡ next + spec.count (term place.new.value) }
+    ensures bound { result ≤ next + spec.count (term place.old.value) }
+{
+    resolve(place, declarations, next)
+}
+
+/// A name with a list behind it: a call, and otherwise an element, numbered; the number after it.
+#[cycle(resolve)]
+#[tactic(auto, using(crate::proofs::Positions::list_element))]
+fn resolve_listed(
+    access: &mut Access,
+    declarations: &Declarations,
+    next: usize,
+) -> (Option<Expr>, usize)
+    requires few { next + count_listed access.old + 1 < 2 ^ 64 }
+    requires some { 0 < length access.old.subscripts.items }
+    ensures tree { named access.new result.0 ≡ written_at declarations.now next access.old }
+    ensures after { result.1 ≡ next + count_named access.new result.0 }
+    ensures bound { result.1 ≤ next + count_listed access.old + 1 }
+{
+    let after = resolve_terms(&mut access.subscripts, declarations, next);
+    resolve_name(access, declarations, after)
+}
+
+/// A name with what stands behind it in parentheses: what it is where it is a constant or a call,
+/// and otherwise a variable or an element, numbered; the number after it.
+#[cycle(resolve)]
+fn resolve_element(
+    access: &mut Access,
+    declarations: &Declarations,
+    next: usize,
+) -> (Option<Expr>, usize)
+    requires { next + count_listed access.old + 1 < 2 ^ 64 }
+    ensures tree { named access.new result.0 ≡ written_at declarations.now next access.old }
+    ensures after { result.1 ≡ next + count_named access.new result.0 }
+    ensures bound { result.1 ≤ next + count_listed access.old + 1 }
+{
+    if access.subscripts.is_empty() {
+        resolve_alone(access, declarations, next)
+    } else {
+        resolve_listed(access, declarations, next)
     }
 }
 
@@ -163,269 +190,168 @@ fn resolved(expression: Expr, declarations: &Declarations, next: usize) -> (Expr
 /// them.
 #[cycle(resolve)]
 fn resolve_all(list: &mut [Expr], declarations: &Declarations, next: usize) -> usize
-    requires { next + spec.count_all (map term list.old) < 2 ^ 64 }
-    ensures tree { map term list.new ≡ spec.list_resolved (table_of declarations.now) next (map term list.old) }
-    ensures after { result ≡ next + spec.count_all (map term list.new) }
-    ensures bound { result ≤ next + spec.count_all (map term list.old) }
+    requires { next + count_in list.old < 2 ^ 64 }
+    ensures tree { map term list.new ≡ all_at declarations.now next list.old }
+    ensures after { result ≡ next + count_in list.new }
+    ensures bound { result ≤ next + count_in list.old }
 {
     let mut after = next;
     for place in list.iter_mut() {
-        let (tree, behind) = resolved(taken(place), declarations, after);
-        *place = tree;
-        after = behind;
+        after = resolve(place, declarations, after);
     }
     after
 }
 
-/// Expressions in their list, resolved there.
+/// Resolves expressions in their list; the number after their references.
 #[cycle(resolve)]
-fn resolved_list(
-    mut list: Vec<Expr>,
-    declarations: &Declarations,
-    next: usize,
-) -> (Vec<Expr>, usize)
-    requires { next + spec.count_all (map term list.items) < 2 ^ 64 }
-    ensures tree { map term result.0.items ≡ spec.list_resolved (table_of declarations.now) next (map term list.items) }
-    ensures after { result.1 ≡ next + spec.count_all (map term result.0.items) }
-    ensures bound { result.1 ≤ next + spec.count_all (map term list.items) }
+#[tactic(auto, using(crate::proofs::Turns::written_back))]
+fn resolve_list(list: &mut Vec<Expr>, declarations: &Declarations, next: usize) -> usize
+    requires { next + count_in list.old.items < 2 ^ 64 }
+    ensures tree { map term list.new.items ≡ all_at declarations.now next list.old.items }
+    ensures after { result ≡ next + count_in list.new.items }
+    ensures bound { result ≤ next + count_in list.old.items }
 {
-    let after = resolve_all(&mut list, declarations, next);
-    (list, after)
-}
-
-/// A name with subscripts or arguments, resolved; the number after it.
-#[cycle(resolve)]
-#[tactic(auto, using(crate::proofs::Positions::list_element))]
-fn with_subscripts(
-    reference: Reference,
-    list: Vec<Expr>,
-    declarations: &Declarations,
-    next: usize,
-) -> (Expr, usize)
-    requires few { next + spec.count_terms (terms (map term list.items)) + 1 < 2 ^ 64 }
-    requires some { 0 < length list.items }
-    ensures tree { term result.0 ≡ spec.resolved (table_of declarations.now) next (tree.element (ref reference) (terms (map term list.items))) }
-    ensures after { result.1 ≡ next + spec.count (term result.0) }
-    ensures bound { result.1 ≤ next + spec.count_terms (terms (map term list.items)) + 1 }
-{
-    let (list, after) = resolved_terms(list, declarations, next);
-    with_list(reference, list, declarations, after)
+    resolve_all(list, declarations, next)
 }
 
 /// The same, as the subscripts of an element or the arguments of a call.
 #[cycle(resolve)]
 #[tactic(auto, using(crate::proofs::Positions::list_law, crate::proofs::Positions::count_law, crate::proofs::Weights::weight_law))]
-fn resolved_terms(list: Vec<Expr>, declarations: &Declarations, next: usize) -> (Vec<Expr>, usize)
-    requires { next + spec.count_terms (terms (map term list.items)) < 2 ^ 64 }
-    ensures tree { terms (map term result.0.items) ≡ spec.all_resolved (table_of declarations.now) next (terms (map term list.items)) }
-    ensures after { result.1 ≡ next + spec.count_terms (terms (map term result.0.items)) }
-    ensures bound { result.1 ≤ next + spec.count_terms (terms (map term list.items)) }
+fn resolve_terms(list: &mut Vec<Expr>, declarations: &Declarations, next: usize) -> usize
+    requires { next + count_terms_in list.old.items < 2 ^ 64 }
+    ensures tree { terms (map term list.new.items) ≡ terms_at declarations.now next list.old.items }
+    ensures after { result ≡ next + count_terms_in list.new.items }
+    ensures bound { result ≤ next + count_terms_in list.old.items }
 {
-    resolved_list(list, declarations, next)
+    resolve_list(list, declarations, next)
 }
 
-/// An expression in its box, resolved there.
-#[cycle(resolve)]
-fn resolved_box(
-    mut place: Box<Expr>,
-    declarations: &Declarations,
-    next: usize,
-) -> (Box<Expr>, usize)
-    requires { next + spec.count (term place.value) < 2 ^ 64 }
-    ensures tree { term result.0.value ≡ spec.resolved (table_of declarations.now) next (term place.value) }
-    ensures after { result.1 ≡ next + spec.count (term result.0.value) }
-    ensures bound { result.1 ≤ next + spec.count (term place.value) }
-{
-    let (tree, after) = resolved(taken(&mut place), declarations, next);
-    *place = tree;
-    (place, after)
-}
-
-/// An optional expression resolved.
-fn resolved_optional(
-    given: Option<Expr>,
-    declarations: &Declarations,
-    next: usize,
-) -> (Option<Expr>, usize)
-    requires { next + spec.count_optional (optional_term given) < 2 ^ 64 }
-    ensures tree { optional_term result.0 ≡ option_map (λ e. spec.resolved (table_of declarations.now) next e) (optional_term given) }
-    ensures after { result.1 ≡ next + spec.count_optional (optional_term result.0) }
-    ensures bound { result.1 ≤ next + spec.count_optional (optional_term given) }
+/// Resolves an optional expression in its place; the number after its references.
+fn resolve_optional(given: &mut Option<Expr>, declarations: &Declarations, next: usize) -> usize
+    requires { next + spec.count_optional (optional_term given.old) < 2 ^ 64 }
+    ensures tree { optional_term given.new ≡ optional_at declarations.now next given.old }
+    ensures after { result ≡ next + spec.count_optional (optional_term given.new) }
+    ensures bound { result ≤ next + spec.count_optional (optional_term given.old) }
 {
     match given {
-        Some(expression) => {
-            let (tree, after) = resolved(expression, declarations, next);
-            (Some(tree), after)
-        }
-        None => (None, next),
+        Some(expression) => resolve(expression, declarations, next),
+        None => next,
     }
 }
 
-/// A variable or an element that is given a value, resolved.
-fn resolved_access(given: Access, declarations: &Declarations, next: usize) -> (Access, usize)
-    requires { next + spec.access_count (access_of given) < 2 ^ 64 }
-    ensures tree { access_of result.0 ≡ spec.access_resolved (table_of declarations.now) next (access_of given) }
-    ensures after { result.1 ≡ next + spec.access_count (access_of result.0) }
-    ensures bound { result.1 ≤ next + spec.access_count (access_of given) }
+/// Resolves a variable or an element that is given a value; the number after its references.
+fn resolve_target(target: &mut Access, declarations: &Declarations, next: usize) -> usize
+    requires { next + spec.access_count (access_of target.old) < 2 ^ 64 }
+    ensures tree { access_of target.new ≡ target_at declarations.now next target.old }
+    ensures after { result ≡ next + spec.access_count (access_of target.new) }
+    ensures bound { result ≤ next + spec.access_count (access_of target.old) }
 {
-    let Access {
-        mut reference,
-        subscripts,
-    } = given;
-    let (subscripts, after) = resolved_terms(subscripts, declarations, next);
-    number(&mut reference, declarations, after);
-    let target = Access {
-        reference,
-        subscripts,
-    };
-    (target, after + 1)
-}
-
-/// Takes a variable or an element out of its place.
-fn taken_access(alloc: Global, place: &mut Access) -> Access
-    ensures { access_of result ≡ access_of place.old }
-{
-    let none: Vec<Expr> = Vec::new(alloc);
-    let subscripts = std::mem::replace(&mut place.subscripts, none);
-    Access {
-        reference: place.reference,
-        subscripts,
-    }
+    let after = resolve_terms(&mut target.subscripts, declarations, next);
+    number(&mut target.reference, declarations, after);
+    after + 1
 }
 
 /// Resolves the elements of a READ in their places; the number after their references.
-fn resolve_targets(
-    alloc: Global,
-    targets: &mut [Access],
-    declarations: &Declarations,
-    next: usize,
-) -> usize
-    requires { next + spec.total spec.access_count (map access_of targets.old) < 2 ^ 64 }
-    ensures tree { map access_of targets.new ≡ spec.accesses_resolved (table_of declarations.now) next (map access_of targets.old) }
-    ensures after { result ≡ next + spec.total spec.access_count (map access_of targets.new) }
-    ensures bound { result ≤ next + spec.total spec.access_count (map access_of targets.old) }
+fn resolve_targets(targets: &mut [Access], declarations: &Declarations, next: usize) -> usize
+    requires { next + count_targets targets.old < 2 ^ 64 }
+    ensures tree { map access_of targets.new ≡ targets_at declarations.now next targets.old }
+    ensures after { result ≡ next + count_targets targets.new }
+    ensures bound { result ≤ next + count_targets targets.old }
 {
     let mut after = next;
     for place in targets.iter_mut() {
-        let (target, behind) = resolved_access(taken_access(alloc, place), declarations, after);
-        *place = target;
-        after = behind;
+        after = resolve_target(place, declarations, after);
     }
     after
 }
 
-/// Takes an item out of its place.
-fn taken_item(place: &mut Item) -> Item
-    ensures { result ≡ place.old }
+/// Resolves an item of a PRINT; the number after its references.
+fn resolve_item(item: &mut Item, declarations: &Declarations, next: usize) -> usize
+    requires { next + spec.item_count (item_of item.old) < 2 ^ 64 }
+    ensures tree { item_of item.new ≡ item_at declarations.now next item.old }
+    ensures after { result ≡ next + spec.item_count (item_of item.new) }
+    ensures bound { result ≤ next + spec.item_count (item_of item.old) }
 {
-    std::mem::replace(place, Item::Value(Expr::Truth(false)))
-}
-
-/// An item of a PRINT resolved.
-fn resolved_item(given: Item, declarations: &Declarations, next: usize) -> (Item, usize)
-    requires { next + spec.item_count (item_of given) < 2 ^ 64 }
-    ensures tree { item_of result.0 ≡ spec.item_resolved (table_of declarations.now) next (item_of given) }
-    ensures after { result.1 ≡ next + spec.item_count (item_of result.0) }
-    ensures bound { result.1 ≤ next + spec.item_count (item_of given) }
-{
-    match given {
-        Item::Value(expression) => {
-            let (tree, after) = resolved(expression, declarations, next);
-            (Item::Value(tree), after)
-        }
-        Item::Text(text) => (Item::Text(text), next),
+    match item {
+        Item::Value(expression) => resolve(expression, declarations, next),
+        Item::Text(_) => next,
     }
 }
 
 /// Resolves the items of a PRINT in their places; the number after their references.
 fn resolve_items(items: &mut [Item], declarations: &Declarations, next: usize) -> usize
-    requires { next + spec.total spec.item_count (map item_of items.old) < 2 ^ 64 }
-    ensures tree { map item_of items.new ≡ spec.items_resolved (table_of declarations.now) next (map item_of items.old) }
-    ensures after { result ≡ next + spec.total spec.item_count (map item_of items.new) }
-    ensures bound { result ≤ next + spec.total spec.item_count (map item_of items.old) }
+    requires { next + count_items items.old < 2 ^ 64 }
+    ensures tree { map item_of items.new ≡ items_at declarations.now next items.old }
+    ensures after { result ≡ next + count_items items.new }
+    ensures bound { result ≤ next + count_items items.old }
 {
     let mut after = next;
     for place in items.iter_mut() {
-        let (item, behind) = resolved_item(taken_item(place), declarations, after);
-        *place = item;
-        after = behind;
+        after = resolve_item(place, declarations, after);
     }
     after
 }
 
-/// The head of a DO resolved.
-fn resolved_head(given: DoHead, declarations: &Declarations, next: usize) -> (DoHead, usize)
-    requires { next + spec.head_count (head_of given) < 2 ^ 64 }
-    ensures tree { head_of result.0 ≡ spec.head_resolved (table_of declarations.now) next (head_of given) }
-    ensures after { result.1 ≡ next + spec.head_count (head_of result.0) }
-    ensures bound { result.1 ≤ next + spec.head_count (head_of given) }
+/// Resolves what a PRINT has; the number after its references.
+#[tactic(auto, using(crate::proofs::Turns::written_back))]
+fn resolve_printed(items: &mut Vec<Item>, declarations: &Declarations, next: usize) -> usize
+    requires { next + count_items items.old.items < 2 ^ 64 }
+    ensures tree { map item_of items.new.items ≡ items_at declarations.now next items.old.items }
+    ensures after { result ≡ next + count_items items.new.items }
+    ensures bound { result ≤ next + count_items items.old.items }
 {
-    let DoHead {
-        terminal,
-        mut variable,
-        first,
-        last,
-        step,
-    } = given;
-    let (first, behind_first) = resolved(first, declarations, next);
-    let (last, behind_last) = resolved(last, declarations, behind_first);
-    let (step, after) = resolved_optional(step, declarations, behind_last);
-    number(&mut variable, declarations, after);
-    let head = DoHead {
-        terminal,
-        variable,
-        first,
-        last,
-        step,
-    };
-    (head, after + 1)
+    resolve_items(items, declarations, next)
 }
 
-/// What a statement does, its names resolved.
-#[cycle(resolve_kind)]
-pub fn resolved_kind(
-    alloc: Global,
-    given: Kind,
-    declarations: &Declarations,
-    next: usize,
-) -> (Kind, usize)
-    requires { next + spec.kind_count (kind_of given) < 2 ^ 64 }
-    ensures tree { kind_of result.0 ≡ spec.kind_resolved (table_of declarations.now) next (kind_of given) }
-    ensures after { result.1 ≡ next + spec.kind_count (kind_of result.0) }
-    ensures bound { result.1 ≤ next + spec.kind_count (kind_of given) }
+/// Resolves what a READ gives values; the number after its references.
+#[tactic(auto, using(crate::proofs::Turns::written_back))]
+fn resolve_read(targets: &mut Vec<Access>, declarations: &Declarations, next: usize) -> usize
+    requires { next + count_targets targets.old.items < 2 ^ 64 }
+    ensures tree { map access_of targets.new.items ≡ targets_at declarations.now next targets.old.items }
+    ensures after { result ≡ next + count_targets targets.new.items }
+    ensures bound { result ≤ next + count_targets targets.old.items }
 {
-    match given {
+    resolve_targets(targets, declarations, next)
+}
+
+/// Resolves the head of a DO; the number after its references.
+fn resolve_head(head: &mut DoHead, declarations: &Declarations, next: usize) -> usize
+    requires { next + spec.head_count (head_of head.old) < 2 ^ 64 }
+    ensures tree { head_of head.new ≡ head_at declarations.now next head.old }
+    ensures after { result ≡ next + spec.head_count (head_of head.new) }
+    ensures bound { result ≤ next + spec.head_count (head_of head.old) }
+{
+    let behind_first = resolve(&mut head.first, declarations, next);
+    let behind_last = resolve(&mut head.last, declarations, behind_first);
+    let after = resolve_optional(&mut head.step, declarations, behind_last);
+    number(&mut head.variable, declarations, after);
+    after + 1
+}
+
+/// Resolves the names of what a statement does, its references numbered from `next` on; the number
+/// after them.
+#[cycle(resolve_kind)]
+pub fn resolve_kind(kind: &mut Kind, declarations: &Declarations, next: usize) -> usize
+    requires { next + spec.kind_count (kind_of kind.old) < 2 ^ 64 }
+    ensures tree { kind_of kind.new ≡ kind_at declarations.now next kind.old }
+    ensures after { result ≡ next + spec.kind_count (kind_of kind.new) }
+    ensures bound { result ≤ next + spec.kind_count (kind_of kind.old) }
+{
+    match kind {
         Kind::Assign(target, value) => {
-            let (value, between) = resolved(value, declarations, next);
-            let (target, after) = resolved_access(target, declarations, between);
-            (Kind::Assign(target, value), after)
+            let between = resolve(value, declarations, next);
+            resolve_target(target, declarations, between)
         }
-        Kind::Do(head) => {
-            let (head, after) = resolved_head(head, declarations, next);
-            (Kind::Do(head), after)
-        }
-        Kind::If(condition) => {
-            let (condition, after) = resolved(condition, declarations, next);
-            (Kind::If(condition), after)
-        }
-        Kind::ElseIf(condition) => {
-            let (condition, after) = resolved(condition, declarations, next);
-            (Kind::ElseIf(condition), after)
-        }
+        Kind::Do(head) => resolve_head(head, declarations, next),
+        Kind::If(condition) => resolve(condition, declarations, next),
+        Kind::ElseIf(condition) => resolve(condition, declarations, next),
         Kind::LogicalIf(condition, inner) => {
-            let (condition, between) = resolved(condition, declarations, next);
-            let (inner, after) = resolved_inner(alloc, inner, declarations, between);
-            (Kind::LogicalIf(condition, inner), after)
+            let between = resolve(condition, declarations, next);
+            resolve_inner(inner, declarations, between)
         }
-        Kind::Print(mut items) => {
-            let after = resolve_items(&mut items, declarations, next);
-            (Kind::Print(items), after)
-        }
-        Kind::Read(mut targets) => {
-            let after = resolve_targets(alloc, &mut targets, declarations, next);
-            (Kind::Read(targets), after)
-        }
-        kind @ (Kind::Program(_)
+        Kind::Print(items) => resolve_printed(items, declarations, next),
+        Kind::Read(targets) => resolve_read(targets, declarations, next),
+        Kind::Program(_)
         | Kind::Integer(_)
         | Kind::Dimension(_)
         | Kind::Parameter(_)
@@ -433,25 +359,17 @@ pub fn resolved_kind(
         | Kind::Else
         | Kind::EndIf
         | Kind::Stop
-        | Kind::End) => (kind, next),
+        | Kind::End => next,
     }
 }
 
-/// The statement of a logical IF, resolved in its box.
+/// Resolves the statement of a logical IF in its box; the number after its references.
 #[cycle(resolve_kind)]
-fn resolved_inner(
-    alloc: Global,
-    mut place: Box<Kind>,
-    declarations: &Declarations,
-    next: usize,
-) -> (Box<Kind>, usize)
-    requires { next + spec.kind_count (kind_of place.value) < 2 ^ 64 }
-    ensures tree { kind_of result.0.value ≡ spec.kind_resolved (table_of declarations.now) next (kind_of place.value) }
-    ensures after { result.1 ≡ next + spec.kind_count (kind_of result.0.value) }
-    ensures bound { result.1 ≤ next + spec.kind_count (kind_of place.value) }
+fn resolve_inner(place: &mut Box<Kind>, declarations: &Declarations, next: usize) -> usize
+    requires { next + spec.kind_count (kind_of place.old.value) < 2 ^ 64 }
+    ensures tree { kind_of place.new.value ≡ kind_at declarations.now next place.old.value }
+    ensures after { result ≡ next + spec.kind_count (kind_of place.new.value) }
+    ensures bound { result ≤ next + spec.kind_count (kind_of place.old.value) }
 {
-    let inner = std::mem::replace(&mut *place, Kind::Continue);
-    let (kind, after) = resolved_kind(alloc, inner, declarations, next);
-    *place = kind;
-    (place, after)
+    resolve_kind(place, declarations, next)
 }

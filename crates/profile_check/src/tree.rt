@@ -8,26 +8,18 @@ ghost use Rattle.profile_check.specs.ResolvingView.{table_of};
 
 use crate::declarations::Declarations;
 use crate::nesting::Nest;
-use crate::resolving::resolved_kind;
+use crate::resolving::resolve_kind;
 use ast::{Node, Stmt};
 use std::alloc::{AllocError, Global};
 
-/// A statement with its names resolved, its references numbered from `next` on; the number after
-/// them.
-fn resolved_statement(
-    alloc: Global,
-    given: Stmt,
-    declarations: &Declarations,
-    next: usize,
-) -> (Stmt, usize)
-    requires { next + spec.statement_count (statement given) < 2 ^ 64 }
-    ensures tree { statement result.0 ≡ spec.statement_resolved (table_of declarations.now) next (statement given) }
-    ensures after { result.1 ≡ next + spec.statement_count (statement result.0) }
-    ensures bound { result.1 ≤ next + spec.statement_count (statement given) }
+/// Resolves the names of a statement, its references numbered from `next` on; the number after them.
+fn resolve_statement(stmt: &mut Stmt, declarations: &Declarations, next: usize) -> usize
+    requires { next + spec.statement_count (statement stmt.old) < 2 ^ 64 }
+    ensures tree { statement stmt.new ≡ spec.statement_resolved (table_of declarations.now) next (statement stmt.old) }
+    ensures after { result ≡ next + spec.statement_count (statement stmt.new) }
+    ensures bound { result ≤ next + spec.statement_count (statement stmt.old) }
 {
-    let Stmt { line, label, kind } = given;
-    let (kind, after) = resolved_kind(alloc, kind, declarations, next);
-    (Stmt { line, label, kind }, after)
+    resolve_kind(&mut stmt.kind, declarations, next)
 }
 
 /// The statements nested, their names resolved and their references numbered.
@@ -41,10 +33,9 @@ pub fn tree(
 {
     let mut nest = Nest::new(alloc);
     let mut next = 0;
-    for stmt in stmts {
-        let (stmt, after) = resolved_statement(alloc, stmt, declarations, next);
+    for mut stmt in stmts {
+        next = resolve_statement(&mut stmt, declarations, next);
         nest = nest.with_statement(alloc, stmt)?;
-        next = after;
     }
     Ok(nest.into_nodes())
 }

@@ -19,13 +19,24 @@ use std::marker::Model;
 const LONGEST: u32 = 1024;
 
 /// What each processor of a run did, turn by turn.
-#[derive(Drop)]
 pub struct Schedule {
     version: Version,
     processors: u16,
     slots: u16,
     shorts: Vec<Short>,
     picked: Vec<u128>,
+}
+
+impl Drop for Schedule {
+    fn drop(self) {
+        let Schedule {
+            version: _,
+            processors: _,
+            slots: _,
+            shorts: _,
+            picked: _,
+        } = self;
+    }
 }
 
 impl Model for Schedule {

@@ -36,12 +36,22 @@ fn output_of(activities: Activities<'_>) -> Vec<u8>
 }
 
 /// A run of code on an input, with the schedule of what its processors did.
-#[derive(Drop)]
 pub struct Core<'c> {
     input: &'c [u8],
     activities: Activities<'c>,
     schedule: Schedule,
     tally: Tally,
+}
+
+impl Drop for Core<'_> {
+    fn drop(self) {
+        let Core {
+            input: _,
+            activities: _,
+            schedule: _,
+            tally: _,
+        } = self;
+    }
 }
 
 impl<'c> Model for Core<'c> {
@@ -480,9 +490,10 @@ impl<'c> Core<'c> {
         ensures schedule { result.1 ≡ self.entry.schedule }
     {
         let Core {
+            input: _,
             activities,
             schedule,
-            ..
+            tally: _,
         } = self;
         (output_of(activities), schedule)
     }

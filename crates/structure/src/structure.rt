@@ -21,13 +21,23 @@ use indexmap::IndexSet;
 use std::alloc::{AllocError, Global};
 
 /// What the statements so far say of the order of those that follow.
-#[derive(Drop)]
 pub struct Structure {
     begun: bool,
     executable: bool,
     /// The innermost first.
     opened: Vec<Open>,
     labels: IndexSet<Label>,
+}
+
+impl Drop for Structure {
+    fn drop(self) {
+        let Structure {
+            begun: _,
+            executable: _,
+            opened: _,
+            labels: _,
+        } = self;
+    }
 }
 
 /// The label that ends a range, if the statement has one; END ends none.

@@ -1,6 +1,6 @@
 //! Operations on 64-bit integers: the exact value, or the fault in its place.
 
-ghost use Rattle.std.specs.Prelude.{◌≡◌, ◌≢◌, ◌-ℤ◌, ◌+ℤ◌, int_div, pos, ◌<◌, ◌^◌, unsigned_abs, ℤ};
+ghost use Rattle.std.specs.Prelude.{◌≡◌, ◌≢◌, ◌-ℤ◌, ◌+ℤ◌, ◌*ℤ◌, int_div, pos, ◌<◌, ◌^◌, unsigned_abs, ℤ};
 ghost use Rattle.ast.specs.Exact.{absolute, negated, positive_part, prefixed_value, remainder, trips, truth_value, value_of};
 ghost use Rattle.ast.specs.declared.expression.Operator.TheVariants.{Add, Subtract, Multiply, Divide};
 
@@ -30,11 +30,19 @@ pub fn sub(a: i64, b: i64) -> Result<i64, Fault>
     }
 }
 
+/// The product, exactly.
+#[inline(always)]
+fn exact_product(a: i64, b: i64) -> i128
+    ensures { result ≡ a *ℤ b }
+{
+    i128::from(a) * i128::from(b)
+}
+
 /// The product; `Overflow` where it is no 64-bit integer.
 pub fn mul(a: i64, b: i64) -> Result<i64, Fault>
     ensures { result ≡ value_of Multiply a b }
 {
-    let product = i128::from(a) * i128::from(b);
+    let product = exact_product(a, b);
     if product < i128::from(i64::MIN) || product > i128::from(i64::MAX) {
         Err(Fault::Overflow)
     } else {

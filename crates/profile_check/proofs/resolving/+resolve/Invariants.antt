@@ -15,20 +15,23 @@ invariant-resolve_all-loop-place l = record {
   bound : l.after + spec.count_all (map term (drop l.place-index l.list)) ≤ l.next + spec.count_all (map term l.fn.list);
 }
 
-abbrev pub decreases-resolved : goal.decreases-resolved
-decreases-resolved l = weight (term l.expression)
+abbrev pub decreases-resolve : goal.decreases-resolve
+decreases-resolve l = weight (term l.expression.now)
+
+abbrev pub decreases-resolve_box : goal.decreases-resolve_box
+decreases-resolve_box l = weight (term l.place.now.value) + 1
 
 abbrev pub decreases-resolve_all : goal.decreases-resolve_all
 decreases-resolve_all l = weight_all (map term l.list.now) + 1
 
-abbrev pub decreases-resolved_list : goal.decreases-resolved_list
-decreases-resolved_list l = weight_all (map term l.list.items) + 2
+abbrev pub decreases-resolve_list : goal.decreases-resolve_list
+decreases-resolve_list l = weight_all (map term l.list.now.items) + 2
 
-abbrev pub decreases-resolved_terms : goal.decreases-resolved_terms
-decreases-resolved_terms l = weight_terms (terms (map term l.list.items)) + 3
+abbrev pub decreases-resolve_terms : goal.decreases-resolve_terms
+decreases-resolve_terms l = weight_terms (terms (map term l.list.now.items)) + 3
 
-abbrev pub decreases-with_subscripts : goal.decreases-with_subscripts
-decreases-with_subscripts l = weight_terms (terms (map term l.list.items)) + 4
+abbrev pub decreases-resolve_listed : goal.decreases-resolve_listed
+decreases-resolve_listed l = weight_terms (terms (map term l.access.now.subscripts.items)) + 4
 
-abbrev pub decreases-resolved_box : goal.decreases-resolved_box
-decreases-resolved_box l = weight (term l.place.value) + 1
+abbrev pub decreases-resolve_element : goal.decreases-resolve_element
+decreases-resolve_element l = weight_terms (terms (map term l.access.now.subscripts.items)) + 5
