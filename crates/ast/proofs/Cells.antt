@@ -1,10 +1,10 @@
 -- Laws of names whose elements follow each other in one list.
 use Rattle.std.proofs.Common.{◌≡◌, ◌∙◌, ℕ, zero, suc, ◌+◌, ◌-◌, ◌<◌, ◌≤◌, min, true, List, [], ◌∷◌, ◌++◌, get_or, length, take, drop, refl, sym, ap, subst, arith}
-use Rattle.std.specs.Prelude.{ℤ, pos, map, slice_index_or, replicate, ◌==◌, ◌&&◌}
+use Rattle.std.specs.Prelude.{ℤ, pos, slice_index_or, replicate, ◌==◌}
 use Rattle.std.proofs.Math.ListN.{set}
 use Rattle.std.proofs.Math.Seq.{take-set-lt}
 use Rattle.std.proofs.lemmas.Bool.{and_parts, eq-eqb, eqb-true}
-use Rattle.std.proofs.lemmas.List.{drop-drop, drop-set-add, drop-set-lt, drop_at, drop_more, get_or-drop, length-drop, length-replicate, length-take, replicate-append-replicate, take-set-le, take_all, take_at}
+use Rattle.std.proofs.lemmas.List.{drop-drop, drop-set-add, drop-set-lt, drop_at, get_or-drop, length-drop, length-replicate, length-take, replicate-append-replicate, take-set-le, take_all, take_at}
 use Rattle.ast.specs.Laid.{is_laid}
 use Rattle.ast.specs.Store.{dealt, total_of, values_in, values_from, zeros}
 use Rattle.ast.specs.Symbols.{Symbol, cells_of, shapes_of, size}

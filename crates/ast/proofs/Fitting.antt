@@ -1,5 +1,5 @@
 -- What a program computes and stores are 64-bit integers, where its constants are.
-use Rattle.std.proofs.Common.{◌≡◌, ◌∙◌, ◌%◌, ◌^◌, ◌<◌, ◌≤◌, ◌≤ℤ◌, ◌<ℤ◌, ℕ, zero, suc, ℤ, pos, negsuc, neg_ℤ, Bool, true, false, List, [], ◌∷◌, ◌++◌, Option, Some, None, Result, Ok, Err, refl, sym, ap, subst, arith, nat_abs}
+use Rattle.std.proofs.Common.{◌≡◌, ◌∙◌, ◌%◌, ◌^◌, ◌<◌, ◌≤◌, ◌≤ℤ◌, ◌<ℤ◌, ℕ, zero, suc, ℤ, pos, negsuc, neg_ℤ, Bool, true, false, List, [], ◌∷◌, ◌++◌, Option, Some, None, Result, Ok, Err, refl, sym, subst, arith, nat_abs}
 use Rattle.std.specs.Prelude.{◌+ℤ◌, ◌-ℤ◌, ◌*ℤ◌, ◌||◌, int_div, int_rem, int_lt, not, ◌&&◌, ◌==◌, if◌then◌else◌}
 use Rattle.std.specs.List.{list_all}
 use Rattle.std.specs.Ordering.{int_eq}
@@ -9,16 +9,15 @@ use Rattle.std.proofs.Math.Nat.{mod-le}
 use Rattle.std.proofs.lemmas.Bool.{and_parts}
 use Rattle.std.proofs.lemmas.Int.{ints}
 use Rattle.std.proofs.lemmas.List.Folds.{list_all-append}
-use Rattle.ast.specs.Exact.{absolute, fits, greater, greatest, in_range, intrinsic_value, is_true, least, less, negated, prefixed_value, quotient, remainder, trips, truth_value, value_of}
-use Rattle.ast.specs.Input.{all_words, commas_part, cut_at, first_or, from_records, integer_in, integer_of, integers_in, integers_of, is_comma, is_empty, next_integer, taken, well_formed, with_first, words}
-use Rattle.ast.specs.Meaning as meaning
+use Rattle.ast.specs.Exact.{fits, greater, greatest, in_range, intrinsic_value, is_true, least, less, prefixed_value, remainder, trips, truth_value, value_of}
+use Rattle.ast.specs.Input.{all_words, commas_part, cut_at, first_or, from_records, integer_in, integer_of, integers_in, integers_of, is_comma, is_empty, next_integer, taken, well_formed, with_first}
 use Rattle.ast.specs.Meaning.{LookUp, Run, going_on, then_do, given, written, printed, step_value, turns, target, read_elements, exec_plain, grown, is_last_stop, looped, exec, exec_block, exec_arms, looked_up, place_in, value, values}
-use Rattle.ast.specs.References.{optional, kind_expressions, head_expressions, node_expressions, block_expressions, arms_expressions}
+use Rattle.ast.specs.References.{kind_expressions, head_expressions, node_expressions, block_expressions, arms_expressions}
 use Rattle.ast.specs.Regular.{is_fitting, terms_fit, are_fitting}
 use Rattle.ast.specs.Results.{◌>>=◌}
 use Rattle.ast.specs.Store.{StoreOf, put, same_name}
 use Rattle.ast.specs.Symbols.{Symbol}
-use Rattle.ast.specs.Tree.{Ref, Term, constant, truth, parameter, element, call, parentheses, unary, binary, Terms, no_terms, then_term, Access, PrintItem, DoHead, Kind, assign, print, read, stop, program, integer, dimension, parameters, do_loop, go_on, block_if, else_if, else_arm, end_if, logical_if, end, Node, plain, loop, choose, Block, no_nodes, then_node, Arms, no_arms, then_arm}
+use Rattle.ast.specs.Tree.{Ref, Term, constant, truth, parameter, element, call, parentheses, unary, binary, Terms, no_terms, then_term, Access, Kind, assign, print, read, stop, program, integer, dimension, parameters, do_loop, go_on, block_if, else_if, else_arm, end_if, logical_if, end, Node, plain, loop, choose, Block, no_nodes, then_node, Arms, no_arms, then_arm}
 use Rattle.ast.specs.declared.expression.Intrinsic.{Intrinsic}
 use Rattle.ast.specs.declared.expression.Intrinsic.TheVariants.{Abs, Iabs, Max, Max0, Min, Min0, Mod}
 use Rattle.ast.specs.declared.expression.Operator.{Operator}
@@ -243,9 +242,6 @@ module _ (symbols : List Symbol) where
       by : (o : Result (List ℤ) Fault) → ((xs : List ℤ) → o ≡ Ok xs → AllFit xs) → (o >>= λ xs. Ok (xs, rs)) ≡ Ok x → AllFit x.0
       by (Ok xs) h k = let is : (xs, rs) ≡ x = cc in subst (λ (y : List ℤ × List (List ℕ)). AllFit y.0) is (h xs refl)
       by (Err f) h k = cc
-
-  abbrev NextFits : Result (ℤ × List ℤ × List (List ℕ)) Fault → Type 0
-  NextFits r = (x : ℤ × List ℤ × List (List ℕ)) → r ≡ Ok x → Fits x.0 × AllFit x.1
 
   first_fits : (xs : List ℤ) (rs : List (List ℕ)) (next : Result (ℤ × List ℤ × List (List ℕ)) Fault) → AllFit xs → ((x : ℤ × List ℤ × List (List ℕ)) → next ≡ Ok x → Fits x.0 × AllFit x.1) → (x : ℤ × List ℤ × List (List ℕ)) → first_or xs rs next ≡ Ok x → Fits x.0 × AllFit x.1
   first_fits [] rs next f h x e = h x e

@@ -1,12 +1,10 @@
 -- Laws of the sizes of symbols.
-use Rattle.std.proofs.Common.{◌≡◌, ℕ, ℤ, pos, zero, suc, ◌+◌, ◌*◌, ◌≤◌, Bool, true, false, List, [], ◌∷◌, map, length, refl, arith, ap}
-use Rattle.std.specs.Prelude.{unsigned_abs, ◌-ℤ◌, not, ◌&&◌, int_lt, nat_le, replicate, slice_index_or}
-use Rattle.std.specs.List.{list_all}
-use Rattle.std.proofs.lemmas.Bool.{and_parts, leb-true}
+use Rattle.std.proofs.Common.{◌≡◌, ℕ, ℤ, pos, zero, suc, ◌+◌, ◌*◌, ◌≤◌, List, [], ◌∷◌, map, length, refl, arith, ap}
+use Rattle.std.specs.Prelude.{unsigned_abs, ◌-ℤ◌, replicate, slice_index_or}
 use Rattle.ast.specs.Store.{values_from}
 use Rattle.ast.specs.View.{extent}
 use Rattle.ast.specs.declared.program.Dimension.{Dimension}
-use Rattle.ast.specs.Symbols.{Extent, Sort, variable, fixed, Symbol, width, elements, dimensions_of, size, is_sized_sort, is_sized, most_elements}
+use Rattle.ast.specs.Symbols.{Extent, width, elements, most_elements}
 
 one_more : (n m : ℕ) → 1 ≤ m → m ≤ (n + 1) * m
 one_more n m h = Prim.grind (arith)

@@ -1,5 +1,5 @@
 -- Laws of a STOP that END follows.
-use Rattle.std.proofs.Common.{◌≡◌, ◌∙◌, ℕ, Bool, true, false, List, [], ◌∷◌, length, refl, get_or, ap, sym, arith}
+use Rattle.std.proofs.Common.{◌≡◌, ◌∙◌, Bool, true, false, List, [], ◌∷◌, length, refl, get_or, ap, sym, arith}
 use Rattle.std.specs.Prelude.{◌&&◌}
 use Rattle.ast.specs.Meaning.{are_stop_and_end, is_last_stop, is_last_stop_of}
 use Rattle.ast.specs.Stops.{is_end, is_end_kind, is_stop, is_stop_kind}

@@ -1,12 +1,12 @@
 -- The values of a DO variable in its trips lie between the first two parameters, so they are 64-bit integers.
-use Rattle.std.proofs.Common.{◌≡◌, ◌∙◌, ◌+◌, ◌*◌, ◌/◌, ◌%◌, ◌^◌, ◌<◌, ◌≤◌, ◌≤ℤ◌, ◌<ℤ◌, ℕ, zero, suc, ℤ, pos, negsuc, Bool, true, false, Result, Ok, Err, neg_ℤ, refl, sym, ap, subst, arith}
-use Rattle.std.specs.Prelude.{◌+ℤ◌, ◌-ℤ◌, ◌*ℤ◌, int_div, nat_lt, if◌then◌else◌}
+use Rattle.std.proofs.Common.{◌≡◌, ◌∙◌, ◌+◌, ◌*◌, ◌/◌, ◌^◌, ◌<◌, ◌≤◌, ◌≤ℤ◌, ◌<ℤ◌, ℕ, zero, suc, ℤ, pos, negsuc, true, false, neg_ℤ, refl, sym, ap, subst, arith}
+use Rattle.std.specs.Prelude.{◌+ℤ◌, ◌-ℤ◌, ◌*ℤ◌, int_div}
 use Rattle.std.specs.Ordering.{int_eq}
-use Rattle.std.proofs.Math.IntN.{pos-*ℤ-pos, *ℤ_comm}
-use Rattle.std.proofs.Math.Nat.{div-add-mod, mul-le-mul_right, mod-lt}
+use Rattle.std.proofs.Math.IntN.{pos-*ℤ-pos}
+use Rattle.std.proofs.Math.Nat.{div-add-mod, mul-le-mul_right}
 use Rattle.std.proofs.lemmas.Bool.{ltb-true, lt-ltb}
 use Rattle.std.proofs.lemmas.Int.{ints}
-use Rattle.ast.specs.Exact.{fits, in_range, positive_part, trips}
+use Rattle.ast.specs.Exact.{fits, positive_part, trips}
 
 pub fits_above : (z : ℤ) → fits z ≡ true → neg_ℤ (pos (2 ^ 63)) ≤ℤ z
 fits_above (pos n) h = omega (arith, ints)

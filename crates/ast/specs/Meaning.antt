@@ -9,7 +9,7 @@ use Rattle.ast.specs.Record.{Printed, number, text, record_of}
 use Rattle.ast.specs.Results.{◌>>=◌}
 use Rattle.ast.specs.Store.{StoreOf, zeros, put}
 use Rattle.ast.specs.Symbols.{Symbol, place_of, dimensions_in}
-use Rattle.ast.specs.Tree.{Ref, Term, constant, truth, parameter, element, call, parentheses, unary, binary, Terms, no_terms, then_term, Access, PrintItem, value_item, text_item, DoHead, Kind, assign, print, read, stop, end, Statement, Node, plain, loop, choose, Block, no_nodes, then_node, Arms, no_arms, then_arm}
+use Rattle.ast.specs.Tree.{Ref, Term, constant, truth, parameter, element, call, parentheses, unary, binary, Terms, no_terms, then_term, Access, PrintItem, value_item, text_item, Kind, assign, print, read, stop, end, Node, plain, loop, choose, Block, no_nodes, then_node, Arms, no_arms, then_arm}
 use Rattle.ast.specs.declared.fault.Fault.{Fault}
 use Rattle.ast.specs.declared.fault.Fault.TheVariants.{ZeroStep}
 use Rattle.ast.specs.declared.fault.End.{End}

@@ -4,7 +4,7 @@ use Rattle.ast.specs.Store.{dealt}
 use Rattle.ast.specs.Symbols as symbols
 use Rattle.ast.specs.Symbols.{Extent, Sort}
 use Rattle.ast.specs.Tree as tree
-use Rattle.ast.specs.Tree.{Ref, Term, Terms, terms, PrintItem, value_item, text_item, Statement, Block, block, arms}
+use Rattle.ast.specs.Tree.{Ref, Term, terms, PrintItem, value_item, text_item, Statement, Block, block, arms}
 use Rattle.ast.specs.declared.name.Name.{Name}
 use Rattle.ast.specs.declared.expression.Expr.{Expr, fold-Expr}
 use Rattle.ast.specs.declared.expression.Expr.TheOpen.{Expr-F, Access-F}

@@ -1,7 +1,7 @@
 //! Statements, as the text has them: one after another, loops and blocks by their heads and ends.
 
 ghost use Rattle.std.specs.Prelude.{◌≡◌, IfOk, map};
-ghost use Rattle.ast.specs.View.{access, bounds, declarator, definition, item, kind, optional_term, statement, head, term};
+ghost use Rattle.ast.specs.View.{access, bounds, declarator, definition, item, kind, optional_term, statement, head};
 
 use crate::expression::{Access, Expr, Reference};
 use crate::name::Name;

@@ -1,7 +1,6 @@
 //! Stores.
 
 ghost use Rattle.std.specs.Prelude.{◌≡◌, IfOk, drop, map, pos, slice_get, take};
-ghost use Rattle.ast.specs.Store.{values_from};
 
 use crate::name::Name;
 use crate::program::Symbol;

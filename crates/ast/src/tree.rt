@@ -1,7 +1,7 @@
 //! The statements of a program, nested: a loop holds its range, an IF its arms.
 
 ghost use Rattle.std.specs.Prelude.{◌≡◌, IfOk, map};
-ghost use Rattle.ast.specs.View.{arm, node, optional_term};
+ghost use Rattle.ast.specs.View.{arm, node};
 
 use crate::expression::Expr;
 use crate::statement::{DoHead, Line, Stmt, copy_of_optional};

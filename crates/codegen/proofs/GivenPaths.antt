@@ -1,6 +1,5 @@
 -- A good plan gives what the proofs of the iterations ask for.
 use Rattle.std.proofs.Common.{◌≡◌, ◌∙◌, ◌+◌, ◌<◌, ◌≤◌, ◌⊎◌, inl, inr, ℕ, zero, suc, ℤ, pos, ◌+ℤ◌, ◌*ℤ◌, Bool, true, false, List, [], ◌∷◌, ◌++◌, Option, Some, None, get_or, length, if◌then◌else◌, Ok, refl, sym, ap, subst, ⊎_elim, arith, append_assoc}
-use Rattle.std.specs.Cmp.Lexicographic.{same_text}
 use Rattle.std.proofs.lemmas.Cmp.{nat_list_eq_equiv}
 use Rattle.std.proofs.lemmas.Bool.{or_left, or_right}
 use Rattle.ast.specs.Store.{same_name}

@@ -18,7 +18,7 @@ use Rattle.machine.specs.View.{defined_cells, stored_if}
 use Rattle.machine.proofs.Naming.{same, same_itself}
 use Rattle.expr_code.specs.Computes.{HasVariables}
 use Rattle.expr_code.specs.Emitted.{short}
-use Rattle.expr_code.specs.Places.{Places, loop_index, private_scalar, dimensions_at, home_of}
+use Rattle.expr_code.specs.Places.{loop_index, private_scalar, dimensions_at, home_of}
 use Rattle.expr_code.proofs.Finding.{Reach, cell_law, reach, short_is}
 use Rattle.codegen.proofs.IterationSteps.{In, IsKey}
 use Rattle.codegen.proofs.LoopMeaning.{Aligned, IsLoop}

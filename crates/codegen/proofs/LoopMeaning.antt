@@ -20,7 +20,7 @@ use Rattle.codegen.proofs.IterationCode.{iteration_process}
 use Rattle.codegen.proofs.IterationLaws.{cases_cell, cell_other, cell_same, same_stores}
 use Rattle.codegen.proofs.IterationSteps.{Process, leave, cell_value}
 use Rattle.codegen.proofs.Meaning.{going_told, then_told}
-use Rattle.codegen.proofs.Outcomes.{Outcome, done, failed, told}
+use Rattle.codegen.proofs.Outcomes.{Outcome, failed}
 use Rattle.codegen.proofs.Outcomes as outcomes
 use Rattle.codegen.proofs.Comes.{comes, one_by_one}
 use Rattle.codegen.proofs.IterationMeaning.{private_named, At, BlockKnown, block_comes, held_at, leads_by, own_or}

@@ -1,5 +1,5 @@
 -- What holds of a loop's iterations, however they move.
-use Rattle.std.proofs.Common.{◌≡◌, ◌∙◌, ℕ, zero, suc, ◌+◌, ◌-◌, ◌<◌, ◌≤◌, ℤ, List, [], ◌∷◌, ◌++◌, length, get_or, Option, Some, None, ◌⊎◌, inl, inr, refl, sym, ap, subst, ⊎_elim, arith, append_assoc, length-append}
+use Rattle.std.proofs.Common.{◌≡◌, ◌∙◌, ℕ, zero, suc, ◌+◌, ◌-◌, ◌<◌, ◌≤◌, ℤ, List, [], ◌∷◌, ◌++◌, length, get_or, Option, Some, None, ◌⊎◌, refl, sym, ap, subst, ⊎_elim, arith, append_assoc, length-append}
 use Rattle.std.proofs.Math.Seq.{get_or-append_seam}
 use Rattle.std.proofs.lemmas.List.{append-nil}
 use Rattle.std.proofs.lemmas.Bool.{cases_lt}
@@ -7,8 +7,8 @@ use Rattle.ast.specs.Store.{StoreOf}
 use Rattle.machine.specs.Code.{Cell}
 use Rattle.machine.specs.View.{Cause}
 use Rattle.codegen.proofs.IterationLaws.{Unwritten, run_keeps}
-use Rattle.codegen.proofs.IterationSteps.{Process, load, store, print, await, advance, tick, fault, leave, gone, Act, loaded, stored, printed, awaited, advanced, ticked, left, nothing, follow, after, acts, In, cell_value, run, Whole, went, stopped, add, going, joined, finish, sequential}
-use Rattle.codegen.proofs.LoopMachine.{Inside, opening, Possible, rest, history, Moves, Advances, Awaits, Loads, Plan, Inv}
+use Rattle.codegen.proofs.IterationSteps.{Process, load, store, fault, gone, Act, loaded, stored, printed, awaited, advanced, ticked, left, nothing, follow, after, acts, cell_value, run, Whole, went, stopped, add, going, joined, finish, sequential}
+use Rattle.codegen.proofs.LoopMachine.{Inside, opening, rest, Moves, Advances, Loads, Plan, Inv}
 use Rattle.codegen.proofs.LoopKeeps.{keeps_all, nobody_writes}
 
 abbrev prepend : List (List ℤ) → Whole → Whole

@@ -1,6 +1,6 @@
 -- What emitted code cites stands where it looks for it.
-use Rattle.std.proofs.Common.{◌≡◌, ◌∙◌, ◌+◌, ◌≤◌, ◌<◌, ◌^◌, ℕ, Bool, true, false, List, [], ◌∷◌, ◌++◌, Option, Some, None, length, refl, sym, ap, subst, arith, length-append, append_assoc}
-use Rattle.std.specs.Prelude.{map, slice_get, if◌then◌else◌}
+use Rattle.std.proofs.Common.{◌≡◌, ◌+◌, ◌≤◌, ◌^◌, ℕ, Bool, true, false, List, [], ◌∷◌, ◌++◌, Option, Some, None, length, refl, arith, length-append}
+use Rattle.std.specs.Prelude.{map, if◌then◌else◌}
 use Rattle.std.specs.List.{list_all}
 use Rattle.ast.specs.Meaning.{are_stop_and_end}
 use Rattle.ast.specs.Program.{is_placed}
@@ -19,7 +19,7 @@ use Rattle.expr_code.proofs.Running.{Reaches}
 use Rattle.codegen.specs.Emitted.{arms_code, arms_records, block_awaits, block_code, block_records, chosen_code, elements_code, grown_code, if_serial, items_code, kind_code, kind_records, loop_code, node_awaits, node_code, node_records, serial_code, step_code, stored_code, turns_code, variable_code}
 use Rattle.codegen.specs.Plain.{plain_arms, plain_block, plain_node}
 use Rattle.codegen.specs.Process.{is_last_stop}
-use Rattle.codegen.proofs.Blocks.{ArmsReach, BlockReaches, HasList, LoopReaches, NodeReaches}
+use Rattle.codegen.proofs.Blocks.{ArmsReach, BlockReaches, LoopReaches, NodeReaches}
 use Rattle.codegen.proofs.MainReaching.{back_few, front_few, given_reaches, reaches, reference, both}
 use Rattle.codegen.proofs.Nesting.{StepReaches}
 use Rattle.codegen.proofs.Running.{ElementsReach, ItemsReach, KindReaches}

@@ -40,7 +40,7 @@ use Rattle.codegen.proofs.Outcomes.{Outcome, done, failed, text_of, told, told_b
 use Rattle.codegen.proofs.OneStep.{same_step}
 use Rattle.codegen.proofs.ProgramBound.{alone_takes, bounded as most_steps, carried as to_end, exactly, narrow, weighed}
 use Rattle.codegen.proofs.ProgramClaims.{Claims, claimed}
-use Rattle.codegen.proofs.IterationSteps.{Process, after}
+use Rattle.codegen.proofs.IterationSteps.{after}
 use Rattle.codegen.proofs.LoopRuns.{reached}
 use Rattle.codegen.proofs.OwnBefore.{stands_alone}
 use Rattle.codegen.proofs.OwnFates.{fails_so, fates as fates_of}

@@ -8,7 +8,7 @@ use Rattle.ast.specs.References.{are_numbered, arms_expressions, block_expressio
 use Rattle.ast.specs.Store.{same_name}
 use Rattle.ast.specs.Symbols.{Symbol, names_of}
 use Rattle.ast.specs.Tree as tree
-use Rattle.ast.specs.Tree.{Ref, Term, DoHead, Node, Block, Arms, no_terms}
+use Rattle.ast.specs.Tree.{Ref, Term, Node, Block, Arms}
 use Rattle.loop_tree.specs.Loops.{Loop, arms_loops, block_loops, has_cell, loops_of, node_loops, with_block}
 use Rattle.loop_tree.specs.Occurrences.{Occurrence, block_lines, block_occurrences, node_lines}
 use Rattle.loop_tree.specs.Told.{known, references}

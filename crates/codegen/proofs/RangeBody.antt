@@ -5,7 +5,7 @@ use Rattle.ast.specs.Meaning as meaning
 use Rattle.ast.specs.Store.{StoreOf}
 use Rattle.ast.specs.Symbols.{Extent, Symbol, dimensions_in}
 use Rattle.ast.specs.Tree as tree
-use Rattle.ast.specs.Tree.{Ref, Term, constant, truth, parameter, element, call, parentheses, unary, binary, Terms, no_terms, then_term, Access, accessed, PrintItem, value_item, text_item, DoHead, Kind, assign, print, read, stop, program, integer, dimension, parameters, do_loop, go_on, block_if, else_if, else_arm, end_if, logical_if, end}
+use Rattle.ast.specs.Tree.{Ref, Term, constant, truth, parameter, element, call, parentheses, unary, binary, Terms, no_terms, then_term, Access, accessed, PrintItem, value_item, text_item, Kind, assign, print, read, stop, program, integer, dimension, parameters, do_loop, go_on, block_if, else_if, else_arm, end_if, logical_if, end}
 use Rattle.dependence.specs.Plan.{awaits, advances, plain, loop, choose, PlanBlock, no_nodes, then_node, PlanArms, no_arms, made_else, then_arm}
 use Rattle.loop_tree.specs.Loops.{Loop}
 use Rattle.loop_tree.specs.Occurrences.{Occurrence, used_at, defined_at, arms_occurrences, block_lines, block_occurrences, head_occurrences, items_occurrences, kind_occurrences, node_lines, node_occurrences, optional_occurrences, target_occurrences, term_occurrences, terms_occurrences}

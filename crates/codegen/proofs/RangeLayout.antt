@@ -6,7 +6,7 @@ use Rattle.ast.specs.Program.{ProgramTree, is_placed}
 use Rattle.ast.specs.References.{block_expressions, expressions_references}
 use Rattle.ast.specs.Symbols.{Symbol, is_sized}
 use Rattle.machine.specs.Code as machine
-use Rattle.machine.specs.Code.{Code, Part, loop_at, no_loop}
+use Rattle.machine.specs.Code.{Code, loop_at, no_loop}
 use Rattle.machine.specs.declared.instr.Act.TheVariants as acts
 use Rattle.expr_code.specs.Emitted.{instr, short}
 use Rattle.codegen.specs.Emitted.{block_code}

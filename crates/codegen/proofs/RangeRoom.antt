@@ -4,7 +4,7 @@ use Rattle.std.proofs.Common.{◌≤◌, ℕ, Option, Some, None, sym, subst, ar
 use Rattle.std.specs.Prelude.{max}
 use Rattle.std.proofs.Math.Nat.{le-max_left, le-max_right}
 use Rattle.ast.specs.Tree as tree
-use Rattle.ast.specs.Tree.{Term, DoHead, Node, Block, Arms}
+use Rattle.ast.specs.Tree.{Term, Block, Arms}
 use Rattle.loop_tree.specs.Loops.{Loop, loops_of}
 use Rattle.expr_code.specs.Computes.{operands}
 use Rattle.plan_check.specs.GoodPlan.{SameBody, stripped}

@@ -1,5 +1,5 @@
 -- Ranges are made one after another.
-use Rattle.std.proofs.Common.{◌≡◌, ◌∙◌, ◌+◌, ◌<◌, ◌≤◌, ℕ, zero, suc, Bool, true, false, List, [], ◌∷◌, ◌++◌, map, drop, length, Option, Some, None, refl, sym, ap, subst, arith, length-append, append_assoc, get_or}
+use Rattle.std.proofs.Common.{◌≡◌, ◌∙◌, ◌+◌, ◌<◌, ℕ, zero, suc, Bool, true, false, List, [], ◌∷◌, ◌++◌, map, drop, length, Option, Some, None, refl, sym, ap, subst, arith, length-append, append_assoc, get_or}
 use Rattle.std.specs.Prelude.{slice_get, is_some, if◌then◌else◌}
 use Rattle.ast.specs.Symbols.{Symbol}
 use Rattle.dependence.specs.Plan.{PlanTree}

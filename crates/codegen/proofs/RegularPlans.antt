@@ -10,7 +10,7 @@ use Rattle.ast.specs.Stops.{is_end_kind}
 use Rattle.ast.specs.Store.{same_name}
 use Rattle.ast.specs.Symbols.{Extent, Symbol, dimensions_in, names_of}
 use Rattle.ast.specs.Tree as tree
-use Rattle.ast.specs.Tree.{Ref, Terms, no_terms, then_term, DoHead, Kind, assign, print, read, stop, program, integer, dimension, parameters, do_loop, go_on, block_if, else_if, else_arm, end_if, logical_if, end, Node, Block, Arms}
+use Rattle.ast.specs.Tree.{Ref, Terms, no_terms, then_term, DoHead, Kind, assign, print, read, stop, program, integer, dimension, parameters, do_loop, go_on, block_if, else_if, else_arm, end_if, logical_if, end, Block}
 use Rattle.dependence.specs.Kept.{IsNonzero, arms_kinds, block_kinds, block_reads, is_read}
 use Rattle.dependence.specs.Plan.{awaits, advances, plain, loop, choose, PlanBlock, no_nodes, then_node, PlanArms, no_arms, made_else, then_arm, PlanPaths}
 use Rattle.loop_tree.specs.Loops.{Loop, arms_loops, block_loops, loop_at, loops_of}
@@ -18,7 +18,7 @@ use Rattle.loop_tree.specs.Occurrences.{Occurrence, block_lines, block_occurrenc
 use Rattle.loop_tree.specs.Paths.{Token, uses, defines, await, advance, Ending}
 use Rattle.machine.specs.View.{is_event}
 use Rattle.machine.proofs.Naming.{same, same_itself}
-use Rattle.expr_code.specs.Places.{Places, loop_index, private_scalar, dimensions_at, home, home_of, is_loop_name, number_in, private_or_stored}
+use Rattle.expr_code.specs.Places.{loop_index, private_scalar, dimensions_at, home, home_of, is_loop_name, number_in, private_or_stored}
 use Rattle.expr_code.specs.Process.{count}
 use Rattle.expr_code.proofs.Finding.{dimensions_same}
 use Rattle.codegen.specs.Process.{is_last_stop}

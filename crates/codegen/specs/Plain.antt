@@ -1,6 +1,6 @@
 -- A program as a plan that awaits and advances nothing.
 use Rattle.ast.specs.Tree as tree
-use Rattle.ast.specs.Tree.{Term, DoHead, Statement, Node, Block, Arms}
+use Rattle.ast.specs.Tree.{Node, Block, Arms}
 use Rattle.dependence.specs.Plan as plan
 use Rattle.dependence.specs.Plan.{PlanNode, PlanBlock, PlanArms}
 

@@ -1,6 +1,6 @@
 //! What a loop's code has around that of its range.
 
-ghost use Rattle.std.specs.Prelude.{◌≡◌, ◌++◌, ◌∷◌, OnOk};
+ghost use Rattle.std.specs.Prelude.{◌≡◌, ◌++◌, OnOk};
 ghost use Rattle.ast.specs.View.{head as head_of, optional_term, ref};
 ghost use Rattle.codegen.specs.Blocks.{begun_code, trip_ended};
 ghost use Rattle.codegen.specs.Emitted.{grown_code, opened_code, step_code, variable_code};

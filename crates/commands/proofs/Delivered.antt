@@ -1,5 +1,5 @@
 -- What drawing comes to, written.
-use Rattle.std.proofs.Common.{◌≡◌, refl, ℕ, List, Option, Vec, inr}
+use Rattle.std.proofs.Common.{refl, ℕ, List, Option, Vec, inr}
 use Rattle.std.specs.Global.{Global}
 use Rattle.engines.specs.declared.drawn.Drawn.{Drawn}
 use Rattle.engines.specs.declared.drawn.Drawn.TheVariants.{Picture, Shown}

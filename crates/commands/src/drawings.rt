@@ -1,6 +1,6 @@
 //! `draw` and `timeline`: the pictures that are made of files.
 
-ghost use Rattle.std.specs.Prelude.{◌≡◌, ◌∷◌, []};
+ghost use Rattle.std.specs.Prelude.{◌≡◌};
 ghost use Rattle.engines.specs.Drawing.{Draws};
 ghost use Rattle.engines.specs.Timeline.{Times};
 ghost use Rattle.commands.specs.Deeds.{AfterCompare, AfterFile, AfterTexts, ReadsFile, ReadsTexts, got};

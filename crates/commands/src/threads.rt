@@ -1,7 +1,6 @@
 //! `run`: programs in threads, their files, and what is said of them on standard error.
 
 ghost use Rattle.std.specs.Prelude.{◌≡◌, ◌∷◌, option_map};
-ghost use Rattle.engines.specs.Running.{Running};
 ghost use Rattle.commands.specs.Commands.{RunsFiles};
 ghost use Rattle.commands.specs.Deeds.{AfterCompare, AfterFile, AfterPut, Compares, ReadsInput, got, noted, unput};
 ghost use Rattle.commands.specs.Running.{EndsRun, RunsRead, ShowsRan, Shown, WritesRun, named, schedule_of};

@@ -3,7 +3,6 @@
 ghost use Rattle.std.specs.Prelude.{◌≡◌, ◌<◌, ◌^◌, ◌-ℤ◌, ◌*ℤ◌, map, unsigned_abs};
 ghost use Rattle.dependence.specs.Tests as spec;
 ghost use Rattle.loop_tree.specs.TreeView.{seen};
-ghost use Rattle.subscripts.specs.Forms.{others};
 ghost use Rattle.subscripts.specs.SharesView.{share as share_of};
 ghost use Rattle.subscripts.specs.View.{form as form_of};
 

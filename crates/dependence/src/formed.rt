@@ -2,7 +2,7 @@
 
 ghost use Rattle.std.specs.Prelude.{◌≡◌, ◌+◌, ◌<◌, ◌^◌, IfOk, length, map, true};
 ghost use Rattle.dependence.specs.Formed as spec;
-ghost use Rattle.dependence.specs.Tests.{by_distance, is_only, is_verified, on_forms, relation as relation_of, says_apart};
+ghost use Rattle.dependence.specs.Tests.{by_distance, is_only, on_forms, relation as relation_of, says_apart};
 ghost use Rattle.loop_tree.specs.Occurrences.{Occurrence as Occurring};
 ghost use Rattle.loop_tree.specs.TreeView.{seen};
 ghost use Rattle.loop_tree.specs.View.{occurrence as occurrence_of};
@@ -168,17 +168,4 @@ pub fn is_given(
         }
         Relation::Any => true,
     }
-}
-
-/// Whether the test that a relation names gives it, as `verify` has it, for a reference with the first
-/// forms in an iteration and one with the second in a later one.
-pub fn verify_forms(
-    view: &LoopView<'_, '_>,
-    first: &[Affine],
-    second: &[Affine],
-    relation: Relation,
-) -> bool
-    ensures { (a b : Occurring) → map form_in first.now ≡ spec.forms_of (seen view.now) a.subscripts → map form_in second.now ≡ spec.forms_of (seen view.now) b.subscripts → result ≡ is_verified (seen view.now) a b relation }
-{
-    is_given(view, first, second, relation)
 }

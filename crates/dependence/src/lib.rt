@@ -14,7 +14,7 @@ mod run;
 mod verifying;
 
 pub use fitting::{has_name, has_read, hides_inner};
-pub use formed::{forms, have_same_forms, is_given, relate_forms, verify_forms};
+pub use formed::{forms, have_same_forms, is_given, relate_forms};
 pub use plan::{LoopPlan, PlanArm, PlanStmt};
 pub use recent::Recent;
 pub use relating::relate;

@@ -1,6 +1,6 @@
 //! The relation of two references.
 
-ghost use Rattle.std.specs.Prelude.{◌≡◌, ◌+◌, ◌<◌, ◌^◌, length, map, option_map, true};
+ghost use Rattle.std.specs.Prelude.{◌≡◌, ◌+◌, ◌<◌, ◌^◌, length, map, true};
 ghost use Rattle.ast.specs.Tree.{terms};
 ghost use Rattle.ast.specs.View.{term};
 ghost use Rattle.dependence.specs.Tests as spec;

@@ -5,7 +5,7 @@ use Rattle.std.specs.List.{prefix_len}
 use Rattle.std.proofs.lemmas.Bool.{cases_lt, le-leb, lt-leb}
 use Rattle.std.proofs.lemmas.List.{get_or-drop}
 use Rattle.ready_list.specs.Lists as lists
-use Rattle.ready_list.specs.Lists.{Lists, IsLinked, list_at, with_list, times_in, places_in, inserted}
+use Rattle.ready_list.specs.Lists.{times_in, places_in, inserted}
 use Rattle.ec_kernel.specs.View.{times, times_waiting, places, queued, reached_by, without, AllAbove, NoneBelow, InOrder}
 use Rattle.ec_kernel.specs.Kept.{waiter, slots_of, seen, ValuesAbove, at_end, reached_part}
 
@@ -67,13 +67,6 @@ above-inserted c s v [] h k = (h, tt)
 above-inserted c s v (x ∷ xs) h k = elim (nat_le x.1 v) as (λ b. ValuesAbove c (if b then x ∷ inserted (s, v) xs else (s, v) ∷ (x ∷ xs))) [
   | true ↦ (k.0, above-inserted c s v xs h k.1)
   | false ↦ (h, k)
-]
-
-pub above-without : (c s : ℕ) (xs : List (ℕ × ℕ)) → ValuesAbove c xs → ValuesAbove c (lists.without s xs)
-above-without c s [] h = tt
-above-without c s (x ∷ xs) h = elim (s == x.0) as (λ b. ValuesAbove c (if b then lists.without s xs else x ∷ lists.without s xs)) [
-  | true ↦ above-without c s xs h.1
-  | false ↦ (h.0, above-without c s xs h.1)
 ]
 
 above-all : (c v : ℕ) (xs : List (ℕ × ℕ)) → c < v → lists.NoneBelow v xs → ValuesAbove c xs

@@ -112,10 +112,6 @@ shorter x y z l count s ll lo e ye ze =
     let d = is_due count s (list_at x l) e in
     omega (arith, ap length m.3, ap length d.is)
 
--- one more fits
-pub counts_on : (x0 x : Lists) (l count k s : ℕ) → IsWaking x0 x l count k → Some s ≡ due_of count (list_at x l) → k + 1 < 2 ^ 64
-counts_on x0 x l count k s h e = (let d = is_due count s (list_at x l) e in omega (arith, h.number, h.countable, d.part))
-
 -- what has woken, where no slot is due any more
 pub record HasWoken (x0 x : Lists) (l count k : ℕ) : Type 0 where
   pub number : k ≡ reached_part count (list_at x0 l)

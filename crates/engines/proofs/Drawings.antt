@@ -1,10 +1,7 @@
 -- What is written of a picture.
-use Rattle.std.proofs.Common.{◌≡◌, ℕ, List, Option, Result, Ok, Err, IfOk, IfErr, subst, sym}
-use Rattle.std.specs.Prelude.{Vec}
-use Rattle.std.specs.Global.{Global}
-use Rattle.engines.specs.Drawn.{DrawWorks, WritesDrawn, WritesPart, WroteDrawn, WroteDrawnPart, drawn_status}
-use Rattle.engines.specs.Engines.{Gives, IsWriting, OfText}
-use Rattle.engines.specs.Schedules.{LeavesBoth}
+use Rattle.std.proofs.Common.{◌≡◌, ℕ, List, Option, Result, Ok, Err, IfOk, IfErr}
+use Rattle.engines.specs.Drawn.{DrawWorks, WritesDrawn, WritesPart, drawn_status}
+use Rattle.engines.specs.Engines.{IsWriting}
 use Rattle.engines.specs.declared.drawn.Drawn.{Drawn}
 use Rattle.engines.specs.declared.fault.EngineFault.{EngineFault}
 use Rattle.engines.specs.declared.fault.EngineFault.TheVariants.{Source, Input, Schedule, Writing, Memory, OutOfRange, NotStarted, Stuck}

@@ -1,6 +1,6 @@
 //! The lines of a listing of loops.
 
-ghost use Rattle.std.specs.Prelude.{◌≡◌, ◌∷◌, ◌++◌, [], IfOk, OnOk, false, length, map, true};
+ghost use Rattle.std.specs.Prelude.{◌≡◌, ◌∷◌, ◌++◌, [], IfOk, OnOk, false, map, true};
 ghost use Rattle.ast.specs.View.{letters};
 ghost use Rattle.dependence.specs.PlanView.{plan_block};
 ghost use Rattle.engines.specs.Advanced.{spots as spots_in};

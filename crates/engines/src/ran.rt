@@ -1,6 +1,6 @@
 //! What came of a run, and how it is written.
 
-ghost use Rattle.std.specs.Prelude.{◌≡◌, Err, IfErr, OnOk};
+ghost use Rattle.std.specs.Prelude.{Err, IfErr, OnOk};
 ghost use Rattle.engines.specs.Engines.{IsWriting};
 ghost use Rattle.engines.specs.Running.{Grows, GrowsPart, WritesText, text_of};
 ghost use Rattle.engines.specs.declared.fault.EngineFault.TheVariants as faults;
@@ -63,7 +63,6 @@ fn write_output<W: Write>(out: &mut W, output: &[u8]) -> Result<Outcome, EngineF
 }
 
 impl Whole {
-    ghost use Rattle.std.specs.Prelude.{◌≡◌};
     ghost use Rattle.engines.specs.Running.{WritesWhole};
 
     /// Writes the schedule's text, if it is wanted, and then the page.
@@ -80,7 +79,6 @@ impl Whole {
 }
 
 impl Ran {
-    ghost use Rattle.std.specs.Prelude.{◌≡◌};
     ghost use Rattle.engines.specs.Running.{WritesRan};
 
     /// Writes the text of the schedule to `schedule`, if there is one, and then to `out` what is shown.

@@ -1,6 +1,6 @@
 //! Runs in threads, and what comes of them.
 
-ghost use Rattle.std.specs.Prelude.{◌≡◌, ◌++◌, ℕ, [], Err, List, IfOk, IfErr, length, map};
+ghost use Rattle.std.specs.Prelude.{◌≡◌, ◌++◌, ℕ, Err, List, IfOk, IfErr, length, map};
 ghost use Rattle.ast.specs.ProgramView.{program as program_of};
 ghost use Rattle.ast.specs.View.{cells, symbol as symbol_of};
 ghost use Rattle.codegen.specs.Headline.{Headline};

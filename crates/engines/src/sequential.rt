@@ -1,7 +1,6 @@
 //! Sequential runs, whose records are written while they run.
 
-ghost use Rattle.std.specs.Prelude.{◌≡◌, IfOk, List, [], false, length, map, ℕ};
-ghost use Rattle.ast.specs.Meaning.{seq};
+ghost use Rattle.std.specs.Prelude.{◌≡◌, IfOk, List, false, length, map, ℕ};
 ghost use Rattle.ast.specs.ProgramView.{program as program_of};
 ghost use Rattle.ast.specs.View.{cells, symbol as symbol_of};
 ghost use Rattle.profile_check.specs.Reads.{Reads};

@@ -9,7 +9,7 @@ ghost use Rattle.engines.specs.View.{row_view};
 
 use crate::row::Row;
 use crate::rows::sort_by_name;
-use ast::{Dimension, Name, SymbolKind};
+use ast::{Dimension, Name};
 use explanations::append_number;
 use std::alloc::AllocError;
 

@@ -1,6 +1,6 @@
 //! Pictures of runs.
 
-ghost use Rattle.std.specs.Prelude.{◌≡◌, IfOk, IfErr, List, ℕ};
+ghost use Rattle.std.specs.Prelude.{IfOk, IfErr, List, ℕ};
 ghost use Rattle.ast.specs.ProgramView.{program as program_of};
 ghost use Rattle.codegen.specs.Headline.{Headline};
 ghost use Rattle.machine.specs.CodeView.{code_of};

@@ -1,6 +1,6 @@
 //! Runs that schedules describe, watched turn by turn.
 
-ghost use Rattle.std.specs.Prelude.{◌≡◌, ◌<◌, length};
+ghost use Rattle.std.specs.Prelude.{◌<◌, length};
 ghost use Rattle.replay.specs.Activities.{AreActivities};
 
 use crate::driving::begun;

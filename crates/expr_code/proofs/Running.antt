@@ -18,7 +18,7 @@ use Rattle.ast.specs.declared.fault.Fault.TheVariants.{Index as BadIndex}
 use Rattle.machine.specs.Code.{Code, Cell, cell_at}
 use Rattle.machine.specs.Frame.{Frame}
 use Rattle.machine.specs.Local.{answered, answered_at, defined, faulted, if_replaced, made_at, part_of, with_operands}
-use Rattle.machine.specs.View.{View, doing, loading, doing_if, element_loading, loading_if, view, with_operand}
+use Rattle.machine.specs.View.{View, doing, loading, doing_if, loading_if, view}
 use Rattle.machine.specs.declared.code.Open.{Open as Opened}
 use Rattle.machine.specs.declared.instr.Act.{Act}
 use Rattle.machine.specs.declared.instr.Act.TheVariants.{Constant, Private, Binary, Modulo, Greatest, Least, Unary, Absolute, Check, Load, LoadElement}
@@ -63,10 +63,6 @@ none_left (x ∷ xs) h = absurd (omega (arith, h))
 fewer_none : (m : ℕ) → fewer m 0 ≡ 0
 fewer_none zero = refl
 fewer_none (suc m) = refl
-
-fewer_same : (m : ℕ) → fewer m m ≡ m
-fewer_same zero = refl
-fewer_same (suc m) = ap suc (fewer_same m)
 
 fewer_below : (m n : ℕ) → fewer m n ≤ n
 fewer_below zero n = omega arith
@@ -221,9 +217,6 @@ module _ (A : Type 0) (S : Steps A) (code : Code) (f : Frame) (line limit : ℕ)
           (sums_run rs r (at_place A S (place_of (d ∷ ds) (x ∷ xs)) κ) (pc + length (checks_code line 1 (d ∷ ds) (length (x ∷ xs)))) st (omega (arith, is, below, few)) (subst (λ (k : ℕ). Has (pc + length (checks_code line 1 (d ∷ ds) (length (x ∷ xs)))) (sums_code line k)) (sym many) back) to)
 
   -- ---- variables
-
-  push_room : (st : List ℤ) (n : ℕ) → 1 ≤ n → length st + n ≤ f.operands.room → length st < f.operands.room
-  push_room st n h k = omega (arith, h, k)
 
   module _ (p : Places) (privates : length p.privates ≤ length f.privates) (few_privates : length p.privates ≤ 2 ^ 32) (lines : p.line ≡ line) where
     pub scalar_runs : (r : Ref) (h : Home) (ds : List Extent) (κ : ℤ → A) (pc : ℕ) (st : List ℤ) → home p [] r.name ≡ h → Reach code.variables r ds → length st < f.operands.room → slice_get code.instructions pc ≡ Some (instr line (scalar_act h r.cell))

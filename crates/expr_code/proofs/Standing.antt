@@ -5,7 +5,7 @@ use Rattle.std.proofs.lemmas.Bool.{lt-ltb}
 use Rattle.ast.specs.Exact.{is_true}
 use Rattle.machine.specs.Code.{Code}
 use Rattle.machine.specs.Frame.{Frame, with_items}
-use Rattle.machine.specs.Local.{answered, defined, faulted, going_on, if_pushed, pushed, skipping, with_operands, without}
+use Rattle.machine.specs.Local.{defined, if_pushed, pushed, skipping, without}
 use Rattle.machine.specs.View.{View, doing, doing_if, view, instr_view, act_view}
 use Rattle.machine.specs.declared.code.Open.{Open}
 use Rattle.machine.specs.declared.instr.Act.TheVariants.{Constant, Private, Index, SkipUnless}

@@ -1,7 +1,7 @@
 //! Room for the operands of expressions.
 
 ghost use Rattle.std.specs.Prelude.{◌≡◌, ◌+◌, drop, map, max, ℕ};
-ghost use Rattle.ast.specs.Tree.{call, element, terms};
+ghost use Rattle.ast.specs.Tree.{call, terms};
 ghost use Rattle.ast.specs.View.{access as access_of, term};
 ghost use Rattle.expr_code.specs.Computes.{operands, operands_chosen, operands_further, operands_kept};
 ghost use Rattle.expr_code.specs.Emitted.{short};

@@ -229,9 +229,6 @@ SubscriptsAgain line es v = (n : ℕ) (rest : List ℕ) → 12 * length v + 1 �
 abbrev pub FurtherAgain : ℕ → Terms → List ℕ → Type 0
 FurtherAgain line es w = (n : ℕ) (rest : List ℕ) (fs : List Term) → 12 * length w ≤ n → further_at line n fs (w ++ rest) ≡ Ok (fs ++ list_of es, rest)
 
-subscripts_step : (line n : ℕ) (t u : List ℕ) → after (codes "(") t ≡ Some u → subscripts_at line (suc n) t ≡ list_at line n [] u
-subscripts_step line n t u is = rw (subscripts_at, is) refl
-
 no_subscripts : (line n : ℕ) (t : List ℕ) → after (codes "(") t ≡ None → subscripts_at line (suc n) t ≡ Ok ([], t)
 no_subscripts line n t is = rw (subscripts_at, is) refl
 

@@ -24,11 +24,6 @@ abbrev pub begins_letter : List ℕ → Bool
 begins_letter [] = false
 begins_letter (c ∷ cs) = is_letter c
 
--- the text after a mark, where that stands first
-abbrev pub after_mark : ℕ → List ℕ → Option (List ℕ)
-after_mark mark [] = None
-after_mark mark (c ∷ cs) = if c == mark then Some cs else None
-
 -- the text after a word, where that stands first
 abbrev pub after : List ℕ → List ℕ → Option (List ℕ)
 after word t = if starts_with nat_eq t word then Some (drop (length word) t) else None

@@ -30,7 +30,7 @@ pub enum Level {
 }
 
 impl Level {
-    ghost use Rattle.std.specs.Prelude.{◌≡◌, ◌-◌, ◌==◌, not};
+    ghost use Rattle.std.specs.Prelude.{◌≡◌, ◌-◌, ◌==◌};
     ghost use Rattle.expressions.specs.Levels.{relation};
     ghost use Rattle.expressions.specs.Ranks.{rank};
     ghost use Rattle.expressions.specs.Reading.{operators_of, prefixes_of};

@@ -1,6 +1,6 @@
 //! Names and constants.
 
-ghost use Rattle.std.specs.Prelude.{◌≡◌, ◌≤◌, pos, nat_lt, if◌then◌else◌, Some, None, map, IfErr, option_map};
+ghost use Rattle.std.specs.Prelude.{◌≡◌, pos, nat_lt, if◌then◌else◌, Some, None, map, IfErr, option_map};
 ghost use Rattle.ast.specs.Answers.{Gives};
 ghost use Rattle.ast.specs.View.{ref, term};
 ghost use Rattle.expressions.specs.Answers.{IsRefused};

@@ -1,6 +1,6 @@
 //! The characters of a text.
 
-ghost use Rattle.std.specs.Prelude.{◌≡◌, ◌≤◌, length, map, drop, option_map};
+ghost use Rattle.std.specs.Prelude.{◌≡◌, ◌≤◌, length, drop, option_map};
 ghost use Rattle.std.specs.List.{prefix_len};
 ghost use Rattle.expressions.specs.Characters.{is_digit, is_letter, is_alphanumeric, begins_with, begins_digit, begins_letter, after};
 

@@ -68,10 +68,6 @@ record AreSame (xs ys : List Card) (x y : Card) : Type 0 where
 heads : (c d : Card) (cs ds : List Card) → c ∷ cs ≡ d ∷ ds → (c ≡ d) × (cs ≡ ds)
 heads c d cs ds e = (cc, cc)
 
-not_nil : (c d : Card) (cs : List Card) → c ∷ [] ≡ d ∷ (cs ++ c ∷ []) → ⊥
-not_nil c d [] e = let f : c ∷ [] ≡ d ∷ c ∷ [] = e in cc
-not_nil c d (b ∷ cs) e = let f : c ∷ [] ≡ d ∷ b ∷ (cs ++ c ∷ []) = e in cc
-
 last_two : (x y : Card) (d : Card) (ys : List Card) → x ∷ [] ≡ d ∷ (ys ++ y ∷ []) → ⊥
 last_two x y d [] e = let f : x ∷ [] ≡ d ∷ y ∷ [] = e in cc
 last_two x y d (b ∷ ys) e = let f : x ∷ [] ≡ d ∷ b ∷ (ys ++ y ∷ []) = e in cc

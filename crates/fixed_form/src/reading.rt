@@ -1,7 +1,7 @@
 //! From the lines of a text to its statements.
 
 ghost use Rattle.std.specs.Prelude.{◌≡◌, ◌≤◌, ℕ, List, IfOk, IfErr, Ok, Err, [], true, false};
-ghost use Rattle.ast.specs.Answers.{Break, Gives, Says};
+ghost use Rattle.ast.specs.Answers.{Gives, Says};
 ghost use Rattle.ast.specs.declared.refusal.Refusal.TheVariants.{Refused};
 ghost use Rattle.fixed_form.specs.Limits.{greatest_line, is_label_or_none};
 ghost use Rattle.fixed_form.specs.Lines.{Entry, Lines, AreShaped, Broken, lines_in};

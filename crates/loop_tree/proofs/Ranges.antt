@@ -1,9 +1,9 @@
 -- Each loop of a program is that of its DO and its range.
-use Rattle.std.proofs.Common.{◌≡◌, ◌∙◌, ap, sym, refl, ℕ, zero, suc, List, [], ◌∷◌, length, subst}
+use Rattle.std.proofs.Common.{◌≡◌, sym, refl, ℕ, zero, suc, List, [], ◌∷◌, length, subst}
 use Rattle.std.specs.Prelude.{◌+◌, ◌++◌, Option, Some, None}
 use Rattle.ast.specs.Tree.{Node, plain, loop, choose, Block, no_nodes, then_node, Arms, no_arms, then_arm}
 use Rattle.loop_tree.specs.Collecting.{Collected, after_block, no_collected, loops_in}
-use Rattle.loop_tree.specs.Loops.{AreWhole, IsWhole, Loop, arms_loops, block_loops, loop_numbered, loops_of, node_loops}
+use Rattle.loop_tree.specs.Loops.{AreWhole, IsWhole, Loop, arms_loops, block_loops, node_loops}
 use Rattle.loop_tree.specs.Occurrences.{node_lines, block_lines}
 use Rattle.loop_tree.proofs.Gathered.{loops_gathered}
 

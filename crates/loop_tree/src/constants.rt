@@ -1,10 +1,10 @@
 //! Expressions whose value doesn't depend on variables.
 
-ghost use Rattle.std.specs.Prelude.{◌≡◌, IfOk, map, option_map};
+ghost use Rattle.std.specs.Prelude.{◌≡◌, IfOk, map};
 ghost use Rattle.std.specs.Result.{result_ok};
 ghost use Rattle.ast.specs.Exact.{greatest, intrinsic_value, least, value_of};
 ghost use Rattle.ast.specs.Tree.{call, terms};
-ghost use Rattle.ast.specs.View.{head as head_of, optional_term, term};
+ghost use Rattle.ast.specs.View.{head as head_of, term};
 ghost use Rattle.loop_tree.specs.Constants as spec;
 ghost use Rattle.loop_tree.specs.ConstantsView.{listed};
 

@@ -4,7 +4,7 @@ ghost use Rattle.std.specs.Prelude.{◌≡◌, ◌+◌, ◌-◌, ◌<◌, ◌^�
 ghost use Rattle.ast.specs.Exact.{is_true};
 ghost use Rattle.machine.specs.FrameView.{stack_of};
 ghost use Rattle.machine.specs.ScalarView.{scalars_of};
-ghost use Rattle.machine.specs.Local.{counted_down, if_pushed, if_replaced, local_act, loop_set_up, one_of, one_replaced, part_of, private_pushed, private_set, pushed, replaced_at, skipping, skipping_unless, step_pushed, three_of, two_replaced};
+ghost use Rattle.machine.specs.Local.{counted_down, if_pushed, if_replaced, local_act, loop_set_up, one_of, one_replaced, part_of, private_pushed, private_set, pushed, replaced_at, skipping_unless, step_pushed, three_of, two_replaced};
 ghost use Rattle.machine.specs.Working.{IsNot, frame_at, made_of_one, made_of_two, went, went_by};
 ghost use Rattle.machine.specs.declared.frame.Counter.{Counter as Loop};
 ghost use Rattle.machine.specs.declared.scalar.Scalar.{Scalar as Own};

@@ -8,7 +8,7 @@ ghost use Rattle.machine.specs.Local.{locals};
 
 use crate::code::Code;
 use crate::frame::Frame;
-use crate::working::{local, stands_local};
+use crate::working::local;
 use std::alloc::AllocError;
 
 /// Local work: so many local instructions of the code lead from one frame to another.

@@ -1,6 +1,6 @@
 //! Whether two frames are equal.
 
-ghost use Rattle.std.specs.Prelude.{◌≡◌, ℤ, ℕ, List, Option, drop, length};
+ghost use Rattle.std.specs.Prelude.{◌≡◌, drop};
 ghost use Rattle.std.specs.Bool.{Decides};
 ghost use Rattle.machine.specs.FrameView.{frame_of, room_of, stack_of};
 ghost use Rattle.machine.specs.ScalarView.{scalar_of, scalars_of};

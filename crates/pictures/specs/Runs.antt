@@ -34,11 +34,6 @@ counted t lane = record { steps = counted_on lane.steps t.steps; parked = counte
 abbrev pub with_turn : Turn → List Lane → List Lane
 with_turn t lanes = if nat_lt t.processor (length lanes) then set lanes t.processor (counted t (get_or lanes t.processor nothing)) else lanes
 
--- the lanes of processors that have made these entries, in their order
-abbrev pub lanes_after : List Turn → List Lane → List Lane
-lanes_after [] lanes = lanes
-lanes_after (t ∷ turns) lanes = lanes_after turns (with_turn t lanes)
-
 -- ---- what is said of it
 
 abbrev pub made : ℕ → ℕ → List ℕ

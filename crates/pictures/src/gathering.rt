@@ -1,6 +1,6 @@
 //! What the processors of a run did, gathered into as many columns as a picture may have.
 
-ghost use Rattle.std.specs.Prelude.{◌≡◌, ◌<◌, ◌≤◌, IfOk, length, replicate};
+ghost use Rattle.std.specs.Prelude.{◌≡◌, ◌<◌, IfOk, replicate};
 ghost use Rattle.pictures.specs.Runs as spec;
 
 use std::alloc::{AllocError, Global};

@@ -4,7 +4,7 @@ use Rattle.std.proofs.Common.{◌≡◌, ◌∙◌, ◌+◌, ◌<◌, ◌≤◌,
 use Rattle.std.specs.Prelude.{nat_le}
 use Rattle.std.proofs.lemmas.Bool.{le-leb, leb-true}
 use Rattle.ast.specs.Tree as tree
-use Rattle.ast.specs.Tree.{Ref, Term, Terms, Access, PrintItem, DoHead, Kind, Node, Block, Arms}
+use Rattle.ast.specs.Tree.{Ref, Term, Terms, Access, PrintItem, DoHead, Kind, Block, Arms}
 use Rattle.dependence.specs.Plan.{plain, loop, choose, PlanBlock, then_node}
 use Rattle.loop_tree.specs.Occurrences.{Occurrence, arms_occurrences, block_occurrences, head_occurrences, kind_occurrences, optional_occurrences, term_occurrences, terms_occurrences, target_occurrences, targets_occurrences, items_occurrences}
 use Rattle.loop_tree.specs.Paths.{Token, uses, defines, await, advance, term_tokens, head_tokens}

@@ -2,7 +2,7 @@
 use Rattle.std.proofs.Common.{◌≡◌, ◌∙◌, ◌+◌, ◌≤◌, ℕ, true, List, [], ◌∷◌, ◌++◌, refl, sym, subst, ⊎_elim, Some, None, arith}
 use Rattle.ast.specs.References.{term_references}
 use Rattle.ast.specs.Tree as tree
-use Rattle.ast.specs.Tree.{Ref, Term, Access, DoHead, Kind, program, integer, dimension, parameters, assign, do_loop, go_on, block_if, else_if, else_arm, end_if, logical_if, print, read, stop, end, Node, Block, Arms}
+use Rattle.ast.specs.Tree.{Block, Arms}
 use Rattle.dependence.specs.Plan.{PlanNode, plain, loop, choose, PlanBlock, no_nodes, then_node}
 use Rattle.loop_tree.specs.Paths.{term_tokens, head_tokens}
 use Rattle.plan_check.specs.Flow.{Known, Point, after, after_arms, after_block, after_kind, after_node, arms_points, block_points, has_advanced, is_free, joined, kind_tokens, node_points, nowhere, points}
@@ -19,9 +19,6 @@ module _ (sources : List ℕ) (before : ℕ → List (ℕ × ℕ)) where
     pub inside : (e : ℕ) → Ev sources before low high e → Room s e → has_advanced r e ≡ true
     pub room : (e : ℕ) → Room s e → Room r e
     pub order : ((e : ℕ) → Ev sources before low high e → Room s e × (is_free s e ≡ true)) → Ordered ps
-
-  room_all : (e : ℕ) (xs : List (ℕ × ℕ)) (s : Known) → Room s e → Room (awaited_all xs s) e
-  room_all e xs s h = (keeps_awaits e xs s).room h
 
   -- awaits, a node, the advances that are anchored at it, and what is behind
   combined : (o mid m high : ℕ) (N : PlanNode) (rest : PlanBlock) (xs : List (ℕ × ℕ)) (s : Known) → o ≤ mid → mid ≤ m → m ≤ high

@@ -2,7 +2,7 @@
 use Rattle.std.proofs.Common.{◌≡◌, ◌+◌, ℕ, true, List, ◌++◌, refl, sym, subst, Some, None}
 use Rattle.ast.specs.References.{term_references}
 use Rattle.ast.specs.Tree as tree
-use Rattle.ast.specs.Tree.{Ref, Term, Access, DoHead, Kind, program, integer, dimension, parameters, assign, do_loop, go_on, block_if, else_if, else_arm, end_if, logical_if, print, read, stop, end, Node, Block, Arms}
+use Rattle.ast.specs.Tree.{Block, Arms}
 use Rattle.dependence.specs.Plan.{plain, loop, choose, then_node}
 use Rattle.loop_tree.specs.Paths.{term_tokens, head_tokens}
 use Rattle.plan_check.specs.Flow.{Known, after, after_arms, after_block, after_kind, arms_points, block_points, has_advanced, joined, kind_tokens, nowhere, points}

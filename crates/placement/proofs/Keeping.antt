@@ -219,10 +219,6 @@ all_advanced e (x ∷ es) s i m =
     (λ j. absurd (no j)) i))
     (has_in e es)
 
-advance_points : List ℕ → Known → List Point
-advance_points [] s = []
-advance_points (e ∷ es) s = (await e 1, s) ∷ (advance e, step (await e 1) s) ∷ advance_points es (step (advance e) (step (await e 1) s))
-
 abbrev pub Ordered : List Point → Type 0
 Ordered ps = list_all (λ (x : Point). is_in_order x) ps ≡ true
 

@@ -7,7 +7,7 @@ use Rattle.dependence.specs.Plan.{PlanNode, loop, choose, awaits, advances, Plan
 use Rattle.std.proofs.lemmas.List.{append_assoc, append-nil}
 use Rattle.dependence.specs.PlanView.{ArmOf, block, arms, last_arm}
 use Rattle.placement.specs.Listed as listed
-use Rattle.placement.specs.Listed.{await_nodes, advance_nodes, anchors, inner_nodes, placed_nodes, listed_arms, listed_else, has_else, made_of, is_some}
+use Rattle.placement.specs.Listed.{await_nodes, advance_nodes, anchors, inner_nodes, placed_nodes, listed_arms, listed_else, has_else, made_of}
 use Rattle.placement.specs.Placing.{with_awaits, with_advances, made_for, events_from, anchored, node_size, block_size, arms_size, inner_node, inner_block, inner_arms, placed_node, placed_block, placed_arms}
 
 pub awaits_block : (ws : List (ℕ × ℕ)) (ns : List PlanNode) → block (await_nodes ws ++ ns) ≡ with_awaits ws (block ns)

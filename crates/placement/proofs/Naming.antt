@@ -1,7 +1,7 @@
 -- The events that a plan that is placed names have sources in the range.
 use Rattle.std.proofs.Common.{◌≡◌, ◌∙◌, ◌+◌, ◌≤◌, inl, inr, ℕ, List, [], ◌∷◌, ◌++◌, refl, sym, subst, ⊎_elim, Some, None, arith}
 use Rattle.ast.specs.Tree as tree
-use Rattle.ast.specs.Tree.{Ref, Term, Access, DoHead, Kind, program, integer, dimension, parameters, assign, do_loop, go_on, block_if, else_if, else_arm, end_if, logical_if, print, read, stop, end, Node, Block, Arms}
+use Rattle.ast.specs.Tree.{Block, Arms}
 use Rattle.dependence.specs.Plan.{plain, loop, choose, PlanBlock, no_nodes, then_node}
 use Rattle.plan_check.proofs.Members.{In}
 use Rattle.plan_check.specs.GoodPlan.{named, named_arms}

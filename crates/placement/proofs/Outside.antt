@@ -2,7 +2,7 @@
 use Rattle.std.proofs.Common.{◌≡◌, ◌+◌, ℕ, true, List, [], ◌∷◌, refl, Some, None}
 use Rattle.std.proofs.lemmas.Bool.{and_from}
 use Rattle.ast.specs.Tree as tree
-use Rattle.ast.specs.Tree.{Ref, Term, Access, DoHead, Kind, program, integer, dimension, parameters, assign, do_loop, go_on, block_if, else_if, else_arm, end_if, logical_if, print, read, stop, end, Node, Block, Arms}
+use Rattle.ast.specs.Tree.{Block, Arms}
 use Rattle.dependence.specs.Plan.{plain, loop, choose, PlanBlock, no_nodes, then_node}
 use Rattle.plan_check.specs.Flow.{no_advance, no_advance_arms, outside, outside_arms}
 use Rattle.plan_check.proofs.Flowing.{outside_within_arms}

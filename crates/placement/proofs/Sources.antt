@@ -3,7 +3,7 @@ use Rattle.std.proofs.Common.{◌≡◌, ◌∙◌, ◌+◌, ◌<◌, ◌≤◌,
 use Rattle.std.specs.Prelude.{nat_le, nat_lt, if◌then◌else◌}
 use Rattle.std.proofs.lemmas.Bool.{and_from, and_parts, cases_lt, le-leb, leb-true, lt-ltb, ltb-true}
 use Rattle.ast.specs.Tree as tree
-use Rattle.ast.specs.Tree.{Ref, Term, Access, DoHead, Kind, program, integer, dimension, parameters, assign, do_loop, go_on, block_if, else_if, else_arm, end_if, logical_if, print, read, stop, end, Node, Block, Arms}
+use Rattle.ast.specs.Tree.{Term, Node, Block, Arms}
 use Rattle.loop_tree.specs.Occurrences.{arms_lines, block_lines, node_lines}
 use Rattle.plan_check.proofs.Members.{In}
 use Rattle.placement.specs.Placement.{IsEvent}

@@ -2,7 +2,7 @@
 use Rattle.std.proofs.Common.{◌≡◌, ◌∙◌, ◌+◌, ℕ, true, List, [], ◌∷◌, refl, ap, Some, None}
 use Rattle.std.proofs.lemmas.Bool.{and_from}
 use Rattle.ast.specs.Tree as tree
-use Rattle.ast.specs.Tree.{Node, Block, Arms}
+use Rattle.ast.specs.Tree.{Block, Arms}
 use Rattle.dependence.specs.Plan.{plain, loop, choose, PlanBlock, no_nodes, then_node}
 use Rattle.plan_check.specs.GoodPlan.{made_bare, made_bare_arms, only_events, stripped, stripped_arms}
 use Rattle.placement.specs.Placing.{block_size, node_size, anchored, events, inner_arms, inner_block, made_for, placed_arms, placed_block, with_advances, with_awaits, arms_size}

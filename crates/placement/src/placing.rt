@@ -1,6 +1,6 @@
 //! The range of a loop with its awaits and advances.
 
-ghost use Rattle.std.specs.Prelude.{◌≡◌, ◌++◌, ◌&&◌, IfOk, OnOk, List, false, map, true, ℕ};
+ghost use Rattle.std.specs.Prelude.{◌≡◌, ◌++◌, ◌&&◌, IfOk, OnOk, false, map, true};
 ghost use Rattle.ast.specs.Tree as tree;
 ghost use Rattle.ast.specs.Tree.{arms as arms_of};
 ghost use Rattle.ast.specs.View.{arm as arm_of, block_view, head as head_of, node as node_of};

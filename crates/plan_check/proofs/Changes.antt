@@ -15,12 +15,6 @@ module _ {A : Type 0} (v : A) where
   pub set_next : (ws : List A) (i : ℕ) → i < length ws → setting (set ws i v) (i + 1) ≡ setting ws i
   set_next ws i h = let n : i + 1 ≡ suc i = omega arith in ap (λ k. setting (set ws i v) k) n ∙ set_step ws i h
 
-  pub all_set : (ws : List A) (i : ℕ) → length ws ≤ i → setting ws i ≡ ws
-  all_set [] zero h = refl
-  all_set [] (suc i) h = refl
-  all_set (w ∷ ws) zero h = absurd (omega (arith, h))
-  all_set (w ∷ ws) (suc i) h = ap (λ xs. w ∷ xs) (all_set ws i (omega (arith, h)))
-
 module _ {A : Type 0} (f : A → A → A) (none : A) where
   abbrev pub joining : List A → List A → ℕ → List A
   joining ws os i = take i ws ++ zipped f none (drop i ws) (drop i os)

@@ -184,11 +184,6 @@ from_first ks r =
     let all : r.count - 0 ≡ r.count = omega (arith) in
     ap (λ b. stepped r.first b r.step (r.count - 0) (relation_at ks r.relation)) none ∙ ap (λ n. stepped r.first r.second r.step n (relation_at ks r.relation)) all
 
-pub from_end : (ks : List Relation) (r : Run) (k : ℕ) → r.count ≤ k → from_place ks r k ≡ []
-from_end ks r k l =
-    let none : r.count - k ≡ 0 = omega (arith, l) in
-    ap (λ n. stepped r.first (r.second + r.step * k) r.step n (relation_at ks r.relation)) none
-
 from_next : (ks : List Relation) (r : Run) (k : ℕ) → k < r.count → from_place ks r k ≡ (r.first, r.second + r.step * k, relation_at ks r.relation) ∷ from_place ks r (k + 1)
 from_next ks r k l =
     let more : r.count - k ≡ suc (r.count - (k + 1)) = omega (arith, l) in

@@ -16,10 +16,6 @@ pub any_more : (test : ℕ → Bool) (es : List ℕ) (e : ℕ) → list_any test
 any_more test [] e = or_false (test e)
 any_more test (x ∷ es) e = ap (λ b. test x || b) (any_more test es e) ∙ or_assoc (test x) (list_any test es) (test e)
 
-absorbed : (a b : Bool) → a ≡ true → (a || b) ≡ a
-absorbed true b h = refl
-absorbed false b h = cc
-
 pub any_same : (test : ℕ → Bool) (es : List ℕ) (e : ℕ) → has_event es e ≡ true → list_any test es ≡ (list_any test es || test e)
 any_same test [] e h = cc
 any_same test (x ∷ es) e h = by (x == e) refl (λ k. any_same test es e k)

@@ -58,9 +58,6 @@ run_append f (x ∷ u) v b = run_append f u v (turn f x b)
 below_append : (s : Known) (b : Fact → Bool) (u v : List Token) → Below s (runs v (runs u b)) → Below s (runs (u ++ v) b)
 below_append s b u v h f e = run_append f u v (b f) ∙ h f e
 
-below_apart : (s : Known) (b : Fact → Bool) (u v : List Token) → Below s (runs (u ++ v) b) → Below s (runs v (runs u b))
-below_apart s b u v h f e = sym (run_append f u v (b f)) ∙ h f e
-
 -- ---- parts of paths
 
 pub record Stood (ps : List Point) (x : Token) (b : Fact → Bool) : Type 0 where

@@ -80,10 +80,6 @@ is_private p name h = let k = any_in (λ (n : List ℕ). same_name n name) p.pri
 
 -- ---- facts of a path, in the words of its tokens
 
-or_cases : (a b : Bool) → (a || b) ≡ true → (a ≡ true) ⊎ (b ≡ true)
-or_cases true b h = inl refl
-or_cases false b h = inr h
-
 on_true : (f : Fact) (t : List Token) (b : Bool) → b ≡ true → run f t true ≡ true → run f t b ≡ true
 on_true f t b e h = subst (λ (c : Bool). run f t c ≡ true) (sym e) h
 

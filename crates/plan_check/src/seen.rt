@@ -3,7 +3,7 @@
 ghost use Rattle.std.specs.Prelude.{◌≡◌, OnOk, map};
 ghost use Rattle.ast.specs.View.{letters, ref};
 ghost use Rattle.plan_check.specs.KnownView.{known as known_of};
-ghost use Rattle.plan_check.specs.SeenView.{note, seen as seen_of};
+ghost use Rattle.plan_check.specs.SeenView.{seen as seen_of};
 ghost use Rattle.plan_check.specs.Walking as spec;
 
 use crate::known::Known;

@@ -2,7 +2,7 @@
 
 ghost use Rattle.std.specs.Prelude.{◌≡◌, OnOk, map};
 ghost use Rattle.ast.specs.View.{head as head_of, letters, optional_term};
-ghost use Rattle.dependence.specs.Plan.{PlanArms, choose, loop};
+ghost use Rattle.dependence.specs.Plan.{PlanArms, loop};
 ghost use Rattle.dependence.specs.PlanView.{arm_view, arms as arms_of, plan_block, plan_node};
 ghost use Rattle.plan_check.specs.KnownView.{known as known_of};
 ghost use Rattle.plan_check.specs.SeenView.{seen as seen_of};

@@ -4,7 +4,6 @@ use Rattle.std.proofs.Math.ListN.{set}
 use Rattle.privatise.specs.Cells.{walk_at, gone_on, stopped, joined}
 use Rattle.privatise.specs.Walks.{then_walk, more}
 use Rattle.privatise.specs.declared.walk.Walk.{Walk}
-use Rattle.privatise.specs.declared.walk.Walk.TheVariants.{Defined}
 
 pub changed : (ws : List Walk) (c : ℕ) (w v d : Walk) → v ≡ then_walk (get_or ws c d) w → c < length ws → set ws c v ≡ gone_on ws c w
 changed [] c w v d e h = absurd (omega (arith, h))
@@ -20,20 +19,6 @@ unchanged (x ∷ ws) (suc c) w h = ap (λ ys. x ∷ ys) (unchanged ws c w (omega
 
 abbrev pub stopping : List Walk → ℕ → List Walk
 stopping ws i = take i ws ++ stopped (drop i ws)
-
-stop_step : (ws : List Walk) (i : ℕ) (v d : Walk) → v ≡ then_walk (get_or ws i d) Defined → i < length ws → stopping (set ws i v) (suc i) ≡ stopping ws i
-stop_step [] i v d e h = absurd (omega (arith, h))
-stop_step (w ∷ ws) zero v d e h = ap (λ x. x ∷ stopped ws) e
-stop_step (w ∷ ws) (suc i) v d e h = ap (λ xs. w ∷ xs) (stop_step ws i v d e (omega (arith, h)))
-
-pub stop_next : (ws : List Walk) (i : ℕ) (v d : Walk) → v ≡ then_walk (get_or ws i d) Defined → i < length ws → stopping (set ws i v) (i + 1) ≡ stopping ws i
-stop_next ws i v d e h = let n : i + 1 ≡ suc i = omega arith in ap (λ k. stopping (set ws i v) k) n ∙ stop_step ws i v d e h
-
-pub all_stopped : (ws : List Walk) (i : ℕ) → length ws ≤ i → stopping ws i ≡ ws
-all_stopped [] zero h = refl
-all_stopped [] (suc i) h = refl
-all_stopped (w ∷ ws) zero h = absurd (omega (arith, h))
-all_stopped (w ∷ ws) (suc i) h = ap (λ xs. w ∷ xs) (all_stopped ws i (omega (arith, h)))
 
 abbrev pub joining : List Walk → List Walk → ℕ → List Walk
 joining ws os i = take i ws ++ joined (drop i ws) (drop i os)

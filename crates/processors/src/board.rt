@@ -84,7 +84,7 @@ impl<'c, C: Call> Model for Board<'c, C> {
 }
 
 impl<'c, C: Call> Board<'c, C> {
-    ghost use Rattle.std.specs.Prelude.{◌≡◌, IfOk, IfErr};
+    ghost use Rattle.std.specs.Prelude.{IfOk, IfErr};
     ghost use Rattle.processors.specs.Calls.{IsCoreOf, IsRunOf};
     ghost use Rattle.processors.specs.Refused.{IsGivenUp};
     ghost use Rattle.replay.specs.CoreView.{point_at};

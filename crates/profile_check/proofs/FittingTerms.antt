@@ -14,7 +14,7 @@ use Rattle.ast.specs.Tree.{Ref, Term, Terms, constant, truth, parameter, element
 use Rattle.expressions.specs.Grammar.{Spells, AreSubscripts, AreFurther, IsAccess}
 use Rattle.expressions.specs.Levels.{primary, top, left_level, right_level, operand_level}
 use Rattle.syntax.specs.Statements as statements
-use Rattle.syntax.specs.Statements.{AreParts, AreOptional, AreBehindComma, nothing, IsStep, AreParameters, IsDoHead, IsItem, AreFurtherItems, AreItems, IsKind, IsStatement}
+use Rattle.syntax.specs.Statements.{AreParts, AreOptional, AreBehindComma, nothing, IsStep, IsDoHead, AreFurtherItems, AreItems, IsKind, IsStatement}
 use Rattle.profile_check.proofs.Parts.{own_expressions, own_text}
 use Rattle.profile_check.specs.Erasure.{erased, all_erased, access_erased, item_erased, kind_erased}
 use Rattle.profile_check.specs.Fitting.{sort_fits, symbol_fits}

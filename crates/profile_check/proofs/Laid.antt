@@ -61,10 +61,6 @@ arms-end (a ∷ more) line c ns w v l label h k =
     (ap (λ (xs : List Statement). xs ++ record { line = l; label = label; kind = end_if } ∷ []) (append_assoc h.2 h.3 v) ∙ append_assoc h.2 (h.3 ++ v) (record { line = l; label = label; kind = end_if } ∷ [])) in
     (h.1, h.2, (h.3 ++ v) ++ record { line = l; label = label; kind = end_if } ∷ [], e, h.5, arms-end more line c ns h.3 v l label h.6 k)
 
-some-condition : (c : Option Term) → has_condition true c → (e : Term) × (c ≡ Some e)
-some-condition None h = absurd h
-some-condition (Some e) h = (e, refl)
-
 if-end : (done : List Arm) (line : ℕ) (c : Option Term) (ns : List Node) (w v : List Statement) (l : ℕ) (label : Option ℕ)
     → UpTo true done line c w → Lays (block ns) v → LaysIf (arms (done ++ arm_of line c ns ∷ [])) ((w ++ v) ++ record { line = l; label = label; kind = end_if } ∷ [])
 if-end [] line None ns w v l label h k = absurd h.0

@@ -1,5 +1,5 @@
 -- The place of a name in a set of names.
-use Rattle.std.proofs.Common.{◌≡◌, ℕ, Bool, List, [], ◌∷◌, map, not, refl, ap, ◌+◌, ◌<◌, length, arith, ◌++◌, ◌∙◌}
+use Rattle.std.proofs.Common.{◌≡◌, ℕ, Bool, List, [], ◌∷◌, map, not, refl, ap, ◌+◌, ◌<◌, length, arith}
 use Rattle.std.proofs.lemmas.List.{length-map}
 use Rattle.std.specs.List.{position, prefix_len}
 use Rattle.ast.specs.Store.{same_name}
@@ -35,7 +35,3 @@ assoc a b c = omega arith
 
 none : (a : ℕ) → a ≡ 0 + a
 none a = omega arith
-
-pub count_append : (xs ys : List Term) → count_all (xs ++ ys) ≡ count_all xs + count_all ys
-count_append [] ys = none (count_all ys)
-count_append (x ∷ xs) ys = ap (λ (m : ℕ). count x + m) (count_append xs ys) ∙ assoc (count x) (count_all xs) (count_all ys)

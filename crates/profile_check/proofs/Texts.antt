@@ -22,7 +22,7 @@ use Rattle.syntax.specs.Classes.{Class, worded, assignment, unclosed, unknown, l
 use Rattle.syntax.specs.Depths.{greatest, depth_of_kind, depth_of_optional, depth_of_access, depth_of_item}
 use Rattle.syntax.specs.Pieces.{Piece, mark, quoted, doubled, Cut, folded, marks}
 use Rattle.syntax.specs.Statements as statements
-use Rattle.syntax.specs.Statements.{AreParts, AreOptional, AreBehindComma, nothing, IsStep, AreParameters, IsDoHead, IsItem, AreFurtherItems, AreItems, IsKind, IsStatement}
+use Rattle.syntax.specs.Statements.{AreParts, AreOptional, AreBehindComma, nothing, IsStep, IsDoHead, IsItem, AreFurtherItems, AreItems, IsKind, IsStatement}
 use Rattle.profile_check.proofs.Parts.{own_expressions, own_text, are_shallow_in}
 use Rattle.profile_check.specs.Erasure.{ref_to, erased, all_erased, access_erased, item_erased, kind_erased, head_erased}
 use Rattle.profile_check.specs.Reads.{Spelled}

@@ -112,9 +112,6 @@ goes-on (Some label) x s v u frames ns c e safe =
 safe-right : (frames : List Frame) (x v u : List Statement) → u ≡ x ++ v → Safe frames u → Safe frames v
 safe-right frames x v u e safe = λ f k s t label q. safe (x ++ f) k s t label (e ∙ ap (λ (xs : List Statement). x ++ xs) q ∙ sym (append_assoc x f (s ∷ (t ∷ k))))
 
-safe-left : (frames : List Frame) (x v u : List Statement) → u ≡ x ++ v → Safe frames u → Safe frames x
-safe-left frames x v u e safe = λ f k s t label q. safe f (k ++ v) s t label (e ∙ ap (λ (xs : List Statement). xs ++ v) q ∙ append_assoc f (s ∷ (t ∷ k)) v)
-
 safe-none : (frames : List Frame) → Safe frames []
 safe-none frames = λ f k s t label e. absurd (not-none f s (t ∷ k) e)
 

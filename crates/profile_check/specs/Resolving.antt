@@ -65,11 +65,6 @@ abbrev pub list_at : Table → ℕ → Ref → Terms → Option Intrinsic → Te
 list_at t n r es None = element (numbered t n r) es
 list_at t n r es (Some f) = call f es
 
--- how many references of its own a name with a list is
-abbrev pub list_count : Option Intrinsic → ℕ
-list_count None = 1
-list_count (Some f) = 0
-
 abbrev pub with_list : Table → ℕ → Ref → Terms → Option Intrinsic → Term
 with_list t n r es f = list_at t (n + count_terms es) r es f
 

@@ -1,6 +1,6 @@
 //! The rules over a whole program.
 
-ghost use Rattle.std.specs.Prelude.{◌≡◌, ◌<◌, ◌^◌, None, IfErr, IfOk, OnOk, length, map};
+ghost use Rattle.std.specs.Prelude.{◌≡◌, ◌<◌, ◌^◌, None, IfErr, IfOk, OnOk, map};
 ghost use Rattle.ast.specs.Answers.{Gives, Says};
 ghost use Rattle.ast.specs.View as view;
 ghost use Rattle.profile_check.specs.Checking as spec;

@@ -1,6 +1,6 @@
 //! Constant expressions, and what PARAMETER statements define.
 
-ghost use Rattle.std.specs.Prelude.{◌≡◌, IfOk, OnOk, is_some, map, option_map};
+ghost use Rattle.std.specs.Prelude.{◌≡◌, IfOk, OnOk, map};
 ghost use Rattle.ast.specs.Tree.{element, terms};
 ghost use Rattle.ast.specs.View as view;
 ghost use Rattle.profile_check.specs.Declarations as spec;

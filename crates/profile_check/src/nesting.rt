@@ -1,7 +1,7 @@
 //! From statements one after another to a tree: loops hold their ranges, IFs their arms.
 
-ghost use Rattle.std.specs.Prelude.{◌≡◌, ◌∷◌, ◌++◌, [], IfOk, map, option_map};
-ghost use Rattle.ast.specs.View.{arm, head as head_of, kind as kind_of, node, optional_term, statement, term};
+ghost use Rattle.std.specs.Prelude.{◌≡◌, ◌∷◌, ◌++◌, [], IfOk, map};
+ghost use Rattle.ast.specs.View.{arm, kind as kind_of, node, optional_term, statement, term};
 ghost use Rattle.profile_check.specs.Nesting as spec;
 ghost use Rattle.profile_check.specs.NestingView.{frame, nest_of};
 

@@ -1,6 +1,6 @@
 //! The statements of a text.
 
-ghost use Rattle.std.specs.Prelude.{List, IfOk, IfErr, Ok, map};
+ghost use Rattle.std.specs.Prelude.{List, IfOk, IfErr, Ok};
 ghost use Rattle.ast.specs.Answers.{Gives, Says};
 ghost use Rattle.ast.specs.Tree.{Statement};
 ghost use Rattle.ast.specs.View.{statement as statement_tree};

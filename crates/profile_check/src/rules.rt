@@ -1,6 +1,6 @@
 //! The rules of the profile, each a test of a statement.
 
-ghost use Rattle.std.specs.Prelude.{◌≡◌, ◌&&◌, filter, length, map, not, option_map};
+ghost use Rattle.std.specs.Prelude.{◌≡◌, ◌&&◌, filter, map, option_map};
 ghost use Rattle.std.specs.List.{list_any};
 ghost use Rattle.ast.specs.View as view;
 ghost use Rattle.profile_check.specs.DeclaredView.{arrays_of, constants_of};

@@ -1,7 +1,7 @@
 //! The tree of a program whose statements keep the rules.
 
 ghost use Rattle.std.specs.Prelude.{◌≡◌, ◌+◌, ◌<◌, ◌≤◌, ◌^◌, IfOk, map};
-ghost use Rattle.ast.specs.View.{kind as kind_of, node, statement};
+ghost use Rattle.ast.specs.View.{node, statement};
 ghost use Rattle.profile_check.specs.Nesting.{nested};
 ghost use Rattle.profile_check.specs.Resolving as spec;
 ghost use Rattle.profile_check.specs.ResolvingView.{table_of};

@@ -1,6 +1,6 @@
 //! The names that a statement uses, in order of evaluation.
 
-ghost use Rattle.std.specs.Prelude.{◌≡◌, ◌++◌, ◌∷◌, [], OnOk, map};
+ghost use Rattle.std.specs.Prelude.{◌≡◌, ◌++◌, OnOk, map};
 ghost use Rattle.ast.specs.Tree as tree;
 ghost use Rattle.ast.specs.View as view;
 ghost use Rattle.profile_check.specs.Uses as spec;

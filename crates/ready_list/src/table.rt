@@ -1,7 +1,7 @@
 //! The table behind the lists: a node for each slot, then a head for each list.
 
 ghost use Rattle.std.specs.Prelude.{◌≡◌, ◌<◌, length, Some, IfOk};
-ghost use Rattle.ready_list.specs.Table.{node, joined, parted, lists_of, Holds};
+ghost use Rattle.ready_list.specs.Table.{joined, parted, lists_of, Holds};
 ghost use Rattle.ready_list.specs.Places.{IsPlaceFor};
 ghost use Rattle.ready_list.specs.Empty.{IsEmptyTable};
 

@@ -1,8 +1,8 @@
 -- Activities as they begin.
-use Rattle.std.proofs.Common.{inl, ◌≡◌, ◌∙◌, ℕ, zero, suc, ◌+◌, ◌<◌, List, [], ◌∷◌, ◌++◌, get_or, Option, Some, None, refl, sym, ap, subst, arith}
-use Rattle.std.specs.Prelude.{ℤ, pos, ◌%◌, map, option_map, replicate}
+use Rattle.std.proofs.Common.{inl, ◌≡◌, ◌∙◌, ℕ, zero, suc, ◌+◌, ◌<◌, List, [], ◌∷◌, get_or, Option, Some, None, refl, sym, ap, subst, arith}
+use Rattle.std.specs.Prelude.{ℤ, pos, ◌%◌, option_map, replicate}
 use Rattle.std.proofs.lemmas.Bool.{ne_eqb}
-use Rattle.std.proofs.lemmas.List.{length-replicate, map-append, replicate-append-replicate}
+use Rattle.std.proofs.lemmas.List.{length-replicate}
 use Rattle.ast.specs.Store.{StoreOf, zeros}
 use Rattle.ec_kernel.specs.View.{View, IsKernel, NoWaiter, places}
 use Rattle.machine.specs.Code.{Code}
@@ -14,13 +14,11 @@ use Rattle.machine.specs.declared.code.Variable.{Variable}
 use Rattle.ast.specs.Input.{records_of}
 use Rattle.replay.specs.Core.{IsCore}
 use Rattle.replay.specs.Parts.{Kept, Standing, active, held_of, machine_of, numbered, point_of, standing, store_of, value_in, wait_in}
-use Rattle.replay.specs.PartsView.{input_of, standing_of, wait}
+use Rattle.replay.specs.PartsView.{input_of, wait}
 use Rattle.replay.specs.Replays.{at_first, beginning}
 use Rattle.replay.specs.Waiting.{Stands}
-use Rattle.replay.specs.declared.parts.Iteration.{Iteration}
 use Rattle.replay.specs.declared.parts.Until.TheVariants.{Retired}
 use Rattle.replay.specs.declared.activities.Activities.{Activities}
-use Rattle.replay.specs.declared.activities.Holder.{Holder}
 use Rattle.replay.specs.Activities.{kept_in}
 use Rattle.replay.proofs.Shares.{holders, standings}
 use Rattle.machine.specs.FrameView as frames
@@ -36,15 +34,6 @@ pub none_at : {A : Type 0} (n i : ℕ) → get_or (replicate {A = Option A} n No
 none_at zero i = refl
 none_at (suc n) zero = refl
 none_at (suc n) (suc i) = none_at n i
-
-pub one_more_none : (xs : List (Option Iteration)) (n : ℕ) → map (λ o. option_map standing_of o) xs ≡ replicate n None → map (λ o. option_map standing_of o) (xs ++ None ∷ []) ≡ replicate (n + 1) None
-one_more_none xs n e =
-    map-append (λ o. option_map standing_of o) xs (None ∷ [])
-    ∙ ap (λ (ys : List (Option Standing)). ys ++ None ∷ []) e
-    ∙ replicate-append-replicate {A = Option Standing} n 1 None
-
-pub one_more_free : (xs : List (Option Holder)) (n : ℕ) → xs ≡ replicate n None → xs ++ None ∷ [] ≡ replicate (n + 1) None
-one_more_free xs n e = ap (λ (ys : List (Option Holder)). ys ++ None ∷ []) e ∙ replicate-append-replicate {A = Option Holder} n 1 None
 
 places_of : (s j : ℕ) → places (1 + j) (at_first s) ≡ 0
 places_of s j = let d : 1 + j ≡ 0 → ⊥ = λ z. omega (arith, z) in rw (ne_eqb (1 + j) 0 d) (omega arith)

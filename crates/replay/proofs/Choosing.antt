@@ -9,7 +9,7 @@ use Rattle.machine.specs.declared.code.Open.{Open}
 use Rattle.replay.specs.Core.{IsCore}
 use Rattle.replay.specs.Parts.{Kept, Shared, Standing, active, held_of, machine_of, point_of, standing, wait_in}
 use Rattle.replay.specs.Picking.{begun, is_due, iteration_up, main_up, ticket_up}
-use Rattle.ec_kernel.specs.View.{View, first_of}
+use Rattle.ec_kernel.specs.View.{first_of}
 use Rattle.replay.specs.Replays.{ByRule, Picks, Point}
 use Rattle.replay.specs.Waiting.{Stands}
 use Rattle.replay.proofs.Maps.{Mine, held_put, iterations_put, parked_put, put_same, standing_is, standing_there}
@@ -139,22 +139,7 @@ ticket_picked code s q l x c g h b m e o t f = record {
     M : Machine
     M = machine code s x
 
-pub ticket_not_picked : (code : Code) (s q : ℕ) (x : Kept) (b : Point) → ((l : Open) → x.shared.loop ≡ Some l → x.shared.order.ticket < l.trips → x.shared.order.ticket < get_or x.shared.order.counts 0 0 + s → ⊥)
-    → Picks code s take_ticket (point code s x) q b → ⊥
-ticket_not_picked code s q x b f p = let t = p.takes in f t.0 t.1 t.2 t.3
-
 -- ---- the rule
-
--- who is in the slot that became ready first can be taken up alone
-pub by_rule_main : (s : ℕ) (order : View) (c : Choice) → first_of order.ready ≡ Some 0 → ByRule s order c → c ≡ take_main
-by_rule_main s order take_main e r = refl
-by_rule_main s order (take_iteration k) e r = let z : 0 ≡ 1 + k % s = (let y : Some 0 ≡ Some (1 + k % s) = sym e ∙ r in cc) in absurd (omega (arith, z))
-by_rule_main s order take_ticket e r = let z : ◌≡◌ {A = Option ℕ} None (Some 0) = sym (ap first_of r) ∙ e in cc
-
-pub by_rule_none : (s : ℕ) (order : View) (c : Choice) → first_of order.ready ≡ None → ByRule s order c → c ≡ take_ticket
-by_rule_none s order take_main e r = let z : ◌≡◌ {A = Option ℕ} None (Some 0) = sym e ∙ r in cc
-by_rule_none s order (take_iteration k) e r = let z : None ≡ Some (1 + k % s) = sym e ∙ r in cc
-by_rule_none s order take_ticket e r = refl
 
 -- the iteration that stands in a place that is ready is parked, and has the place's number
 pub ready_stands : (code : Code) (s j : ℕ) (x : Kept) → IsCore code s x → first_of x.shared.order.ready ≡ Some (1 + j) → (a : Standing) × (w : Wait) × (get_or x.iterations j None ≡ Some a) × (a.wait ≡ Some w) × (a.number % s ≡ j) × (j < s)

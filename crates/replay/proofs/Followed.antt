@@ -1,6 +1,6 @@
 -- Entries one after another.
 use Rattle.std.proofs.Common.{inl, inr, ◌≡◌, ◌∙◌, ℕ, zero, suc, ◌+◌, ◌≤◌, List, [], ◌∷◌, ◌++◌, length, Option, Some, None, refl, sym, ap, subst, append_assoc, arith}
-use Rattle.std.proofs.lemmas.List.{append-nil, length-append}
+use Rattle.std.proofs.lemmas.List.{length-append}
 use Rattle.ast.specs.declared.fault.End.{End}
 use Rattle.machine.specs.Code.{Code}
 use Rattle.replay.specs.Activities.{AreActivities, Stays, code_in, point_in}
@@ -22,9 +22,6 @@ pub record Follows (v : Version) (code : Code) (s : ℕ) (start : Point) (all re
   pub at : line ≡ 3 + length front
   pub leads : Leads v code s start front a
   pub only : (b : Point) → Leads v code s start all b → Leads v code s a rest b
-
-pub at_start : (v : Version) (code : Code) (s : ℕ) (a : Point) (all : List Entry) → Follows v code s a all all 3 a
-at_start v code s a all = record { front = []; is = refl; at = refl; leads = refl; only = λ b l. l }
 
 -- one entry more
 pub leads_more : (v : Version) (code : Code) (s : ℕ) (a b c : Point) (es : List Entry) (e : Entry) → Leads v code s a es b → Does v code s e.act b e.processor c → Leads v code s a (es ++ e ∷ []) c
@@ -52,12 +49,6 @@ stops v code s start all rest e line number a f d = record {
   point = a;
   leads = f.leads;
   cannot = d;
-}
-
-pub all_followed : (v : Version) (code : Code) (s : ℕ) (start : Point) (all rest : List Entry) (line : ℕ) (a : Point) → Follows v code s start all rest line a → rest ≡ [] → LeadsOnly v code s start all a
-all_followed v code s start all rest line a f e = record {
-  leads = subst (λ (es : List Entry). Leads v code s start es a) (sym (f.is ∙ ap (λ (es : List Entry). f.front ++ es) e ∙ append-nil f.front)) f.leads;
-  only = λ c l. sym (subst (λ (es : List Entry). Leads v code s a es c) e (f.only c l));
 }
 
 -- how far it has come
@@ -182,27 +173,6 @@ names_itself code a b x y v e l =
       new = subst (λ (w : Version). Leads w code x.slots a x.entries b) v l.leads;
       same = λ d. refl;
     })
-
--- none is left
-pub each_named : (x : Schedule) (a : Activities) (rest : List Entry) (line : ℕ) (b : Activities) (y : Schedule) → FollowingNamed x a rest line b y → rest ≡ [] → AreNamed x.entries y.entries
-each_named x a rest line b y f e =
-    subst (λ (es : List Entry). AreNamed es y.entries)
-    (sym (f.is ∙ ap (λ (es : List Entry). f.front ++ es) e ∙ append-nil f.front)) f.each
-
-pub starts_named : (x : Schedule) (a : Activities) (rest : List Entry) (y : Schedule) → rest ≡ x.entries → AreEntries x.version x.processors x.entries → AreActivities a → y ≡ record { version = Second; processors = x.processors; slots = x.slots; entries = [] }
-    → FollowingNamed x a rest 3 a y
-starts_named x a rest y r i s e = record {
-  follows = subst (λ (es : List Entry). Following x.version x.processors x.slots x.entries a es 3 a) (sym r)
-      (at_start x.version (code_in a) x.slots (point_in a) x.entries, i, s, record { code_is = refl; processors = refl; slots = refl });
-  named = subst (λ (es : List Entry). Leads Second (code_in a) x.slots (point_in a) es (point_in a)) (sym (ap (λ (z : Schedule). z.entries) e)) refl;
-  front = [];
-  is = sym r;
-  each = subst (λ (es : List Entry). AreNamed [] es) (sym (ap (λ (z : Schedule). z.entries) e)) tt;
-  sizes = e ∙ ap (λ (es : List Entry). sized x es) (sym (ap (λ (z : Schedule). z.entries) e));
-}
-  where
-    sized : Schedule → List Entry → Schedule
-    sized z es = record { version = Second; processors = z.processors; slots = z.slots; entries = es }
 
 pub names_on : (x : Schedule) (a b d : Activities) (rest more : List Entry) (e : Entry) (line : ℕ) (n : Act) (y z : Schedule) → a.slots ≡ x.slots → FollowingNamed x a rest line b y → rest ≡ e ∷ more
     → MadeAs x.version (code_in b) b.slots e.act (point_in b) e.processor n (point_in d) → AreActivities d → Stays b d → z ≡ with_entry y (record { processor = e.processor; act = n }) → FollowingNamed x a more (line + 1) d z

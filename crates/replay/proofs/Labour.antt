@@ -5,7 +5,6 @@ use Rattle.std.specs.Vec.{with_item}
 use Rattle.std.proofs.Math.ListN.{set}
 use Rattle.std.proofs.lemmas.Bool.{eqb-true, eq-eqb}
 use Rattle.std.proofs.lemmas.List.{get_or-map}
-use Rattle.ast.specs.declared.fault.End.{End}
 use Rattle.machine.specs.Frame.{Frame}
 use Rattle.machine.specs.FrameView as frames
 use Rattle.machine.specs.Local.{and_then, local, locals}
@@ -74,10 +73,6 @@ idle_frame q old from e a = let z : None ≡ Some from = sym (ap (λ (o : Option
 pub none_worked : (q n : ℕ) (old : Activities) (p : Point) → 1 ≤ n → held_of (kept_in old).held q ≡ None → Works (code_in old) old.slots n (point_in old) q p → ⊥
 none_worked q zero old p l e w = absurd (omega (arith, l))
 none_worked q (suc n) old p l e (x, m, w) = let z : None ≡ Some m.who = sym e ∙ m.holds in cc
-
-pub ended_worked : (q n : ℕ) (old : Activities) (p : Point) → 1 ≤ n → is_some old.shared.ended ≡ true → Works (code_in old) old.slots n (point_in old) q p → ⊥
-ended_worked q zero old p l e w = absurd (omega (arith, l))
-ended_worked q (suc n) old p l e (x, m, w) = let z : true ≡ false = sym e ∙ ap (λ (o : Option End). is_some o) m.step.going in cc
 
 -- ---- main
 

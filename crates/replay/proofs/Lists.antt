@@ -3,7 +3,6 @@ use Rattle.std.proofs.Common.{◌≡◌, ℕ, suc, ◌+◌, Bool, true, false, c
 use Rattle.std.specs.List.{prefix_len, list_all, starts_with}
 use Rattle.std.proofs.lemmas.Bool.{and_parts}
 use Rattle.std.proofs.lemmas.Bool.Decides.{Decides-eqb}
-use Rattle.std.proofs.lemmas.List.{drop_at}
 use Rattle.std.proofs.lemmas.Slice.Eq.{starts_is}
 use Rattle.replay.specs.Reading.{after, if_some}
 
@@ -58,8 +57,3 @@ after_law word t u e =
           (starts_is Decides-eqb t word (starts_with eqb t word) refl).0 starts ∙ ap (λ (w : List ℕ). word ++ w) (some_is (drop (length word) t) u is)
       | on_false other is ↦ absurd cc
     ]
-
-pub after_again : (word u : List ℕ) → after word (word ++ u) ≡ Some u
-after_again word u =
-    let starts : starts_with eqb (word ++ u) word ≡ true = (starts_is Decides-eqb (word ++ u) word (starts_with eqb (word ++ u) word) refl).1 u refl in
-    rw (starts, drop_at word u (length word) refl) refl

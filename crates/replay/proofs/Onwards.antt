@@ -12,15 +12,14 @@ use Rattle.machine.specs.State.{Wait, until_count, until_retired, Who, Choice, t
 use Rattle.replay.specs.Activities.{Stays, code_in, frame_at, frame_held, kept_in, point_in, who}
 use Rattle.replay.specs.Core.{IsCore}
 use Rattle.replay.specs.CoreView.{CoreView, point_at}
-use Rattle.replay.specs.Making.{pick_of}
 use Rattle.replay.specs.Parts.{Kept, Standing, held_of, point_of, standing, wait_in}
 use Rattle.replay.specs.Picking.{is_due, main_up, iteration_up}
 use Rattle.replay.specs.Replays.{Point, ByRule, Moves, Picks, Works, Does, Replays, beginning}
-use Rattle.replay.specs.Schedules.{shares, Entry, Schedule, with_entry}
-use Rattle.replay.specs.Stepping.{HasEnded, IsFrom, IsStuck, Picked, PicksUp, Steps, begun_by}
+use Rattle.replay.specs.Schedules.{Entry, Schedule, with_entry}
+use Rattle.replay.specs.Stepping.{HasEnded, IsFrom, IsStuck, PicksUp, Steps}
 use Rattle.replay.specs.Tallies.{Again, Tallies, steps}
 use Rattle.replay.specs.Waiting.{Stands}
-use Rattle.replay.specs.Whole.{AreParts, Counted, IsMore, IsSame, IsWhole, seen_as}
+use Rattle.replay.specs.Whole.{AreParts, Counted, IsSame, IsWhole, seen_as}
 use Rattle.replay.specs.declared.activities.Activities.{Activities}
 use Rattle.replay.specs.declared.activities.Holder.{Holder}
 use Rattle.replay.specs.declared.entry.Version.{Version}
@@ -86,29 +85,8 @@ seen_same input a b x y t u stays same =
 pub point_seen : (input : List ℕ) (a : Activities) (x : Schedule) (t : Tally) → AreParts a x t → point_in a ≡ point_at (seen_as input a x)
 point_seen input a x t parts = ap (λ (s : ℕ). point_of (code_in a).variables s (kept_in a)) parts.are.slots
 
--- a relation of points is one of what callers see
-both_seen : (input : List ℕ) (a b : Activities) (x y : Schedule) (t u : Tally) (R : Point → Point → Type 0) → AreParts a x t → AreParts b y u → R (point_in a) (point_in b) → R (point_at (seen_as input a x)) (point_at (seen_as input b y))
-both_seen input a b x y t u R h k r = subst (λ (p : Point). R p (point_at (seen_as input b y))) (point_seen input a x t h) (subst (λ (p : Point). R (point_in a) p) (point_seen input b y u k) r)
-
 first_seen : (input : List ℕ) (a : Activities) (x : Schedule) (t : Tally) (R : Point → Type 0) → AreParts a x t → R (point_in a) → R (point_at (seen_as input a x))
 first_seen input a x t R h r = subst R (point_seen input a x t h) r
-
-pub shared_more : (input : List ℕ) (a b : Activities) (x y : Schedule) (t u : Tally) (q : ℕ) → AreParts a x t → AreParts b y u → Stays a b
-    → IsMore (record { processor = q; act = shares }) (λ c d. Moves (code_in a) x.slots false c q d) a x t b y u → Steps (seen_as input a x) q (Went None) (seen_as input b y)
-shared_more input a b x y t u q h k stays more =
-    inl (record {
-      after = record { code_is = stays.code_is; input_is = refl; schedule = more.schedule };
-      step = both_seen input a b x y t u (λ c d. Moves (code_in a) x.slots false c q d) h k more.step;
-      iteration = refl;
-    })
-
-pub picked_more : (input : List ℕ) (a b : Activities) (x y : Schedule) (t u : Tally) (q : ℕ) (c : Choice) (o : Option ℕ) → AreParts a x t → AreParts b y u → Stays a b → o ≡ begun_by c (kept_in a).shared.order.ticket
-    → IsMore (record { processor = q; act = pick_of c }) (λ d e. Picks (code_in a) x.slots c d q e) a x t b y u → Picked (seen_as input a x) q c o (seen_as input b y)
-picked_more input a b x y t u q c o h k stays e more = record {
-  after = record { code_is = stays.code_is; input_is = refl; schedule = more.schedule };
-  step = both_seen input a b x y t u (λ d f. Picks (code_in a) x.slots c d q f) h k more.step;
-  iteration = e;
-}
 
 -- who holds something and has no shared step is stuck
 pub shared_none : (input : List ℕ) (a : Activities) (x : Schedule) (t : Tally) (q : ℕ) (u : Who) → AreParts a x t → held_of (kept_in a).held q ≡ Some u → ((c : Point) → Moves (code_in a) x.slots false (point_in a) q c → ⊥) → IsStuck (seen_as input a x) q
@@ -126,11 +104,6 @@ picked_none input a x t q c h none = first_seen input a x t (λ p. (d : Point) �
 due_of : (x : View) (w : Wait) → IsReached x w → is_due x (Some w) ≡ true
 due_of x (until_count e v) h = le-leb v (get_or x.counts e 0) h
 due_of x (until_retired v) h = le-leb v (get_or x.counts 0 0) h
-
--- the slot that became ready first
-front_slot : (xs : List ℕ) (t : ℕ) → 0 < times t xs → (u : ℕ) × (first_of xs ≡ Some u)
-front_slot [] t h = absurd (omega (arith, h))
-front_slot (u ∷ xs) t h = (u, refl)
 
 -- who is in it can be taken up
 front_picked : (code : Code) (s q u : ℕ) (x : Kept) → IsCore code s x → x.shared.ended ≡ None → held_of x.held q ≡ None → q < length x.held → first_of x.shared.order.ready ≡ Some u

@@ -1,5 +1,5 @@
 -- In each iteration of a loop that is opened its variable has a 64-bit integer.
-use Rattle.std.proofs.Common.{◌≡◌, ◌∙◌, ℕ, zero, suc, ◌+◌, ◌-◌, ◌<◌, ◌≤◌, ◌^◌, Bool, true, false, List, [], ◌∷◌, get_or, Option, Some, None, refl, sym, ap, subst, arith, w64, FitsSigned}
+use Rattle.std.proofs.Common.{◌≡◌, ◌∙◌, ℕ, zero, suc, ◌+◌, ◌-◌, ◌<◌, ◌≤◌, ◌^◌, Bool, true, false, List, [], ◌∷◌, get_or, Option, Some, None, refl, sym, ap, subst, arith}
 use Rattle.std.specs.Prelude.{ℤ, pos, negsuc, neg_ℤ, int_div, ◌+ℤ◌, ◌-ℤ◌, ◌*ℤ◌, ◌*◌, ◌/◌, nat_le, if◌then◌else◌, length, reverse, slice_get, take}
 use Rattle.std.specs.Ordering.{int_eq}
 use Rattle.std.proofs.Math.Nat.{div-mul-le_self, mul-le-mul_right}
@@ -188,7 +188,3 @@ two_fit (x ∷ (y ∷ zs)) u v d e f g a b h =
 
 pub opened_indices : (code : Code) (f g : Frame) (l : Opened) (u v : ℤ) → view code f ≡ opening l g → get_or f.operands.items 0 (pos 0) ≡ v → get_or f.operands.items 1 (pos 0) ≡ u → fits u ≡ true → fits v ≡ true → HaveIndices code (Some l)
 opened_indices code f g l u v e d c a b = have_indices code f l (opens_well code f g l e) (two_fit f.operands.items u v d c a b)
-
-pub small_fits : (z : ℤ) → FitsSigned w64 z → fits z ≡ true
-small_fits (pos n) h = lt-ltb n (2 ^ 63) (omega (arith, ints, h))
-small_fits (negsuc n) h = lt-ltb n (2 ^ 63) (omega (arith, ints, h))

@@ -14,7 +14,7 @@ use Rattle.replay.specs.declared.refusal.ReplayRefusal.TheVariants.{Memory, Refu
 use Rattle.replay.specs.declared.short.Short.{Short}
 use Rattle.replay.specs.declared.short.Short.TheVariants.{PickIteration}
 use Rattle.replay.proofs.Keeping.{kept_kept, kept_pushed, length_entries, seen_kept, seen_pushed}
-use Rattle.replay.proofs.Texts.{entry_sound, header_again, header_sound, no_form, no_processor, sizes_again, sizes_sound}
+use Rattle.replay.proofs.Texts.{entry_sound, header_sound, no_form, no_processor, sizes_again, sizes_sound}
 use Rattle.replay.proofs.Wholes.{refused_only, text_pushed}
 
 module _ (v : Version) (p n : ℕ) (ss : List Short) (ks : List ℕ) (x : Schedule) (kept : IsKept v p n ss ks) (is : seen v p n ss ks ≡ x) where
@@ -61,9 +61,6 @@ module _ (v : Version) (p n : ℕ) (ss : List Short) (ks : List ℕ) (x : Schedu
     pub reads_allowed : (e : Entry) (rest : List ℕ) → entry_at v p t ≡ Ok (e, rest) → IsAct x.version e.act
     reads_allowed e rest r = subst (λ (y : Schedule). IsAct y.version e.act) is (entry_sound v p t (e, rest) few r).allowed
 
-    pub reads_here : (e : Entry) (rest : List ℕ) → entry_at v p t ≡ Ok (e, rest) → e.processor < x.processors
-    reads_here e rest r = subst (λ (y : Schedule). e.processor < y.processors) is (entry_sound v p t (e, rest) few r).below
-
     pub reads_text : (e : Entry) (rest : List ℕ) (new : Schedule) → entry_at v p t ≡ Ok (e, rest) → new ≡ with_entry x e
         → (length rest < length t) × (text_before new rest ≡ text_before x t)
     reads_text e rest new r grown =
@@ -106,10 +103,6 @@ module _ (v : Version) (p n : ℕ) (ss : List Short) (ks : List ℕ) (x : Schedu
         (subst (λ (m : ℕ). Refuses (text_before x t) (number_of fault) (3 + m)) (sym f) (reads_none fault some r))
 
 -- ---- the first lines
-
-pub no_header : (bytes : List ℕ) → header_at bytes ≡ None → Refuses bytes 51 1
-no_header bytes e =
-    inl (refl, inl (refl, λ v rest is. let k : header_at bytes ≡ Some (v, rest) = ap header_at is ∙ header_again v rest in absurd cc))
 
 pub no_sizes : (bytes : List ℕ) (v : Version) (rest : List ℕ) → header_at bytes ≡ Some (v, rest) → sizes_at rest ≡ None → Refuses bytes 51 2
 no_sizes bytes v rest e f =

@@ -1,11 +1,10 @@
 -- What was taken up, of activities.
 use Rattle.std.proofs.Common.{◌≡◌, ◌∙◌, ℕ, ◌+◌, ◌-◌, ◌<◌, ◌^◌, Bool, true, false, List, length, get_or, Option, Some, None, refl, sym, ap, subst, arith}
-use Rattle.std.specs.Prelude.{is_none, is_some, ◌%◌, option_map, ◌&&◌, nat_lt}
+use Rattle.std.specs.Prelude.{◌%◌, option_map, ◌&&◌, nat_lt}
 use Rattle.std.specs.Vec.{with_item}
 use Rattle.std.proofs.Math.ListN.{set}
-use Rattle.std.proofs.lemmas.Bool.{and_parts, ltb-true, lt-ltb}
+use Rattle.std.proofs.lemmas.Bool.{and_parts, ltb-true}
 use Rattle.std.proofs.lemmas.List.{get_or-map, length-map, length-set, map-set}
-use Rattle.ast.specs.declared.fault.End.{End}
 use Rattle.ec_kernel.specs.View.{View, IsKernel, count_at, first_of, times}
 use Rattle.machine.specs.State.{Choice, take_main, take_iteration, take_ticket, Wait, Who, iteration}
 use Rattle.machine.specs.declared.code.Open.{Open}
@@ -20,7 +19,7 @@ use Rattle.replay.specs.declared.activities.Activities.{Activities}
 use Rattle.replay.specs.declared.activities.Holder.{Holder}
 use Rattle.replay.specs.declared.activities.Holder.TheVariants as holder
 use Rattle.replay.specs.declared.parts.Iteration.{Iteration}
-use Rattle.replay.proofs.Choosing.{by_rule_iteration, iteration_not_picked, iteration_picked, main_picked, ready_stands, ticket_not_picked, ticket_picked}
+use Rattle.replay.proofs.Choosing.{by_rule_iteration, iteration_not_picked, iteration_picked, main_picked, ready_stands, ticket_picked}
 use Rattle.replay.proofs.Entering.{place_below}
 use Rattle.replay.proofs.Maps.{standing_there}
 use Rattle.replay.proofs.Shares.{holders, place_in, place_put, same_point, stand_from, standings}
@@ -159,20 +158,6 @@ iteration_taken q k at z o p b old a g i l e f d n zi pi ki = by (standing (kept
 abbrev pub may_take : Open → Activities → Bool
 may_take l old = nat_lt old.shared.kernel.ticket l.trips && nat_lt old.shared.kernel.ticket (count_at old.shared.kernel 0 + old.slots)
 
-pub ticket_untaken : (q : ℕ) (l : Open) (old : Activities) (p : Point) → old.shared.open ≡ Some l → may_take l old ≡ false → Picks (code_in old) old.slots take_ticket (point_in old) q p → ⊥
-ticket_untaken q l old p e f h = ticket_not_picked (code_in old) old.slots q (kept_in old) p (λ m o t u. no_ticket m (sym e ∙ o) t u) h
-  where
-    no_ticket : (m : Open) → Some l ≡ Some m → old.shared.kernel.ticket < m.trips → old.shared.kernel.ticket < count_at old.shared.kernel 0 + old.slots → ⊥
-    no_ticket m o t u =
-        let same : m ≡ l = cc in
-        let t1 : nat_lt old.shared.kernel.ticket l.trips ≡ true = lt-ltb old.shared.kernel.ticket l.trips (subst (λ (n : Open). old.shared.kernel.ticket < n.trips) same t) in
-        let t2 : nat_lt old.shared.kernel.ticket (count_at old.shared.kernel 0 + old.slots) ≡ true = lt-ltb old.shared.kernel.ticket (count_at old.shared.kernel 0 + old.slots) u in
-        let z : true ≡ false = sym (ap (λ (b : Bool). b && nat_lt old.shared.kernel.ticket (count_at old.shared.kernel 0 + old.slots)) t1 ∙ t2) ∙ f in
-        cc
-
-pub ticket_none : (q : ℕ) (old : Activities) (p : Point) → old.shared.open ≡ None → Picks (code_in old) old.slots take_ticket (point_in old) q p → ⊥
-ticket_none q old p e h = ticket_not_picked (code_in old) old.slots q (kept_in old) p (λ m o t u. let z : None ≡ Some m = sym e ∙ o in cc) h
-
 pub ticket_taken : (q k at : ℕ) (l : Open) (z : View) (it : Iteration) (old : Activities) → AreActivities old → old.shared.ended ≡ None → held_of (kept_in old).held q ≡ None → q < length old.held.items → old.shared.open ≡ Some l → may_take l old ≡ true → old.shared.kernel.ticket < 2 ^ 128 - 1
     → k ≡ old.shared.kernel.ticket → at ≡ k % old.slots → z ≡ record old.shared.kernel { ticket = old.shared.kernel.ticket + 1 } → standing_of it ≡ begun (code_in old) l old.shared.kernel.ticket → IsKernel z
     → TakenBy take_ticket q old (with_iteration q k at z (Some it) old)
@@ -239,13 +224,3 @@ chosen_only old slot n c q b a e d f h p =
     ∙ ap (λ (m : ℕ). take_iteration m) (sym (f r.0 r.2))
 
 -- ---- whether a processor may take something up
-
-pub free_holds : (o : Option Who) (b : Bool) → b ≡ is_none o → b ≡ true → o ≡ None
-free_holds None b e f = refl
-free_holds (Some u) b e f = let z : true ≡ false = sym f ∙ e in cc
-
-pub busy_picks_none : (c : Choice) (q : ℕ) (old : Activities) (b : Bool) (p : Point) → b ≡ is_none (held_of (kept_in old).held q) → b ≡ false → Picks (code_in old) old.slots c (point_in old) q p → ⊥
-busy_picks_none c q old b p e f h = let z : false ≡ true = sym f ∙ e ∙ ap (λ (o : Option Who). is_none o) h.idle in cc
-
-pub ended_picks_none : (c : Choice) (q : ℕ) (old : Activities) (p : Point) → is_some old.shared.ended ≡ true → Picks (code_in old) old.slots c (point_in old) q p → ⊥
-ended_picks_none c q old p e h = let z : true ≡ false = sym e ∙ ap (λ (o : Option End). is_some o) h.going in cc

@@ -1,5 +1,5 @@
 -- Where the kernel has an activity, after a call of it.
-use Rattle.std.proofs.Common.{inl, inr, ◌≡◌, ◌∙◌, ◌⊎◌, ℕ, zero, suc, ◌+◌, ◌<◌, ◌≤◌, Bool, true, false, List, [], ◌∷◌, ◌++◌, length, get_or, take, drop, Option, Some, None, refl, sym, ap, subst, arith}
+use Rattle.std.proofs.Common.{inl, inr, ◌≡◌, ◌∙◌, ◌⊎◌, ℕ, zero, suc, ◌+◌, ◌<◌, ◌≤◌, Bool, true, false, List, [], ◌∷◌, ◌++◌, length, get_or, take, drop, Option, Some, None, refl, sym, subst, arith}
 use Rattle.std.specs.Prelude.{◌==◌, if◌then◌else◌, map, nat_le}
 use Rattle.std.specs.List.{prefix_len}
 use Rattle.std.proofs.Math.ListN.{set}
@@ -10,9 +10,6 @@ use Rattle.machine.specs.State.{Wait, until_count, until_retired}
 use Rattle.replay.specs.Waiting.{Waits, StandsAt, Stands}
 
 -- ---- in how many places a slot stands
-
-slots_in : List (ℕ × ℕ) → List ℕ
-slots_in ws = map (λ w. w.1) ws
 
 times-append : (s : ℕ) (xs ys : List ℕ) → times s (xs ++ ys) ≡ times s xs + times s ys
 times-append s [] ys = omega arith
@@ -27,10 +24,6 @@ times_somewhere : (s : ℕ) (ls : List (List (ℕ × ℕ))) (e : ℕ) → times 
 times_somewhere s [] e = omega arith
 times_somewhere s (l ∷ ls) zero = omega arith
 times_somewhere s (l ∷ ls) (suc e) = omega (arith, times_somewhere s ls e)
-
--- who stands nowhere neither waits nor is ready
-pub not_waiting : (x : View) (s e v : ℕ) → places s x ≡ 0 → Waits v s (waiters_at x e) → ⊥
-not_waiting x s e v h w = omega (arith, h, waiting_times v s (waiters_at x e) w, times_somewhere s x.waiters e)
 
 -- who is ready doesn't wait
 pub ready_or_waiting : (x : View) (s e v : ℕ) → places s x ≤ 1 → 0 < times s x.ready → Waits v s (waiters_at x e) → ⊥
@@ -256,6 +249,3 @@ first_ready x s e = by x.ready e
     by : (xs : List ℕ) → first_of xs ≡ Some s → 0 < times s xs
     by [] h = cc
     by (y ∷ ys) h = let d : s ≡ y = cc in rw (eq-eqb s y d) (omega arith)
-
-pub none_ready : (x : View) (s : ℕ) → x.ready ≡ [] → times s x.ready ≡ 0
-none_ready x s e = ap (times s) e

@@ -96,11 +96,6 @@ pick_more a b x y t v q c parts m e made again = record {
     one (take_iteration k) = refl
     one take_ticket = refl
 
-pub pick_none : (a b : Activities) (x y : Schedule) (t : Tally) (q : ℕ) (c : Choice) → AreParts a x t → kept_in b ≡ kept_in a → ((d : Point) → Picks (code_in a) a.slots c (point_in a) q d → ⊥) → y ≡ x
-    → IsSame a x t b y t × ((d : Point) → Picks (code_in a) x.slots c (point_in a) q d → ⊥)
-pick_none a b x y t q c parts k n e =
-    (record { kept = k; schedule = e; tally = refl }, λ d m. n d (subst (λ (s : ℕ). Picks (code_in a) s c (point_in a) q d) (sym parts.are.slots) m))
-
 pub put_more : (a b : Activities) (x y : Schedule) (t v : Tally) (q made : ℕ) (to : Frame) → AreParts a x t → is_some (frame_at q (point_in a)) ≡ true
     → ((from : Frame) → frame_at q (point_in a) ≡ Some from → locals (code_in a).instructions made from ≡ Some to)
     → ((n : ℕ) (from : Frame) → frame_at q (point_in a) ≡ Some from → locals (code_in a).instructions n from ≡ Some to → Works (code_in a) a.slots n (point_in a) q (point_in b))

@@ -57,14 +57,6 @@ seen_back v p n ss all s ks new old x l e f t k h =
 pub some_seen : (ss all : List Short) (s : Short) (ks : List ℕ) → all ≡ ss ++ s ∷ [] → entries_of all ks ≡ [] → ⊥
 some_seen ss all s ks e none = omega (arith, length_entries all ks, ap length none, ap length e, length-append ss (s ∷ []))
 
--- there is none
-pub none_back : (v : Version) (p n : ℕ) (ks : List ℕ) (x : Schedule) (l : Entry) → seen v p n [] ks ≡ with_entry x l → ⊥
-none_back v p n ks x l h = by x.entries (ap (λ (y : Schedule). y.entries) h)
-  where
-    by : (es : List Entry) → [] ≡ es ++ l ∷ [] → ⊥
-    by [] e = cc
-    by (d ∷ es) e = cc
-
 -- ---- a number is taken back where the entry has one
 
 one_given : (ss all : List Short) (s : Short) (old ks : List ℕ) (o : Option ℕ) → all ≡ ss ++ s ∷ [] → taken s ≡ 1 → all_taken all ≡ length old → (o ≡ None → length old ≡ 0) → taken s ≡ length (option_to_list o)

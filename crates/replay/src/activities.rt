@@ -93,14 +93,12 @@ fn free_processors(alloc: Global, processors: usize) -> Result<Vec<Option<Holder
 }
 
 impl<'c> Activities<'c> {
-    ghost use Rattle.std.specs.Prelude.{◌≡◌, ◌≤◌, ◌<◌, ℕ, IfOk, OnErr, None, Some, get_or, is_some, length, option_map, ◌%◌};
+    ghost use Rattle.std.specs.Prelude.{◌≡◌, ◌≤◌, ◌<◌, IfOk, None, Some, get_or, is_some, length, option_map, ◌%◌};
     ghost use Rattle.machine.specs.CodeView.{code_of};
-    ghost use Rattle.machine.specs.Frame.{Frame as Plain};
     ghost use Rattle.machine.specs.FrameView.{frame_of};
-    ghost use Rattle.machine.specs.Local.{locals};
-    ghost use Rattle.machine.specs.State.{Choice as PlainChoice, AreSizes};
-    ghost use Rattle.replay.specs.Activities.{AreActivities, AreOf, Did, Stays, chosen, code_in, frame_at, frame_there, kept_in, point_in};
-    ghost use Rattle.replay.specs.Replays.{ByRule, Moves, Picks, Point, Works, beginning};
+    ghost use Rattle.machine.specs.State.{AreSizes};
+    ghost use Rattle.replay.specs.Activities.{AreActivities, AreOf, frame_at, frame_there, kept_in, point_in};
+    ghost use Rattle.replay.specs.Replays.{beginning};
 
     /// Main is ready, and nothing else has happened. There are 1 to 64 processors and 1 to 256 slots.
     pub fn new(

@@ -1,13 +1,13 @@
 //! The entries of a schedule, one after another.
 
-ghost use Rattle.std.specs.Prelude.{◌≡◌, ◌<◌, ◌+◌, ◌^◌, IfOk, IfErr, OnOk, length, None};
+ghost use Rattle.std.specs.Prelude.{◌≡◌, ◌<◌, ◌+◌, IfOk, IfErr, OnOk, length, None};
 ghost use Rattle.machine.specs.CodeView.{code_of};
 ghost use Rattle.replay.specs.Activities.{AreActivities, AreOf, Stays, code_in, point_in};
 ghost use Rattle.replay.specs.Making.{LeadsOnly, MadeAs};
 ghost use Rattle.replay.specs.Refusals.{Explains};
 ghost use Rattle.replay.specs.Replayed.{CannotBeMade, NoneLeads, StopsAt};
 ghost use Rattle.replay.specs.Replays.{beginning};
-ghost use Rattle.replay.specs.Schedules.{IsAct, IsSchedule, Schedule as ScheduleOf};
+ghost use Rattle.replay.specs.Schedules.{IsAct};
 ghost use Rattle.replay.specs.View.{act as act_view};
 
 use crate::activities::Activities;

@@ -40,7 +40,7 @@ fn put_at(place: &mut Option<Iteration>, to: &mut Frame)
 }
 
 impl<'c> Activities<'c> {
-    ghost use Rattle.std.specs.Prelude.{◌≡◌, ◌≤◌, ◌<◌, ℕ, None, Some, length, true, false};
+    ghost use Rattle.std.specs.Prelude.{◌≡◌, ◌≤◌, ◌<◌, None, Some, length, true, false};
     ghost use Rattle.machine.specs.FrameView.{frame_of};
     ghost use Rattle.machine.specs.State.{iteration};
     ghost use Rattle.replay.specs.Activities.{AreActivities, Stays, code_in, kept_in, point_in};

@@ -1,6 +1,6 @@
 //! Schedules.
 
-ghost use Rattle.std.specs.Prelude.{◌≡◌, ◌≢◌, ◌<◌, ◌^◌, ◌++◌, ◌∷◌, [], IfOk, IfErr, OnOk, OnErr, length};
+ghost use Rattle.std.specs.Prelude.{◌≡◌, ◌≢◌, ◌<◌, ◌^◌, ◌++◌, [], IfOk, IfErr, OnOk, OnErr, length};
 ghost use Rattle.replay.specs.Kept.{entries_of, entry_of, short_bursts, taken};
 ghost use Rattle.replay.specs.Refusals.{Explains, IsHeaded, Refuses, WantsMemory, number_of};
 ghost use Rattle.replay.specs.Schedules.{Entry as EntryOf, IsAct, IsSchedule, SchedText, Schedule as ScheduleOf, bursts, text_before, text_of, picks, with_entries, with_entry};

@@ -1,5 +1,5 @@
 -- Going from the last statement to the first, the places where structures end are known.
-use Rattle.std.proofs.Common.{◌≡◌, ◌∙◌, ℕ, zero, suc, ◌+◌, ◌-◌, ◌<◌, ◌≤◌, Bool, true, false, cond, List, [], ◌∷◌, ◌++◌, refl, ap, sym, subst, Option, Some, None, nat_eq, get_or, drop, length, reverse, arith, option_to_list}
+use Rattle.std.proofs.Common.{◌≡◌, ◌∙◌, ℕ, zero, suc, ◌+◌, ◌-◌, ◌<◌, ◌≤◌, Bool, true, false, cond, List, [], ◌∷◌, ◌++◌, refl, ap, sym, Option, Some, None, nat_eq, get_or, drop, length, reverse, arith, option_to_list}
 use Rattle.std.specs.Prelude.{if◌then◌else◌}
 use Rattle.std.specs.Option.{unwrap_or}
 use Rattle.std.proofs.lemmas.List.{get_or-reverse, reverse-append, append-nil}
@@ -128,16 +128,6 @@ pub record Gathered (labels : ℕ → Option ℕ) (ends : List ℕ) (spans : Lis
   pub behind : Behind labels ends place total ss
   pub spans_are : spans ≡ spans_from place ss
   pub within : place ≤ total
-
-pub gathered-none : (labels : ℕ → Option ℕ) (total : ℕ) (ss : List Statement) → ((l : ℕ) → labels l ≡ None) → ss ≡ [] → Gathered labels [] [] total total ss
-gathered-none labels total ss h e = subst (λ (xs : List Statement). Gathered labels [] [] total total xs) (sym e) (record {
-  behind = record {
-    label = λ l. ap (λ (o : Option ℕ). unwrap_or o total) (h l) ∙ (omega arith);
-    end_if = λ k. omega arith;
-  };
-  spans_are = refl;
-  within = omega arith;
-})
 
 pub gathered-more : (labels labels' : ℕ → Option ℕ) (ends ends' : List ℕ) (spans spans' : List (ℕ × ℕ)) (place total : ℕ) (s : Statement) (ss : List Statement)
     → Gathered labels ends spans (place + 1) total ss

@@ -1,7 +1,6 @@
 -- Statements one after another: those so far break no rule.
 use Rattle.std.proofs.Common.{◌≡◌, ◌∙◌, ℕ, List, [], ◌∷◌, ◌++◌, refl, ap, sym, subst, Some, None, append_assoc, inl, inr, suc, ◌+◌, ◌<◌, length, map, drop, get_or, drop-cons, arith}
 use Rattle.std.specs.Prelude.{◌⊎◌}
-use Rattle.std.proofs.lemmas.List.{append-nil}
 use Rattle.ast.specs.Tree.{Statement}
 use Rattle.ast.specs.View.{statement}
 use Rattle.ast.specs.declared.statement.Stmt.{Stmt}
@@ -64,9 +63,6 @@ reached-broken {t = t} {all = all} {left = left} {s = s} n h e = record {
   broken = sym (broken-by t h.front s h.stands) ∙ e;
   place = refl;
 }
-
-pub reached-all : {t : Standing} {all : List Statement} → Reached t all [] → Keep rules all
-reached-all {t = t} {all = all} h = subst (λ (ss : List Statement). Keep rules ss) (sym (h.cut ∙ append-nil h.front)) h.kept
 
 -- the statements from a place on
 pub from-place : (stmts : List Stmt) (i : ℕ) (x : Stmt) → i < length stmts → x ≡ get_or stmts i x → map statement (drop i stmts) ≡ statement x ∷ map statement (drop (i + 1) stmts)

@@ -1,6 +1,6 @@
 //! DO ranges and IF blocks that are open.
 
-ghost use Rattle.std.specs.Prelude.{◌≡◌, ◌&&◌, ◌∷◌, IfOk, OnOk, drop, map};
+ghost use Rattle.std.specs.Prelude.{◌≡◌, ◌&&◌, OnOk, map};
 ghost use Rattle.std.specs.List.{list_any};
 ghost use Rattle.ast.specs.View.{kind as kind_of};
 ghost use Rattle.structure.specs.Open as spec;

@@ -5,7 +5,7 @@ ghost use Rattle.std.specs.List.{list_any};
 ghost use Rattle.indexmap.specs.IndexSet.{insert_all};
 ghost use Rattle.ast.specs.View.{statement};
 ghost use Rattle.structure.specs.Open as spec;
-ghost use Rattle.structure.specs.Rules.{breaks_blocks, by_label, crosses, ends_wrongly, is_around, is_block, is_other_range, is_range_of, is_some_and};
+ghost use Rattle.structure.specs.Rules.{breaks_blocks, by_label, crosses, ends_wrongly, is_some_and};
 ghost use Rattle.structure.specs.View.{opened};
 ghost use Rattle.std.specs.Prelude.{map, OnOk};
 

@@ -1,10 +1,9 @@
 //! The rules on order, labels, ranges and blocks, over all statements, and the spans of structures.
 
-ghost use Rattle.std.specs.Prelude.{◌≡◌, ◌++◌, ℕ, Err, IfErr, IfOk, Ok, OnOk, List, Some, cond, get_or, map, nat_eq, reverse};
+ghost use Rattle.std.specs.Prelude.{◌≡◌, ◌++◌, ℕ, Err, IfErr, IfOk, Ok, OnOk, Some, cond, get_or, map, nat_eq, reverse};
 ghost use Rattle.std.specs.Option.{unwrap_or};
 ghost use Rattle.indexmap.specs.IndexMap.{get};
 ghost use Rattle.ast.specs.Answers.{Gives, Says};
-ghost use Rattle.ast.specs.Tree.{Statement};
 ghost use Rattle.ast.specs.View.{kind as kind_of, statement};
 ghost use Rattle.structure.specs.Backward.{last_place, span_of, span_to, spans_in, spans_kept, with_end};
 ghost use Rattle.structure.specs.Rules.{BreakFirst, Keep, is_some_and, rules};

@@ -4,9 +4,8 @@ use Rattle.std.proofs.lemmas.Int.{ints}
 use Rattle.std.proofs.lemmas.Bool.{le-leb, leb-true, ltb-true, ltb-false}
 use Rattle.std.proofs.lemmas.List.{append-nil, length-append}
 use Rattle.std.proofs.lemmas.List.Folds.{list_all-append}
-use Rattle.std.specs.Prelude.{IfSome, ℤ, pos, ◌+ℤ◌, ◌-ℤ◌, ◌+◌, ◌≤◌, ◌<◌, nat_le, nat_lt, not, ◌++◌, ◌==◌, ◌||◌, Bool, true, false, ◌&&◌, if◌then◌else◌, filter, Option, Some, None}
+use Rattle.std.specs.Prelude.{IfSome, ℤ, pos, ◌+◌, nat_le, nat_lt, not, ◌++◌, ◌==◌, ◌||◌, Bool, true, false, ◌&&◌, if◌then◌else◌, Option, Some, None}
 use Rattle.std.specs.List.{list_all}
-use Rattle.std.specs.Ordering.{int_eq}
 use Rattle.ast.specs.Exact.{fits}
 use Rattle.ast.specs.declared.expression.Operator.{Operator}
 use Rattle.ast.specs.declared.expression.Operator.TheVariants.{Add, Subtract, Multiply, Divide, Less, LessOrEqual, Equal, NotEqual, Greater, GreaterOrEqual, And, Or, Equivalent, NotEquivalent}

@@ -1,5 +1,5 @@
 -- What a form has to be for a number or a scalar to be added in its place.
-use Rattle.std.specs.Prelude.{◌≡◌, Bool, true, false, List, [], ◌∷◌, ⊤}
+use Rattle.std.specs.Prelude.{◌≡◌, true, false, List, [], ◌∷◌, ⊤}
 use Rattle.std.specs.List.{list_all}
 use Rattle.ast.specs.Exact.{fits}
 use Rattle.subscripts.specs.Forms.{Form, Share, has_room, has_share, is_nonzero}

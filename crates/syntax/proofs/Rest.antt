@@ -8,7 +8,7 @@ use Rattle.ast.specs.Tree.{Kind, program, logical_if}
 use Rattle.syntax.specs.declared.class.Keyword.{Keyword}
 use Rattle.syntax.specs.declared.class.Keyword.TheVariants.{LeftOut}
 use Rattle.syntax.specs.Classes as classes
-use Rattle.syntax.specs.Classes.{Class, worded, assignment, unclosed, unknown, level_after, enclosed_from, enclosed, is_word, are_labels, if_class, is_do, stands_at_level_zero, keywords, first_keyword, class_by_keyword, simple_class, other_class, class_behind_if, class_of}
+use Rattle.syntax.specs.Classes.{Class, worded, assignment, unclosed, level_after, enclosed_from, enclosed, is_word, are_labels, if_class, is_do, stands_at_level_zero, keywords, first_keyword, class_by_keyword, simple_class, other_class, class_behind_if, class_of}
 use Rattle.syntax.specs.Statements.{IsKind}
 use Rattle.syntax.proofs.StatementComplete.{nested}
 

@@ -6,7 +6,7 @@ ghost use Rattle.ast.specs.View.{access, bounds, declarator, definition, item, t
 ghost use Rattle.ast.specs.declared.refusal.Refusal.TheVariants.{Refused};
 ghost use Rattle.expressions.specs.Answers.{IsRefused};
 ghost use Rattle.expressions.specs.Reading.{element_at, end_at, wanted_at, spent};
-ghost use Rattle.syntax.specs.ReadingStatements.{parts_at, closed_list, open_list, upper_at, bounds_at, array_of, array_at, declared_at, declarator_at, part_at, definition_at, next_constant, item_at, items_from, items_at};
+ghost use Rattle.syntax.specs.ReadingStatements.{parts_at, upper_at, bounds_at, array_of, declared_at, part_at, definition_at, next_constant, item_at, items_from};
 ghost use Rattle.syntax.specs.Squeezing.{texts_left};
 
 use ast::{Access, Bounds, Declarator, Definition, Expr, Item, Line, Name, Refusal};

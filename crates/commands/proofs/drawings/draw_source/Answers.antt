@@ -1,6 +1,5 @@
 use Rattle.std.proofs.Common.{◌≡◌, rules, subst}
 use Rattle.engines.specs.Drawing.{Draws}
-use Rattle.engines.specs.declared.drawn.Drawn.TheVariants.{Picture, Shown}
 use Rattle.commands.specs.Deeds.{GivesFile}
 use Rattle.commands.proofs.Delivered.{of_page, of_picture}
 use Rattle.commands.proofs.drawings.draw_source.Goals as goal

@@ -1,6 +1,5 @@
 use Rattle.std.proofs.Common.{◌≡◌, rules, subst}
 use Rattle.engines.specs.Timeline.{Times}
-use Rattle.engines.specs.declared.drawn.Drawn.{Drawn}
 use Rattle.engines.specs.declared.drawn.Drawn.TheVariants.{Picture, Shown}
 use Rattle.commands.specs.Deeds.{GivesFile}
 use Rattle.commands.proofs.Delivered.{of_page, of_picture}

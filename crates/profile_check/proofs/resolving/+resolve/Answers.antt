@@ -1,4 +1,4 @@
-use Rattle.std.proofs.Common.{◌≡◌, ◌∙◌, ap, map, ℕ, List, ◌+◌, ◌++◌, length, take, drop, get_or, ◌<◌, subst, sym, arith}
+use Rattle.std.proofs.Common.{◌∙◌, ap, map, ℕ, List, ◌+◌, ◌++◌, length, take, drop, ◌<◌, subst, sym, arith}
 use Rattle.std.proofs.Math.ListN.{set}
 use Rattle.ast.specs.declared.expression.Expr.{Expr}
 use Rattle.profile_check.proofs.Weights.{weight_all, weight_at, weight_drop}

@@ -1,4 +1,4 @@
-use Rattle.std.proofs.Common.{◌≡◌, ◌∙◌, ap, map, ℕ, ◌+◌, ◌++◌, length, take, drop, ◌<◌, arith}
+use Rattle.std.proofs.Common.{◌∙◌, ap, map, ℕ, ◌+◌, ◌++◌, length, take, drop, ◌<◌, arith}
 use Rattle.std.proofs.Math.ListN.{set}
 use Rattle.ast.specs.View.{item}
 use Rattle.profile_check.specs.Resolving as spec

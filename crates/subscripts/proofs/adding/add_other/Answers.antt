@@ -1,7 +1,7 @@
 use Rattle.std.proofs.Common.{◌≡◌, ◌∙◌, ap, map, of_z, rules, sym, to_z, w64}
 use Rattle.std.specs.Prelude.{false}
 use Rattle.loop_tree.specs.TreeView.{seen}
-use Rattle.subscripts.specs.Forms.{has_share, total}
+use Rattle.subscripts.specs.Forms.{has_share}
 use Rattle.subscripts.specs.SharesView.{share}
 use Rattle.subscripts.specs.Steps.{form_by, put}
 use Rattle.subscripts.specs.View.{form}

@@ -1,4 +1,3 @@
-use Rattle.std.proofs.Common.{◌≡◌, ◌∙◌, ap}
 use Rattle.ast.specs.declared.expression.Operator.TheVariants.{Add, Subtract}
 use Rattle.loop_tree.specs.TreeView.{seen}
 use Rattle.subscripts.specs.Leaves.{leaf_form}
