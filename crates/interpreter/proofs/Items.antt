@@ -1,17 +1,19 @@
 -- Laws of the items of a PRINT.
-use Rattle.std.proofs.Common.{◌≡◌, ◌∙◌, ℕ, Bool, true, false, List, [], ◌∷◌, ◌++◌, Result, Ok, Err, refl, sym, ap, append_assoc, is_err}
-use Rattle.std.proofs.lemmas.List.{append-nil}
+use Rattle.std.proofs.Common.{◌≡◌, ◌∙◌, ◌+◌, ◌<◌, ℕ, suc, Bool, true, false, List, [], ◌∷◌, ◌++◌, Result, Ok, Err, refl, sym, ap, append_assoc, is_err, length, take, drop, get_or, map, arith, add-one, drop-cons}
+use Rattle.std.proofs.lemmas.List.{append-nil, take-take}
 use Rattle.std.specs.Prelude.{ℤ}
 use Rattle.ast.specs.Meaning.{LookUp, Run, exec_plain, given, looked_up, printed, value}
 use Rattle.ast.specs.Record.{Printed, number, text, items_printed, rest_printed, record_of}
 use Rattle.ast.specs.Results.{◌>>=◌}
 use Rattle.ast.specs.Symbols.{Symbol}
 use Rattle.ast.specs.Tree.{PrintItem, value_item, text_item, print}
+use Rattle.ast.specs.View.{item as item_of}
+use Rattle.ast.specs.declared.statement.Item.{Item}
 use Rattle.ast.specs.declared.fault.End.{End}
 use Rattle.ast.specs.declared.fault.End.TheVariants.{Done, Fault as Faulted}
 use Rattle.ast.specs.declared.fault.Fault.{Fault}
 use Rattle.interpreter.specs.Placed.{PlacedItems}
-use Rattle.interpreter.specs.Printing.{all_shown, shown, items_onto, record_onto}
+use Rattle.interpreter.specs.Printing.{Keeps, all_shown, shown, item_onto, items_onto, record_onto}
 use Rattle.interpreter.specs.Runs.{Gives, Reaches, closed}
 use Rattle.interpreter.specs.declared.stop.Stop.{Stop}
 use Rattle.interpreter.specs.declared.stop.Stop.TheVariants.{Memory, Fault as Fails, Stopped as Stops}
@@ -23,6 +25,23 @@ placed_first ss (text_item t) is h = tt
 pub placed_rest : (ss : List Symbol) (i : PrintItem) (is : List PrintItem) → PlacedItems ss (i ∷ is) → PlacedItems ss is
 placed_rest ss (value_item e) is h = h.1
 placed_rest ss (text_item t) is h = h
+
+-- the next item, and the others
+pub next_item : (items : List Item) (i : ℕ) (item : Item) → i < length items → item ≡ get_or items i item → map item_of (drop i items) ≡ item_of item ∷ map item_of (drop (i + 1) items)
+next_item items i item h is =
+    ap (λ (l : List Item). map item_of l) (drop-cons items i item h)
+    ∙ ap (λ (x : Item). item_of x ∷ map item_of (drop (suc i) items)) (sym is)
+    ∙ ap (λ (n : ℕ). item_of item ∷ map item_of (drop n items)) (sym (add-one i))
+
+-- after an item, the others go on
+pub goes_on : (old new : List ℕ) (first : Bool) (item : PrintItem) (items : List PrintItem) (look : LookUp) → item_onto old first item look ≡ Ok new → items_onto old first (item ∷ items) look ≡ items_onto new false items look
+goes_on old new first item items look h = ap (λ (r : Result (List ℕ) Fault). r >>= λ longer. items_onto longer false items look) h
+
+pub keeps_on : (old mid new : List ℕ) → Keeps old mid → Keeps mid new → Keeps old new
+keeps_on old mid new h g = (
+  omega (arith, h.0, g.0),
+  sym (take-take (length old) (length mid) new h.0) ∙ ap (λ (l : List ℕ). take (length old) l) g.1 ∙ h.1,
+)
 
 pub shown_on : (first : Bool) (p : Printed) (ps : List Printed) → all_shown first (p ∷ ps) ≡ shown first p ++ rest_printed ps
 shown_on true p ps = refl

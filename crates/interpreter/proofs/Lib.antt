@@ -1,5 +1,6 @@
 pub mod Accesses
 pub mod Acting
+pub mod Appending
 pub mod Blocks
 pub mod Cells
 pub mod Coding
@@ -23,5 +24,6 @@ pub mod Seats
 pub mod Shifts
 pub mod Storing
 pub mod Straight
+pub mod Terms
 pub mod Values
 pub mod Weighing

@@ -1,0 +1,22 @@
+-- Expressions, seen as trees.
+use Rattle.std.proofs.Common.{◌≡◌, ◌∙◌, Box, Global, ap, sym}
+use Rattle.ast.specs.Tree as tree
+use Rattle.ast.specs.Tree.{Term, binary, unary}
+use Rattle.ast.specs.View.{access_step, term, term_step}
+use Rattle.ast.specs.declared.expression.Expr.{Expr, Expr-F, fold-roll-Expr}
+use Rattle.ast.specs.declared.expression.Expr.TheVariants.{Binary, Unary, rolls-Binary, rolls-Unary}
+use Rattle.ast.specs.declared.expression.Operator.{Operator}
+use Rattle.ast.specs.declared.expression.Prefix.{Prefix}
+
+pub term-Unary : (p : Prefix) (e : Box Expr Global) → term (Unary p e) ≡ unary p (term e.value)
+term-Unary p e = ap term (sym (rolls-Unary p e)) ∙ fold-roll-Expr Term tree.Access term_step access_step (Expr-F.Unary p e)
+
+pub term-Binary : (o : Operator) (a b : Box Expr Global) → term (Binary o a b) ≡ binary o (term a.value) (term b.value)
+term-Binary o a b = ap term (sym (rolls-Binary o a b)) ∙ fold-roll-Expr Term tree.Access term_step access_step (Expr-F.Binary o a b)
+
+-- the same, of parts that stand elsewhere
+pub unary_of : (t : Expr) (p : Prefix) (e : Box Expr Global) (inner : Expr) → t ≡ Unary p e → inner ≡ e.value → term t ≡ unary p (term inner)
+unary_of t p e inner is same = ap term is ∙ term-Unary p e ∙ ap (λ (x : Expr). unary p (term x)) (sym same)
+
+pub binary_of : (t : Expr) (o : Operator) (a b : Box Expr Global) (left right : Expr) → t ≡ Binary o a b → left ≡ a.value → right ≡ b.value → term t ≡ binary o (term left) (term right)
+binary_of t o a b left right is one other = ap term is ∙ term-Binary o a b ∙ ap (λ (x : Expr). binary o (term x) (term b.value)) (sym one) ∙ ap (λ (x : Expr). binary o (term left) (term x)) (sym other)
