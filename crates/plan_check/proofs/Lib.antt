@@ -13,6 +13,7 @@ pub mod Judged
 pub mod Members
 pub mod Naming
 pub mod Parallel
+pub mod Passing
 pub mod Ranks
 pub mod Reading
 pub mod Rows
