@@ -11,6 +11,7 @@ pub mod CodeLoops
 pub mod Comes
 pub mod Compiling
 pub mod Emitting
+pub mod Ending
 pub mod GivenPaths
 pub mod GoodLoops
 pub mod GoodPaths

@@ -1,6 +1,10 @@
-use Rattle.std.proofs.Common.{rules, ◌≡◌, ◌+◌, ◌-◌, ◌++◌, ◌∷◌, [], length, map, drop, List, OnOk, Some, refl, sym, ap, subst, ◌∙◌}
+use Rattle.std.proofs.Common.{rules, ◌≡◌, ◌+◌, ◌-◌, ◌≤◌, ◌++◌, ◌∷◌, [], length, map, drop, List, OnOk, Some, None, true, refl, sym, ap, subst, ◌∙◌}
+use Rattle.std.proofs.lemmas.List.{append-nil, drop_all}
 use Rattle.std.proofs.lemmas.Result.{on_ok_weaker}
+use Rattle.ast.specs.Meaning.{is_last_stop_of}
 use Rattle.ast.specs.Tree.{arms as arms_tree}
+use Rattle.ast.specs.declared.tree.Arm.{Arm}
+use Rattle.ast.specs.declared.tree.Node.{Node}
 use Rattle.ast.specs.View.{arm as arm_of, block_view, node as node_of, ref, term}
 use Rattle.dependence.specs.Plan.{then_arm}
 use Rattle.expr_code.specs.Emitted.{term_code}
@@ -9,10 +13,13 @@ use Rattle.expr_code.specs.PlacesView.{places_of}
 use Rattle.machine.specs.declared.code.Await.{Await}
 use Rattle.codegen.specs.Blocks.{Ends, code_of_arms, code_of_block, records_in_arms, records_in_block, records_in_node, trip_ended}
 use Rattle.codegen.specs.OpenedView.{opens_in}
+use Rattle.codegen.specs.Emitted.{arms_code, arms_records, block_code, block_records}
+use Rattle.codegen.specs.PlanParts.{ends_with_stop}
 use Rattle.codegen.specs.Plain.{plain_arms, plain_block, plain_node}
 use Rattle.codegen.specs.Records.{records_of}
 use Rattle.codegen.specs.declared.skips.Pending.{Pending}
-use Rattle.codegen.proofs.Emitting.{arm_next, arm_records_next, block_next, body_emitted, count_on, records_next, trips_emitted}
+use Rattle.codegen.proofs.Emitting.{rest_of, arm_next, arm_records_next, block_next, body_emitted, count_on, records_next, trips_emitted}
+use Rattle.codegen.proofs.Ending.{last_appended, last_closed, nothing_left, stop_code, stop_records, stop_told}
 use Rattle.codegen.proofs.NodeParts.{arm_here, goes_on, node_here}
 use Rattle.codegen.proofs.Waiting.{block_waits, node_waits}
 use Rattle.codegen.proofs.nodes.+nodes.Goals as goal
@@ -72,3 +79,72 @@ emit_block-loop-i-preserved t c =
       code = block_next p opens (plain_node n) b all (length c.loop-i.records.items) (length c.emit_node.new.records.items) 0 0 c.loop-i.code.items c.emit_node.new.code.items (c.args.code.now.items ++ code_of_block opens p (length c.args.records.now.items) (block_view c.args.nodes.now)) here goes c.in_ok-emit_node.ensures.code counted waits c.loop-i.invariant.code;
       records = records_next p opens (plain_node n) b all (records_of c.loop-i.records) (records_of c.emit_node.new.records) (records_of c.args.records.now ++ records_in_block opens p (block_view c.args.nodes.now)) here goes c.in_ok-emit_node.ensures.records c.loop-i.invariant.records;
     }
+
+pub emit_block-returns-then-is_last_stop-clause-code : goal.emit_block-returns-then-is_last_stop-clause-code
+emit_block-returns-then-is_last_stop-clause-code t c =
+    let opens = opens_in c.args.opened.now in
+    let p = places_of c.args.places.now in
+    let b = block_view (drop c.loop-i.i c.args.nodes.now) in
+    let stops : true ≡ is_last_stop_of b = sym c.if-is_last_stop.true ∙ c.is_last_stop.ensures ∙ ap (λ (ms : List Node). is_last_stop_of (block_view ms)) (rest_of c.args.nodes.now c.loop-i.i) in
+    nothing_left c.loop-i.code.items (block_code p opens (length c.loop-i.records.items) 0 (plain_block b)) (c.args.code.now.items ++ code_of_block opens p (length c.args.records.now.items) (block_view c.args.nodes.now)) (stop_code p opens (plain_block b) (length c.loop-i.records.items) 0 (stop_told b stops)) c.loop-i.invariant.code
+
+pub emit_block-returns-clause-code : goal.emit_block-returns-clause-code
+emit_block-returns-clause-code t c =
+    let opens = opens_in c.args.opened.now in
+    let p = places_of c.args.places.now in
+    let b = block_view (drop c.loop-i.i c.args.nodes.now) in
+    let ended : length c.args.nodes.now ≤ c.loop-i.i = search rules in
+    nothing_left c.loop-i.code.items (block_code p opens (length c.loop-i.records.items) 0 (plain_block b)) (c.args.code.now.items ++ code_of_block opens p (length c.args.records.now.items) (block_view c.args.nodes.now)) (ap (λ (ms : List Node). block_code p opens (length c.loop-i.records.items) 0 (plain_block (block_view ms))) (drop_all c.loop-i.i c.args.nodes.now ended)) c.loop-i.invariant.code
+
+pub emit_block-returns-then-is_last_stop-clause-records : goal.emit_block-returns-then-is_last_stop-clause-records
+emit_block-returns-then-is_last_stop-clause-records t c =
+    let opens = opens_in c.args.opened.now in
+    let p = places_of c.args.places.now in
+    let b = block_view (drop c.loop-i.i c.args.nodes.now) in
+    let stops : true ≡ is_last_stop_of b = sym c.if-is_last_stop.true ∙ c.is_last_stop.ensures ∙ ap (λ (ms : List Node). is_last_stop_of (block_view ms)) (rest_of c.args.nodes.now c.loop-i.i) in
+    nothing_left (records_of c.loop-i.records) (block_records p opens (plain_block b)) (records_of c.args.records.now ++ records_in_block opens p (block_view c.args.nodes.now)) (stop_records p opens (plain_block b) (stop_told b stops)) c.loop-i.invariant.records
+
+pub emit_block-returns-clause-records : goal.emit_block-returns-clause-records
+emit_block-returns-clause-records t c =
+    let opens = opens_in c.args.opened.now in
+    let p = places_of c.args.places.now in
+    let b = block_view (drop c.loop-i.i c.args.nodes.now) in
+    let ended : length c.args.nodes.now ≤ c.loop-i.i = search rules in
+    nothing_left (records_of c.loop-i.records) (block_records p opens (plain_block b)) (records_of c.args.records.now ++ records_in_block opens p (block_view c.args.nodes.now)) (ap (λ (ms : List Node). block_records p opens (plain_block (block_view ms))) (drop_all c.loop-i.i c.args.nodes.now ended)) c.loop-i.invariant.records
+
+pub emit_arms-returns-clause-code : goal.emit_arms-returns-clause-code
+emit_arms-returns-clause-code t c =
+    let opens = opens_in c.args.opened.now in
+    let p = places_of c.args.places.now in
+    let ended : length c.args.arms.now ≤ c.loop-arm.arm-index = search rules in
+    let last = ap (λ (as_list : List Arm). arms_code p opens (length c.loop-arm.records.items) 0 (plain_arms (arms_tree (map arm_of as_list)))) (drop_all c.loop-arm.arm-index c.args.arms.now ended) in
+    let pending : c.deref-2.result.now ≡ c.loop-arm.pending.items = search rules in
+    last_closed c.loop-arm.pending.items c.deref-2.result.now c.loop-arm.code.items c.loop-arm.code.items [] (arms_code p opens (length c.loop-arm.records.items) 0 (plain_arms (arms_tree (map arm_of (drop c.loop-arm.arm-index c.args.arms.now))))) c.close-2.new.code.items (c.args.code.now.items ++ code_of_arms opens p (length c.args.records.now.items) (arms_tree (map arm_of c.args.arms.now))) pending last (sym (append-nil c.loop-arm.code.items)) c.close-2.ensures c.loop-arm.invariant.code
+
+pub emit_arms-returns-clause-records : goal.emit_arms-returns-clause-records
+emit_arms-returns-clause-records t c =
+    let opens = opens_in c.args.opened.now in
+    let p = places_of c.args.places.now in
+    let ended : length c.args.arms.now ≤ c.loop-arm.arm-index = search rules in
+    nothing_left (records_of c.loop-arm.records) (arms_records p opens (plain_arms (arms_tree (map arm_of (drop c.loop-arm.arm-index c.args.arms.now))))) (records_of c.args.records.now ++ records_in_arms opens p (arms_tree (map arm_of c.args.arms.now))) (ap (λ (as_list : List Arm). arms_records p opens (plain_arms (arms_tree (map arm_of as_list)))) (drop_all c.loop-arm.arm-index c.args.arms.now ended)) c.loop-arm.invariant.records
+
+pub emit_arms-returns-in_default-clause-code : goal.emit_arms-returns-in_default-clause-code
+emit_arms-returns-in_default-clause-code t c =
+    let opens = opens_in c.args.opened.now in
+    let p = places_of c.args.places.now in
+    let a = c.arm-item.result in
+    let body : a.body.items ≡ c.deref.result.now = search rules in
+    let none : a.condition ≡ None = search rules in
+    let last = ap (arms_code p opens (length c.loop-arm.records.items) 0) (arm_here c.args.arms.now c.loop-arm.arm-index a None c.deref.result.now c.loop-arm-test.true c.arm-item.is none body) in
+    let pending : c.deref-in_default.result.now ≡ c.loop-arm.pending.items = search rules in
+    last_closed c.loop-arm.pending.items c.deref-in_default.result.now c.loop-arm.code.items c.emit_block.new.code.items (block_code p opens (length c.loop-arm.records.items) 0 (plain_block (block_view c.deref.result.now))) (arms_code p opens (length c.loop-arm.records.items) 0 (plain_arms (arms_tree (map arm_of (drop c.loop-arm.arm-index c.args.arms.now))))) c.close.new.code.items (c.args.code.now.items ++ code_of_arms opens p (length c.args.records.now.items) (arms_tree (map arm_of c.args.arms.now))) pending last c.in_ok-emit_block.ensures.code c.close.ensures c.loop-arm.invariant.code
+
+pub emit_arms-returns-in_default-clause-records : goal.emit_arms-returns-in_default-clause-records
+emit_arms-returns-in_default-clause-records t c =
+    let opens = opens_in c.args.opened.now in
+    let p = places_of c.args.places.now in
+    let a = c.arm-item.result in
+    let body : a.body.items ≡ c.deref.result.now = search rules in
+    let none : a.condition ≡ None = search rules in
+    let last = ap (arms_records p opens) (arm_here c.args.arms.now c.loop-arm.arm-index a None c.deref.result.now c.loop-arm-test.true c.arm-item.is none body) in
+    last_appended (records_of c.loop-arm.records) (records_of c.emit_block.new.records) (block_records p opens (plain_block (block_view c.deref.result.now))) (arms_records p opens (plain_arms (arms_tree (map arm_of (drop c.loop-arm.arm-index c.args.arms.now))))) (records_of c.args.records.now ++ records_in_arms opens p (arms_tree (map arm_of c.args.arms.now))) last c.in_ok-emit_block.ensures.records c.loop-arm.invariant.records

@@ -1,18 +1,22 @@
-use Rattle.std.proofs.Common.{rules, ◌≡◌, ◌+◌, ◌-◌, ◌++◌, ◌∷◌, [], length, drop, OnOk, Some, List, refl, sym, subst, ◌∙◌}
+use Rattle.std.proofs.Common.{rules, ◌≡◌, ◌+◌, ◌-◌, ◌≤◌, ◌++◌, ◌∷◌, [], length, drop, OnOk, Some, None, List, ap, true, refl, sym, subst, ◌∙◌}
+use Rattle.std.proofs.lemmas.List.{drop_all}
 use Rattle.std.proofs.lemmas.Result.{on_ok_weaker}
 use Rattle.ast.specs.View.{ref, term}
 use Rattle.dependence.specs.Plan.{then_arm}
+use Rattle.dependence.specs.declared.plan.PlanArm.{PlanArm}
+use Rattle.dependence.specs.declared.plan.PlanStmt.{PlanStmt}
 use Rattle.dependence.specs.PlanView.{plan_block, plan_node}
 use Rattle.expr_code.specs.Emitted.{term_code}
 use Rattle.expr_code.specs.Places.{Places}
 use Rattle.expr_code.specs.PlacesView.{places_of}
 use Rattle.codegen.specs.Blocks.{Ends, trip_ended}
 use Rattle.codegen.specs.Emitted.{arms_awaits, arms_code, arms_records, block_awaits, block_code, block_records, node_awaits, node_records}
-use Rattle.codegen.specs.PlanParts.{arms_of}
+use Rattle.codegen.specs.PlanParts.{arms_of, ends_with_stop, made_arms}
 use Rattle.codegen.specs.Program.{none_open}
 use Rattle.codegen.specs.Records.{records_of}
 use Rattle.codegen.specs.declared.skips.Pending.{Pending}
-use Rattle.codegen.proofs.Emitting.{arm_awaits_next, arm_next, arm_records_next, awaits_count, awaits_next, block_next, body_emitted, count_on, records_next, trips_emitted}
+use Rattle.codegen.proofs.Emitting.{rest_of, arm_awaits_next, arm_next, arm_records_next, awaits_count, awaits_next, block_next, body_emitted, count_on, records_next, trips_emitted}
+use Rattle.codegen.proofs.Ending.{last_appended, last_closed, nothing_left, stop_awaits, stop_code, stop_records}
 use Rattle.codegen.proofs.PlanPieces.{plan_arm_here, plan_goes_on, statement_here}
 use Rattle.codegen.proofs.plans.+plans.Goals as goal
 
@@ -74,3 +78,101 @@ emit_plan-loop-i-preserved t c =
       records = records_next p none_open n b all (records_of c.loop-i.records) (records_of c.emit_statement.new.records) (records_of c.args.records.now ++ block_records p none_open whole) here goes c.in_ok-emit_statement.ensures.records c.loop-i.invariant.records;
       awaits = awaits_next p none_open n b all c.loop-i.awaits.items c.emit_statement.new.awaits.items (c.args.awaits.now.items ++ block_awaits p none_open whole) here goes c.in_ok-emit_statement.ensures.awaits c.loop-i.invariant.awaits;
     }
+
+pub emit_plan-returns-then-is_last_stop-clause-code : goal.emit_plan-returns-then-is_last_stop-clause-code
+emit_plan-returns-then-is_last_stop-clause-code t c =
+    let p = places_of c.args.places.now in
+    let b = plan_block (drop c.loop-i.i c.args.body.now) in
+    let stops : true ≡ ends_with_stop b = sym c.if-is_last_stop.true ∙ c.is_last_stop.ensures ∙ ap (λ (ms : List PlanStmt). ends_with_stop (plan_block ms)) (rest_of c.args.body.now c.loop-i.i) in
+    nothing_left c.loop-i.code.items (block_code p none_open (length c.loop-i.records.items) (length c.loop-i.awaits.items) b) (c.args.code.now.items ++ block_code p none_open (length c.args.records.now.items) (length c.args.awaits.now.items) (plan_block c.args.body.now)) (stop_code p none_open b (length c.loop-i.records.items) (length c.loop-i.awaits.items) stops) c.loop-i.invariant.code
+
+pub emit_plan-returns-clause-code : goal.emit_plan-returns-clause-code
+emit_plan-returns-clause-code t c =
+    let p = places_of c.args.places.now in
+    let b = plan_block (drop c.loop-i.i c.args.body.now) in
+    let ended : length c.args.body.now ≤ c.loop-i.i = search rules in
+    nothing_left c.loop-i.code.items (block_code p none_open (length c.loop-i.records.items) (length c.loop-i.awaits.items) b) (c.args.code.now.items ++ block_code p none_open (length c.args.records.now.items) (length c.args.awaits.now.items) (plan_block c.args.body.now)) (ap (λ (ms : List PlanStmt). block_code p none_open (length c.loop-i.records.items) (length c.loop-i.awaits.items) (plan_block ms)) (drop_all c.loop-i.i c.args.body.now ended)) c.loop-i.invariant.code
+
+pub emit_plan-returns-then-is_last_stop-clause-records : goal.emit_plan-returns-then-is_last_stop-clause-records
+emit_plan-returns-then-is_last_stop-clause-records t c =
+    let p = places_of c.args.places.now in
+    let b = plan_block (drop c.loop-i.i c.args.body.now) in
+    let stops : true ≡ ends_with_stop b = sym c.if-is_last_stop.true ∙ c.is_last_stop.ensures ∙ ap (λ (ms : List PlanStmt). ends_with_stop (plan_block ms)) (rest_of c.args.body.now c.loop-i.i) in
+    nothing_left (records_of c.loop-i.records) (block_records p none_open b) (records_of c.args.records.now ++ block_records p none_open (plan_block c.args.body.now)) (stop_records p none_open b stops) c.loop-i.invariant.records
+
+pub emit_plan-returns-clause-records : goal.emit_plan-returns-clause-records
+emit_plan-returns-clause-records t c =
+    let p = places_of c.args.places.now in
+    let b = plan_block (drop c.loop-i.i c.args.body.now) in
+    let ended : length c.args.body.now ≤ c.loop-i.i = search rules in
+    nothing_left (records_of c.loop-i.records) (block_records p none_open b) (records_of c.args.records.now ++ block_records p none_open (plan_block c.args.body.now)) (ap (λ (ms : List PlanStmt). block_records p none_open (plan_block ms)) (drop_all c.loop-i.i c.args.body.now ended)) c.loop-i.invariant.records
+
+pub emit_plan-returns-then-is_last_stop-clause-awaits : goal.emit_plan-returns-then-is_last_stop-clause-awaits
+emit_plan-returns-then-is_last_stop-clause-awaits t c =
+    let p = places_of c.args.places.now in
+    let b = plan_block (drop c.loop-i.i c.args.body.now) in
+    let stops : true ≡ ends_with_stop b = sym c.if-is_last_stop.true ∙ c.is_last_stop.ensures ∙ ap (λ (ms : List PlanStmt). ends_with_stop (plan_block ms)) (rest_of c.args.body.now c.loop-i.i) in
+    nothing_left c.loop-i.awaits.items (block_awaits p none_open b) (c.args.awaits.now.items ++ block_awaits p none_open (plan_block c.args.body.now)) (stop_awaits p none_open b stops) c.loop-i.invariant.awaits
+
+pub emit_plan-returns-clause-awaits : goal.emit_plan-returns-clause-awaits
+emit_plan-returns-clause-awaits t c =
+    let p = places_of c.args.places.now in
+    let b = plan_block (drop c.loop-i.i c.args.body.now) in
+    let ended : length c.args.body.now ≤ c.loop-i.i = search rules in
+    nothing_left c.loop-i.awaits.items (block_awaits p none_open b) (c.args.awaits.now.items ++ block_awaits p none_open (plan_block c.args.body.now)) (ap (λ (ms : List PlanStmt). block_awaits p none_open (plan_block ms)) (drop_all c.loop-i.i c.args.body.now ended)) c.loop-i.invariant.awaits
+
+pub emit_arms-returns-clause-code : goal.emit_arms-returns-clause-code
+emit_arms-returns-clause-code t c =
+    let p = places_of c.args.places.now in
+    let made = c.args.made.now in
+    let ended : length c.args.arms.now ≤ c.loop-arm.arm-index = search rules in
+    let last = ap (λ (as_list : List PlanArm). arms_code p none_open (length c.loop-arm.records.items) (length c.loop-arm.awaits.items) (arms_of as_list made)) (drop_all c.loop-arm.arm-index c.args.arms.now ended) in
+    let pending : c.deref-2.result.now ≡ c.loop-arm.pending.items = search rules in
+    last_closed c.loop-arm.pending.items c.deref-2.result.now c.loop-arm.code.items c.emit_made.new.code.items (arms_code p none_open (length c.loop-arm.records.items) (length c.loop-arm.awaits.items) (made_arms made)) (arms_code p none_open (length c.loop-arm.records.items) (length c.loop-arm.awaits.items) (arms_of (drop c.loop-arm.arm-index c.args.arms.now) made)) c.close-2.new.code.items (c.args.code.now.items ++ arms_code p none_open (length c.args.records.now.items) (length c.args.awaits.now.items) (arms_of c.args.arms.now made)) pending last c.in_ok-emit_made.ensures.code c.close-2.ensures c.loop-arm.invariant.code
+
+pub emit_arms-returns-in_default-clause-code : goal.emit_arms-returns-in_default-clause-code
+emit_arms-returns-in_default-clause-code t c =
+    let p = places_of c.args.places.now in
+    let made = c.args.made.now in
+    let a = c.arm-item.result in
+    let body : a.body.items ≡ c.deref.result.now = search rules in
+    let none : a.condition ≡ None = search rules in
+    let last = ap (arms_code p none_open (length c.loop-arm.records.items) (length c.loop-arm.awaits.items)) (plan_arm_here c.args.arms.now c.loop-arm.arm-index a None c.deref.result.now made c.loop-arm-test.true c.arm-item.is none body) in
+    let pending : c.deref-in_default.result.now ≡ c.loop-arm.pending.items = search rules in
+    last_closed c.loop-arm.pending.items c.deref-in_default.result.now c.loop-arm.code.items c.emit_plan.new.code.items (block_code p none_open (length c.loop-arm.records.items) (length c.loop-arm.awaits.items) (plan_block c.deref.result.now)) (arms_code p none_open (length c.loop-arm.records.items) (length c.loop-arm.awaits.items) (arms_of (drop c.loop-arm.arm-index c.args.arms.now) made)) c.close.new.code.items (c.args.code.now.items ++ arms_code p none_open (length c.args.records.now.items) (length c.args.awaits.now.items) (arms_of c.args.arms.now made)) pending last c.in_ok-emit_plan.ensures.code c.close.ensures c.loop-arm.invariant.code
+
+pub emit_arms-returns-clause-records : goal.emit_arms-returns-clause-records
+emit_arms-returns-clause-records t c =
+    let p = places_of c.args.places.now in
+    let made = c.args.made.now in
+    let ended : length c.args.arms.now ≤ c.loop-arm.arm-index = search rules in
+    let last = ap (λ (as_list : List PlanArm). arms_records p none_open (arms_of as_list made)) (drop_all c.loop-arm.arm-index c.args.arms.now ended) in
+    last_appended (records_of c.loop-arm.records) (records_of c.emit_made.new.records) (arms_records p none_open (made_arms made)) (arms_records p none_open (arms_of (drop c.loop-arm.arm-index c.args.arms.now) made)) (records_of c.args.records.now ++ arms_records p none_open (arms_of c.args.arms.now made)) last c.in_ok-emit_made.ensures.records c.loop-arm.invariant.records
+
+pub emit_arms-returns-in_default-clause-records : goal.emit_arms-returns-in_default-clause-records
+emit_arms-returns-in_default-clause-records t c =
+    let p = places_of c.args.places.now in
+    let made = c.args.made.now in
+    let a = c.arm-item.result in
+    let body : a.body.items ≡ c.deref.result.now = search rules in
+    let none : a.condition ≡ None = search rules in
+    let last = ap (arms_records p none_open) (plan_arm_here c.args.arms.now c.loop-arm.arm-index a None c.deref.result.now made c.loop-arm-test.true c.arm-item.is none body) in
+    last_appended (records_of c.loop-arm.records) (records_of c.emit_plan.new.records) (block_records p none_open (plan_block c.deref.result.now)) (arms_records p none_open (arms_of (drop c.loop-arm.arm-index c.args.arms.now) made)) (records_of c.args.records.now ++ arms_records p none_open (arms_of c.args.arms.now made)) last c.in_ok-emit_plan.ensures.records c.loop-arm.invariant.records
+
+pub emit_arms-returns-clause-awaits : goal.emit_arms-returns-clause-awaits
+emit_arms-returns-clause-awaits t c =
+    let p = places_of c.args.places.now in
+    let made = c.args.made.now in
+    let ended : length c.args.arms.now ≤ c.loop-arm.arm-index = search rules in
+    let last = ap (λ (as_list : List PlanArm). arms_awaits p none_open (arms_of as_list made)) (drop_all c.loop-arm.arm-index c.args.arms.now ended) in
+    last_appended c.loop-arm.awaits.items c.emit_made.new.awaits.items (arms_awaits p none_open (made_arms made)) (arms_awaits p none_open (arms_of (drop c.loop-arm.arm-index c.args.arms.now) made)) (c.args.awaits.now.items ++ arms_awaits p none_open (arms_of c.args.arms.now made)) last c.in_ok-emit_made.ensures.awaits c.loop-arm.invariant.awaits
+
+pub emit_arms-returns-in_default-clause-awaits : goal.emit_arms-returns-in_default-clause-awaits
+emit_arms-returns-in_default-clause-awaits t c =
+    let p = places_of c.args.places.now in
+    let made = c.args.made.now in
+    let a = c.arm-item.result in
+    let body : a.body.items ≡ c.deref.result.now = search rules in
+    let none : a.condition ≡ None = search rules in
+    let last = ap (arms_awaits p none_open) (plan_arm_here c.args.arms.now c.loop-arm.arm-index a None c.deref.result.now made c.loop-arm-test.true c.arm-item.is none body) in
+    last_appended c.loop-arm.awaits.items c.emit_plan.new.awaits.items (block_awaits p none_open (plan_block c.deref.result.now)) (arms_awaits p none_open (arms_of (drop c.loop-arm.arm-index c.args.arms.now) made)) (c.args.awaits.now.items ++ arms_awaits p none_open (arms_of c.args.arms.now made)) last c.in_ok-emit_plan.ensures.awaits c.loop-arm.invariant.awaits
