@@ -1,5 +1,5 @@
 -- Arms are passed one by one: what is known and seen behind each.
-use Rattle.std.proofs.Common.{◌≡◌, ◌∙◌, ◌+◌, ◌<◌, ℕ, Bool, true, List, ◌∷◌, length, drop, map, Option, refl, sym, ap, get_or, rules}
+use Rattle.std.proofs.Common.{◌≡◌, ◌∙◌, ◌+◌, ◌<◌, ℕ, Bool, true, List, ◌∷◌, length, drop, map, Option, sym, ap, get_or, rules}
 use Rattle.std.proofs.lemmas.List.{drop_more}
 use Rattle.ast.specs.Tree.{Term}
 use Rattle.ast.specs.View.{optional_term}

@@ -14,7 +14,6 @@ use Rattle.machine.specs.declared.code.Await.{Await}
 use Rattle.codegen.specs.Blocks.{Ends, code_of_arms, code_of_block, records_in_arms, records_in_block, records_in_node, trip_ended}
 use Rattle.codegen.specs.OpenedView.{opens_in}
 use Rattle.codegen.specs.Emitted.{arms_code, arms_records, block_code, block_records}
-use Rattle.codegen.specs.PlanParts.{ends_with_stop}
 use Rattle.codegen.specs.Plain.{plain_arms, plain_block, plain_node}
 use Rattle.codegen.specs.Records.{records_of}
 use Rattle.codegen.specs.declared.skips.Pending.{Pending}
