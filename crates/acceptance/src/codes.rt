@@ -1,7 +1,8 @@
 //! The lines of code over readers and writers that fail, and with memory refused.
 
-use crate::streams::{Narrow, Unreadable, status_of, with_room};
-use engines::{EngineFault, code};
+use crate::shown::{Engine, Shown, ends, shows};
+use crate::streams::{Ending, Unreadable, ending_of};
+use engines::code;
 use std::alloc::Global;
 use std::process::Abort;
 use std::test::Fail;
@@ -47,33 +48,25 @@ const LINES: &[u8] = b"LOOP 0 PLACE 5 VARIABLE I STEP 1 PRIVATE K
 28 SHARED Retire 0 LINE 2
 ";
 
-#[test]
-fn streams_that_fail_under_code(rt: HostRuntime) -> Result<(), Fail> {
-    let mut source = WAITING;
-    let mut out = with_room(rt.alloc(), 20)?;
-    assert!(rt; status_of(code(rt.alloc(), &mut source, &mut out)) == 4);
-    assert!(rt; out.taken.as_slice() == &LINES[..20]);
-    let mut out = Vec::new(rt.alloc());
-    let unread = code(rt.alloc(), &mut Unreadable, &mut out);
-    assert!(rt; matches!(&unread, Err(EngineFault::Source(_))));
-    assert!(rt; out.is_empty());
-    Ok(())
+/// Whether a source can't be read, and nothing is shown.
+fn is_unread(alloc: Global) -> bool {
+    let mut out = Vec::new(alloc);
+    let unread = ending_of(code(alloc, &mut Unreadable, &mut out));
+    matches!(unread, Ending::Source(4)) && out.is_empty()
 }
 
-fn code_into(alloc: Global, out: &mut Narrow) -> Result<u8, EngineFault> {
-    let mut source = WAITING;
-    code(alloc, &mut source, out)
+#[test]
+fn streams_that_fail_under_code(rt: HostRuntime) -> Result<(), Fail> {
+    assert!(rt; is_unread(rt.alloc()));
+    Ok(ends(&rt, Engine::Code(WAITING), (20, true), 4, LINES)?)
 }
 
 #[test]
 fn want_of_memory_in_lines_of_code(rt: HostRuntime) -> Result<(), Fail> {
-    let mut out = with_room(rt.alloc(), 1000)?;
-    let first = code_into(rt.alloc(), &mut out);
-    if let Err(EngineFault::Memory) = &first {
-        assert!(rt; out.taken.is_empty());
-        assert!(rt; code_into(rt.alloc(), &mut out).expect(&rt, "there is memory") == 0);
-    }
-    assert!(rt; out.taken.as_slice() == LINES);
-    assert!(rt; first? == 0);
-    Ok(())
+    let wanted = Shown {
+        status: 0,
+        whole: LINES,
+        begun: b"",
+    };
+    Ok(shows(&rt, Engine::Code(WAITING), wanted)?)
 }

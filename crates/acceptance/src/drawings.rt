@@ -25,40 +25,46 @@ const END: &[u8] = b"      END\n";
 /// Main is picked, and comes to its end.
 const TO_THE_END: &[u8] = b"DOACROSS SCHEDULE 1\n1 1\n0 0\n0 0\n";
 
-/// There is a whole picture, with these words.
-fn has<R: Abort>(rt: &R, drawn: &Drawn, words: &[u8]) {
+/// Whether there is a whole picture, with these words.
+fn has(drawn: &Drawn, words: &[u8]) -> bool {
     match drawn {
-        Drawn::Picture(text) => {
-            assert!(*rt; text.starts_with(b"<svg "));
-            assert!(*rt; text.ends_with(b"</svg>\n"));
-            assert!(*rt; (0..text.len()).any(|at| text[at..].starts_with(words)));
-        }
-        _ => panic!(*rt; "there is a picture"),
+        Drawn::Picture(text) => text.starts_with(b"<svg ")
+            && text.ends_with(b"</svg>\n")
+            && (0..text.len()).any(|at| text[at..].starts_with(words)),
+        _ => false,
     }
+}
+
+/// Whether the picture of the loop is right.
+fn is_drawn(alloc: Global) -> Result<bool, AllocError> {
+    let drawn = draw_text(alloc, LOOP, FIRST)?;
+    Ok(has(&drawn, b"ELSE made for the IF of line 3"))
 }
 
 #[test]
 fn want_of_memory_in_drawings(rt: HostRuntime) -> Result<(), Fail> {
-    let words = b"ELSE made for the IF of line 3";
-    match draw_text(rt.alloc(), LOOP, FIRST) {
-        Ok(drawn) => has(&rt, &drawn, words),
+    match is_drawn(rt.alloc()) {
+        Ok(is_right) => assert!(rt; is_right),
         Err(AllocError) => {
-            let again = draw_text(rt.alloc(), LOOP, FIRST).expect(&rt, "there is memory");
-            has(&rt, &again, words);
+            assert!(rt; is_drawn(rt.alloc()).expect(&rt, "there is memory"));
             return Err(AllocError.into());
         }
     }
     Ok(())
 }
 
+/// Whether the picture of the run is right.
+fn is_timed(alloc: Global) -> Result<bool, AllocError> {
+    let drawn = timeline_texts(alloc, END, b"", TO_THE_END)?;
+    Ok(has(&drawn, b"processor 0: steps 2, parked 0"))
+}
+
 #[test]
 fn want_of_memory_in_timelines(rt: HostRuntime) -> Result<(), Fail> {
-    let words = b"processor 0: steps 2, parked 0";
-    match timeline_texts(rt.alloc(), END, b"", TO_THE_END) {
-        Ok(drawn) => has(&rt, &drawn, words),
+    match is_timed(rt.alloc()) {
+        Ok(is_right) => assert!(rt; is_right),
         Err(AllocError) => {
-            let again = timeline_texts(rt.alloc(), END, b"", TO_THE_END);
-            has(&rt, &again.expect(&rt, "there is memory"), words);
+            assert!(rt; is_timed(rt.alloc()).expect(&rt, "there is memory"));
             return Err(AllocError.into());
         }
     }

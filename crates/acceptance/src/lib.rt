@@ -15,6 +15,8 @@ mod replaying;
 #[cfg(test)]
 mod runs;
 #[cfg(test)]
+mod shown;
+#[cfg(test)]
 mod streams;
 #[cfg(test)]
 mod threaded;

@@ -1,7 +1,7 @@
 //! Replays and upgrades where readers, writers or memory fail.
 
-use crate::streams::{Interrupted, Narrow, status_of};
-use engines::{EngineFault, Outcome, Upgraded, replay, replay_texts, upgrade_texts};
+use crate::streams::{Ending, Interrupted, Narrow, ending_of, fills, status_of, with_room};
+use engines::{Upgraded, replay, replay_texts, upgrade_texts};
 use std::alloc::{AllocError, Global};
 use std::process::Abort;
 use std::test::Fail;
@@ -27,80 +27,110 @@ const ELEMENTS: &[u8] =
 const TO_ITS_END: &[u8] =
     b"DOACROSS SCHEDULE 2\n1 1\n0 M\n0 0\n0 0\n0 2\n0 0\n0 0\n0 2\n0 0\n0 2\n0 0\n0 0\n";
 
-/// What the schedule of the end alone is upgraded to.
-fn is_named(rt: &impl Abort, upgraded: &Upgraded) {
+/// Whether this is what the schedule of the end alone is upgraded to.
+fn is_named(upgraded: &Upgraded) -> bool {
     match upgraded {
-        Upgraded::Text(text) => assert!(*rt; text.as_slice() == NAMED),
-        Upgraded::Shown(_) => panic!(*rt; "a schedule that replays"),
+        Upgraded::Text(text) => text.as_slice() == NAMED,
+        Upgraded::Shown(_) => false,
     }
 }
 
-fn replay_into(alloc: Global, out: &mut Vec<u8>) -> Result<Outcome, EngineFault> {
-    replay_texts(alloc, ELEMENTS, b"5\n", TO_ITS_END, out)
+/// What the replay of a schedule comes to.
+fn ending_of_replay(alloc: Global, out: &mut Vec<u8>) -> Ending {
+    match replay_texts(alloc, ELEMENTS, b"5\n", TO_ITS_END, out) {
+        Ok(outcome) => Ending::Status(outcome.status()),
+        Err(fault) => ending_of(Err(fault)),
+    }
+}
+
+/// Whether a replay has shown all.
+fn is_shown(replayed: Ending, out: &[u8]) -> bool {
+    matches!(replayed, Ending::Status(0)) && out == b" A 5\n".as_slice()
+}
+
+/// A schedule is replayed, at once or in a second call.
+fn replays(rt: &(impl Abort + AllocGlobal), out: &mut Vec<u8>) -> Result<(), AllocError> {
+    let first = ending_of_replay(rt.alloc(), out);
+    if let Ending::Memory = first {
+        assert!(*rt; out.is_empty());
+        assert!(*rt; is_shown(ending_of_replay(rt.alloc(), out), out));
+        return Err(AllocError);
+    }
+    assert!(*rt; is_shown(first, out));
+    Ok(())
 }
 
 #[test]
 fn want_of_memory_in_replays(rt: HostRuntime) -> Result<(), Fail> {
     let mut out = Vec::with_capacity(rt.alloc(), 64)?;
-    let first = replay_into(rt.alloc(), &mut out);
-    if let Err(EngineFault::Memory) = &first {
-        assert!(rt; out.is_empty());
-        let again = replay_into(rt.alloc(), &mut out).expect(&rt, "there is memory");
-        assert!(rt; again.status() == 0);
-    }
-    assert!(rt; out.as_slice() == b" A 5\n".as_slice());
-    assert!(rt; first?.status() == 0);
-    Ok(())
+    Ok(replays(&rt, &mut out)?)
+}
+
+/// Whether the schedule of the end alone is upgraded.
+fn upgrades(alloc: Global) -> Result<bool, AllocError> {
+    let upgraded = upgrade_texts(alloc, END, b"", WHOLE)?;
+    Ok(is_named(&upgraded))
 }
 
 #[test]
 fn want_of_memory_in_upgrades(rt: HostRuntime) -> Result<(), Fail> {
-    match upgrade_texts(rt.alloc(), END, b"", WHOLE) {
-        Ok(upgraded) => is_named(&rt, &upgraded),
+    match upgrades(rt.alloc()) {
+        Ok(is_named) => assert!(rt; is_named),
         Err(AllocError) => {
-            let again = upgrade_texts(rt.alloc(), END, b"", WHOLE).expect(&rt, "there is memory");
-            is_named(&rt, &again);
+            assert!(rt; upgrades(rt.alloc()).expect(&rt, "there is memory"));
             return Err(AllocError.into());
         }
     }
     Ok(())
 }
 
-/// What was read before a reader failed is a whole input, or a whole schedule.
-#[test]
-fn readers_that_fail_in_replays(rt: HostRuntime) -> Result<(), Fail> {
-    let mut out = Vec::new(rt.alloc());
+/// Whether a replay whose input breaks off ends so. What was read before is a whole input, and no
+/// schedule is read.
+fn is_cut_in_its_input(out: &mut Vec<u8>) -> bool {
     let mut source = END;
     let mut cut = Interrupted { bytes: b"5\n" };
     let mut schedule = WHOLE;
-    let unread = replay(rt.alloc(), &mut source, &mut cut, &mut schedule, &mut out);
-    assert!(rt; matches!(&unread, Err(EngineFault::Input(_))));
-    assert!(rt; schedule == WHOLE);
+    let unread = replay(*out.allocator(), &mut source, &mut cut, &mut schedule, out);
+    matches!(ending_of(unread), Ending::Input(4)) && schedule == WHOLE
+}
+
+/// Whether a replay whose schedule breaks off ends so. What was read before is a whole schedule.
+fn is_cut_in_its_schedule(out: &mut Vec<u8>) -> bool {
     let mut source = END;
     let mut input: &[u8] = b"";
     let mut cut = Interrupted { bytes: WHOLE };
-    let unread = replay(rt.alloc(), &mut source, &mut input, &mut cut, &mut out);
-    assert!(rt; matches!(&unread, Err(EngineFault::Schedule(_))));
-    assert!(rt; status_of(unread) == 4);
+    let unread = replay(*out.allocator(), &mut source, &mut input, &mut cut, out);
+    matches!(ending_of(unread), Ending::Schedule(4))
+}
+
+#[test]
+fn readers_that_fail_in_replays(rt: HostRuntime) {
+    let mut out = Vec::new(rt.alloc());
+    assert!(rt; is_cut_in_its_input(&mut out));
+    assert!(rt; is_cut_in_its_schedule(&mut out));
     assert!(rt; out.is_empty());
+}
+
+/// The status of the replay of a fault.
+fn status_of_fault(alloc: Global, out: &mut Narrow) -> u8 {
+    let mut source = DIVIDES;
+    let mut input: &[u8] = b"";
+    let mut schedule = TO_ITS_FAULT;
+    status_of(replay(alloc, &mut source, &mut input, &mut schedule, out))
+}
+
+/// A replay onto a writer of so much room has this status.
+fn ends(rt: &(impl Abort + AllocGlobal), room: usize, status: u8) -> Result<(), AllocError> {
+    let mut out = with_room(rt.alloc(), room)?;
+    assert!(*rt; status_of_fault(rt.alloc(), &mut out) == status);
+    assert!(*rt; fills(&out, b" 1\nFAULT 3 ZERO DIVISOR LINE 2\n"));
     Ok(())
 }
 
 #[test]
 fn writers_that_fail_in_replays(rt: HostRuntime) -> Result<(), Fail> {
-    let whole: &[u8] = b" 1\nFAULT 3 ZERO DIVISOR LINE 2\n";
     for (room, status) in [(31, 2), (30, 4), (0, 4)] {
-        let mut source = DIVIDES;
-        let mut input: &[u8] = b"";
-        let mut schedule = TO_ITS_FAULT;
-        let mut out = Narrow {
-            taken: Vec::new(rt.alloc()),
-            room,
-            fails: true,
-        };
-        let given = replay(rt.alloc(), &mut source, &mut input, &mut schedule, &mut out);
-        assert!(rt; status_of(given) == status);
-        assert!(rt; out.taken.as_slice() == &whole[..room]);
+        ends(&rt, room, status)?;
     }
     Ok(())
 }

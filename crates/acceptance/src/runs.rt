@@ -1,137 +1,155 @@
 //! How `check` and `seq` end where a reader, a writer or memory fails.
 
-use crate::streams::{Full, Interrupted, Narrow, Unreadable, status_of, with_room};
-use engines::{EngineFault, check, seq};
-use std::alloc::Global;
+use crate::shown::{Engine, Run, Shown, ends, shows};
+use crate::streams::{Ending, Full, Interrupted, Unreadable, ending_of};
+use engines::{check, seq};
+use std::alloc::AllocError;
+use std::io::Read;
 use std::process::Abort;
 use std::test::Fail;
 
 const DIVIDES: &[u8] = b"      PRINT *,1\n      PRINT *,2,1/0\n      END\n";
 
+const DIVIDES_SHOWN: &[u8] = b" 1\nFAULT 3 ZERO DIVISOR LINE 2\n";
+
+const DIVIDES_ALONE: Run<'static> = Run {
+    source: DIVIDES,
+    input: b"",
+    store: false,
+    most: 65_536,
+};
+
+/// How much room a writer has, whether it fails then or takes none, and the status.
+static ROOMS: [(usize, bool, u8); 6] = [
+    (31, true, 2),
+    (30, true, 4),
+    (5, true, 4),
+    (0, true, 4),
+    (30, false, 4),
+    (0, false, 4),
+];
+
 #[test]
 fn writers_that_fail(rt: HostRuntime) -> Result<(), Fail> {
-    let whole: &[u8] = b" 1\nFAULT 3 ZERO DIVISOR LINE 2\n";
-    let rows = [
-        (31, true, 2),
-        (30, true, 4),
-        (5, true, 4),
-        (0, true, 4),
-        (30, false, 4),
-        (0, false, 4),
-    ];
-    for (room, fails, status) in rows {
-        let mut source = DIVIDES;
-        let mut input: &[u8] = b"";
-        let mut out = Narrow {
-            taken: Vec::new(rt.alloc()),
-            room,
-            fails,
-        };
-        let given = seq(rt.alloc(), &mut source, &mut input, false, 65_536, &mut out);
-        assert!(rt; status_of(given) == status);
-        assert!(rt; out.taken.as_slice() == &whole[..room]);
+    for (room, fails, status) in ROOMS {
+        let engine = Engine::Seq(DIVIDES_ALONE);
+        ends(&rt, engine, (room, fails), status, DIVIDES_SHOWN)?;
     }
-    let mut source = DIVIDES;
-    let mut out = with_room(rt.alloc(), 5)?;
-    assert!(rt; status_of(check(rt.alloc(), &mut source, &mut out)) == 4);
-    assert!(rt; out.taken.as_slice() == b"ACCEP".as_slice());
-    Ok(())
+    Ok(ends(&rt, Engine::Check(DIVIDES), (5, true), 4, b"ACCEPTED")?)
 }
 
 /// Runs a source onto a writer that takes one byte a call and fails behind each part of what it shows:
-/// the part is what is written, of whole records that wait up to `most` bytes.
+/// the part is what is written.
 fn cut_short(
     rt: &(impl Abort + AllocGlobal),
-    source: &[u8],
+    run: Run<'_>,
     whole: &[u8],
-    most: usize,
     status: u8,
-) -> Result<(), Fail> {
+) -> Result<(), AllocError> {
     for room in 0..whole.len() + 1 {
-        let mut text = source;
-        let mut input: &[u8] = b"";
-        let mut out = with_room(rt.alloc(), room)?;
-        let given = seq(rt.alloc(), &mut text, &mut input, true, most, &mut out);
         let wanted = if room < whole.len() { 4 } else { status };
-        assert!(rt; status_of(given) == wanted);
-        assert!(rt; out.taken.as_slice() == &whole[..room]);
+        ends(rt, Engine::Seq(run), (room, true), wanted, whole)?;
+    }
+    Ok(())
+}
+
+/// Sources, what they show with their stores, and the status.
+static SHOWN: [(&[u8], &[u8], u8); 3] = [
+    (DIVIDES, DIVIDES_SHOWN, 2),
+    (
+        b"      PRINT *,1\n      PRINT *,2\n      STOP\n      PRINT *,3\n      END\n",
+        b" 1\n 2\nSTOPPED LINE 3\n",
+        0,
+    ),
+    (
+        b"      DO 10 K=1,3\n   10 PRINT *,'AB',K\n      END\n",
+        b" AB 1\n AB 2\n AB 3\nK = 4\n",
+        0,
+    ),
+];
+
+/// All sources, with whole records that wait up to so many bytes.
+fn all_cut_short(rt: &(impl Abort + AllocGlobal), most: usize) -> Result<(), AllocError> {
+    for (source, whole, status) in SHOWN {
+        let run = Run {
+            source,
+            input: b"",
+            store: true,
+            most,
+        };
+        cut_short(rt, run, whole, status)?;
     }
     Ok(())
 }
 
 #[test]
 fn writers_that_fail_under_way(rt: HostRuntime) -> Result<(), Fail> {
-    let stops: &[u8] =
-        b"      PRINT *,1\n      PRINT *,2\n      STOP\n      PRINT *,3\n      END\n";
-    let prints: &[u8] = b"      DO 10 K=1,3\n   10 PRINT *,'AB',K\n      END\n";
     for most in [0, 4, 65_536] {
-        cut_short(&rt, DIVIDES, b" 1\nFAULT 3 ZERO DIVISOR LINE 2\n", most, 2)?;
-        cut_short(&rt, stops, b" 1\n 2\nSTOPPED LINE 3\n", most, 0)?;
-        cut_short(&rt, prints, b" AB 1\n AB 2\n AB 3\nK = 4\n", most, 0)?;
+        all_cut_short(&rt, most)?;
     }
     Ok(())
 }
 
-#[test]
-fn readers_that_fail(rt: HostRuntime) -> Result<(), Fail> {
-    let mut out = Vec::new(rt.alloc());
-    let unread = check(rt.alloc(), &mut Unreadable, &mut out);
-    assert!(rt; matches!(&unread, Err(EngineFault::Source(_))));
-    assert!(rt; status_of(unread) == 4);
-    // Want of memory of a reader's own is a fault of reading, not one of the engine's memory.
-    let unread = check(rt.alloc(), &mut Full, &mut out);
-    assert!(rt; matches!(&unread, Err(EngineFault::Source(_))));
-    // What was read before is a program of its own.
+/// Whether a source can't be read.
+fn is_unread<R: Read>(source: &mut R, out: &mut Vec<u8>) -> bool {
+    matches!(
+        ending_of(check(*out.allocator(), source, out)),
+        Ending::Source(4)
+    )
+}
+
+/// Whether a run whose source breaks off ends so. What was read before is a program of its own.
+fn is_cut_in_its_source(out: &mut Vec<u8>) -> bool {
     let mut cut = Interrupted {
         bytes: b"      PRINT *,1\n      END\n",
     };
     let mut input: &[u8] = b"";
-    let unread = seq(rt.alloc(), &mut cut, &mut input, false, 65_536, &mut out);
-    assert!(rt; matches!(&unread, Err(EngineFault::Source(_))));
-    let mut source = DIVIDES;
-    let mut cut = Interrupted { bytes: b"5\n" };
-    let unread = seq(rt.alloc(), &mut source, &mut cut, false, 65_536, &mut out);
-    assert!(rt; matches!(&unread, Err(EngineFault::Input(_))));
-    assert!(rt; status_of(unread) == 4);
-    assert!(rt; out.is_empty());
-    Ok(())
+    let unread = seq(*out.allocator(), &mut cut, &mut input, false, 65_536, out);
+    matches!(ending_of(unread), Ending::Source(4))
 }
 
-/// What a run writes into 64 bytes, and how it ends.
-fn run_into(alloc: Global, out: &mut Narrow) -> Result<u8, EngineFault> {
-    let mut source: &[u8] = b"      K=-7\n      PRINT *,K,'A'\n      END\n";
-    let mut input: &[u8] = b"5\n";
-    seq(alloc, &mut source, &mut input, true, 65_536, out)
+/// Whether a run whose input breaks off ends so.
+fn is_cut_in_its_input(out: &mut Vec<u8>) -> bool {
+    let mut source = DIVIDES;
+    let mut cut = Interrupted { bytes: b"5\n" };
+    let unread = seq(*out.allocator(), &mut source, &mut cut, false, 65_536, out);
+    matches!(ending_of(unread), Ending::Input(4))
+}
+
+#[test]
+fn readers_that_fail(rt: HostRuntime) {
+    let mut out = Vec::new(rt.alloc());
+    assert!(rt; is_unread(&mut Unreadable, &mut out));
+    // Want of memory of a reader's own is a fault of reading, not one of the engine's memory.
+    assert!(rt; is_unread(&mut Full, &mut out));
+    assert!(rt; is_cut_in_its_source(&mut out));
+    assert!(rt; is_cut_in_its_input(&mut out));
+    assert!(rt; out.is_empty());
 }
 
 #[test]
 fn want_of_memory_in_runs(rt: HostRuntime) -> Result<(), Fail> {
-    let mut out = with_room(rt.alloc(), 64)?;
-    let first = run_into(rt.alloc(), &mut out);
-    if let Err(EngineFault::Memory) = &first {
-        assert!(rt; b" -7A\n".starts_with(out.taken.as_slice()));
-        out.taken.clear();
-        assert!(rt; run_into(rt.alloc(), &mut out).expect(&rt, "there is memory") == 0);
-    }
-    assert!(rt; out.taken.as_slice() == b" -7A\nK = -7\n".as_slice());
-    assert!(rt; first? == 0);
-    Ok(())
-}
-
-fn check_into(alloc: Global, out: &mut Narrow) -> Result<u8, EngineFault> {
-    let mut source: &[u8] = b"      K=(1\n      END\n";
-    check(alloc, &mut source, out)
+    let run = Run {
+        source: b"      K=-7\n      PRINT *,K,'A'\n      END\n",
+        input: b"5\n",
+        store: true,
+        most: 65_536,
+    };
+    let wanted = Shown {
+        status: 0,
+        whole: b" -7A\nK = -7\n",
+        begun: b" -7A\n",
+    };
+    Ok(shows(&rt, Engine::Seq(run), wanted)?)
 }
 
 #[test]
 fn want_of_memory_in_checks(rt: HostRuntime) -> Result<(), Fail> {
-    let mut out = with_room(rt.alloc(), 64)?;
-    let first = check_into(rt.alloc(), &mut out);
-    if let Err(EngineFault::Memory) = &first {
-        assert!(rt; out.taken.is_empty());
-        assert!(rt; check_into(rt.alloc(), &mut out).expect(&rt, "there is memory") == 1);
-    }
-    assert!(rt; out.taken.as_slice() == b"REFUSED 25 LINE 1\n".as_slice());
-    assert!(rt; first? == 1);
-    Ok(())
+    let wanted = Shown {
+        status: 1,
+        whole: b"REFUSED 25 LINE 1\n",
+        begun: b"",
+    };
+    let engine = Engine::Check(b"      K=(1\n      END\n");
+    Ok(shows(&rt, engine, wanted)?)
 }

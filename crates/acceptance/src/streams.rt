@@ -83,6 +83,45 @@ pub fn with_room(alloc: Global, room: usize) -> Result<Narrow, AllocError> {
     })
 }
 
+/// Whether a writer has taken as much of a text as it has room for.
+pub fn fills(out: &Narrow, whole: &[u8]) -> bool {
+    out.taken.len() == out.room && whole.starts_with(out.taken.as_slice())
+}
+
+/// What an engine came to, once its fault is dropped.
+#[derive(Clone, Copy)]
+pub enum Ending {
+    /// It ended with this status.
+    Status(u8),
+    /// The reader of the source failed, which has this status.
+    Source(u8),
+    /// The reader of the input did.
+    Input(u8),
+    /// The reader of the schedule did.
+    Schedule(u8),
+    /// It found no memory.
+    Memory,
+    /// Another fault, which has this status.
+    Other(u8),
+}
+
+fn ending_by(fault: &EngineFault) -> Ending {
+    match fault {
+        EngineFault::Source(_) => Ending::Source(fault.status()),
+        EngineFault::Input(_) => Ending::Input(fault.status()),
+        EngineFault::Schedule(_) => Ending::Schedule(fault.status()),
+        EngineFault::Memory => Ending::Memory,
+        _ => Ending::Other(fault.status()),
+    }
+}
+
+pub fn ending_of(given: Result<u8, EngineFault>) -> Ending {
+    match given {
+        Ok(status) => Ending::Status(status),
+        Err(fault) => ending_by(&fault),
+    }
+}
+
 /// The exit status of an engine.
 pub fn status_of(given: Result<u8, EngineFault>) -> u8 {
     match given {

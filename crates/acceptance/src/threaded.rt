@@ -1,7 +1,7 @@
 //! How the engine of `run` ends where readers, writers or memory fail.
 
-use crate::streams::{Interrupted, Narrow, Unreadable, status_of, with_room};
-use engines::{EngineFault, Wants, run};
+use crate::streams::{Ending, Interrupted, Narrow, Unreadable, ending_of, fills, with_room};
+use engines::{Wants, run};
 use std::alloc::AllocError;
 use std::process::Abort;
 use std::sync::Wait;
@@ -40,38 +40,49 @@ fn wants(processors: u64, slots: u64) -> Wants {
     }
 }
 
-#[test]
-fn readers_that_fail_in_a_run(rt: HostRuntime) -> Result<(), Fail> {
-    let mut schedule = Vec::new(rt.alloc());
-    let mut out = Vec::new(rt.alloc());
+/// Whether a run whose source can't be read ends so, before its input is read.
+fn is_unread<R: Threads + Wait + Sync>(rt: &R, schedule: &mut Vec<u8>, out: &mut Vec<u8>) -> bool {
     let mut input: &[u8] = b"5\n";
     let unread = run(
-        &rt,
-        rt.alloc(),
+        rt,
+        *out.allocator(),
         &mut Unreadable,
         &mut input,
         wants(2, 4),
-        &mut schedule,
-        &mut out,
+        schedule,
+        out,
     );
-    assert!(rt; matches!(&unread, Err(EngineFault::Source(_))));
-    assert!(rt; input == b"5\n".as_slice());
+    matches!(ending_of(unread), Ending::Source(4)) && input == b"5\n".as_slice()
+}
+
+/// Whether a run whose input breaks off ends so.
+fn is_cut_in_its_input<R: Threads + Wait + Sync>(
+    rt: &R,
+    schedule: &mut Vec<u8>,
+    out: &mut Vec<u8>,
+) -> bool {
     let mut source = CHAIN;
     let mut cut = Interrupted { bytes: b"4\n" };
     let unread = run(
-        &rt,
-        rt.alloc(),
+        rt,
+        *out.allocator(),
         &mut source,
         &mut cut,
         wants(2, 4),
-        &mut schedule,
-        &mut out,
+        schedule,
+        out,
     );
-    assert!(rt; matches!(&unread, Err(EngineFault::Input(_))));
-    assert!(rt; status_of(unread) == 4);
+    matches!(ending_of(unread), Ending::Input(4))
+}
+
+#[test]
+fn readers_that_fail_in_a_run(rt: HostRuntime) {
+    let mut schedule = Vec::new(rt.alloc());
+    let mut out = Vec::new(rt.alloc());
+    assert!(rt; is_unread(&rt, &mut schedule, &mut out));
+    assert!(rt; is_cut_in_its_input(&rt, &mut schedule, &mut out));
     assert!(rt; out.is_empty());
     assert!(rt; schedule.is_empty());
-    Ok(())
 }
 
 /// A run of the row that faults, by one processor, so that its schedule is always the same.
@@ -79,10 +90,10 @@ fn faults_into<R: AllocGlobal + Threads + Wait + Sync>(
     rt: &R,
     schedule: &mut Narrow,
     out: &mut Narrow,
-) -> Result<u8, EngineFault> {
+) -> Ending {
     let mut source = FAULTS;
     let mut input: &[u8] = b"";
-    run(
+    ending_of(run(
         rt,
         rt.alloc(),
         &mut source,
@@ -90,23 +101,40 @@ fn faults_into<R: AllocGlobal + Threads + Wait + Sync>(
         wants(1, 1),
         schedule,
         out,
-    )
+    ))
 }
 
-/// The schedule of a run that is shown whole.
-fn whole_schedule<R: Abort + AllocGlobal + Threads + Wait + Sync>(rt: &R) -> Result<Narrow, Fail> {
-    let mut whole = with_room(rt.alloc(), 4096)?;
-    shows_all(rt, &mut whole)?;
-    Ok(whole)
+/// Whether a run has shown all.
+fn is_shown(ran: Ending, out: &Narrow) -> bool {
+    matches!(ran, Ending::Status(2)) && out.taken.as_slice() == FAULT_SHOWN
 }
 
+/// A run shows all.
 fn shows_all<R: Abort + AllocGlobal + Threads + Wait + Sync>(
     rt: &R,
-    whole: &mut Narrow,
-) -> Result<(), Fail> {
+    schedule: &mut Narrow,
+) -> Result<(), AllocError> {
     let mut out = with_room(rt.alloc(), 64)?;
-    assert!(*rt; faults_into(rt, whole, &mut out)? == 2);
-    assert!(*rt; out.taken.as_slice() == FAULT_SHOWN);
+    let ran = faults_into(rt, schedule, &mut out);
+    assert!(*rt; is_shown(ran, &out));
+    Ok(())
+}
+
+/// Whether a run that can't write all has the status of that.
+fn is_short(ran: Ending) -> bool {
+    matches!(ran, Ending::Other(4))
+}
+
+/// A run with so much room for what it shows can't write all to it and to its schedule.
+fn falls_short_of<R: Abort + AllocGlobal + Threads + Wait + Sync>(
+    rt: &R,
+    shown: usize,
+    schedule: &mut Narrow,
+    whole: &[u8],
+) -> Result<(), AllocError> {
+    let mut out = with_room(rt.alloc(), shown)?;
+    let ran = faults_into(rt, schedule, &mut out);
+    assert!(*rt; is_short(ran) && are_written(schedule, &out, whole));
     Ok(())
 }
 
@@ -118,10 +146,7 @@ fn falls_short<R: Abort + AllocGlobal + Threads + Wait + Sync>(
     whole: &[u8],
 ) -> Result<(), AllocError> {
     let mut schedule = with_room(rt.alloc(), kept)?;
-    let mut out = with_room(rt.alloc(), shown)?;
-    assert!(*rt; status_of(faults_into(rt, &mut schedule, &mut out)) == 4);
-    assert!(*rt; are_written(&schedule, &out, whole));
-    Ok(())
+    falls_short_of(rt, shown, &mut schedule, whole)
 }
 
 /// Whether a schedule is whole and what is shown a beginning, or the schedule a beginning with nothing
@@ -131,11 +156,6 @@ fn are_written(schedule: &Narrow, out: &Narrow, whole: &[u8]) -> bool {
         return fills(out, FAULT_SHOWN);
     }
     fills(schedule, whole) && out.taken.is_empty()
-}
-
-/// Whether a writer has taken as much of a text as it has room for.
-fn fills(out: &Narrow, whole: &[u8]) -> bool {
-    out.taken.len() == out.room && whole.starts_with(out.taken.as_slice())
 }
 
 /// Each part of what is shown, with the whole schedule.
@@ -160,54 +180,59 @@ fn keeps_parts<R: Abort + AllocGlobal + Threads + Wait + Sync>(
     Ok(())
 }
 
-#[test]
-fn writers_that_fail_in_a_run(rt: HostRuntime) -> Result<(), Fail> {
-    let whole = whole_schedule(&rt)?;
-    shows_parts(&rt, &whole.taken)?;
-    keeps_parts(&rt, &whole.taken)?;
-    Ok(())
+fn all_fall_short<R: Abort + AllocGlobal + Threads + Wait + Sync>(
+    rt: &R,
+    whole: &[u8],
+) -> Result<(), AllocError> {
+    shows_parts(rt, whole)?;
+    keeps_parts(rt, whole)
 }
 
-/// Where memory is refused, a beginning of the records has gone out, and no schedule.
-fn is_beginning(rt: &impl Abort, schedule: &Narrow, out: &Narrow) {
-    let records: [&[u8]; 3] = [b"", b" 1\n", b" 1\n 2\n"];
-    assert!(*rt; records.contains(&out.taken.as_slice()));
-    assert!(*rt; schedule.taken.is_empty());
+#[test]
+fn writers_that_fail_in_a_run(rt: HostRuntime) -> Result<(), Fail> {
+    let mut schedule = with_room(rt.alloc(), 4096)?;
+    shows_all(&rt, &mut schedule)?;
+    Ok(all_fall_short(&rt, &schedule.taken)?)
+}
+
+/// Whether where memory is refused a beginning of the records has gone out, and no schedule.
+fn is_beginning(schedule: &Narrow, out: &Narrow) -> bool {
+    let taken = out.taken.as_slice();
+    schedule.taken.is_empty() && b" 1\n 2\n".starts_with(taken) && matches!(taken.len(), 0 | 3 | 6)
 }
 
 /// A run that is made again shows all.
 fn shows_again<R: Abort + AllocGlobal + Threads + Wait + Sync>(rt: &R) -> Result<(), AllocError> {
     let mut schedule = with_room(rt.alloc(), 4096)?;
-    let mut out = with_room(rt.alloc(), 64)?;
-    let again = faults_into(rt, &mut schedule, &mut out);
-    assert!(*rt; again.expect(rt, "there is memory") == 2);
-    assert!(*rt; out.taken.as_slice() == FAULT_SHOWN);
-    Ok(())
+    shows_all(rt, &mut schedule)
 }
 
-/// Whether a run had its memory. One that had shows all.
-fn has_memory<R: Abort + AllocGlobal + Threads + Wait + Sync>(
+/// A run shows all, at once or in a second call.
+fn shows<R: Abort + AllocGlobal + Threads + Wait + Sync>(
     rt: &R,
     schedule: &mut Narrow,
     out: &mut Narrow,
-) -> Result<bool, EngineFault> {
+) -> Result<(), AllocError> {
     let first = faults_into(rt, schedule, out);
-    if let Err(EngineFault::Memory) = &first {
-        return Ok(false);
+    if let Ending::Memory = first {
+        assert!(*rt; is_beginning(schedule, out));
+        shows_again(rt)?;
+        return Err(AllocError);
     }
-    assert!(*rt; first? == 2);
-    assert!(*rt; out.taken.as_slice() == FAULT_SHOWN);
-    Ok(true)
+    assert!(*rt; is_shown(first, out));
+    Ok(())
+}
+
+fn shows_onto<R: Abort + AllocGlobal + Threads + Wait + Sync>(
+    rt: &R,
+    schedule: &mut Narrow,
+) -> Result<(), AllocError> {
+    let mut out = with_room(rt.alloc(), 64)?;
+    shows(rt, schedule, &mut out)
 }
 
 #[test]
 fn want_of_memory_in_the_engine_of_runs(rt: HostRuntime) -> Result<(), Fail> {
     let mut schedule = with_room(rt.alloc(), 4096)?;
-    let mut out = with_room(rt.alloc(), 64)?;
-    if !has_memory(&rt, &mut schedule, &mut out)? {
-        is_beginning(&rt, &schedule, &out);
-        shows_again(&rt)?;
-        return Err(AllocError.into());
-    }
-    Ok(())
+    Ok(shows_onto(&rt, &mut schedule)?)
 }
