@@ -1,6 +1,6 @@
 //! Relations of random references, beside all ways in which these meet for small numbers.
 
-use ast::{Expr, Intrinsic, Name, Operator, Prefix};
+use ast::{Expr, Intrinsic, Name, Operator, Prefix, Program};
 use dependence::{Reason, Relation, relate, verify};
 use loop_tree::{LoopView, Occurrence, loops};
 use profile_check::program;
@@ -509,11 +509,20 @@ fn try_loop(
 }
 
 /// Tries all pairs of the elements of a program.
-fn try_source(rt: &(impl Abort + AllocGlobal), text: &[u8], tally: &mut Tally) -> Result<(), Fail> {
-    let program = program(rt.alloc(), text)?;
-    let tree = loops(rt.alloc(), &program)?;
+fn try_program(
+    rt: &(impl Abort + AllocGlobal),
+    program: &Program,
+    tally: &mut Tally,
+) -> Result<(), Fail> {
+    let tree = loops(rt.alloc(), program)?;
     assert!(rt; tree.count() == 1);
     try_loop(rt, &tree.view(1), tally)
+}
+
+/// Tries all pairs of the elements of the program of a source.
+fn try_source(rt: &(impl Abort + AllocGlobal), text: &[u8], tally: &mut Tally) -> Result<(), Fail> {
+    let program = program(rt.alloc(), text)?;
+    try_program(rt, &program, tally)
 }
 
 #[test]

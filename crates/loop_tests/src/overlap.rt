@@ -1,6 +1,6 @@
 //! Loops, affine forms, relations and private scalars of sources.
 
-use ast::{Expr, Line, RefId};
+use ast::{Expr, Line, Name, Program, RefId, Reference, Refusal};
 use dependence::{Reason, Relation, relate, verify};
 use loop_tree::{LoopTree, LoopView, loops};
 use privatise::private_scalars;
@@ -57,73 +57,95 @@ fn lines_of(
     Ok(lines)
 }
 
+/// Whether scalars have these names, in this order.
+fn are_named(scalars: &[Reference], wanted: &[&[u8]]) -> bool {
+    for (scalar, name) in scalars.iter().zip(wanted) {
+        if scalar.name.trimmed() != *name {
+            return false;
+        }
+    }
+    scalars.len() == wanted.len()
+}
+
+/// Whether a loop is the wanted one, the references of its range aside.
+fn is_wanted(view: &LoopView<'_, '_>, wanted: Wanted<'_>) -> bool {
+    let (line, around, step, trips, assigned, _) = wanted;
+    view.line() == line
+        && view.around().map(|view| view.line()) == around
+        && view.step() == step
+        && view.trips() == trips
+        && are_named(view.assigned(), assigned)
+}
+
 fn looks_as(
     rt: &(impl Abort + AllocGlobal),
     tree: &LoopTree<'_>,
     view: &LoopView<'_, '_>,
     wanted: Wanted<'_>,
-) -> Result<(), Fail> {
-    let (line, around, step, trips, assigned, lines) = wanted;
-    assert!(rt; view.line() == line);
-    assert!(rt; view.around().map(|view| view.line()) == around);
-    assert!(rt; view.step() == step);
-    assert!(rt; view.trips() == trips);
-    assert!(rt; view.assigned().len() == assigned.len());
-    for (reference, name) in view.assigned().iter().zip(assigned) {
-        assert!(rt; reference.name.trimmed() == *name);
-    }
+) -> Result<(), AllocError> {
+    assert!(*rt; is_wanted(view, wanted));
     let found = lines_of(rt.alloc(), tree, view)?;
-    assert!(rt; found.as_slice() == lines);
+    assert!(*rt; found.as_slice() == wanted.5);
     Ok(())
 }
 
-fn is_nest(rt: &(impl Abort + AllocGlobal), tree: &LoopTree<'_>) -> Result<(), Fail> {
-    assert!(rt; tree.count() == 4);
-    let wanted: [Wanted<'_>; 4] = [
-        (
-            2,
-            None,
-            Some(1),
-            Some(3),
-            &[b"K", b"J", b"L"],
-            &[3, 3, 3, 4, 5, 5, 6, 6, 6, 6, 6],
-        ),
-        (
-            4,
-            Some(2),
-            Some(-1),
-            Some(3),
-            &[b"L"],
-            &[5, 5, 6, 6, 6, 6, 6],
-        ),
-        (5, Some(4), Some(1), None, &[], &[6, 6, 6, 6, 6]),
-        (9, None, Some(-2), Some(3), &[b"K"], &[10, 10, 10]),
-    ];
+/// The loops of [`NEST`].
+static NESTED: [Wanted<'static>; 4] = [
+    (
+        2,
+        None,
+        Some(1),
+        Some(3),
+        &[b"K", b"J", b"L"],
+        &[3, 3, 3, 4, 5, 5, 6, 6, 6, 6, 6],
+    ),
+    (
+        4,
+        Some(2),
+        Some(-1),
+        Some(3),
+        &[b"L"],
+        &[5, 5, 6, 6, 6, 6, 6],
+    ),
+    (5, Some(4), Some(1), None, &[], &[6, 6, 6, 6, 6]),
+    (9, None, Some(-2), Some(3), &[b"K"], &[10, 10, 10]),
+];
+
+fn is_nest(rt: &(impl Abort + AllocGlobal), tree: &LoopTree<'_>) -> Result<(), AllocError> {
+    assert!(*rt; tree.count() == 4);
     let mut number: usize = 0;
-    for wanted in wanted {
+    for wanted in NESTED {
         number = number.wrapping_add(1);
         looks_as(rt, tree, &loop_of(rt, tree, number), wanted)?;
     }
     Ok(())
 }
 
+/// The loops of a program are those of [`NEST`].
+fn has_nest(rt: &(impl Abort + AllocGlobal), program: &Program) -> Result<(), AllocError> {
+    let tree = loops(rt.alloc(), program)?;
+    is_nest(rt, &tree)
+}
+
 #[test]
 fn nested_loops(rt: HostRuntime) -> Result<(), Fail> {
     let program = program(rt.alloc(), NEST)?;
-    is_nest(&rt, &loops(rt.alloc(), &program)?)
+    Ok(has_nest(&rt, &program)?)
+}
+
+/// The loops are right at once, or in a second call.
+fn has_nest_again(rt: &(impl Abort + AllocGlobal), program: &Program) -> Result<(), AllocError> {
+    if has_nest(rt, program).is_err() {
+        has_nest(rt, program).expect(rt, "there is memory");
+        return Err(AllocError);
+    }
+    Ok(())
 }
 
 #[test]
 fn want_of_memory_in_loops(rt: HostRuntime) -> Result<(), Fail> {
     let program = program(rt.alloc(), NEST)?;
-    match loops(rt.alloc(), &program) {
-        Ok(tree) => is_nest(&rt, &tree),
-        Err(error) => {
-            let again = loops(rt.alloc(), &program).expect(&rt, "there is memory");
-            is_nest(&rt, &again)?;
-            Err(error.into())
-        }
-    }
+    Ok(has_nest_again(&rt, &program)?)
 }
 
 fn joined(alloc: Global, parts: &[&[u8]]) -> Result<Vec<u8>, AllocError> {
@@ -186,20 +208,35 @@ fn of_one_element(alloc: Global, text: &[u8]) -> Result<Vec<u8>, AllocError> {
     )
 }
 
+/// Whether the element that a program's loop assigns has a subscript of this form.
+fn is_formed_in(
+    rt: &(impl Abort + AllocGlobal),
+    program: &Program,
+    wanted: Option<(i64, i64, &[i64])>,
+) -> Result<bool, AllocError> {
+    let tree = loops(rt.alloc(), program)?;
+    let view = loop_of(rt, &tree, 1);
+    Ok(is_formed(assigned_at(rt, &view), &view, wanted))
+}
+
+/// The program of a source.
+fn read(alloc: Global, source: &[u8]) -> Result<Program, Refusal> {
+    program(alloc, source)
+}
+
+/// The program of a source whose loop assigns an element of this subscript.
+fn with_one_element(alloc: Global, text: &[u8]) -> Result<Program, Refusal> {
+    read(alloc, &of_one_element(alloc, text)?)
+}
+
 /// A subscript has the form of this constant, coefficient and factors, or has none.
 fn has_form(
     rt: &(impl Abort + AllocGlobal),
     text: &[u8],
     wanted: Option<(i64, i64, &[i64])>,
 ) -> Result<(), Fail> {
-    let program = program(rt.alloc(), &of_one_element(rt.alloc(), text)?)?;
-    let tree = loops(rt.alloc(), &program)?;
-    assert!(rt; tree.count() == 1);
-    let view = tree.view(1);
-    assert!(rt;
-        is_formed(assigned_at(rt, &view), &view, wanted),
-        "{text:?}"
-    );
+    let program = with_one_element(rt.alloc(), text)?;
+    assert!(*rt; is_formed_in(rt, &program, wanted)?, "{text:?}");
     Ok(())
 }
 
@@ -316,6 +353,31 @@ fn of_two_elements(
     )
 }
 
+/// The program of a source whose loop assigns two elements.
+fn with_two_elements(alloc: Global, texts: (&[u8], &[u8], &[u8])) -> Result<Program, Refusal> {
+    read(alloc, &of_two_elements(alloc, texts)?)
+}
+
+/// The same of a loop.
+fn tried_in_loop(
+    rt: &(impl Abort + AllocGlobal),
+    view: &LoopView<'_, '_>,
+    claim: Relation,
+) -> Result<(Relation, bool), AllocError> {
+    let ids = elements(rt.alloc(), view, true)?;
+    Ok(judged(rt, view, &ids, claim))
+}
+
+/// The same of a program's loop.
+fn tried_in(
+    rt: &(impl Abort + AllocGlobal),
+    program: &Program,
+    claim: Relation,
+) -> Result<(Relation, bool), AllocError> {
+    let tree = loops(rt.alloc(), program)?;
+    tried_in_loop(rt, &loop_of(rt, &tree, 1), claim)
+}
+
 /// The relation of two elements that a loop's range assigns, and whether a claim of them is
 /// verified. The range assigns J too.
 fn tried(
@@ -323,12 +385,8 @@ fn tried(
     texts: (&[u8], &[u8], &[u8]),
     claim: Relation,
 ) -> Result<(Relation, bool), Fail> {
-    let program = program(rt.alloc(), &of_two_elements(rt.alloc(), texts)?)?;
-    let tree = loops(rt.alloc(), &program)?;
-    assert!(rt; tree.count() == 1);
-    let view = tree.view(1);
-    let ids = elements(rt.alloc(), &view, true)?;
-    Ok(judged(rt, &view, &ids, claim))
+    let program = with_two_elements(rt.alloc(), texts)?;
+    Ok(tried_in(rt, &program, claim)?)
 }
 
 const TEN_TRIPS: &[u8] = b"I=1,10";
@@ -514,19 +572,37 @@ fn claims_of_pairs(rt: HostRuntime) -> Result<(), Fail> {
 }
 
 /// The relation of the elements at two places among those of a loop's range.
+fn relation_at(
+    rt: &(impl Abort + AllocGlobal),
+    view: &LoopView<'_, '_>,
+    (first, second): (usize, usize),
+) -> Result<Relation, AllocError> {
+    let ids = elements(rt.alloc(), view, false)?;
+    assert!(*rt; first < ids.len());
+    assert!(*rt; second < ids.len());
+    Ok(relate(view, ids[first], ids[second]))
+}
+
+/// The same of the loop of a number.
+fn relation_of(
+    rt: &(impl Abort + AllocGlobal),
+    program: &Program,
+    number: usize,
+    places: (usize, usize),
+) -> Result<Relation, AllocError> {
+    let tree = loops(rt.alloc(), program)?;
+    relation_at(rt, &loop_of(rt, &tree, number), places)
+}
+
+/// The same of a source.
 fn relation_in(
     rt: &(impl Abort + AllocGlobal),
     source: &[u8],
     number: usize,
-    (first, second): (usize, usize),
+    places: (usize, usize),
 ) -> Result<Relation, Fail> {
-    let program = program(rt.alloc(), source)?;
-    let tree = loops(rt.alloc(), &program)?;
-    let view = loop_of(rt, &tree, number);
-    let ids = elements(rt.alloc(), &view, false)?;
-    assert!(rt; first < ids.len());
-    assert!(rt; second < ids.len());
-    Ok(relate(&view, ids[first], ids[second]))
+    let program = read(rt.alloc(), source)?;
+    Ok(relation_of(rt, &program, number, places)?)
 }
 
 const EVEN_AND_ODD: &[u8] = b"      INTEGER A(31)
@@ -602,18 +678,35 @@ fn relations_in_programs(rt: HostRuntime) -> Result<(), Fail> {
     relate_in_programs(&rt, &PLACED)
 }
 
-/// Looks for the names of a loop's private scalars.
+/// Whether names are these, in this order.
+fn are_these(names: &[Name], wanted: &[&[u8]]) -> bool {
+    for (name, wanted) in names.iter().zip(wanted) {
+        if name.trimmed() != *wanted {
+            return false;
+        }
+    }
+    names.len() == wanted.len()
+}
+
+/// Whether a loop has these private scalars.
 fn has_privates(
-    rt: &(impl Abort + AllocGlobal),
+    alloc: Global,
     view: &LoopView<'_, '_>,
     wanted: &[&[u8]],
-) -> Result<(), Fail> {
-    let found = private_scalars(rt.alloc(), view)?;
-    assert!(rt; found.names.len() == wanted.len(), "{wanted:?}");
-    for (name, wanted) in found.names.iter().zip(wanted) {
-        assert!(rt; name.trimmed() == *wanted);
-    }
-    Ok(())
+) -> Result<bool, AllocError> {
+    let found = private_scalars(alloc, view)?;
+    Ok(are_these(&found.names, wanted))
+}
+
+/// Whether the loop of a number has these private scalars.
+fn privates_of(
+    rt: &(impl Abort + AllocGlobal),
+    program: &Program,
+    number: usize,
+    wanted: &[&[u8]],
+) -> Result<bool, AllocError> {
+    let tree = loops(rt.alloc(), program)?;
+    has_privates(rt.alloc(), &loop_of(rt, &tree, number), wanted)
 }
 
 /// A loop in a program of these statements, by its number.
@@ -623,9 +716,9 @@ fn privates_in(
     number: usize,
     wanted: &[&[u8]],
 ) -> Result<(), Fail> {
-    let program = program(rt.alloc(), source)?;
-    let tree = loops(rt.alloc(), &program)?;
-    has_privates(rt, &loop_of(rt, &tree, number), wanted)
+    let program = read(rt.alloc(), source)?;
+    assert!(*rt; privates_of(rt, &program, number, wanted)?, "{wanted:?}");
+    Ok(())
 }
 
 /// K is assigned in an arm that not all paths go through.
@@ -747,21 +840,33 @@ fn private_scalars_of_loops(rt: HostRuntime) -> Result<(), Fail> {
 }
 
 /// The loop has two private scalars, at once or in a second call.
-fn has_two_privates(rt: &(impl Abort + AllocGlobal), view: &LoopView<'_, '_>) -> Result<(), Fail> {
-    match private_scalars(rt.alloc(), view) {
-        Ok(found) => assert!(*rt; found.names.len() == 2),
+fn has_two_privates(
+    rt: &(impl Abort + AllocGlobal),
+    view: &LoopView<'_, '_>,
+) -> Result<(), AllocError> {
+    match has_privates(rt.alloc(), view, &[b"K", b"L"]) {
+        Ok(has) => {
+            assert!(*rt; has);
+            Ok(())
+        }
         Err(error) => {
-            let again = private_scalars(rt.alloc(), view).expect(rt, "there is memory");
-            assert!(*rt; again.names.len() == 2);
-            return Err(error.into());
+            let again = has_privates(rt.alloc(), view, &[b"K", b"L"]);
+            assert!(*rt; again.expect(rt, "there is memory"));
+            Err(error)
         }
     }
-    Ok(())
+}
+
+fn program_has_two_privates(
+    rt: &(impl Abort + AllocGlobal),
+    program: &Program,
+) -> Result<(), AllocError> {
+    let tree = loops(rt.alloc(), program)?;
+    has_two_privates(rt, &loop_of(rt, &tree, 1))
 }
 
 #[test]
 fn want_of_memory_in_private_scalars(rt: HostRuntime) -> Result<(), Fail> {
-    let program = program(rt.alloc(), ARMS)?;
-    let tree = loops(rt.alloc(), &program)?;
-    has_two_privates(&rt, &loop_of(&rt, &tree, 1))
+    let program = read(rt.alloc(), ARMS)?;
+    Ok(program_has_two_privates(&rt, &program)?)
 }

@@ -1,7 +1,7 @@
 //! Plans of loops, and what is said of them where one thing is changed.
 
 use crate::overlap::loop_of;
-use ast::{Access, Expr, Kind, Line, Name, RefId, Reference, Stmt};
+use ast::{Access, Expr, Kind, Line, Name, Program, RefId, Reference, Refusal, Stmt};
 use dependence::{LoopPlan, PlanArm, PlanStmt, Reason, Relation, Relations};
 use loop_tree::{LoopView, ScalarSet, loops};
 use placement::plan;
@@ -224,6 +224,34 @@ fn refusal(
     }
 }
 
+/// A loop has this plan, and the plan is accepted.
+fn loop_is_planned(
+    rt: &(impl Abort + AllocGlobal),
+    view: &LoopView<'_, '_>,
+    wanted: Wanted<'_>,
+) -> Result<(), Fail> {
+    let found = plan(rt.alloc(), view)?;
+    looks_as(rt, &found, wanted)?;
+    assert!(*rt; refusal(rt, view, &found)? == ACCEPTED);
+    Ok(())
+}
+
+/// The same of the loop of a number.
+fn number_is_planned(
+    rt: &(impl Abort + AllocGlobal),
+    program: &Program,
+    number: usize,
+    wanted: Wanted<'_>,
+) -> Result<(), Fail> {
+    let tree = loops(rt.alloc(), program)?;
+    loop_is_planned(rt, &loop_of(rt, &tree, number), wanted)
+}
+
+/// The program of a source.
+fn read(alloc: Global, source: &[u8]) -> Result<Program, Refusal> {
+    program(alloc, source)
+}
+
 /// The loop of this number has this plan, and the plan is accepted.
 fn is_planned(
     rt: &(impl Abort + AllocGlobal),
@@ -231,13 +259,8 @@ fn is_planned(
     number: usize,
     wanted: Wanted<'_>,
 ) -> Result<(), Fail> {
-    let program = program(rt.alloc(), source)?;
-    let tree = loops(rt.alloc(), &program)?;
-    let view = loop_of(rt, &tree, number);
-    let found = plan(rt.alloc(), &view)?;
-    looks_as(rt, &found, wanted)?;
-    assert!(rt; refusal(rt, &view, &found)? == ACCEPTED);
-    Ok(())
+    let program = read(rt.alloc(), source)?;
+    number_is_planned(rt, &program, number, wanted)
 }
 
 /// A source, a loop's number, and what is wanted of its plan.
@@ -694,15 +717,42 @@ fn change_all(
     Ok(())
 }
 
+/// The parts of a loop's plan, which has a body.
+fn planned(rt: &(impl Abort + AllocGlobal), view: &LoopView<'_, '_>) -> Result<Parts, Fail> {
+    let found = plan(rt.alloc(), view)?;
+    parts_of(rt, found)
+}
+
+/// The number of the refusal of a plan of these parts; `None` where it is accepted.
+fn refusal_of_parts(
+    rt: &impl AllocGlobal,
+    view: &LoopView<'_, '_>,
+    parts: Parts,
+) -> Result<Option<u8>, Fail> {
+    let made = made_of(rt.alloc(), parts)?;
+    refusal(rt, view, &made)
+}
+
 /// The number of the refusal of a loop's plan with changes; `None` where it is accepted.
 fn refusal_with(
     rt: &(impl Abort + AllocGlobal),
     view: &LoopView<'_, '_>,
     changes: &[Change],
 ) -> Result<Option<u8>, Fail> {
-    let mut parts = parts_of(rt, plan(rt.alloc(), view)?)?;
+    let mut parts = planned(rt, view)?;
     change_all(rt, view, &mut parts, changes)?;
-    refusal(rt, view, &made_of(rt.alloc(), parts)?)
+    refusal_of_parts(rt, view, parts)
+}
+
+/// The same of a program's loop of this number.
+fn refusal_in(
+    rt: &(impl Abort + AllocGlobal),
+    program: &Program,
+    number: usize,
+    changes: &[Change],
+) -> Result<Option<u8>, Fail> {
+    let tree = loops(rt.alloc(), program)?;
+    refusal_with(rt, &loop_of(rt, &tree, number), changes)
 }
 
 /// The same of a source's loop of this number.
@@ -712,9 +762,8 @@ fn refusal_of_changed(
     number: usize,
     changes: &[Change],
 ) -> Result<Option<u8>, Fail> {
-    let program = program(rt.alloc(), source)?;
-    let tree = loops(rt.alloc(), &program)?;
-    refusal_with(rt, &loop_of(rt, &tree, number), changes)
+    let program = read(rt.alloc(), source)?;
+    refusal_in(rt, &program, number, changes)
 }
 
 /// A source, a loop's number, changes of its plan, and the number of the refusal, if there is one.
@@ -894,15 +943,24 @@ fn changed_plans(rt: HostRuntime) -> Result<(), Fail> {
     are_answered(&rt, &CHANGED)
 }
 
+/// The plan of a program's loop of this number.
+fn plan_in(
+    rt: &(impl Abort + AllocGlobal),
+    program: &Program,
+    number: usize,
+) -> Result<LoopPlan, AllocError> {
+    let tree = loops(rt.alloc(), program)?;
+    plan(rt.alloc(), &loop_of(rt, &tree, number))
+}
+
 /// The plan of the loop of this number.
 fn plan_of(
     rt: &(impl Abort + AllocGlobal),
     source: &[u8],
     number: usize,
 ) -> Result<LoopPlan, Fail> {
-    let program = program(rt.alloc(), source)?;
-    let tree = loops(rt.alloc(), &program)?;
-    Ok(plan(rt.alloc(), &loop_of(rt, &tree, number))?)
+    let program = read(rt.alloc(), source)?;
+    Ok(plan_in(rt, &program, number)?)
 }
 
 /// The number of the refusal of a loop's plan with the body of another plan.
@@ -911,9 +969,9 @@ fn refusal_with_body(
     view: &LoopView<'_, '_>,
     other: LoopPlan,
 ) -> Result<Option<u8>, Fail> {
-    let mut parts = parts_of(rt, plan(rt.alloc(), view)?)?;
+    let mut parts = planned(rt, view)?;
     parts.body = parts_of(rt, other)?.body;
-    refusal(rt, view, &made_of(rt.alloc(), parts)?)
+    refusal_of_parts(rt, view, parts)
 }
 
 /// Sources, each with a loop's number: no body of these loops' plans is one of this loop.
