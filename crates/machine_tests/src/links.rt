@@ -1,44 +1,61 @@
 //! Lists of slots.
 
+ghost use Rattle.std.specs.Prelude.{◌≡◌, ◌∷◌, []};
+
 use ready_list::{LAST, Links};
 use std::alloc::AllocError;
 use std::test::Fail;
 
-#[test]
-fn values_in_order(rt: HostRuntime) -> Result<(), Fail> {
-    let mut links = Links::new(rt.alloc(), 5, 3)?;
+/// Slots that go into two of three empty lists come out in turn, and by value.
+fn come_by_value(links: &mut Links) -> bool
+    requires { links.old ≡ record { slots = 5; lists = [] ∷ [] ∷ [] ∷ [] } }
+{
     links.push_back(0, 4);
     links.push_back(0, 1);
     links.insert_by_value(1, 0, 7);
     links.insert_by_value(1, 2, 3);
     links.insert_by_value(1, 3, 7);
-    assert!(rt; links.pop_front(0) == Some(4));
-    assert!(rt; links.pop_front(0) == Some(1));
-    assert!(rt; links.pop_front(0) == None);
-    assert!(rt; links.pop_front(1) == Some(2));
-    assert!(rt; links.pop_front(1) == Some(0));
-    assert!(rt; links.pop_front(1) == Some(3));
-    assert!(rt; links.pop_front(1) == None);
+    let in_turn = [links.pop_front(0), links.pop_front(0), links.pop_front(0)];
+    let by_value = [
+        links.pop_front(1),
+        links.pop_front(1),
+        links.pop_front(1),
+        links.pop_front(1),
+    ];
+    in_turn == [Some(4), Some(1), None] && by_value == [Some(2), Some(0), Some(3), None]
+}
+
+#[test]
+fn values_in_order(rt: HostRuntime) -> Result<(), Fail> {
+    let mut links = Links::new(rt.alloc(), 5, 3)?;
+    assert!(rt; come_by_value(&mut links));
     Ok(())
+}
+
+/// The same slots, of which one is taken out of the midst of its list.
+fn come_without_one(links: &mut Links) -> bool
+    requires { links.old ≡ record { slots = 5; lists = [] ∷ [] ∷ [] ∷ [] } }
+{
+    links.push_back(0, 4);
+    links.push_back(0, 1);
+    links.insert_by_value(1, 0, 7);
+    links.insert_by_value(1, 2, 3);
+    links.insert_by_value(1, 3, 7);
+    let places = [links.place_of(0), links.place_of(4)];
+    links.remove(0);
+    let fronts = [links.front(0), links.front(1)];
+    let is_in = links.is_in(0);
+    let by_value = [links.pop_front(1), links.pop_front(1), links.pop_front(1)];
+    places == [Some(1), Some(0)]
+        && fronts == [Some((4, LAST)), Some((2, 3))]
+        && !is_in
+        && by_value == [Some(2), Some(3), None]
 }
 
 #[test]
 fn calls_in_order(rt: HostRuntime) -> Result<(), Fail> {
     let mut links = Links::new(rt.alloc(), 5, 3)?;
-    links.push_back(0, 4);
-    links.push_back(0, 1);
-    links.insert_by_value(1, 0, 7);
-    links.insert_by_value(1, 2, 3);
-    links.insert_by_value(1, 3, 7);
-    assert!(rt; links.place_of(0) == Some(1));
-    links.remove(0);
-    assert!(rt; links.front(1) == Some((2, 3)));
-    assert!(rt; !links.is_in(0));
-    assert!(rt; links.pop_front(1) == Some(2));
-    assert!(rt; links.place_of(4) == Some(0));
-    assert!(rt; links.front(0) == Some((4, LAST)));
-    assert!(rt; links.pop_front(1) == Some(3));
-    assert!(rt; links.pop_front(1) == None);
+    assert!(rt; come_without_one(&mut links));
     Ok(())
 }
 
