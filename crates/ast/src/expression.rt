@@ -7,11 +7,11 @@ use crate::name::Name;
 use std::alloc::{AllocError, Global};
 
 /// A reference's number: a program's references are numbered from 0 in order of evaluation.
-#[derive(Clone, Copy, Debug, PartialEq, Eq)]
+#[derive(Clone, Copy, PartialEq, Eq)]
 pub struct RefId(pub usize);
 
 /// A place of a program where a variable is read or assigned.
-#[derive(Clone, Copy, Debug, PartialEq, Eq)]
+#[derive(Clone, Copy, PartialEq, Eq)]
 pub struct Reference {
     /// The variable's name.
     pub name: Name,
@@ -22,7 +22,7 @@ pub struct Reference {
 }
 
 /// What stands before one operand.
-#[derive(Clone, Copy, Debug, PartialEq, Eq)]
+#[derive(Clone, Copy, PartialEq, Eq)]
 pub enum Prefix {
     Plus,
     Minus,
@@ -30,7 +30,7 @@ pub enum Prefix {
 }
 
 /// An operator between two operands.
-#[derive(Clone, Copy, Debug, PartialEq, Eq)]
+#[derive(Clone, Copy, PartialEq, Eq)]
 pub enum Operator {
     Add,
     Subtract,
@@ -49,7 +49,7 @@ pub enum Operator {
 }
 
 /// An intrinsic function, by its name.
-#[derive(Clone, Copy, Debug, PartialEq, Eq)]
+#[derive(Clone, Copy, PartialEq, Eq)]
 pub enum Intrinsic {
     Abs,
     Iabs,

@@ -3,7 +3,7 @@
 use crate::statement::Line;
 
 /// What stops a run before its end.
-#[derive(Clone, Copy, Debug, PartialEq, Eq)]
+#[derive(Clone, Copy, PartialEq, Eq)]
 pub enum Fault {
     /// A result outside the 64-bit integers.
     Overflow,
@@ -20,7 +20,7 @@ pub enum Fault {
 }
 
 /// How a run ended.
-#[derive(Clone, Copy, Debug, PartialEq, Eq)]
+#[derive(Clone, Copy, PartialEq, Eq)]
 pub enum End {
     /// It came to END.
     Done,

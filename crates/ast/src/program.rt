@@ -15,7 +15,7 @@ use crate::tree::{Node, copy_of_body};
 use std::alloc::{AllocError, Global};
 
 /// A dimension of an array: its bounds, the lower one not above the upper.
-#[derive(Clone, Copy, Debug, PartialEq, Eq)]
+#[derive(Clone, Copy, PartialEq, Eq)]
 pub struct Dimension {
     pub lower: i64,
     pub upper: i64,

@@ -10,7 +10,7 @@ use crate::instr::{Act, Axis, Instr};
 use ast::{Operator, Prefix};
 
 /// What an instruction is made of: the number of its form, and what it has besides.
-#[derive(Clone, Copy, Debug)]
+#[derive(Clone, Copy)]
 struct Written {
     form: u8,
     number: i64,

@@ -11,7 +11,7 @@ use smallvec::SmallVec;
 use std::alloc::{AllocError, Global};
 
 /// A serial loop under way: the trips that it has left, and its step.
-#[derive(Clone, Copy, Debug, Default, PartialEq, Eq)]
+#[derive(Clone, Copy, Default, PartialEq, Eq)]
 pub struct Counter {
     pub left: u128,
     pub step: i64,

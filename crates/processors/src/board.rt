@@ -29,7 +29,7 @@ const LONG: u64 = 4096;
 const SHORT: u64 = 512;
 
 /// How a run stands.
-#[derive(Clone, Copy, Debug, PartialEq, Eq)]
+#[derive(Clone, Copy, PartialEq, Eq)]
 pub enum Standing {
     Going,
     /// A processor has found no memory.
@@ -41,7 +41,7 @@ pub enum Standing {
 }
 
 /// What a processor does next.
-#[derive(Clone, Copy, Debug, PartialEq, Eq)]
+#[derive(Clone, Copy, PartialEq, Eq)]
 pub enum Next {
     /// Its thread ends.
     Leave,

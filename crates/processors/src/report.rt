@@ -4,7 +4,7 @@ use ast::Answer;
 use replay::{Schedule, Tally};
 
 /// What one processor of a run did.
-#[derive(Clone, Copy, Debug, Default, PartialEq, Eq)]
+#[derive(Clone, Copy, Default, PartialEq, Eq)]
 pub struct Effort {
     /// How many steps it made, each local instruction, pick and other shared step being one.
     pub steps: u64,

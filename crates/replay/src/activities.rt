@@ -12,7 +12,7 @@ use machine::{Code, Frame};
 use std::alloc::{AllocError, Global};
 
 /// The activity that a processor holds.
-#[derive(Clone, Copy, Debug, PartialEq, Eq)]
+#[derive(Clone, Copy, PartialEq, Eq)]
 pub enum Holder {
     Main,
     /// The iteration of this number, which stood in this place when it was taken up.
@@ -20,7 +20,7 @@ pub enum Holder {
 }
 
 /// What a processor that holds nothing may take up.
-#[derive(Clone, Copy, Debug, PartialEq, Eq)]
+#[derive(Clone, Copy, PartialEq, Eq)]
 pub enum Choice {
     /// Main, where it is parked and what it waits for has been reached.
     Main,

@@ -1,7 +1,7 @@
 //! Entries of schedules.
 
 /// Whether a schedule names what a processor picks.
-#[derive(Clone, Copy, Debug, PartialEq, Eq)]
+#[derive(Clone, Copy, PartialEq, Eq)]
 pub enum Version {
     /// A shared step of an idle processor picks by the rule: what became ready first, and a ticket
     /// only where nothing is ready.
@@ -11,7 +11,7 @@ pub enum Version {
 }
 
 /// What a processor does.
-#[derive(Clone, Copy, Debug, PartialEq, Eq)]
+#[derive(Clone, Copy, PartialEq, Eq)]
 pub enum Act {
     /// So many local instructions, from 1 to 1,024, of the activity that it holds.
     Work(u16),
@@ -26,7 +26,7 @@ pub enum Act {
 }
 
 /// What one of the processors does. They are numbered from 0.
-#[derive(Clone, Copy, Debug, PartialEq, Eq)]
+#[derive(Clone, Copy, PartialEq, Eq)]
 pub struct Entry {
     pub processor: u8,
     pub act: Act,

@@ -6,7 +6,7 @@ use ec_kernel::Kernel;
 use machine::{Frame, Open};
 
 /// What a parked activity waits for.
-#[derive(Clone, Copy, Debug, PartialEq, Eq)]
+#[derive(Clone, Copy, PartialEq, Eq)]
 pub enum Until {
     /// That the count of an event reaches a value.
     Count { event: u32, value: u128 },

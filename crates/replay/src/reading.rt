@@ -18,7 +18,7 @@ pub const MOST_SLOTS: u16 = 256;
 pub const LONGEST_BURST: u16 = 1024;
 
 /// Why a line is no entry.
-#[derive(Clone, Copy, Debug, PartialEq, Eq)]
+#[derive(Clone, Copy, PartialEq, Eq)]
 pub enum NoEntry {
     /// It has not the form of one.
     Form,

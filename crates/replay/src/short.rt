@@ -3,7 +3,7 @@
 use crate::entry::{Act, Entry};
 
 /// An entry in four bytes. The number of an iteration that is picked is kept beside.
-#[derive(Clone, Copy, Debug, PartialEq, Eq)]
+#[derive(Clone, Copy, PartialEq, Eq)]
 pub enum Short {
     Work { processor: u8, count: u16 },
     Share { processor: u8 },

@@ -3,7 +3,7 @@
 use std::alloc::AllocError;
 
 /// What a processor did.
-#[derive(Clone, Copy, Debug, PartialEq, Eq)]
+#[derive(Clone, Copy, PartialEq, Eq)]
 pub enum Stepped {
     /// A step, and the number of the iteration where it took a ticket.
     Went(Option<u128>),
@@ -34,7 +34,7 @@ pub enum CoreRefusal {
 }
 
 /// How many steps were made, and how many of them parked an activity or took up a parked one.
-#[derive(Clone, Copy, Debug, PartialEq, Eq)]
+#[derive(Clone, Copy, PartialEq, Eq)]
 pub struct Tally {
     pub made: u128,
     pub again: u128,

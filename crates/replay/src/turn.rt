@@ -22,7 +22,7 @@ use machine::{Code, Frame, Next, Piece, Scalar};
 use std::alloc::AllocError;
 
 /// What a step of an activity came to.
-#[derive(Clone, Copy, Debug, PartialEq, Eq)]
+#[derive(Clone, Copy, PartialEq, Eq)]
 pub enum Outcome {
     /// The activity goes on.
     Stays,

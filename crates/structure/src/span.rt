@@ -2,7 +2,7 @@
 
 /// Where a DO range or an IF block stands: the places of its first and its last statement, statements
 /// numbered from 0.
-#[derive(Clone, Copy, Debug, PartialEq, Eq)]
+#[derive(Clone, Copy, PartialEq, Eq)]
 pub struct Span {
     pub first: usize,
     pub last: usize,
