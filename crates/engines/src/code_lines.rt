@@ -1,6 +1,7 @@
 //! The lines of a program's code.
 
-ghost use Rattle.std.specs.Prelude.{◌≡◌, ◌++◌, ◌∷◌, [], IfOk, OnOk, decimal, map, slice_get};
+ghost use Rattle.std.specs.Prelude.{◌≡◌, ◌++◌, ◌∷◌, [], IfOk, OnOk, codes, decimal, map, slice_get};
+ghost use Rattle.std.specs.Fmt.{signed_decimal};
 ghost use Rattle.machine.specs.CodeView.{code_of, loop_of, part};
 ghost use Rattle.machine.specs.Next.{is_own};
 ghost use Rattle.engines.specs.CodeLines as spec;
@@ -12,8 +13,8 @@ use machine::{Act, Await, Axis, Code, Instr, Loop, Piece, Variable};
 use std::alloc::{AllocError, Global};
 
 /// Whether an instruction touches nothing but the frame.
-fn is_local(act: &Act) -> bool
-    ensures { result ≡ is_own act.now }
+fn is_local(act: Act) -> bool
+    ensures { result ≡ is_own act }
 {
     match act {
         Act::Load(_)
@@ -72,8 +73,8 @@ fn prefix_word(prefix: Prefix) -> &'static [u8]
     }
 }
 
-fn act_word(act: &Act) -> &'static [u8]
-    ensures { result.now ≡ spec.act_word act.now }
+fn act_word(act: Act) -> &'static [u8]
+    ensures { result.now ≡ spec.act_word act }
 {
     match act {
         Act::Constant(_) => b"Constant",
@@ -225,19 +226,26 @@ fn append_record(out: &mut Vec<u8>, code: &Code, number: u32) -> Result<(), Allo
 }
 
 /// The upper bound of a subscript.
-fn upper_bound(axis: &Axis) -> i128
-    ensures { result ≡ spec.upper_bound axis.now }
+fn upper_bound(axis: Axis) -> i128
+    ensures { result ≡ spec.upper_bound axis }
 {
     axis.lower as i128 + axis.width as i128 - 1
 }
 
-/// Appends the bounds of a subscript, and how many elements lie between two neighbours by it.
-fn append_axis(out: &mut Vec<u8>, axis: &Axis) -> Result<(), AllocError>
-    ensures { OnOk result (out.new.items ≡ out.old.items ++ spec.axis_words axis.now) }
+/// Appends two bounds.
+fn append_bounds(out: &mut Vec<u8>, lower: i64, upper: i128) -> Result<(), AllocError>
+    ensures { OnOk result (out.new.items ≡ out.old.items ++ signed_decimal lower ++ codes ".." ++ signed_decimal upper) }
 {
-    append_number(out, axis.lower)?;
+    append_number(out, lower)?;
     out.extend_from_slice(b"..")?;
-    append_number(out, upper_bound(axis))?;
+    append_number(out, upper)
+}
+
+/// Appends the bounds of a subscript, and how many elements lie between two neighbours by it.
+fn append_axis(out: &mut Vec<u8>, axis: Axis) -> Result<(), AllocError>
+    ensures { OnOk result (out.new.items ≡ out.old.items ++ spec.axis_words axis) }
+{
+    append_bounds(out, axis.lower, upper_bound(axis))?;
     out.extend_from_slice(b" BY ")?;
     append_number(out, axis.stride)
 }
@@ -275,38 +283,33 @@ fn append_word(out: &mut Vec<u8>, word: &[u8]) -> Result<(), AllocError>
 }
 
 /// Appends what an instruction at a place works on.
-fn append_operands(
-    out: &mut Vec<u8>,
-    code: &Code,
-    place: usize,
-    act: &Act,
-) -> Result<(), AllocError>
-    ensures { OnOk result (out.new.items ≡ out.old.items ++ spec.act_operands (code_of code.now) place act.now) }
+fn append_operands(out: &mut Vec<u8>, code: &Code, place: usize, act: Act) -> Result<(), AllocError>
+    ensures { OnOk result (out.new.items ≡ out.old.items ++ spec.act_operands (code_of code.now) place act) }
 {
     match act {
         Act::Constant(n) => {
             out.push(b' ')?;
-            append_number(out, *n)
+            append_number(out, n)
         }
-        Act::Private(k) | Act::SetPrivate(k) => append_private(out, code, place, *k),
-        Act::Binary(operator) => append_word(out, operator_word(*operator)),
-        Act::Unary(prefix) => append_word(out, prefix_word(*prefix)),
+        Act::Private(k) | Act::SetPrivate(k) => append_private(out, code, place, k),
+        Act::Binary(operator) => append_word(out, operator_word(operator)),
+        Act::Unary(prefix) => append_word(out, prefix_word(prefix)),
         Act::Check(k, axis) => {
-            append_plain(out, *k)?;
+            append_plain(out, k)?;
             out.push(b' ')?;
             append_axis(out, axis)
         }
-        Act::Skip(n) | Act::SkipUnless(n) | Act::CountDown(n) => append_forward(out, place, *n),
-        Act::Back(n) => append_back(out, place, *n),
+        Act::Skip(n) | Act::SkipUnless(n) | Act::CountDown(n) => append_forward(out, place, n),
+        Act::Back(n) => append_back(out, place, n),
         Act::Load(x) | Act::LoadElement(x) | Act::Store(x) | Act::StoreElement(x) => {
-            append_named(out, code, *x)
+            append_named(out, code, x)
         }
-        Act::Print(r) => append_record(out, code, *r),
+        Act::Print(r) => append_record(out, code, r),
         Act::Await(a) => {
             out.push(b' ')?;
-            append_await(out, &code.awaits, *a as usize)
+            append_await(out, &code.awaits, a as usize)
         }
-        Act::Advance(n) | Act::Open(n) | Act::Retire(n) => append_plain(out, *n),
+        Act::Advance(n) | Act::Open(n) | Act::Retire(n) => append_plain(out, n),
         _ => Ok(()),
     }
 }
@@ -321,9 +324,9 @@ fn append_instr(
     ensures { OnOk result (out.new.items ≡ out.old.items ++ spec.instr_line (code_of code.now) place instr.now) }
 {
     append_number(out, place)?;
-    out.extend_from_slice(sort_word(is_local(&instr.act)))?;
-    out.extend_from_slice(act_word(&instr.act))?;
-    append_operands(out, code, place, &instr.act)?;
+    out.extend_from_slice(sort_word(is_local(instr.act)))?;
+    out.extend_from_slice(act_word(instr.act))?;
+    append_operands(out, code, place, instr.act)?;
     append_line(out, instr.line)
 }
 

@@ -1,6 +1,7 @@
 //! The lines of a store.
 
-ghost use Rattle.std.specs.Prelude.{◌≡◌, ◌++◌, ◌<◌, ◌≤◌, ◌+ℤ◌, pos, int_lt, false, true, not, map, OnOk};
+ghost use Rattle.std.specs.Prelude.{◌≡◌, ◌++◌, ◌<◌, ◌≤◌, ◌+ℤ◌, ◌%◌, pos, int_lt, false, true, not, map, OnOk};
+ghost use Rattle.std.specs.Fmt.{signed_decimal};
 ghost use Rattle.std.specs.List.{list_all};
 ghost use Rattle.ast.specs.Symbols.{elements, most_elements, width};
 ghost use Rattle.ast.specs.View.{extent};
@@ -23,6 +24,20 @@ fn subscript(lower: i64, upper: i64, distance: usize) -> i64
     lower + distance as i64
 }
 
+/// Appends the subscript by one dimension of a place.
+fn append_subscript(
+    out: &mut Vec<u8>,
+    dimension: &Dimension,
+    place: usize,
+) -> Result<(), AllocError>
+    requires open { int_lt dimension.now.upper dimension.now.lower ≡ false }
+    requires few { width (extent dimension.now) ≤ most_elements }
+    ensures { OnOk result (out.new.items ≡ out.old.items ++ signed_decimal (dimension.now.lower +ℤ pos (place % width (extent dimension.now)))) }
+{
+    let distance = place % dimension.width();
+    append_number(out, subscript(dimension.lower, dimension.upper, distance))
+}
+
 /// Appends the subscripts of a place behind the first, and the parenthesis that closes them.
 #[tactic(auto, using(ast::proofs::Sizes::fewer, ast::proofs::Sizes::narrow_first))]
 fn append_further(
@@ -37,13 +52,9 @@ fn append_further(
     match dimensions {
         [] => Ok(out.push(b')')?),
         [dimension, others @ ..] => {
-            let width = dimension.width();
             out.push(b',')?;
-            append_number(
-                out,
-                subscript(dimension.lower, dimension.upper, place % width),
-            )?;
-            append_further(out, others, place / width)
+            append_subscript(out, dimension, place)?;
+            append_further(out, others, place / dimension.width())
         }
     }
 }
@@ -62,13 +73,9 @@ fn append_subscripts(
     match dimensions {
         [] => Ok(()),
         [dimension, others @ ..] => {
-            let width = dimension.width();
             out.push(b'(')?;
-            append_number(
-                out,
-                subscript(dimension.lower, dimension.upper, place % width),
-            )?;
-            append_further(out, others, place / width)
+            append_subscript(out, dimension, place)?;
+            append_further(out, others, place / dimension.width())
         }
     }
 }
