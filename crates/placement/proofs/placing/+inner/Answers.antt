@@ -1,4 +1,5 @@
-use Rattle.std.proofs.Common.{◌∙◌, map}
+use Rattle.std.proofs.Common.{arith, ◌∙◌, map}
+use Rattle.std.proofs.lemmas.Grind.{common_steps}
 use Rattle.ast.specs.Tree.{arms}
 use Rattle.ast.specs.View.{arm, block_view, head}
 use Rattle.dependence.specs.PlanView.{arm_view, plan_node}
@@ -15,3 +16,6 @@ pub inner_choice-returns : goal.inner_choice-returns
 inner_choice-returns t c =
     c.made_choice.ensures
     ∙ listings.inner_choice c.args.spots.now.sources.items (awaited c.args.spots.now) c.args.statement c.in_ok-first.first (arms (map arm c.args.arms.now)) (map arm_view c.in_ok-placed.placed.items) c.in_ok-first.ensures c.in_ok-placed.ensures
+
+pub inner_range-loop-node-preserved : goal.inner_range-loop-node-preserved
+inner_range-loop-node-preserved t c = grind (arith, common_steps)

@@ -1,4 +1,5 @@
-use Rattle.std.proofs.Common.{◌∙◌, ap, map}
+use Rattle.std.proofs.Common.{arith, ◌∙◌, ap, map}
+use Rattle.std.proofs.lemmas.Grind.{common_steps}
 use Rattle.std.specs.Prelude.{◌+◌}
 use Rattle.ast.specs.Tree.{arms}
 use Rattle.ast.specs.View.{arm}
@@ -11,3 +12,6 @@ pub placed_choice-returns : goal.placed_choice-returns
 placed_choice-returns t c =
     c.made_choice.ensures
     ∙ listings.placed_choice c.args.spots.now.sources.items (awaited c.args.spots.now) c.args.statement c.in_ok-first.first c.in_ok-behind.behind (arms (map arm c.args.arms.now)) (map arm_view c.in_ok-placed.placed.items) (nodes_of (λ v. map plan_node v.items) c.in_ok-made.made) c.in_ok-first.ensures (c.in_ok-behind.ensures ∙ ap (λ n. c.in_ok-first.first + n) c.in_ok-size.ensures) c.in_ok-placed.ensures c.in_ok-made.ensures
+
+pub open_range-loop-node-preserved : goal.open_range-loop-node-preserved
+open_range-loop-node-preserved t c = grind (arith, common_steps)
