@@ -1,5 +1,6 @@
 pub mod Acceptance
 pub mod Analysing
+pub mod Appended
 pub mod Around
 pub mod Awaiting
 pub mod Cells
