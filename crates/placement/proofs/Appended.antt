@@ -54,11 +54,13 @@ one_arm old new s a rest target e f w =
     ∙ append_assoc (map arm_view old) (a ∷ []) rest
     ∙ w
 
+pub body_of : (a : Arm) → (arm_of a).body ≡ block_view a.body.items
+body_of a = ap (λ (b : tree.Arm). b.body) (fold_out-Arm tree.Node tree.Arm view.node_step view.arm_step a) ∙ search rules
+
 -- the number behind an arm
 behind : (a : Arm) (ns : List Node) (o n m : ℕ) → a.body.items ≡ ns → n ≡ block_size (block_view ns) → m ≡ o + n → m ≡ o + block_size (arm_of a).body
 behind a ns o n m e f g =
-    let body : (arm_of a).body ≡ block_view a.body.items = ap (λ (b : tree.Arm). b.body) (fold_out-Arm tree.Node tree.Arm view.node_step view.arm_step a) ∙ search rules in
-    g ∙ ap (λ (k : ℕ). o + k) (f ∙ ap (λ (b : Block). block_size b) (ap block_view (sym e) ∙ sym body))
+    g ∙ ap (λ (k : ℕ). o + k) (f ∙ ap (λ (b : Block). block_size b) (ap block_view (sym e) ∙ sym (body_of a)))
 
 module _ (sources : List ℕ) (before : ℕ → List (ℕ × ℕ)) where
   pub inner_next : (old new : List PlanArm) (s : PlanArm) (xs : List Arm) (i : ℕ) (a : Arm) (ns : List Node) (o n m : ℕ) (target : List ArmOf) → i < length xs → a ≡ get_or xs i a → a.body.items ≡ ns → new ≡ old ++ s ∷ []

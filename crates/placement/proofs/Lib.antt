@@ -24,6 +24,7 @@ pub mod Naming
 pub mod Opening
 pub mod Ordering
 pub mod Outside
+pub mod Passed
 pub mod Positive
 pub mod Privates
 pub mod Pushing
