@@ -1,7 +1,7 @@
 -- Awaits and advances behind other statements, and what is left of arms.
-use Rattle.std.proofs.Common.{◌≡◌, ◌∙◌, ◌+◌, ◌<◌, ℕ, Bool, List, [], ◌∷◌, ◌++◌, append_assoc, length, map, drop, get_or, rules, sym, ap}
+use Rattle.std.proofs.Common.{◌≡◌, ◌∙◌, ◌+◌, ◌<◌, ℕ, Bool, List, [], ◌∷◌, ◌++◌, append_assoc, length, map, drop, get_or, arith, rules, sym, ap}
 use Rattle.std.specs.Prelude.{◌&&◌}
-use Rattle.std.proofs.lemmas.List.{drop_more, map-append}
+use Rattle.std.proofs.lemmas.List.{drop_more, length-append, map-append}
 use Rattle.ast.specs.Tree as tree
 use Rattle.ast.specs.Tree.{Arms, Block, then_arm, arms}
 use Rattle.ast.specs.View as view
@@ -14,7 +14,8 @@ use Rattle.dependence.specs.declared.plan.PlanArm.{PlanArm}
 use Rattle.dependence.specs.declared.plan.PlanStmt.{PlanStmt, PlanStmt-F, fold-roll-PlanStmt}
 use Rattle.dependence.specs.declared.plan.PlanStmt.TheVariants.{Advance, Await, rolls-Advance, rolls-Await}
 use Rattle.placement.specs.Listed.{advance_nodes_of, await_nodes, inner_arm, inner_listed_arms, is_some, listed_arm, listed_arms}
-use Rattle.placement.specs.Placing.{block_size}
+use Rattle.loop_tree.specs.Occurrences.{arms_lines, block_lines}
+use Rattle.placement.specs.Placing.{arms_size, block_size}
 
 await_is : (e d : ℕ) → plan_node (Await e d) ≡ awaits e d
 await_is e d = ap plan_node (sym (rolls-Await e d)) ∙ fold-roll-PlanStmt PlanNode ArmOf node_step arm_step (PlanStmt-F.Await e d)
@@ -61,6 +62,15 @@ body_of a = ap (λ (b : tree.Arm). b.body) (fold_out-Arm tree.Node tree.Arm view
 behind : (a : Arm) (ns : List Node) (o n m : ℕ) → a.body.items ≡ ns → n ≡ block_size (block_view ns) → m ≡ o + n → m ≡ o + block_size (arm_of a).body
 behind a ns o n m e f g =
     g ∙ ap (λ (k : ℕ). o + k) (f ∙ ap (λ (b : Block). block_size b) (ap block_view (sym e) ∙ sym (body_of a)))
+
+-- one arm's statements more are counted
+pub counted_next : (xs : List Arm) (i : ℕ) (a : Arm) (ns : List Node) (o n m target : ℕ) → i < length xs → a ≡ get_or xs i a → a.body.items ≡ ns → n ≡ block_size (block_view ns) → m ≡ o + n → o + arms_size (arms (map arm_of (drop i xs))) ≡ target → m + arms_size (arms (map arm_of (drop (i + 1) xs))) ≡ target
+counted_next xs i a ns o n m target l e b f g w =
+    let others = arms (map arm_of (drop (i + 1) xs)) in
+    let next = behind a ns o n m b f g in
+    let sizes = length-append (block_lines (arm_of a).body) (arms_lines others) in
+    let here = ap (λ (x : Arms). o + arms_size x) (sym (arm_here xs i a l e)) ∙ w in
+    omega (arith, next, sizes, here)
 
 module _ (sources : List ℕ) (before : ℕ → List (ℕ × ℕ)) where
   pub inner_next : (old new : List PlanArm) (s : PlanArm) (xs : List Arm) (i : ℕ) (a : Arm) (ns : List Node) (o n m : ℕ) (target : List ArmOf) → i < length xs → a ≡ get_or xs i a → a.body.items ≡ ns → new ≡ old ++ s ∷ []
