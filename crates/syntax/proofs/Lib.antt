@@ -6,3 +6,4 @@ pub mod Squeezing
 pub mod StatementComplete
 pub mod StatementNumbered
 pub mod StatementSound
+pub mod Turns
