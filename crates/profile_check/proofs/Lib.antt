@@ -32,5 +32,6 @@ pub mod Tables
 pub mod Texts
 pub mod Turns
 pub mod Unique
+pub mod Walks
 pub mod Weights
 pub mod WholeText

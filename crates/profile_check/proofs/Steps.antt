@@ -1,5 +1,6 @@
 -- One statement more, as the check's loop meets it; and what its answer says of a whole program.
-use Rattle.std.proofs.Common.{◌≡◌, ℕ, ◌+◌, ◌<◌, List, [], ◌∷◌, ap, ◌∙◌, sym, subst, map, length, get_or, drop, add-one, drop-cons, Option, Result, Ok, Err, IfOk, IfErr, suc}
+use Rattle.std.proofs.Common.{◌≡◌, ℕ, ◌+◌, ◌<◌, ◌≤◌, List, [], ◌∷◌, ap, ◌∙◌, sym, subst, map, length, get_or, drop, add-one, drop-cons, Option, None, Result, Ok, Err, IfOk, IfErr, suc}
+use Rattle.std.proofs.lemmas.List.{drop_all}
 use Rattle.std.specs.Result.{IsErrAnd}
 use Rattle.ast.specs.Answers.{Break, Gives, Fails, Says}
 use Rattle.ast.specs.Tree.{Statement}
@@ -21,6 +22,22 @@ pub next-statement : (typed : List (List ℕ)) (b : Before) (stmts : List Stmt) 
     → checked typed b (map statement (drop i stmts))
     ≡ going_on (rule_by typed b (statement y)) (statement y) (checked typed (and_one b (statement y)) (map statement (drop (i + 1) stmts)))
 next-statement typed b stmts i y h e = ap (λ ss. checked typed b (map statement ss)) (cons_at stmts i y h e)
+
+-- a statement that breaks no rule is one of those before
+pub passed : (typed : List (List ℕ)) (old new : Before) (stmts : List Stmt) (i : ℕ) (y : Stmt) (meant : Result Declared Break) → i < length stmts → y ≡ get_or stmts i y
+    → new ≡ and_one old (statement y) → rule_by typed old (statement y) ≡ None → checked typed old (map statement (drop i stmts)) ≡ meant
+    → checked typed new (map statement (drop (i + 1) stmts)) ≡ meant
+passed typed old new stmts i y meant h e more free same =
+    let others = map statement (drop (i + 1) stmts) in
+    ap (λ (b : Before). checked typed b others) more
+    ∙ ap (λ (rule : Option ℕ). going_on rule (statement y) (checked typed (and_one old (statement y)) others)) (sym free)
+    ∙ sym (next-statement typed old stmts i y h e)
+    ∙ same
+
+-- nothing is left
+pub all-passed : (typed : List (List ℕ)) (b : Before) (stmts : List Stmt) (i : ℕ) (meant : Result Declared Break) → length stmts ≤ i
+    → checked typed b (map statement (drop i stmts)) ≡ meant → Ok b.declared ≡ meant
+all-passed typed b stmts i meant h same = ap (λ (ys : List Stmt). checked typed b (map statement ys)) (sym (drop_all i stmts h)) ∙ same
 
 rule-found : (e : Refusal) (s : Statement) (rule : Option ℕ) (later : Result Declared Break) → IsRuleOf e s rule → Fails e (going_on rule s later)
 rule-found Memory s rule later h = tt

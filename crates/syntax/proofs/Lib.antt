@@ -2,6 +2,7 @@ pub mod DoTexts
 pub mod Labels
 pub mod Public
 pub mod Rest
+pub mod Shallow
 pub mod Squeezing
 pub mod StatementComplete
 pub mod StatementNumbered
