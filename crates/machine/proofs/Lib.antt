@@ -9,3 +9,4 @@ pub mod Equal
 pub mod Lying
 pub mod Naming
 pub mod Telling
+pub mod Forms
