@@ -1,6 +1,7 @@
 use Rattle.std.proofs.Common.{arith, ap, length}
 use Rattle.machine.specs.CodeView.{code_of}
 use Rattle.machine.proofs.Naming.{cells_below}
+use Rattle.std.proofs.lemmas.Grind.{common_steps}
 use Rattle.replay.proofs.main_turn.main_turn.Goals as goal
 
 pub load-requires-clause-cell : goal.load-requires-clause-cell
@@ -15,3 +16,6 @@ store-requires-clause-cell c =
 
 pub returns-in-Opens-clause-ok : goal.returns-in-Opens-clause-ok
 returns-in-Opens-clause-ok c xs hs h = rw c.in-Opens.is (c.open.ensures.after (code_of c.args.code.now) xs hs h)
+
+pub returns-in-Store-clause-ok : goal.returns-in-Store-clause-ok
+returns-in-Store-clause-ok c = grind (arith, common_steps)

@@ -1,5 +1,7 @@
+use Rattle.std.proofs.Common.{arith}
 use Rattle.replay.specs.Activities.{who}
 use Rattle.replay.proofs.Recorded.{share_more, share_none}
+use Rattle.std.proofs.lemmas.Grind.{common_steps}
 use Rattle.replay.proofs.recording.share.Goals as goal
 
 pub returns-in-Ok-true-clause-did : goal.returns-in-Ok-true-clause-did
@@ -11,3 +13,6 @@ pub returns-in-Ok-false-clause-did : goal.returns-in-Ok-false-clause-did
 returns-in-Ok-false-clause-did c =
     let did = rw c.in-Ok-false.field-0-test at c.in-Ok-false.ensures.did in
     share_none c.args.activities.now c.share.new.self c.args.schedule.now c.take_back.new.self c.args.tally.now c.args.q c.requires.parts did.0 did.1 (c.take_back.ensures.last _ _ c.in_ok-push.ensures.ok)
+
+pub returns-in-Ok-true-clause-parts : goal.returns-in-Ok-true-clause-parts
+returns-in-Ok-true-clause-parts c = grind (arith, common_steps)

@@ -3,6 +3,7 @@ use Rattle.std.proofs.lemmas.List.{length-map}
 use Rattle.std.proofs.lemmas.Option.{slice_get_within}
 use Rattle.machine.specs.CodeView.{code_of, loop_of}
 use Rattle.machine.proofs.Naming.{cells_below}
+use Rattle.std.proofs.lemmas.Grind.{common_steps}
 use Rattle.replay.proofs.turn.iteration_turn.Goals as goal
 
 pub load-requires-clause-cell : goal.load-requires-clause-cell
@@ -25,3 +26,6 @@ returns-in-Await-clause-ok c = rw c.in-Await.is (c.await_event.ensures.after (co
 
 pub returns-in-Advance-clause-ok : goal.returns-in-Advance-clause-ok
 returns-in-Advance-clause-ok c = rw c.in-Advance.is (c.advance.ensures.after (code_of c.args.code.now) c.args.slot)
+
+pub returns-in-Store-clause-ok : goal.returns-in-Store-clause-ok
+returns-in-Store-clause-ok c = grind (arith, common_steps)

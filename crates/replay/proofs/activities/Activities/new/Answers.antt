@@ -10,6 +10,7 @@ use Rattle.replay.specs.declared.activities.Activities.{Activities}
 use Rattle.replay.specs.declared.activities.Holder.{Holder}
 use Rattle.replay.specs.declared.parts.Until.TheVariants.{Retired}
 use Rattle.replay.proofs.Beginning.{begins, first_core, first_kept, kept_first}
+use Rattle.std.proofs.lemmas.Grind.{common_steps}
 use Rattle.replay.proofs.activities.Activities.new.Goals as goal
 
 pub returns-clause-point : goal.returns-clause-point
@@ -48,3 +49,6 @@ returns-clause-stand c =
       core = subst (λ (y : Kept). IsCore code c.args.slots y) (sym same) (first_core code c.args.input.now c.args.processors c.args.slots some kernel);
       processors = omega (arith, c.requires.sizes.0.0, ap (λ xs. length xs) c.in_ok-free_processors.ensures, length-replicate {A = Option Holder} c.args.processors None);
     }
+
+pub returns-clause-are : goal.returns-clause-are
+returns-clause-are c = grind (arith, common_steps)
