@@ -116,6 +116,14 @@ fn copies_of(alloc: Global, expressions: &[Expr]) -> Result<Vec<Expr>, AllocErro
     Ok(copies)
 }
 
+#[cycle(copies)]
+fn boxed_copy(alloc: Global, expression: &Expr) -> Result<Box<Expr>, AllocError>
+    ensures { IfOk result (λ copy. term copy.value ≡ term expression.now) }
+{
+    let copy = expression.try_copy(alloc)?;
+    Ok(Box::new(alloc, copy)?)
+}
+
 impl Access {
     ghost use Rattle.std.specs.Prelude.{◌≡◌, IfOk};
     ghost use Rattle.ast.specs.View.{access};
@@ -150,18 +158,11 @@ impl Expr {
             Expr::Call(intrinsic, arguments) => {
                 Ok(Expr::Call(*intrinsic, copies_of(alloc, arguments)?))
             }
-            Expr::Parentheses(inner) => {
-                let copy = inner.try_copy(alloc)?;
-                Ok(Expr::Parentheses(Box::new(alloc, copy)?))
-            }
-            Expr::Unary(prefix, operand) => {
-                let copy = operand.try_copy(alloc)?;
-                Ok(Expr::Unary(*prefix, Box::new(alloc, copy)?))
-            }
+            Expr::Parentheses(inner) => Ok(Expr::Parentheses(boxed_copy(alloc, inner)?)),
+            Expr::Unary(prefix, operand) => Ok(Expr::Unary(*prefix, boxed_copy(alloc, operand)?)),
             Expr::Binary(operator, left, right) => {
-                let left = left.try_copy(alloc)?;
-                let right = right.try_copy(alloc)?;
-                Ok(Expr::Binary(*operator, Box::new(alloc, left)?, Box::new(alloc, right)?))
+                let left = boxed_copy(alloc, left)?;
+                Ok(Expr::Binary(*operator, left, boxed_copy(alloc, right)?))
             }
         }
     }

@@ -227,9 +227,9 @@ impl Kind {
             Kind::Else => Ok(Kind::Else),
             Kind::EndIf => Ok(Kind::EndIf),
             Kind::LogicalIf(condition, inner) => {
-                let condition = condition.try_copy(alloc)?;
-                let inner = inner.try_copy(alloc)?;
-                Ok(Kind::LogicalIf(condition, Box::new(alloc, inner)?))
+                let copy = inner.try_copy(alloc)?;
+                let inner = Box::new(alloc, copy)?;
+                Ok(Kind::LogicalIf(condition.try_copy(alloc)?, inner))
             }
             Kind::Print(items) => Ok(Kind::Print(copies_of_items(alloc, items)?)),
             Kind::Read(elements) => Ok(Kind::Read(copies_of_elements(alloc, elements)?)),
