@@ -1,7 +1,7 @@
 -- Laws of the items of a PRINT.
-use Rattle.std.proofs.Common.{◌≡◌, ◌∙◌, ◌+◌, ◌<◌, ℕ, suc, Bool, true, false, List, [], ◌∷◌, ◌++◌, Result, Ok, Err, refl, sym, ap, append_assoc, is_err, length, take, drop, get_or, map, arith, add-one, drop-cons}
-use Rattle.std.proofs.lemmas.List.{append-nil, take-take}
-use Rattle.std.specs.Prelude.{ℤ}
+use Rattle.std.proofs.Common.{◌≡◌, ◌∙◌, ◌+◌, ◌<◌, ℕ, suc, subst, Bool, true, false, List, [], ◌∷◌, ◌++◌, Result, Ok, Err, refl, sym, ap, append_assoc, is_err, length, take, drop, get_or, map, arith, add-one, drop-cons}
+use Rattle.std.proofs.lemmas.List.{append-nil, take-take, take_all}
+use Rattle.std.specs.Prelude.{ℤ, IsErrAnd}
 use Rattle.ast.specs.Meaning.{LookUp, Run, exec_plain, given, looked_up, printed, value}
 use Rattle.ast.specs.Record.{Printed, number, text, items_printed, rest_printed, record_of}
 use Rattle.ast.specs.Results.{◌>>=◌}
@@ -17,6 +17,7 @@ use Rattle.interpreter.specs.Printing.{Keeps, all_shown, shown, item_onto, items
 use Rattle.interpreter.specs.Runs.{Gives, Reaches, closed}
 use Rattle.interpreter.specs.declared.stop.Stop.{Stop}
 use Rattle.interpreter.specs.declared.stop.Stop.TheVariants.{Memory, Fault as Fails, Stopped as Stops}
+use Rattle.interpreter.proofs.Evaluating.{failed}
 
 pub placed_first : (ss : List Symbol) (i : PrintItem) (is : List PrintItem) → PlacedItems ss (i ∷ is) → PlacedItems ss (i ∷ [])
 placed_first ss (value_item e) is h = (h.0, tt)
@@ -36,6 +37,19 @@ next_item items i item h is =
 -- after an item, the others go on
 pub goes_on : (old new : List ℕ) (first : Bool) (item : PrintItem) (items : List PrintItem) (look : LookUp) → item_onto old first item look ≡ Ok new → items_onto old first (item ∷ items) look ≡ items_onto new false items look
 goes_on old new first item items look h = ap (λ (r : Result (List ℕ) Fault). r >>= λ longer. items_onto longer false items look) h
+
+-- a fault of an item is one of all of them
+pub fails_on : (r a : Result (Unit {0}) Stop) (s : Stop) (line : ℕ) (new : List ℕ) (v : Result (List ℕ) Fault) (next : List ℕ → Result (List ℕ) Fault) (whole : Result (List ℕ) Fault) → (v >>= next) ≡ whole → a ≡ Err s → IsErrAnd r (λ e. e ≡ s) → Gives a line new v → Gives r line new whole
+fails_on r a s line new v next whole w given failing h =
+    subst (λ (t : Result (Unit {0}) Stop). Gives t line new whole) (sym (failed r s failing)) (by s (subst (λ (t : Result (Unit {0}) Stop). Gives t line new v) given h))
+  where
+    by : (t : Stop) → Gives (Err t) line new v → Gives (Err t) line new whole
+    by (Memory e) g = tt
+    by (Fails f l) g = (sym w ∙ ap (λ (u : Result (List ℕ) Fault). u >>= next) g.0, g.1)
+    by (Stops l) g = absurd g
+
+pub keeps_all : (l : List ℕ) → Keeps l l
+keeps_all l = (omega arith, take_all (length l) l (omega arith))
 
 pub keeps_on : (old mid new : List ℕ) → Keeps old mid → Keeps mid new → Keeps old new
 keeps_on old mid new h g = (

@@ -5,6 +5,7 @@ pub mod Blocks
 pub mod Cells
 pub mod Coding
 pub mod Ending
+pub mod Evaluating
 pub mod Finding
 pub mod Frames
 pub mod Fusing
