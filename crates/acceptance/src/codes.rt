@@ -1,22 +1,23 @@
-//! The lines of code over readers and writers that fail, and with memory refused.
+//! The lines of code of a source, with memory refused.
 
-use crate::shown::{Engine, Shown, ends, shows};
-use crate::streams::{Ending, Unreadable, ending_of};
-use engines::code;
-use std::alloc::Global;
+use crate::shown::{Engine, Shown, shows};
+use crate::streams::Text;
 use std::process::Abort;
 use std::test::Fail;
 
 /// Each iteration waits for the one before it, and has a K of its own.
-const WAITING: &[u8] = b"      INTEGER A(0:4)
+pub const WAITING: Text<'static> = Text {
+    bytes: b"      INTEGER A(0:4)
       DO 10 I=1,4
       A(I)=A(I-1)+1
       PRINT *,A(I)
    10 K=10/(2-I)
       END
-";
+",
+    fault: None,
+};
 
-const LINES: &[u8] = b"LOOP 0 PLACE 5 VARIABLE I STEP 1 PRIVATE K
+pub const LINES: &[u8] = b"LOOP 0 PLACE 5 VARIABLE I STEP 1 PRIVATE K
 0 LOCAL Constant 1 LINE 2
 1 LOCAL Constant 4 LINE 2
 2 SHARED Open 0 LINE 2
@@ -47,19 +48,6 @@ const LINES: &[u8] = b"LOOP 0 PLACE 5 VARIABLE I STEP 1 PRIVATE K
 27 LOCAL SetPrivate K LINE 5
 28 SHARED Retire 0 LINE 2
 ";
-
-/// Whether a source can't be read, and nothing is shown.
-fn is_unread(alloc: Global) -> bool {
-    let mut out = Vec::new(alloc);
-    let unread = ending_of(code(alloc, &mut Unreadable, &mut out));
-    matches!(unread, Ending::Source(4)) && out.is_empty()
-}
-
-#[test]
-fn streams_that_fail_under_code(rt: HostRuntime) -> Result<(), Fail> {
-    assert!(rt; is_unread(rt.alloc()));
-    Ok(ends(&rt, Engine::Code(WAITING), (20, true), 4, LINES)?)
-}
 
 #[test]
 fn want_of_memory_in_lines_of_code(rt: HostRuntime) -> Result<(), Fail> {

@@ -95,7 +95,7 @@ struct Case {
 
 /// The commands. The schedule and what becomes of it are worked by hand in the pages; that of a run
 /// is another one each time.
-const CASES: [Case; 6] = [
+static CASES: [Case; 6] = [
     Case {
         command: Command::Check("five.f"),
         calls: b"read five.f\n",
@@ -163,65 +163,63 @@ fn lines(bytes: &[u8]) -> usize {
     bytes.iter().filter(|&&byte| byte == b'\n').count()
 }
 
-/// What came of a command whose calls all went well.
-fn has_succeeded(rt: &impl Abort, case: &Case, files: &TestFiles, out: &[u8], status: u8) {
-    assert!(*rt; status == 0);
-    assert!(*rt; files.calls.as_slice() == case.calls);
-    assert!(*rt; out == case.output);
-    match case.put {
-        Some(put) => assert!(*rt; files.put.as_slice() == put),
-        None => assert!(*rt; !files.put.is_empty()),
+/// Whether a command whose calls all went well has done what it is to do.
+fn has_succeeded(case: &Case, files: &TestFiles, out: &[u8]) -> bool {
+    files.calls.as_slice() == case.calls
+        && out == case.output
+        && match case.put {
+            Some(put) => files.put.as_slice() == put,
+            None => !files.put.is_empty(),
+        }
+}
+
+/// Whether a command of which so many calls went well, and the next one failed, has made that call last, and
+/// done nothing.
+fn has_failed(case: &Case, left: usize, files: &TestFiles, out: &[u8]) -> bool {
+    case.calls.starts_with(&files.calls)
+        && lines(&files.calls) == left.wrapping_add(1)
+        && out.is_empty()
+        && files.put.is_empty()
+}
+
+/// What comes of a command, by the status.
+fn came(case: &Case, left: usize, files: &TestFiles, out: &[u8], status: u8) -> bool {
+    if left < lines(case.calls) {
+        status == 4 && has_failed(case, left, files, out)
+    } else {
+        status == 0 && has_succeeded(case, files, out)
     }
 }
 
-/// What came of a command of which so many calls went well, and the next one failed.
-fn has_failed(
-    rt: &impl Abort,
-    case: &Case,
-    left: usize,
-    files: &TestFiles,
-    out: &[u8],
-    status: u8,
-) {
-    assert!(*rt; status == 4);
-    assert!(*rt; case.calls.starts_with(&files.calls));
-    assert!(*rt; lines(&files.calls) == left.wrapping_add(1));
-    assert!(*rt; out.is_empty());
-    assert!(*rt; files.put.is_empty());
-}
-
-/// What comes of a command of which so many of its calls go well.
-fn comes<R: Abort + Print + Eprint + AllocGlobal + Threads + Wait + Sync>(
+/// Whether a command of which so many of its calls go well ends right.
+fn ends<R: Print + Eprint + AllocGlobal + Threads + Wait + Sync>(
     rt: &R,
     case: &Case,
     left: usize,
-    calls: usize,
-) {
+) -> bool {
     let mut files = TestFiles::new(rt.alloc(), left);
     let mut out = Vec::new(rt.alloc());
     let mut nowhere = Vec::new(rt.alloc());
     let status = obey(rt, &mut files, &mut out, &mut nowhere, case.command, 65_536);
-    if left < calls {
-        has_failed(rt, case, left, &files, &out, status);
-    } else {
-        has_succeeded(rt, case, &files, &out, status);
-    }
+    came(case, left, &files, &out, status)
 }
 
-/// What comes of a command, of whose calls all but the last ones go well.
-fn comes_in_turn<R: Abort + Print + Eprint + AllocGlobal + Threads + Wait + Sync>(
+/// Whether a command ends right, of whose calls all but the last ones go well.
+fn ends_in_turn<R: Print + Eprint + AllocGlobal + Threads + Wait + Sync>(
     rt: &R,
     case: &Case,
-) {
-    let calls = lines(case.calls);
-    for left in 0..=calls {
-        comes(rt, case, left, calls);
+) -> bool {
+    for left in 0..lines(case.calls).wrapping_add(1) {
+        if !ends(rt, case, left) {
+            return false;
+        }
     }
+    true
 }
 
 #[test]
 fn each_call_fails_in_turn(rt: HostRuntime) {
     for case in &CASES {
-        comes_in_turn(&rt, case);
+        assert!(rt; ends_in_turn(&rt, case));
     }
 }

@@ -9,6 +9,8 @@ mod deeds;
 #[cfg(test)]
 mod drawings;
 #[cfg(test)]
+mod failing;
+#[cfg(test)]
 mod listings;
 #[cfg(test)]
 mod replaying;

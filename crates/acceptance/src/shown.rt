@@ -1,85 +1,95 @@
 //! Engines over texts, and what they write to one writer.
 
-use crate::streams::{Ending, Narrow, ending_of, fills, with_room};
-use engines::{EngineFault, check, code, list, seq};
+use crate::streams::{Ended, Ending, Narrow, Text, ended_of, fills, make_narrow, with_room};
+use engines::{check, code, list, replay, seq};
 use std::alloc::{AllocError, Global};
 use std::process::Abort;
 
 /// An engine with its texts.
 #[derive(Clone, Copy)]
 pub enum Engine<'a> {
-    Check(&'a [u8]),
-    List(&'a [u8]),
-    Code(&'a [u8]),
+    Check(Text<'a>),
+    List(Text<'a>),
+    Code(Text<'a>),
     Seq(Run<'a>),
+    /// A source, its input, and a schedule.
+    Replay(Text<'a>, Text<'a>, Text<'a>),
 }
 
 /// A run one statement after another.
 #[derive(Clone, Copy)]
 pub struct Run<'a> {
-    pub source: &'a [u8],
-    pub input: &'a [u8],
+    pub source: Text<'a>,
+    pub input: Text<'a>,
     pub store: bool,
     /// How many bytes of whole records wait at most.
     pub most: usize,
 }
 
-fn run_into(alloc: Global, run: Run<'_>, out: &mut Narrow) -> Result<u8, EngineFault> {
+fn run_into(alloc: Global, run: Run<'_>, out: &mut Narrow) -> Ended {
     let mut source = run.source;
     let mut input = run.input;
-    seq(alloc, &mut source, &mut input, run.store, run.most, out)
+    let given = seq(alloc, &mut source, &mut input, run.store, run.most, out);
+    ended_of(given, &input)
 }
 
-fn check_into(alloc: Global, text: &[u8], out: &mut Narrow) -> Result<u8, EngineFault> {
+fn check_into(alloc: Global, text: Text<'_>, out: &mut Narrow) -> Ended {
     let mut source = text;
-    check(alloc, &mut source, out)
+    let given = check(alloc, &mut source, out);
+    ended_of(given, &source)
 }
 
-fn list_into(alloc: Global, text: &[u8], out: &mut Narrow) -> Result<u8, EngineFault> {
+fn list_into(alloc: Global, text: Text<'_>, out: &mut Narrow) -> Ended {
     let mut source = text;
-    list(alloc, &mut source, out)
+    let given = list(alloc, &mut source, out);
+    ended_of(given, &source)
 }
 
-fn code_into(alloc: Global, text: &[u8], out: &mut Narrow) -> Result<u8, EngineFault> {
+fn code_into(alloc: Global, text: Text<'_>, out: &mut Narrow) -> Ended {
     let mut source = text;
-    code(alloc, &mut source, out)
+    let given = code(alloc, &mut source, out);
+    ended_of(given, &source)
+}
+
+fn replay_into(
+    alloc: Global,
+    (source, input, schedule): (Text<'_>, Text<'_>, Text<'_>),
+    out: &mut Narrow,
+) -> Ended {
+    let mut source = source;
+    let mut input = input;
+    let mut schedule = schedule;
+    let given = replay(alloc, &mut source, &mut input, &mut schedule, out);
+    ended_of(given, &schedule)
 }
 
 /// What an engine comes to.
-fn ending_with(alloc: Global, engine: Engine<'_>, out: &mut Narrow) -> Ending {
-    ending_of(match engine {
+pub fn ended_with(alloc: Global, engine: Engine<'_>, out: &mut Narrow) -> Ended {
+    match engine {
         Engine::Check(source) => check_into(alloc, source, out),
         Engine::List(source) => list_into(alloc, source, out),
         Engine::Code(source) => code_into(alloc, source, out),
         Engine::Seq(run) => run_into(alloc, run, out),
-    })
-}
-
-fn status_with(alloc: Global, engine: Engine<'_>, out: &mut Narrow) -> u8 {
-    match ending_with(alloc, engine, out) {
-        Ending::Status(status)
-        | Ending::Source(status)
-        | Ending::Input(status)
-        | Ending::Schedule(status)
-        | Ending::Other(status) => status,
-        Ending::Memory => 5,
+        Engine::Replay(source, input, schedule) => {
+            replay_into(alloc, (source, input, schedule), out)
+        }
     }
 }
 
-/// An engine onto a writer of so much room, which then fails or takes none, ends with this status, and
-/// the writer is full of what is shown.
+/// A writer's room, and whether it fails then or takes none.
+pub type Room = (usize, bool);
+
+/// Whether an engine onto a writer of so much room ends so, and the writer is full of what is shown.
 pub fn ends(
-    rt: &(impl Abort + AllocGlobal),
+    alloc: Global,
     engine: Engine<'_>,
-    (room, fails): (usize, bool),
-    status: u8,
+    (room, fails): Room,
+    ending: Ending,
     whole: &[u8],
-) -> Result<(), AllocError> {
-    let mut out = with_room(rt.alloc(), room)?;
+) -> bool {
+    let mut out = make_narrow(alloc, room);
     out.fails = fails;
-    let ended = status_with(rt.alloc(), engine, &mut out);
-    assert!(*rt; ended == status && fills(&out, whole), "room {room}");
-    Ok(())
+    ended_with(alloc, engine, &mut out).ending == ending && fills(&out, whole)
 }
 
 /// What is shown: the status, the whole text, and what of it may be written before memory is refused.
@@ -90,11 +100,18 @@ pub struct Shown<'a> {
     pub begun: &'a [u8],
 }
 
-/// Whether an engine that is asked again shows all.
+/// Whether an engine has shown all.
+fn is_shown(ending: Ending, out: &Narrow, wanted: Shown<'_>) -> bool {
+    ending == Ending::Status(wanted.status) && out.taken.as_slice() == wanted.whole
+}
+
+/// Whether an engine that found no memory has shown a beginning, and shows all when it is asked again.
 fn shows_again(alloc: Global, engine: Engine<'_>, out: &mut Narrow, wanted: Shown<'_>) -> bool {
+    if !wanted.begun.starts_with(out.taken.as_slice()) {
+        return false;
+    }
     out.taken.clear();
-    let ended = status_with(alloc, engine, out);
-    ended == wanted.status && out.taken.as_slice() == wanted.whole
+    is_shown(ended_with(alloc, engine, out).ending, out, wanted)
 }
 
 /// An engine shows all, at once or where it found no memory when it is asked again.
@@ -104,18 +121,13 @@ fn shows_into(
     out: &mut Narrow,
     wanted: Shown<'_>,
 ) -> Result<(), AllocError> {
-    match ending_with(rt.alloc(), engine, out) {
-        Ending::Memory => {
-            assert!(*rt; wanted.begun.starts_with(out.taken.as_slice()));
-            assert!(*rt; shows_again(rt.alloc(), engine, out, wanted));
-            Err(AllocError)
-        }
-        Ending::Status(status) => {
-            assert!(*rt; status == wanted.status && out.taken.as_slice() == wanted.whole);
-            Ok(())
-        }
-        _ => panic!(*rt; "no stream fails"),
+    let ended = ended_with(rt.alloc(), engine, out);
+    if ended.ending == Ending::Memory {
+        assert!(*rt; shows_again(rt.alloc(), engine, out, wanted));
+        return Err(AllocError);
     }
+    assert!(*rt; is_shown(ended.ending, out, wanted));
+    Ok(())
 }
 
 pub fn shows(

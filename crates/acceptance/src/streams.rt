@@ -4,44 +4,41 @@ use engines::EngineFault;
 use std::alloc::{AllocError, Global};
 use std::io::{self, Error, ErrorKind, Read, Write};
 
-/// A reader that fails at once.
-#[derive(Drop)]
-pub struct Unreadable;
-
-impl Read for Unreadable {
-    fn read(&mut self, _buf: &mut [u8]) -> io::Result<usize> {
-        Err(Error::from(ErrorKind::PermissionDenied))
-    }
-}
-
-/// A reader that fails at once for want of memory of its own.
-#[derive(Drop)]
-pub struct Full;
-
-impl Read for Full {
-    fn read(&mut self, _buf: &mut [u8]) -> io::Result<usize> {
-        Err(Error::from(ErrorKind::OutOfMemory))
-    }
-}
-
-/// A reader that gives its bytes, one a call, and then fails.
-#[derive(Drop)]
-pub struct Interrupted<'a> {
+/// A text that is read.
+#[derive(Clone, Copy)]
+pub struct Text<'a> {
     pub bytes: &'a [u8],
+    /// How its reader fails, which gives its bytes before that, one a call.
+    pub fault: Option<ErrorKind>,
 }
 
-impl<'a> Read for Interrupted<'a> {
+impl Read for Text<'_> {
     fn read(&mut self, buf: &mut [u8]) -> io::Result<usize> {
+        let Some(fault) = self.fault else {
+            return self.bytes.read(buf);
+        };
         match (self.bytes, buf) {
             ([first, rest @ ..], [place, ..]) => {
                 *place = *first;
                 self.bytes = rest;
                 Ok(1)
             }
-            _ => Err(Error::from(ErrorKind::ConnectionReset)),
+            _ => Err(Error::from(fault)),
         }
     }
 }
+
+/// A text with nothing in it.
+pub const NOTHING: Text<'static> = Text {
+    bytes: b"",
+    fault: None,
+};
+
+/// A text that can't be read.
+pub const UNREADABLE: Text<'static> = Text {
+    bytes: b"",
+    fault: Some(ErrorKind::PermissionDenied),
+};
 
 /// A writer that takes one byte a call, `room` bytes in all, and then fails or takes none.
 #[derive(Drop)]
@@ -74,6 +71,15 @@ impl Write for Narrow {
     }
 }
 
+/// A writer that takes `room` bytes, and then fails.
+pub fn make_narrow(alloc: Global, room: usize) -> Narrow {
+    Narrow {
+        taken: Vec::new(alloc),
+        room,
+        fails: true,
+    }
+}
+
 /// A writer that takes `room` bytes without asking for memory, and then fails.
 pub fn with_room(alloc: Global, room: usize) -> Result<Narrow, AllocError> {
     Ok(Narrow {
@@ -89,7 +95,7 @@ pub fn fills(out: &Narrow, whole: &[u8]) -> bool {
 }
 
 /// What an engine came to, once its fault is dropped.
-#[derive(Clone, Copy)]
+#[derive(Clone, Copy, PartialEq, Eq)]
 pub enum Ending {
     /// It ended with this status.
     Status(u8),
@@ -122,10 +128,16 @@ pub fn ending_of(given: Result<u8, EngineFault>) -> Ending {
     }
 }
 
-/// The exit status of an engine.
-pub fn status_of(given: Result<u8, EngineFault>) -> u8 {
-    match given {
-        Ok(status) => status,
-        Err(fault) => fault.status(),
+/// What an engine came to, and how many bytes of the text that it reads last were left.
+#[derive(Clone, Copy, PartialEq, Eq)]
+pub struct Ended {
+    pub ending: Ending,
+    pub left: usize,
+}
+
+pub fn ended_of(given: Result<u8, EngineFault>, last: &Text<'_>) -> Ended {
+    Ended {
+        ending: ending_of(given),
+        left: last.bytes.len(),
     }
 }

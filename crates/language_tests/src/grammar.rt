@@ -1,7 +1,7 @@
 //! Trees of expressions.
 
 use ast::{Access, Expr, Name, Operator, Prefix, Refusal};
-use std::alloc::{AllocError, Global};
+use std::alloc::Global;
 use std::process::Abort;
 use std::test::Fail;
 
@@ -86,92 +86,52 @@ fn want_of_memory_in_texts_of_expressions(rt: HostRuntime) -> Result<(), Fail> {
     match reads_sum(rt.alloc()) {
         Ok(is_read) => assert!(rt; is_read),
         Err(refusal) => {
-            assert!(rt; matches!(refusal, Refusal::Memory));
-            assert!(rt; reads_sum(rt.alloc()).expect(&rt, "there is memory"));
-            Err(AllocError)?
+            assert!(rt; refusal == Refusal::Memory);
+            assert!(rt; matches!(reads_sum(rt.alloc()), Ok(true)));
+            return Err(refusal.into());
         }
     }
     Ok(())
 }
 
-/// A text in so many parentheses.
-fn enclosed(alloc: Global, text: &[u8], times: usize) -> Result<Vec<u8>, AllocError> {
-    let mut made = Vec::new(alloc);
-    made.resize(times, b'(')?;
-    made.extend_from_slice(text)?;
-    made.resize(2 * times + text.len(), b')')?;
-    Ok(made)
+/// What is wanted of the text of an expression.
+#[derive(Clone, Copy)]
+pub enum Wanted {
+    /// 7 in so many parentheses.
+    Enclosed(usize),
+    /// A name with so many in its list.
+    List(usize),
+    /// A refusal of this number.
+    Refused(u8),
 }
 
-/// What stands in so many parentheses, if it is so.
-fn inside(expr: &Expr, times: usize) -> Option<&Expr> {
+/// Whether an expression is 7 in so many parentheses.
+fn is_enclosed(expr: &Expr, times: usize) -> bool {
     let mut inner = expr;
     for _ in 0..times {
         match inner {
             Expr::Parentheses(next) => inner = next,
-            _ => return None,
+            _ => return false,
         }
     }
-    Some(inner)
+    is_constant(inner, 7)
 }
 
-fn is_refused(rt: &impl Abort, given: Result<Expr, Refusal>, number: u8) {
-    let wanted = Refusal::Refused { number, line: LINE };
-    assert!(*rt; given.err() == Some(wanted));
-}
-
-/// Whether so many parentheses are read, with 7 in them.
-fn are_parentheses(alloc: Global, times: usize) -> Result<bool, Refusal> {
-    let deepest = expr(alloc, &enclosed(alloc, b"7", times)?, LINE)?;
-    Ok(match inside(&deepest, times) {
-        Some(inner) => is_constant(inner, 7),
-        None => false,
-    })
-}
-
-#[test]
-fn parentheses_to_the_greatest_depth(rt: HostRuntime) -> Result<(), Fail> {
-    assert!(rt; are_parentheses(rt.alloc(), 127)?);
-    Ok(())
-}
-
-#[test]
-fn parentheses_too_deep(rt: HostRuntime) -> Result<(), Fail> {
-    let over = enclosed(rt.alloc(), b"7", 128)?;
-    is_refused(&rt, expr(rt.alloc(), &over, LINE), 26);
-    Ok(())
-}
-
-/// MAX of so many ones
-fn long_list(alloc: Global, count: usize) -> Result<Vec<u8>, AllocError> {
-    let mut text = Vec::from_slice(alloc, b"MAX(1")?;
-    for _ in 1..count {
-        text.extend_from_slice(b",1")?;
+fn is_wanted(tree: &Expr, wanted: Wanted) -> bool {
+    match (tree, wanted) {
+        (_, Wanted::Enclosed(times)) => is_enclosed(tree, times),
+        (Expr::Element(access), Wanted::List(count)) => access.subscripts.len() == count,
+        _ => false,
     }
-    text.push(b')')?;
-    Ok(text)
 }
 
-#[test]
-fn long_lists(rt: HostRuntime) -> Result<(), Fail> {
-    match &expr(rt.alloc(), &long_list(rt.alloc(), 1_000)?, LINE)? {
-        Expr::Element(access) => assert!(rt; access.subscripts.len() == 1_000),
-        _ => panic!(rt; "a name with a list"),
-    }
-    Ok(())
-}
-
-#[test]
-fn refused_expressions(rt: HostRuntime) {
-    let refused: [(&[u8], u8); 6] = [
-        (b"1.5", 22),
-        (b"9223372036854775808", 23),
-        (b"ABCDEFG", 24),
-        (b"", 25),
-        (b"1+", 25),
-        (b"I.LT.J.LT.K", 25),
-    ];
-    for (text, number) in refused {
-        is_refused(&rt, expr(rt.alloc(), text, LINE), number);
+/// Whether this comes of a text.
+pub fn comes(alloc: Global, text: &[u8], wanted: Wanted) -> bool {
+    match (expr(alloc, text, LINE), wanted) {
+        (Ok(tree), _) => is_wanted(&tree, wanted),
+        (Err(refusal), Wanted::Refused(number)) => {
+            refusal == Refusal::Refused { number, line: LINE }
+        }
+        _ => false,
     }
 }

@@ -9,4 +9,6 @@ mod lines;
 #[cfg(test)]
 mod nests;
 #[cfg(test)]
+mod tables;
+#[cfg(test)]
 mod trees;

@@ -2,7 +2,7 @@
 
 use ast::{Refusal, Stmt};
 use fixed_form::{Labelled, statements};
-use std::alloc::{AllocError, Global};
+use std::alloc::Global;
 use std::process::Abort;
 use std::test::Fail;
 use structure::{Blocks, Span, blocks};
@@ -18,11 +18,17 @@ fn tree_of(alloc: Global, line: &Labelled) -> Result<Stmt, Refusal> {
     statement(alloc, line)
 }
 
-fn read(alloc: Global, lines: &[Labelled]) -> Result<Vec<Stmt>, Refusal> {
-    let mut trees = Vec::with_capacity(alloc, lines.len())?;
+/// Adds the trees of statements.
+fn add_trees(alloc: Global, lines: &[Labelled], trees: &mut Vec<Stmt>) -> Result<(), Refusal> {
     for line in lines {
         trees.push(tree_of(alloc, line)?)?;
     }
+    Ok(())
+}
+
+fn read(alloc: Global, lines: &[Labelled]) -> Result<Vec<Stmt>, Refusal> {
+    let mut trees = Vec::with_capacity(alloc, lines.len())?;
+    add_trees(alloc, lines, &mut trees)?;
     Ok(trees)
 }
 
@@ -31,14 +37,21 @@ pub fn trees_of(alloc: Global, source: &[u8]) -> Result<Vec<Stmt>, Refusal> {
     read(alloc, &lines_of(alloc, source)?)
 }
 
-/// The ranges and blocks of statements.
+/// The ranges and blocks of statements. What is proved of them isn't carried through the tests.
+fn blocks_in(alloc: Global, lines: &[Labelled], trees: &[Stmt]) -> Result<Blocks, Refusal> {
+    blocks(alloc, lines, trees)
+}
+
+/// The ranges and blocks of lines.
 fn found_in(alloc: Global, lines: &[Labelled]) -> Result<Blocks, Refusal> {
-    blocks(alloc, lines, &read(alloc, lines)?)
+    let trees = read(alloc, lines)?;
+    blocks_in(alloc, lines, &trees)
 }
 
 /// The ranges and blocks of a source's statements.
 fn blocks_of(alloc: Global, source: &[u8]) -> Result<Blocks, Refusal> {
-    found_in(alloc, &lines_of(alloc, source)?)
+    let lines = lines_of(alloc, source)?;
+    found_in(alloc, &lines)
 }
 
 /// Two ranges that end together, a block in them, and a range in its first arm
@@ -62,27 +75,32 @@ const SPANS: [Span; 4] = [
     Span { first: 3, last: 4 },
 ];
 
+/// Whether [`NEST`] has its spans.
+fn has_spans(alloc: Global) -> Result<bool, Refusal> {
+    let made = blocks_of(alloc, NEST)?;
+    Ok(made.spans.as_slice() == SPANS.as_slice())
+}
+
 #[test]
 fn want_of_memory_in_nests(rt: HostRuntime) -> Result<(), Fail> {
-    match blocks_of(rt.alloc(), NEST) {
-        Err(Refusal::Memory) => {
-            let again = blocks_of(rt.alloc(), NEST).expect(&rt, "there is memory");
-            assert!(rt; again.spans.as_slice() == SPANS.as_slice());
-            Err(AllocError)?
+    match has_spans(rt.alloc()) {
+        Ok(is_right) => assert!(rt; is_right),
+        Err(refusal) => {
+            assert!(rt; refusal == Refusal::Memory);
+            assert!(rt; matches!(has_spans(rt.alloc()), Ok(true)));
+            return Err(refusal.into());
         }
-        given => assert!(rt; given?.spans.as_slice() == SPANS.as_slice()),
     }
     Ok(())
 }
 
-/// So many blocks, one behind the other
-fn with_blocks(alloc: Global, count: usize) -> Result<Vec<u8>, AllocError> {
-    let mut source = Vec::new(alloc);
-    for _ in 0..count {
-        source.extend_from_slice(b"      IF (I.EQ.1) THEN\n      END IF\n")?;
-    }
-    source.extend_from_slice(b"      END\n")?;
-    Ok(source)
+/// What is wanted of the blocks of a source.
+#[derive(Clone, Copy)]
+pub enum Wanted {
+    /// So many, one behind the other.
+    InTurn(usize),
+    /// A refusal of this number, by this line.
+    Refused(u8, u32),
 }
 
 /// Whether spans are of two statements each, one behind the other.
@@ -96,26 +114,13 @@ fn are_in_turn(spans: &[Span]) -> bool {
     true
 }
 
-#[test]
-fn many_blocks(rt: HostRuntime) -> Result<(), Fail> {
-    let made = blocks_of(rt.alloc(), &with_blocks(rt.alloc(), 600)?)?;
-    assert!(rt; made.spans.len() == 600);
-    assert!(rt; are_in_turn(&made.spans));
-    Ok(())
-}
-
-#[test]
-fn broken_nests(rt: HostRuntime) {
-    let broken: [(&[u8], u8, u32); 6] = [
-        (b"      K=1\n      INTEGER L\n      END\n", 30, 2),
-        (b"      DO 10 I=1,2\n      END\n", 34, 2),
-        (b"      DO 10 I=1,2\n   10 STOP\n      END\n", 35, 2),
-        (b"      K=1\n      ELSE\n      END\n", 36, 2),
-        (b"      IF (I.EQ.1) THEN\n      END\n", 36, 2),
-        (b"   10 K=1\n   10 K=2\n      END\n", 41, 2),
-    ];
-    for (source, number, line) in broken {
-        let wanted = Refusal::Refused { number, line };
-        assert!(&rt; blocks_of(rt.alloc(), source).err() == Some(wanted));
+/// Whether this comes of a source.
+pub fn comes(alloc: Global, source: &[u8], wanted: Wanted) -> bool {
+    match (blocks_of(alloc, source), wanted) {
+        (Ok(made), Wanted::InTurn(count)) => made.spans.len() == count && are_in_turn(&made.spans),
+        (Err(refusal), Wanted::Refused(number, line)) => {
+            refusal == Refusal::Refused { number, line }
+        }
+        _ => false,
     }
 }

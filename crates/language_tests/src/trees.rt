@@ -108,14 +108,19 @@ fn is_comparison(expr: &Expr) -> bool {
     }
 }
 
+/// Whether the copy of a comparison is right.
+fn is_copied(alloc: Global, expr: &Expr) -> Result<bool, AllocError> {
+    let copy = expr.try_copy(alloc)?;
+    Ok(is_comparison(&copy))
+}
+
 #[test]
 fn want_of_memory_in_expressions(rt: HostRuntime) -> Result<(), Fail> {
-    let alloc = rt.alloc();
-    let expr = comparison(alloc)?;
-    match expr.try_copy(alloc) {
-        Ok(copy) => assert!(rt; is_comparison(&copy)),
+    let expr = comparison(rt.alloc())?;
+    match is_copied(rt.alloc(), &expr) {
+        Ok(is_right) => assert!(rt; is_right),
         Err(error) => {
-            assert!(rt; is_comparison(&expr.try_copy(alloc).expect(&rt, "there is memory")));
+            assert!(rt; matches!(is_copied(rt.alloc(), &expr), Ok(true)));
             return Err(error.into());
         }
     }
@@ -167,6 +172,11 @@ fn is_definition(defined: &[Definition]) -> bool {
     }
 }
 
+/// A(-9)=-9
+fn is_assignment(target: &Access, value: &Expr) -> bool {
+    is_element(target, reference_to(name(b'A'))) && is_minus_nine(value)
+}
+
 fn is_head(head: &DoHead) -> bool {
     head.terminal == 30
         && head.variable == reference_to(name(b'K'))
@@ -193,29 +203,27 @@ fn are_elements(elements: &[Access]) -> bool {
     }
 }
 
-/// What stands on each line.
+/// Whether this is what stands on its line.
 fn is_kind(line: Line, kind: &Kind) -> bool {
-    match (line, kind) {
-        (1, Kind::Program(own)) => *own == name(b'P'),
-        (2, Kind::Integer(declared)) => is_declarator(declared),
-        (3, Kind::Dimension(declared)) => is_declarator(declared),
-        (4, Kind::Parameter(defined)) => is_definition(defined),
-        (5, Kind::Assign(target, value)) => {
-            is_element(target, reference_to(name(b'A'))) && is_minus_nine(value)
-        }
-        (6, Kind::Do(head)) => is_head(head),
-        (7, Kind::Continue) => true,
-        (8, Kind::If(condition)) => is_minus_nine(condition),
-        (9, Kind::ElseIf(condition)) => is_minus_nine(condition),
-        (10, Kind::Else) => true,
-        (11, Kind::EndIf) => true,
-        (12, Kind::LogicalIf(condition, inner)) => is_minus_nine(condition)
+    match kind {
+        Kind::Program(own) => line == 1 && *own == name(b'P'),
+        Kind::Integer(declared) => line == 2 && is_declarator(declared),
+        Kind::Dimension(declared) => line == 3 && is_declarator(declared),
+        Kind::Parameter(defined) => line == 4 && is_definition(defined),
+        Kind::Assign(target, value) => line == 5 && is_assignment(target, value),
+        Kind::Do(head) => line == 6 && is_head(head),
+        Kind::Continue => line == 7,
+        Kind::If(condition) => line == 8 && is_minus_nine(condition),
+        Kind::ElseIf(condition) => line == 9 && is_minus_nine(condition),
+        Kind::Else => line == 10,
+        Kind::EndIf => line == 11,
+        Kind::LogicalIf(condition, inner) => line == 12
+            && is_minus_nine(condition)
             && matches!(&**inner, Kind::Stop),
-        (13, Kind::Print(items)) => are_items(items),
-        (14, Kind::Read(elements)) => are_elements(elements),
-        (15, Kind::Stop) => true,
-        (16, Kind::End) => true,
-        _ => false,
+        Kind::Print(items) => line == 13 && are_items(items),
+        Kind::Read(elements) => line == 14 && are_elements(elements),
+        Kind::Stop => line == 15,
+        Kind::End => line == 16,
     }
 }
 
@@ -223,25 +231,31 @@ fn is_statement(stmt: &Stmt) -> bool {
     stmt.label == Some(stmt.line.wrapping_mul(2)) && is_kind(stmt.line, &stmt.kind)
 }
 
-fn copies(alloc: Global, list: &[Stmt]) -> Result<Vec<Stmt>, AllocError> {
-    let mut made = Vec::with_capacity(alloc, list.len())?;
+/// Adds copies of statements.
+fn add_copies(alloc: Global, list: &[Stmt], made: &mut Vec<Stmt>) -> Result<(), AllocError> {
     for stmt in list {
         made.push(stmt.try_copy(alloc)?)?;
     }
-    Ok(made)
+    Ok(())
 }
 
 fn are_right(given: &[Stmt], count: usize) -> bool {
     given.len() == count && given.iter().all(is_statement)
 }
 
-fn copy_each(rt: &impl Abort, alloc: Global, list: &[Stmt]) -> Result<(), Fail> {
-    match copies(alloc, list) {
-        Ok(made) => assert!(rt; are_right(&made, list.len())),
+/// Whether copies of statements are right.
+fn are_copied(alloc: Global, list: &[Stmt]) -> Result<bool, AllocError> {
+    let mut made = Vec::with_capacity(alloc, list.len())?;
+    add_copies(alloc, list, &mut made)?;
+    Ok(are_right(&made, list.len()))
+}
+
+fn copy_each(rt: &impl Abort, alloc: Global, list: &[Stmt]) -> Result<(), AllocError> {
+    match are_copied(alloc, list) {
+        Ok(is_right) => assert!(*rt; is_right),
         Err(error) => {
-            let again = copies(alloc, list).expect(rt, "there is memory");
-            assert!(rt; are_right(&again, list.len()));
-            return Err(error.into());
+            assert!(*rt; matches!(are_copied(alloc, list), Ok(true)));
+            return Err(error);
         }
     }
     Ok(())
@@ -251,7 +265,7 @@ fn copy_each(rt: &impl Abort, alloc: Global, list: &[Stmt]) -> Result<(), Fail> 
 fn want_of_memory_in_statements(rt: HostRuntime) -> Result<(), Fail> {
     let list = trees_of(rt.alloc(), STATEMENTS)?;
     assert!(&rt; list.len() == 16);
-    copy_each(&rt, rt.alloc(), &list)
+    Ok(copy_each(&rt, rt.alloc(), &list)?)
 }
 
 // ---- stores
@@ -290,16 +304,19 @@ fn is_store(store: &Store) -> bool {
         && store.value(name(b'B'), 0).is_none()
 }
 
+/// Whether the store of a program is right.
+fn has_store(alloc: Global, program: &Program) -> Result<bool, AllocError> {
+    let store = Store::zeros(alloc, &program.symbols)?;
+    Ok(is_store(&store))
+}
+
 #[test]
 fn want_of_memory_in_stores(rt: HostRuntime) -> Result<(), Fail> {
-    let alloc = rt.alloc();
-    let given = program(alloc)?;
-    match Store::zeros(alloc, &given.symbols) {
-        Ok(store) => assert!(rt; is_store(&store)),
+    let given = program(rt.alloc())?;
+    match has_store(rt.alloc(), &given) {
+        Ok(is_right) => assert!(rt; is_right),
         Err(error) => {
-            assert!(rt;
-                is_store(&Store::zeros(alloc, &given.symbols).expect(&rt, "there is memory"))
-            );
+            assert!(rt; matches!(has_store(rt.alloc(), &given), Ok(true)));
             return Err(error.into());
         }
     }

@@ -3,6 +3,16 @@
 #![tactic(auto)]
 
 #[cfg(test)]
+mod asked;
+#[cfg(test)]
+mod calls;
+#[cfg(test)]
+mod changes;
+#[cfg(test)]
+mod looks;
+#[cfg(test)]
+mod marks;
+#[cfg(test)]
 mod meeting;
 #[cfg(test)]
 mod obstacles;

@@ -1,9 +1,11 @@
 //! Relations of random references, beside all ways in which these meet for small numbers.
 
-use ast::{Expr, Intrinsic, Name, Operator, Prefix, Program};
-use dependence::{Reason, Relation, relate, verify};
-use loop_tree::{LoopView, Occurrence, loops};
-use profile_check::program;
+use crate::asked::add;
+use crate::calls::{loop_of, loops, program, references, verify};
+use crate::looks::relation_of;
+use ast::{Expr, Intrinsic, Name, Operator, Prefix, Program, RefId, Refusal};
+use dependence::{Reason, Relation};
+use loop_tree::{LoopView, Occurrence};
 use std::alloc::{AllocError, Global};
 use std::process::Abort;
 use std::test::Fail;
@@ -65,12 +67,10 @@ const OTHER_TERMS: [&[u8]; 8] = [
 
 fn add_term(text: &mut Vec<u8>, numbers: &mut Numbers) -> Result<(), AllocError> {
     if numbers.next() % 8 == 0 {
-        text.extend_from_slice(numbers.choice(&OTHER_TERMS))?;
-    } else {
-        text.extend_from_slice(numbers.choice(&FACTORS))?;
-        text.extend_from_slice(numbers.choice(&SCALARS))?;
+        return add(text, &[numbers.choice(&OTHER_TERMS)]);
     }
-    Ok(())
+    let factor = numbers.choice(&FACTORS);
+    add(text, &[factor, numbers.choice(&SCALARS)])
 }
 
 /// The terms of a subscript, two at most.
@@ -82,17 +82,26 @@ fn terms(alloc: Global, numbers: &mut Numbers) -> Result<Vec<u8>, AllocError> {
     Ok(text)
 }
 
+/// Three lists of terms.
+fn some_terms(alloc: Global, numbers: &mut Numbers) -> Result<Vec<Vec<u8>>, AllocError> {
+    let mut list = Vec::new(alloc);
+    for _ in 0..3 {
+        list.push(terms(alloc, numbers)?)?;
+    }
+    Ok(list)
+}
+
 /// Appends a subscript of some terms, so that many differ in their constants alone.
 fn add_subscript(
     text: &mut Vec<u8>,
     numbers: &mut Numbers,
     terms: &[Vec<u8>],
 ) -> Result<(), AllocError> {
-    text.extend_from_slice(numbers.choice(&CONSTANTS))?;
-    if !terms.is_empty() {
-        text.extend_from_slice(&terms[numbers.next() as usize % terms.len()])?;
+    add(text, &[numbers.choice(&CONSTANTS)])?;
+    if terms.is_empty() {
+        return Ok(());
     }
-    Ok(())
+    add(text, &[&terms[numbers.next() as usize % terms.len()]])
 }
 
 /// An assignment to an element of an array of one dimension, or of two.
@@ -103,40 +112,44 @@ fn add_assignment(
     two: bool,
 ) -> Result<(), AllocError> {
     if two {
-        text.extend_from_slice(b"      B(")?;
+        add(text, &[b"      B("])?;
         add_subscript(text, numbers, terms)?;
-        text.extend_from_slice(b",")?;
+        add(text, &[b","])?;
     } else {
-        text.extend_from_slice(b"      A(")?;
+        add(text, &[b"      A("])?;
     }
     add_subscript(text, numbers, terms)?;
-    text.extend_from_slice(b")=0\n")?;
-    Ok(())
+    add(text, &[b")=0\n"])
 }
 
-/// Three lists of terms.
-fn some_terms(alloc: Global, numbers: &mut Numbers) -> Result<Vec<Vec<u8>>, AllocError> {
-    let mut list = Vec::new(alloc);
-    for _ in 0..3 {
-        list.push(terms(alloc, numbers)?)?;
+/// Appends the head of a loop.
+fn add_head(text: &mut Vec<u8>, numbers: &mut Numbers) -> Result<(), AllocError> {
+    let first = numbers.choice(&FIRSTS);
+    let last = numbers.choice(&LASTS);
+    let step = numbers.choice(&STEPS);
+    add(text, &[b"      DO 10 ", first, last, step, b"\n"])
+}
+
+/// Appends a program with a loop whose range assigns elements of an array, J and K.
+fn add_program(
+    text: &mut Vec<u8>,
+    numbers: &mut Numbers,
+    terms: &[Vec<u8>],
+) -> Result<(), AllocError> {
+    let two = numbers.next() % 3 == 0;
+    add(text, &[b"      INTEGER A(9),B(9,9),C(9)\n"])?;
+    add_head(text, numbers)?;
+    for _ in 0..ELEMENTS {
+        add_assignment(text, numbers, terms, two)?;
     }
-    Ok(list)
+    add(text, &[b"      J=0\n   10 K=0\n      END\n"])
 }
 
-/// A program with a loop whose range assigns elements of an array, J and K.
+/// The text of such a program.
 fn source(alloc: Global, numbers: &mut Numbers) -> Result<Vec<u8>, AllocError> {
     let terms = some_terms(alloc, numbers)?;
-    let two = numbers.next() % 3 == 0;
     let mut text = Vec::new(alloc);
-    text.extend_from_slice(b"      INTEGER A(9),B(9,9),C(9)\n      DO 10 ")?;
-    text.extend_from_slice(numbers.choice(&FIRSTS))?;
-    text.extend_from_slice(numbers.choice(&LASTS))?;
-    text.extend_from_slice(numbers.choice(&STEPS))?;
-    text.extend_from_slice(b"\n")?;
-    for _ in 0..ELEMENTS {
-        add_assignment(&mut text, numbers, &terms, two)?;
-    }
-    text.extend_from_slice(b"      J=0\n   10 K=0\n      END\n")?;
+    add_program(&mut text, numbers, &terms)?;
     Ok(text)
 }
 
@@ -291,9 +304,12 @@ fn share(first: &[i64], second: &[i64]) -> bool {
 
 /// Whether subscripts may be equal, dimension by dimension.
 fn may_agree((first, here): (&[Expr], &Standing), (second, there): (&[Expr], &Standing)) -> bool {
-    for (a, b) in first.iter().zip(second) {
-        let left = values_of(a, here);
-        let right = values_of(b, there);
+    for (dimension, subscript) in first.iter().enumerate() {
+        let Some(other) = second.get(dimension) else {
+            return true;
+        };
+        let left = values_of(subscript, here);
+        let right = values_of(other, there);
         if !share(left.as_slice(), right.as_slice()) {
             return false;
         }
@@ -407,9 +423,18 @@ impl Tally {
         };
         *place = place.wrapping_add(1);
     }
+
+    /// Whether there were enough of each kind that says something.
+    fn has_enough(&self) -> bool {
+        self.constant > 20
+            && self.divisor > 20
+            && self.distance > 20
+            && self.range > 20
+            && self.only > 20
+    }
 }
 
-const CLAIMS: [Relation; 14] = [
+static CLAIMS: [Relation; 14] = [
     Relation::Apart(1, Reason::Constant),
     Relation::Apart(1, Reason::Divisor),
     Relation::Apart(1, Reason::Distance),
@@ -429,100 +454,131 @@ const CLAIMS: [Relation; 14] = [
 /// The steps that are tried where none is known.
 const ANY_STEP: [i64; 3] = [-2, 1, 3];
 
-/// Tries what is said of a reference and one in a later iteration.
+/// Whether one of the claims of two references is verified that is refuted by the distances at which they
+/// meet.
+fn is_misled(view: &LoopView<'_, '_>, first: RefId, second: RefId, met: u32) -> bool {
+    for claim in &CLAIMS {
+        if refute(met, *claim) && verify(view, first, second, *claim) {
+            return true;
+        }
+    }
+    false
+}
+
+/// Whether references of one dimension meet at a distance, whatever the step; far ones aren't tried.
+fn meet_at(pair: &Pair<'_>, steps: &[i64], distance: u128) -> bool {
+    if pair.first.len() != 1 || distance >= 100 {
+        return true;
+    }
+    for step in steps {
+        if !pair.meets(*step, 0, distance as u32) {
+            return false;
+        }
+    }
+    true
+}
+
+/// Whether a relation agrees with the distances at which references meet.
+fn agrees(pair: &Pair<'_>, steps: &[i64], met: u32, relation: Relation) -> bool {
+    match relation {
+        Relation::Distance(1, distance) if !meet_at(pair, steps, distance) => false,
+        _ => !refute(met, relation),
+    }
+}
+
+/// The relation of a reference and one in a later iteration, if nothing that is said of them is refuted.
 fn try_pair(
-    rt: &impl Abort,
     view: &LoopView<'_, '_>,
     a: &Occurrence<'_>,
     b: &Occurrence<'_>,
     steps: &[i64],
-) -> Result<Relation, Fail> {
+) -> Option<Relation> {
     let pair = Pair {
         first: a.subscripts,
         second: b.subscripts,
         trips: view.trips(),
     };
     let (first, second) = (a.reference.id, b.reference.id);
-    let relation = relate(view, first, second);
-    assert!(rt; verify(view, first, second, relation));
-    assert!(rt; verify(view, first, second, Relation::Any));
+    let relation = relation_of(view, first, second)?;
     let met = pair.all_distances(steps);
-    assert!(rt; !refute(met, relation), "{relation:?}");
-    for claim in CLAIMS {
-        assert!(rt;
-            !verify(view, first, second, claim) || !refute(met, claim),
-            "{claim:?}"
-        );
+    if agrees(&pair, steps, met, relation) && !is_misled(view, first, second, met) {
+        Some(relation)
+    } else {
+        None
     }
-    if let Relation::Distance(1, distance) = relation
-        && pair.first.len() == 1
-        && distance < 100
-    {
-        for step in steps {
-            assert!(rt; pair.meets(*step, 0, distance as u32));
-        }
-    }
-    Ok(relation)
 }
 
-fn assigned_elements<'p>(
-    alloc: Global,
-    view: &LoopView<'_, 'p>,
-) -> Result<Vec<Occurrence<'p>>, AllocError> {
-    let mut elements = Vec::new(alloc);
-    for occurrence in view.references() {
-        if occurrence.defines && !occurrence.subscripts.is_empty() {
-            elements.push(*occurrence)?;
-        }
-    }
-    Ok(elements)
+/// Whether a reference is an element that is assigned.
+fn is_assigned(occurrence: &Occurrence<'_>) -> bool {
+    occurrence.defines && !occurrence.subscripts.is_empty()
 }
 
-/// Tries a reference beside all references in later iterations.
-fn try_beside(
-    rt: &impl Abort,
+/// How many elements a loop's range assigns.
+fn assigned_elements(view: &LoopView<'_, '_>) -> u32 {
+    let mut count: u32 = 0;
+    for occurrence in references(view) {
+        if is_assigned(occurrence) {
+            count = count.wrapping_add(1);
+        }
+    }
+    count
+}
+
+/// Whether nothing is refuted that is said of a reference and all references in later iterations.
+fn are_right_beside(
     view: &LoopView<'_, '_>,
     a: &Occurrence<'_>,
-    elements: &[Occurrence<'_>],
+    steps: &[i64],
     tally: &mut Tally,
-) -> Result<(), Fail> {
-    let known = [view.step().unwrap_or(0)];
-    let steps: &[i64] = if known[0] == 0 { &ANY_STEP } else { &known };
-    for b in elements {
-        tally.count(try_pair(rt, view, a, b, steps)?);
+) -> bool {
+    for b in references(view) {
+        if is_assigned(b) {
+            match try_pair(view, a, b, steps) {
+                Some(relation) => tally.count(relation),
+                None => return false,
+            }
+        }
     }
-    Ok(())
+    true
 }
 
-/// Tries all pairs of the elements of a loop.
-fn try_loop(
-    rt: &(impl Abort + AllocGlobal),
-    view: &LoopView<'_, '_>,
-    tally: &mut Tally,
-) -> Result<(), Fail> {
-    let elements = assigned_elements(rt.alloc(), view)?;
-    assert!(rt; elements.len() == ELEMENTS as usize);
-    for a in &elements {
-        try_beside(rt, view, a, &elements, tally)?;
+/// Whether nothing is refuted that is said of all pairs of the elements of a loop, with these steps.
+fn are_right_with(view: &LoopView<'_, '_>, steps: &[i64], tally: &mut Tally) -> bool {
+    for a in references(view) {
+        if is_assigned(a) && !are_right_beside(view, a, steps, tally) {
+            return false;
+        }
     }
-    Ok(())
+    assigned_elements(view) == ELEMENTS
 }
 
-/// Tries all pairs of the elements of a program.
-fn try_program(
-    rt: &(impl Abort + AllocGlobal),
-    program: &Program,
-    tally: &mut Tally,
-) -> Result<(), Fail> {
-    let tree = loops(rt.alloc(), program)?;
-    assert!(rt; tree.count() == 1);
-    try_loop(rt, &tree.view(1), tally)
+/// The same with the steps that the loop may have.
+fn are_right(view: &LoopView<'_, '_>, tally: &mut Tally) -> bool {
+    match view.step() {
+        None | Some(0) => are_right_with(view, &ANY_STEP, tally),
+        Some(step) => are_right_with(view, &[step], tally),
+    }
 }
 
-/// Tries all pairs of the elements of the program of a source.
-fn try_source(rt: &(impl Abort + AllocGlobal), text: &[u8], tally: &mut Tally) -> Result<(), Fail> {
-    let program = program(rt.alloc(), text)?;
-    try_program(rt, &program, tally)
+/// The same of the loop of a program.
+fn is_right(alloc: Global, program: &Program, tally: &mut Tally) -> Result<bool, AllocError> {
+    let tree = loops(alloc, program)?;
+    Ok(match loop_of(&tree, 1) {
+        Some(view) => tree.count() == 1 && are_right(&view, tally),
+        None => false,
+    })
+}
+
+/// The same of the program of a source.
+fn is_right_in(alloc: Global, text: &[u8], tally: &mut Tally) -> Result<bool, Refusal> {
+    let program = program(alloc, text)?;
+    Ok(is_right(alloc, &program, tally)?)
+}
+
+/// The same of the next program.
+fn next_is_right(alloc: Global, numbers: &mut Numbers, tally: &mut Tally) -> Result<bool, Refusal> {
+    let text = source(alloc, numbers)?;
+    is_right_in(alloc, &text, tally)
 }
 
 #[test]
@@ -536,14 +592,12 @@ fn no_relation_is_refuted(rt: HostRuntime) -> Result<(), Fail> {
         only: 0,
         any: 0,
     };
-    for _ in 0..PROGRAMS {
-        let text = source(rt.alloc(), &mut numbers)?;
-        try_source(&rt, &text, &mut tally)?;
+    for number in 0..PROGRAMS {
+        assert!(rt;
+            next_is_right(rt.alloc(), &mut numbers, &mut tally)?,
+            "program {number}"
+        );
     }
-    assert!(rt; tally.constant > 20);
-    assert!(rt; tally.divisor > 20);
-    assert!(rt; tally.distance > 20);
-    assert!(rt; tally.range > 20);
-    assert!(rt; tally.only > 20);
+    assert!(rt; tally.has_enough());
     Ok(())
 }
