@@ -1,6 +1,7 @@
 //! Drivers of cores on one thread: which processor goes next, and how far.
 
 use crate::calls::{hand_in, step, work_of};
+use crate::sure;
 use replay::{Core, HandIn, Stepped};
 use std::process::Abort;
 
@@ -8,7 +9,7 @@ use std::process::Abort;
 const TURNS: usize = 20_000;
 
 /// Which processor goes next, of those that can.
-#[derive(Clone, Copy, Debug, PartialEq, Eq)]
+#[derive(Clone, Copy, Debug)]
 pub enum Driver {
     Lowest,
     Highest,
@@ -36,7 +37,7 @@ fn works(core: &mut Core<'_>, q: usize, burst: u32) -> Result<Stepped, HandIn> {
         Some(done) => {
             hand_in(core, q, done)?;
             Ok(Stepped::Went(None))
-        }
+        },
         None => Ok(Stepped::Idle),
     }
 }
@@ -50,39 +51,34 @@ pub fn turn(core: &mut Core<'_>, q: usize, burst: u32) -> Result<Stepped, HandIn
     }
 }
 
-/// One processor goes: which; none where the run has ended.
+/// One processor goes: which; none where the run has ended, or none can go.
 fn go(
     rt: &impl Abort,
     core: &mut Core<'_>,
     driver: Driver,
     burst: u32,
     last: usize,
-) -> Result<Option<usize>, HandIn> {
+) -> Option<usize> {
     let count = core.processors();
     for asked in 0..count {
         let q = driver.nth(asked, count, last);
-        match turn(core, q, burst)? {
-            Stepped::Went(_) => return Ok(Some(q)),
+        match sure::turn(rt, core, q, burst) {
+            Stepped::Went(_) => return Some(q),
             Stepped::Idle => {}
-            Stepped::Ended => return Ok(None),
+            Stepped::Ended => break,
         }
     }
-    panic!(*rt; "a processor can go as long as the run hasn't ended")
+    None
 }
 
-/// Drives a core until its run has ended.
-pub fn drive(
-    rt: &impl Abort,
-    core: &mut Core<'_>,
-    driver: Driver,
-    burst: u32,
-) -> Result<(), HandIn> {
+/// Drives a core until its run has ended. One that hasn't in so many turns, or whose processors can't go
+/// before, has no answer then.
+pub fn drive(rt: &impl Abort, core: &mut Core<'_>, driver: Driver, burst: u32) {
     let mut last = 0;
     for _ in 0..TURNS {
-        match go(rt, core, driver, burst, last)? {
+        match go(rt, core, driver, burst, last) {
             Some(q) => last = q,
-            None => return Ok(()),
+            None => break,
         }
     }
-    panic!(*rt; "the run ends")
 }

@@ -1,11 +1,12 @@
 //! Runs in threads that end though iterations past the first fault or STOP turn without end, and runs
 //! of code made by hand that come to no end.
 
-use crate::threads::{ran, refusal_of, runs_to};
-use crate::worked::{FAULTS, compiled, sequential};
+use crate::sure::sequential;
+use crate::threads::{are_refused, ran, source_runs};
+use crate::worked::{FAULTS, compiled};
 use ast::{Answer, End, Fault};
 use machine::{Act as Does, Await, Code, Instr, Loop, Parts};
-use processors::{Report, RunRefusal};
+use processors::RunRefusal;
 use std::alloc::{AllocError, Global};
 use std::process::Abort;
 use std::sync::Wait;
@@ -53,14 +54,14 @@ const PRINTS: &[u8] = b"      INTEGER A(0:9),B(9)
 ";
 
 /// What the sequential program says of the three.
-const ENDS: [(&[u8], &[u8], End); 3] = [
+static ENDS: [(&[u8], &[u8], End); 3] = [
     (TURNS, b"", End::Fault(Fault::ZeroDivisor, 9)),
     (LOADS, b" 1\n 2\n 3\n", End::Stopped(9)),
     (PRINTS, b" 1\n 2\n 3\n", End::Fault(Fault::Index, 8)),
 ];
 
 /// Numbers of processors and slots.
-const SIZES: [(u64, u64); 15] = [
+static SIZES: [(u64, u64); 15] = [
     (1, 1),
     (1, 4),
     (1, 256),
@@ -78,26 +79,9 @@ const SIZES: [(u64, u64); 15] = [
     (64, 256),
 ];
 
-/// The runs of code, by one to four processors and by 64.
-fn all_run<R: Abort + AllocGlobal + Threads + Wait + Sync>(
-    rt: &R,
-    code: &Code,
-    answer: &Answer,
-) -> Result<(), Fail> {
-    for (p, s) in SIZES {
-        runs_to(rt, code, b"", p, s, answer)?;
-    }
-    Ok(())
-}
-
-/// The runs of a source come to an answer.
-fn come_to<R: Abort + AllocGlobal + Threads + Wait + Sync>(
-    rt: &R,
-    source: &[u8],
-    answer: &Answer,
-) -> Result<(), Fail> {
-    let code = compiled(rt.alloc(), source)?;
-    all_run(rt, &code, answer)
+/// Whether an answer has these records and this end.
+pub fn is_so(answer: &Answer, output: &[u8], end: End) -> bool {
+    answer.output.as_slice() == output && answer.end == end
 }
 
 /// The runs of a source come to what the sequential program says.
@@ -106,19 +90,17 @@ fn all_end<R: Abort + AllocGlobal + Threads + Wait + Sync>(
     source: &[u8],
     output: &[u8],
     end: End,
-) -> Result<(), Fail> {
-    let answer = sequential(rt.alloc(), source, b"")?;
-    assert!(rt; answer.output.as_slice() == output);
-    assert!(rt; answer.end == end);
-    come_to(rt, source, &answer)
+) {
+    let answer = sequential(rt, source, b"");
+    assert!(rt; is_so(&answer, output, end));
+    source_runs(rt, source, b"", &SIZES, &answer);
 }
 
 #[test]
-fn iterations_past_the_end(rt: HostRuntime) -> Result<(), Fail> {
-    for (source, output, end) in ENDS {
-        all_end(&rt, source, output, end)?;
+fn iterations_past_the_end(rt: HostRuntime) {
+    for (source, output, end) in &ENDS {
+        all_end(&rt, source, output, *end);
     }
-    Ok(())
 }
 
 /// Main waits for a loop that isn't open.
@@ -181,87 +163,83 @@ pub fn assembled(rt: &(impl Abort + AllocGlobal), acts: &[Does]) -> Result<Code,
     code_of(rt, parts)
 }
 
-/// No step leads from the state to which a run comes.
-fn is_stuck<R: Abort + AllocGlobal + Threads + Wait + Sync>(
-    rt: &R,
-    code: &Code,
-    p: u64,
-    s: u64,
-) -> Result<(), Fail> {
-    let number = refusal_of(rt, code, p, s)?;
-    assert!(rt; number == 59, "p {p}, s {s}");
-    Ok(())
-}
+/// Code from a state of which no step leads.
+static STUCK: [&[Does]; 2] = [&JOINS, &WAITS];
 
-/// The runs of code from a state of which no step leads.
-fn none_ends<R: Abort + AllocGlobal + Threads + Wait + Sync>(
-    rt: &R,
-    code: &Code,
-) -> Result<(), Fail> {
-    for p in [1, 2, 3, 4, 64] {
-        for s in [1, 2, 256] {
-            is_stuck(rt, code, p, s)?;
-        }
-    }
-    Ok(())
-}
+/// Numbers of processors and slots of its runs, which can't go on.
+static STUCK_SIZES: [(u64, u64, u8); 15] = [
+    (1, 1, 59),
+    (1, 2, 59),
+    (1, 256, 59),
+    (2, 1, 59),
+    (2, 2, 59),
+    (2, 256, 59),
+    (3, 1, 59),
+    (3, 2, 59),
+    (3, 256, 59),
+    (4, 1, 59),
+    (4, 2, 59),
+    (4, 256, 59),
+    (64, 1, 59),
+    (64, 2, 59),
+    (64, 256, 59),
+];
 
 #[test]
 fn no_step_is_left(rt: HostRuntime) -> Result<(), Fail> {
-    none_ends(&rt, &assembled(&rt, &JOINS)?)?;
-    none_ends(&rt, &assembled(&rt, &WAITS)?)
+    for acts in &STUCK {
+        are_refused(&rt, &assembled(&rt, acts)?, &STUCK_SIZES);
+    }
+    Ok(())
 }
 
-/// What came of a run of the source whose second iteration faults.
-#[derive(Drop)]
-enum Came {
-    Answer,
-    /// There was no memory for it, or a thread couldn't be started.
-    Nothing,
-    /// There was no memory for it, and something had gone out.
-    Output(RunRefusal),
-}
+/// The records of the source whose second iteration faults.
+const RECORDS: &[u8] = b" 1\n 2\n";
 
-/// What came of such a run: its answer, or, where there was no memory for it, as much of the sequential
-/// output as had gone out.
-fn came_to(rt: &impl Abort, came: Result<Report, RunRefusal>) -> Came {
-    match came {
-        Ok(report) => {
-            assert!(*rt; report.answer.output.as_slice() == b" 1\n 2\n".as_slice());
-            assert!(*rt; report.answer.end == End::Fault(Fault::ZeroDivisor, 5));
-            Came::Answer
+/// Whether a run found no memory, and as much of the records had gone out as it says, or couldn't start a
+/// thread.
+fn is_given_up(refusal: &RunRefusal) -> bool {
+    match refusal {
+        RunRefusal::Memory { output } => {
+            RECORDS.starts_with(output) && matches!(output.len(), 0 | 3 | 6)
         }
-        Err(RunRefusal::Memory { output }) => {
-            assert!(*rt; b" 1\n 2\n".starts_with(&output));
-            assert!(*rt; matches!(output.len(), 0 | 3 | 6));
-            if output.is_empty() {
-                return Came::Nothing;
-            }
-            Came::Output(RunRefusal::Memory { output })
-        }
-        Err(RunRefusal::Refused { number }) => {
-            assert!(*rt; number == 58);
-            Came::Nothing
-        }
+        RunRefusal::Refused { number } => *number == 58,
     }
 }
 
-/// A run that finds no memory, or can't start a thread, gives up; the next one has its answer. Where
-/// something had gone out, the refusal has it.
+/// What a test says that wants memory. Where something had gone out, it has that.
+fn want_of(refusal: RunRefusal) -> Fail {
+    match refusal {
+        RunRefusal::Memory { output } => RunRefusal::Memory { output }.into(),
+        RunRefusal::Refused { number: _ } => AllocError.into(),
+    }
+}
+
+/// Whether a run has the answer of that source.
+fn has_answer<R: Threads + Wait + Sync + AllocGlobal>(rt: &R, code: &Code, p: u64, s: u64) -> bool {
+    match ran(rt, code, b"", p, s) {
+        Ok(report) => is_so(&report.answer, RECORDS, End::Fault(Fault::ZeroDivisor, 5)),
+        Err(_) => false,
+    }
+}
+
+/// A run that finds no memory, or can't start a thread, gives up; the next one has its answer.
 fn refused_once<R: Abort + AllocGlobal + Threads + Wait + Sync>(
     rt: &R,
     code: &Code,
     p: u64,
     s: u64,
 ) -> Result<(), Fail> {
-    let refusal = match came_to(rt, ran(rt, code, b"", p, s)) {
-        Came::Answer => return Ok(()),
-        Came::Nothing => AllocError.into(),
-        Came::Output(refusal) => refusal.into(),
-    };
-    let again = came_to(rt, ran(rt, code, b"", p, s));
-    assert!(rt; matches!(again, Came::Answer));
-    Err(refusal)
+    match ran(rt, code, b"", p, s) {
+        Ok(report) => {
+            assert!(rt; is_so(&report.answer, RECORDS, End::Fault(Fault::ZeroDivisor, 5)));
+            Ok(())
+        }
+        Err(refusal) => {
+            assert!(rt; is_given_up(&refusal) && has_answer(rt, code, p, s));
+            Err(want_of(refusal))
+        }
+    }
 }
 
 #[test]

@@ -1,16 +1,15 @@
 //! Gates of runs in threads: that iterations are open at once, on the processors that the schedule
 //! names.
 
-use crate::calls::{core_of, hand_in, pick, step, work_of};
-use crate::worked::{SQUARES, compiled};
+use crate::calls::hand_in;
+use crate::sure::{compiled, core_of, pick, step, work_of};
+use crate::worked::SQUARES;
 use machine::Code;
-use processors::{Gate, run};
-use replay::{Act, Choice, Core, Entry, HandIn, Schedule, Stepped};
-use std::alloc::AllocError;
+use processors::{Gate, Report, run};
+use replay::{Act, Choice, Core, Entry, Schedule, Stepped};
 use std::process::Abort;
 use std::sync::Wait;
 use std::sync::atomic::{AtomicU64, Ordering};
-use std::test::Fail;
 use std::thread::{Threads, yield_now};
 
 /// How many turns of waiting a gate yields before it gives up.
@@ -77,35 +76,30 @@ impl Gate for Meeting {
 }
 
 /// Processor `q` hands in so many local instructions.
-fn work(core: &mut Core<'_>, q: usize, made: u32) -> Result<(), HandIn> {
-    match work_of(core, q, made)? {
-        Some(done) => hand_in(core, q, done),
-        None => Err(HandIn::Stranger),
-    }
+fn work(rt: &impl Abort, core: &mut Core<'_>, q: usize, made: u32) {
+    let done = work_of(rt, core, q, made);
+    hand_in(core, q, done).expect(rt, "the work is taken");
 }
 
-/// What an entry that isn't of local work says, of a core.
-fn share(core: &mut Core<'_>, q: usize, act: Act) -> Result<Stepped, AllocError> {
+/// What an entry says, of a core.
+fn share(rt: &impl Abort, core: &mut Core<'_>, q: usize, act: Act) -> Stepped {
     match act {
-        Act::Work(_) => Ok(Stepped::Idle),
-        Act::Share => step(core, q),
-        Act::PickMain => pick(core, q, Choice::Main),
-        Act::PickIteration(k) => pick(core, q, Choice::Iteration(k)),
-        Act::TakeTicket => pick(core, q, Choice::Ticket),
+        Act::Work(made) => {
+            work(rt, core, q, u32::from(made));
+            Stepped::Went(None)
+        }
+        Act::Share => step(rt, core, q),
+        Act::PickMain => pick(rt, core, q, Choice::Main),
+        Act::PickIteration(k) => pick(rt, core, q, Choice::Iteration(k)),
+        Act::TakeTicket => pick(rt, core, q, Choice::Ticket),
     }
 }
 
-/// What an entry says, of a core. The iteration whose ticket was taken, if one was.
-fn follow(core: &mut Core<'_>, entry: Entry) -> Result<Option<u128>, HandIn> {
-    let q = usize::from(entry.processor);
-    if let Act::Work(made) = entry.act {
-        work(core, q, u32::from(made))?;
-        return Ok(None);
-    }
-    match share(core, q, entry.act)? {
-        Stepped::Went(begun) => Ok(begun),
-        Stepped::Idle => Err(HandIn::Stranger),
-        Stepped::Ended => Err(HandIn::Ended),
+/// What an entry says, of a core, that can go on so. The iteration whose ticket was taken, if one was.
+fn follow(rt: &impl Abort, core: &mut Core<'_>, entry: Entry) -> Option<u128> {
+    match share(rt, core, usize::from(entry.processor), entry.act) {
+        Stepped::Went(begun) => begun,
+        _ => panic!(*rt; "the core can do what the entry says"),
     }
 }
 
@@ -117,10 +111,11 @@ fn saw(meeting: &Meeting, q: u8, k: u128) -> bool {
 /// How many tickets were taken, and how many of them the gates saw, as a core that is driven by the
 /// schedule takes them.
 fn tickets(
+    rt: &impl Abort,
     meeting: &Meeting,
     core: &mut Core<'_>,
     schedule: &Schedule,
-) -> Result<(u64, u64), HandIn> {
+) -> (u64, u64) {
     let mut taken: u64 = 0;
     let mut seen: u64 = 0;
     let mut entries = schedule.entries();
@@ -128,64 +123,56 @@ fn tickets(
         let Some(entry) = entries.next() else {
             break;
         };
-        if let Some(k) = follow(core, entry)? {
+        if let Some(k) = follow(rt, core, entry) {
             taken = taken.wrapping_add(1);
             seen = seen.wrapping_add(u64::from(saw(meeting, entry.processor, k)));
         }
     }
-    Ok((taken, seen))
+    (taken, seen)
 }
 
-/// The gates saw the ten tickets that a core takes which is driven by the schedule, and no others.
-fn are_ten(
-    rt: &impl Abort,
-    meeting: &Meeting,
-    core: &mut Core<'_>,
-    schedule: &Schedule,
-) -> Result<(), Fail> {
-    let n = meeting.wanted;
-    assert!(*rt; tickets(meeting, core, schedule)? == (10, 10), "n {n}");
-    assert!(*rt; meeting.calls.load(Ordering::SeqCst) == 10, "n {n}");
-    Ok(())
-}
-
-/// The gates saw the tickets of a schedule.
+/// Whether the gates saw the ten tickets that a core takes which is driven by the schedule, and no others.
 fn are_seen(
     rt: &(impl Abort + AllocGlobal),
     meeting: &Meeting,
     code: &Code,
     schedule: &Schedule,
-) -> Result<(), Fail> {
-    let mut core = core_of(rt.alloc(), code, b"", meeting.wanted, meeting.wanted)?;
-    are_ten(rt, meeting, &mut core, schedule)
+) -> bool {
+    let mut core = core_of(rt, code, b"", meeting.wanted, meeting.wanted);
+    tickets(rt, meeting, &mut core, schedule) == (10, 10)
+        && meeting.calls.load(Ordering::SeqCst) == 10
+}
+
+/// Whether all that were wanted have met, in a run that comes to its end.
+fn have_met(meeting: &Meeting, report: &Report) -> bool {
+    meeting.gave_up.load(Ordering::SeqCst) == 0
+        && report.answer.output.as_slice() == b" 100\n".as_slice()
+        && report.overlap == u128::from(meeting.wanted)
+}
+
+/// A run of as many processors as are wanted at a meeting.
+fn report_of<R: Abort + AllocGlobal + Threads + Wait + Sync>(
+    rt: &R,
+    code: &Code,
+    meeting: &Meeting,
+) -> Report {
+    let n = meeting.wanted;
+    run(rt, rt.alloc(), code, b"", n, n, meeting).expect(rt, "the run comes to its end")
 }
 
 /// A run of so many processors, whose first iterations meet.
-fn meets<R: Abort + AllocGlobal + Threads + Wait + Sync>(
-    rt: &R,
-    code: &Code,
-    n: u64,
-) -> Result<(), Fail> {
+fn meets<R: Abort + AllocGlobal + Threads + Wait + Sync>(rt: &R, code: &Code, n: u64) {
     let meeting = Meeting::of(n);
-    let report = run(rt, rt.alloc(), code, b"", n, n, &meeting)?;
-    assert!(rt; meeting.gave_up.load(Ordering::SeqCst) == 0, "n {n}");
-    assert!(rt; report.answer.output.as_slice() == b" 100\n".as_slice());
-    assert!(rt; report.overlap == u128::from(n));
-    are_seen(rt, &meeting, code, &report.schedule)
+    let report = report_of(rt, code, &meeting);
+    assert!(rt; have_met(&meeting, &report), "n {n}");
+    assert!(rt; are_seen(rt, &meeting, code, &report.schedule), "n {n}");
 }
 
 /// Runs of two to four processors.
-fn each_meets<R: Abort + AllocGlobal + Threads + Wait + Sync>(
-    rt: &R,
-    code: &Code,
-) -> Result<(), Fail> {
-    for n in 2..5 {
-        meets(rt, code, n)?;
-    }
-    Ok(())
-}
-
 #[test]
-fn two_open(rt: HostRuntime) -> Result<(), Fail> {
-    each_meets(&rt, &compiled(rt.alloc(), SQUARES)?)
+fn two_open(rt: HostRuntime) {
+    let code = compiled(&rt, SQUARES);
+    for n in 2..5 {
+        meets(&rt, &code, n);
+    }
 }

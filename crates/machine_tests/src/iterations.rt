@@ -1,14 +1,13 @@
 //! Open loops of code made by hand, with several iterations open at once.
 
-use crate::calls::{answer_of, core_of, hand_in, holds, pick, replay_of, work_of};
-use crate::drivers::turn;
-use crate::endless::{code_of, no_parts};
-use ast::{Answer, End, Fault, Line, Name, Operator, Store};
+use crate::calls::{hand_in, holds};
+use crate::endless::{code_of, is_so, no_parts};
+use crate::sure::{answer_of, core_of, pick, replay_of, turn, work_of};
+use ast::{End, Fault, Line, Name, Operator, Store};
 use machine::{Act as Does, Await, Axis, Code, Done, Instr, Loop, Parts, Piece, Variable};
 use replay::{Choice, Core, HandIn, Stepped};
 use std::alloc::{AllocError, Global};
 use std::process::Abort;
-use std::test::Fail;
 
 /// How many rounds of turns each of these runs ends within.
 const ROUNDS: usize = 300;
@@ -77,27 +76,43 @@ const STOP: [Does; 5] = [
     Does::Stop,
 ];
 
-fn name(letter: u8) -> Name {
-    Name {
-        letters: [letter, b' ', b' ', b' ', b' ', b' '],
-    }
-}
+const I: Name = Name {
+    letters: [b'I', b' ', b' ', b' ', b' ', b' '],
+};
 
-/// Adds a variable to those that are laid.
-fn lay(parts: &mut Parts, letter: u8, start: usize, size: usize) -> Result<(), AllocError> {
-    parts.variables.push(Variable {
-        name: name(letter),
-        start,
-        size,
-    })?;
-    Ok(())
-}
+const A: Name = Name {
+    letters: [b'A', b' ', b' ', b' ', b' ', b' '],
+};
 
-/// Adds I, A(0:4) and K, in one vector of cells.
+const K: Name = Name {
+    letters: [b'K', b' ', b' ', b' ', b' ', b' '],
+};
+
+/// I, A(0:4) and K, in one vector of cells.
+static VARIABLES: [Variable; 3] = [
+    Variable {
+        name: I,
+        start: 0,
+        size: 1,
+    },
+    Variable {
+        name: A,
+        start: 1,
+        size: 5,
+    },
+    Variable {
+        name: K,
+        start: 6,
+        size: 1,
+    },
+];
+
+/// Adds the variables.
 fn add_variables(parts: &mut Parts) -> Result<(), AllocError> {
-    lay(parts, b'I', 0, 1)?;
-    lay(parts, b'A', 1, 5)?;
-    lay(parts, b'K', 6, 1)
+    for variable in &VARIABLES {
+        parts.variables.push(*variable)?;
+    }
+    Ok(())
 }
 
 /// Adds instructions.
@@ -191,8 +206,8 @@ fn add_all(
     add_tables(parts, alloc, main.len())
 }
 
-/// The code of main and of an iteration of its loop.
-fn assembled(
+/// The code of main and of an iteration of its loop, if there is memory for its parts.
+fn try_assembled(
     rt: &(impl Abort + AllocGlobal),
     main: &[Does],
     body: &[&[Does]],
@@ -202,59 +217,29 @@ fn assembled(
     code_of(rt, parts)
 }
 
-/// Each processor has its turn, the last one first.
-fn has_round(core: &mut Core<'_>, burst: u32) -> Result<(), HandIn> {
-    for processor in [2, 1, 0] {
-        turn(core, processor, burst)?;
-    }
-    Ok(())
+/// The code of main and of an iteration of its loop.
+fn assembled(rt: &(impl Abort + AllocGlobal), main: &[Does], body: &[&[Does]]) -> Code {
+    try_assembled(rt, main, body).expect(rt, "there is memory for code")
 }
 
-fn has_rounds(core: &mut Core<'_>, burst: u32) -> Result<(), HandIn> {
+/// The core of a run in which each processor has its turn until the end, the last one first.
+fn driven<'c>(rt: &(impl Abort + AllocGlobal), code: &'c Code, slots: u64, burst: u32) -> Core<'c> {
+    let mut core = core_of(rt, code, b"", 3, slots);
     for _ in 0..ROUNDS {
-        has_round(core, burst)?;
+        turn(rt, &mut core, 2, burst);
+        turn(rt, &mut core, 1, burst);
+        turn(rt, &mut core, 0, burst);
     }
-    Ok(())
+    core
 }
 
-/// The core of a run in which each processor has its turn until the end.
-fn driven<'c>(
-    rt: &impl AllocGlobal,
-    code: &'c Code,
-    slots: u64,
-    burst: u32,
-) -> Result<Core<'c>, Fail> {
-    let mut core = core_of(rt.alloc(), code, b"", 3, slots)?;
-    has_rounds(&mut core, burst)?;
-    Ok(core)
-}
-
-fn is_so(answer: &Answer, output: &[u8], end: End) -> bool {
-    answer.output.as_slice() == output && answer.end == end
-}
-
-/// Whether a run has ended so.
-fn has_ended_so(core: &Core<'_>, output: &[u8], end: End) -> Result<bool, AllocError> {
-    Ok(match answer_of(core)? {
-        Some(answer) => is_so(&answer, output, end),
-        None => false,
-    })
-}
-
-/// A run has ended so, and so does the replay of its schedule, written and read again.
-fn ends_so(
-    rt: &(impl Abort + AllocGlobal),
-    core: &Core<'_>,
-    output: &[u8],
-    end: End,
-) -> Result<(), Fail> {
-    assert!(*rt; has_ended_so(core, output, end)?);
-    assert!(*rt; is_so(&replay_of(rt.alloc(), core)?, output, end));
-    Ok(())
+/// Whether a run has ended so, and so does the replay of its schedule, written and read again.
+fn ends_so(rt: &(impl Abort + AllocGlobal), core: &Core<'_>, output: &[u8], end: End) -> bool {
+    is_so(&answer_of(rt, core), output, end) && is_so(&replay_of(rt, core), output, end)
 }
 
 /// Slots and bursts.
-const WAYS: [(u64, u32); 9] = [
+static WAYS: [(u64, u32); 9] = [
     (1, 1),
     (1, 3),
     (1, 1_024),
@@ -266,89 +251,40 @@ const WAYS: [(u64, u32); 9] = [
     (4, 1_024),
 ];
 
-/// How the run of a code ends with so many slots and such bursts.
-fn one_ends(
-    rt: &(impl Abort + AllocGlobal),
-    code: &Code,
-    way: (u64, u32),
-    output: &[u8],
-    end: End,
-) -> Result<(), Fail> {
-    let (slots, burst) = way;
-    let core = driven(rt, code, slots, burst)?;
-    ends_so(rt, &core, output, end)
-}
-
 /// How each run of a code ends, whatever its slots and bursts.
-fn each_ends(
-    rt: &(impl Abort + AllocGlobal),
-    code: &Code,
-    output: &[u8],
-    end: End,
-) -> Result<(), Fail> {
-    for way in WAYS {
-        one_ends(rt, code, way, output, end)?;
+fn each_ends(rt: &(impl Abort + AllocGlobal), code: &Code, output: &[u8], end: End) {
+    for (slots, burst) in &WAYS {
+        let core = driven(rt, code, *slots, *burst);
+        assert!(*rt;
+            ends_so(rt, &core, output, end),
+            "{slots} slots, bursts of {burst}"
+        );
     }
-    Ok(())
 }
 
 /// What is stored behind the end of the loop.
-const STORED: [(u8, usize, i64); 5] = [
-    (b'A', 0, 0),
-    (b'A', 1, 1),
-    (b'A', 4, 4),
-    (b'K', 0, 40),
-    (b'I', 0, 5),
-];
+static STORED: [(Name, usize, i64); 5] = [(A, 0, 0), (A, 1, 1), (A, 4, 4), (K, 0, 40), (I, 0, 5)];
 
 fn is_stored(store: &Store) -> bool {
-    for (letter, place, value) in STORED {
-        if store.value(name(letter), place) != Some(value) {
+    for (name, place, value) in &STORED {
+        if store.value(*name, *place) != Some(*value) {
             return false;
         }
     }
     true
 }
 
-/// Whether a run has ended with what is to be stored.
-fn has_stored(core: &Core<'_>) -> Result<bool, AllocError> {
-    Ok(match answer_of(core)? {
-        Some(answer) => is_stored(&answer.store),
-        None => false,
-    })
-}
-
 /// Whether a run of a code ends with what is to be stored.
-fn stores_all(rt: &impl AllocGlobal, code: &Code) -> Result<bool, Fail> {
-    let core = driven(rt, code, 3, 1)?;
-    Ok(has_stored(&core)?)
+fn stores_all(rt: &(impl Abort + AllocGlobal), code: &Code) -> bool {
+    let core = driven(rt, code, 3, 1);
+    is_stored(&answer_of(rt, &core).store)
 }
 
 #[test]
-fn elements_and_records_in_order(rt: HostRuntime) -> Result<(), Fail> {
-    let code = assembled(&rt, &MAIN, &[&ELEMENT, &RECORD])?;
-    each_ends(&rt, &code, b" 1\n 2\n 3\n 4\n 40 5\n", End::Done)?;
-    assert!(rt; stores_all(&rt, &code)?);
-    Ok(())
-}
-
-/// The third iteration's division, after its record.
-#[test]
-fn fault_of_an_iteration(rt: HostRuntime) -> Result<(), Fail> {
-    let code = assembled(&rt, &MAIN, &[&ELEMENT, &RECORD, &QUOTIENT])?;
-    each_ends(
-        &rt,
-        &code,
-        b" 1\n 2\n 3\n",
-        End::Fault(Fault::ZeroDivisor, 30),
-    )
-}
-
-/// The third iteration's STOP, before its record.
-#[test]
-fn stop_of_an_iteration(rt: HostRuntime) -> Result<(), Fail> {
-    let code = assembled(&rt, &MAIN, &[&STOP, &ELEMENT, &RECORD])?;
-    each_ends(&rt, &code, b" 1\n 2\n", End::Stopped(12))
+fn elements_and_records_in_order(rt: HostRuntime) {
+    let code = assembled(&rt, &MAIN, &[&ELEMENT, &RECORD]);
+    each_ends(&rt, &code, b" 1\n 2\n 3\n 4\n 40 5\n", End::Done);
+    assert!(rt; stores_all(&rt, &code));
 }
 
 /// A loop whose variable grows out of 64 bits after the last trip.
@@ -360,21 +296,57 @@ const TO_THE_GREATEST: [Does; 5] = [
     Does::Halt,
 ];
 
+/// Code of main and of an iteration of its loop, with the records and the end of its runs.
+struct Ending {
+    main: &'static [Does],
+    body: &'static [&'static [Does]],
+    output: &'static [u8],
+    end: End,
+}
+
+static ENDINGS: [Ending; 3] = [
+    // The third iteration's division, after its record.
+    Ending {
+        main: &MAIN,
+        body: &[&ELEMENT, &RECORD, &QUOTIENT],
+        output: b" 1\n 2\n 3\n",
+        end: End::Fault(Fault::ZeroDivisor, 30),
+    },
+    // The third iteration's STOP, before its record.
+    Ending {
+        main: &MAIN,
+        body: &[&STOP, &ELEMENT, &RECORD],
+        output: b" 1\n 2\n",
+        end: End::Stopped(12),
+    },
+    Ending {
+        main: &TO_THE_GREATEST,
+        body: &[],
+        output: b"",
+        end: End::Fault(Fault::Overflow, 3),
+    },
+];
+
 #[test]
-fn overflow_at_a_join(rt: HostRuntime) -> Result<(), Fail> {
-    let code = assembled(&rt, &TO_THE_GREATEST, &[])?;
-    each_ends(&rt, &code, b"", End::Fault(Fault::Overflow, 3))
+fn ends_of_iterations_and_at_a_join(rt: HostRuntime) {
+    for row in &ENDINGS {
+        each_ends(
+            &rt,
+            &assembled(&rt, row.main, row.body),
+            row.output,
+            row.end,
+        );
+    }
 }
 
 /// A processor's turns until it holds nothing, or the run has ended.
-fn settle(core: &mut Core<'_>, processor: usize) -> Result<(), HandIn> {
+fn settle(rt: &impl Abort, core: &mut Core<'_>, processor: usize) {
     for _ in 0..ROUNDS {
         if !holds(core, processor) {
             break;
         }
-        turn(core, processor, 8)?;
+        turn(rt, core, processor, 8);
     }
-    Ok(())
 }
 
 /// What a processor does.
@@ -387,38 +359,35 @@ enum Deed {
 }
 
 /// Whether a processor's deed comes to what it should.
-fn is_done(core: &mut Core<'_>, deed: Deed) -> Result<bool, HandIn> {
+fn is_done(rt: &impl Abort, core: &mut Core<'_>, deed: Deed) -> bool {
     match deed {
         Deed::Settles(processor) => {
-            settle(core, processor)?;
-            Ok(true)
+            settle(rt, core, processor);
+            true
         }
-        Deed::Picks(processor, choice, wanted) => Ok(pick(core, processor, choice)? == wanted),
+        Deed::Picks(processor, choice, wanted) => pick(rt, core, processor, choice) == wanted,
     }
 }
 
 /// Deeds come to what they should, one after another.
-fn are_done(rt: &impl Abort, core: &mut Core<'_>, deeds: &[Deed]) -> Result<(), HandIn> {
-    let mut place: usize = 0;
-    for deed in deeds {
-        assert!(*rt; is_done(core, *deed)?, "deed {place}");
-        place = place.wrapping_add(1);
+fn are_done(rt: &impl Abort, core: &mut Core<'_>, deeds: &[Deed]) {
+    for (place, deed) in deeds.iter().enumerate() {
+        assert!(*rt; is_done(rt, core, *deed), "deed {place}");
     }
-    Ok(())
 }
 
 /// Main opens its loop and waits for the end of it.
-const OPENING: [Deed; 3] = [
+static OPENING: [Deed; 3] = [
     Deed::Picks(0, Choice::Ticket, Stepped::Idle),
     Deed::Picks(0, Choice::Main, Stepped::Went(None)),
     Deed::Settles(0),
 ];
 
 /// A core whose main has opened a loop of two trips and waits for its end.
-fn opened<'c>(rt: &(impl Abort + AllocGlobal), code: &'c Code) -> Result<Core<'c>, Fail> {
-    let mut core = core_of(rt.alloc(), code, b"", 2, 2)?;
-    are_done(rt, &mut core, &OPENING)?;
-    Ok(core)
+fn opened<'c>(rt: &(impl Abort + AllocGlobal), code: &'c Code) -> Core<'c> {
+    let mut core = core_of(rt, code, b"", 2, 2);
+    are_done(rt, &mut core, &OPENING);
+    core
 }
 
 /// A loop over 1 and 2.
@@ -431,13 +400,13 @@ const TWO: [Does; 5] = [
 ];
 
 /// The code of a loop over 1 and 2, each of whose iterations prints its value.
-fn of_two_records(rt: &(impl Abort + AllocGlobal)) -> Result<Code, AllocError> {
+fn of_two_records(rt: &(impl Abort + AllocGlobal)) -> Code {
     assembled(rt, &TWO, &[&RECORD])
 }
 
 /// Each processor takes a ticket, and the second iteration comes to its end first. Then the first
 /// iteration retires, after it the second one, and main goes on.
-const OVERTAKING: [Deed; 13] = [
+static OVERTAKING: [Deed; 13] = [
     Deed::Picks(0, Choice::Ticket, Stepped::Went(Some(0))),
     Deed::Picks(1, Choice::Ticket, Stepped::Went(Some(1))),
     Deed::Settles(1),
@@ -454,148 +423,106 @@ const OVERTAKING: [Deed; 13] = [
 ];
 
 /// The deeds come to what they should, and the records to theirs.
-fn are_overtaken(rt: &(impl Abort + AllocGlobal), core: &mut Core<'_>) -> Result<(), Fail> {
-    are_done(rt, core, &OVERTAKING)?;
-    ends_so(rt, core, b" 1\n 2\n", End::Done)
-}
-
-fn retire_in_order(rt: &(impl Abort + AllocGlobal), code: &Code) -> Result<(), Fail> {
-    let mut core = opened(rt, code)?;
-    are_overtaken(rt, &mut core)
+fn retire_in_order(rt: &(impl Abort + AllocGlobal), code: &Code) -> bool {
+    let mut core = opened(rt, code);
+    are_done(rt, &mut core, &OVERTAKING);
+    ends_so(rt, &core, b" 1\n 2\n", End::Done)
 }
 
 #[test]
-fn retires_in_order(rt: HostRuntime) -> Result<(), Fail> {
-    retire_in_order(&rt, &of_two_records(&rt)?)
+fn retires_in_order(rt: HostRuntime) {
+    assert!(rt; retire_in_order(&rt, &of_two_records(&rt)));
 }
 
-/// Local work that leads from the frame of what a processor holds.
-fn worked<'c>(rt: &impl Abort, core: &Core<'c>, processor: usize) -> Result<Done<'c>, AllocError> {
-    Ok(work_of(core, processor, 8)?.expect(rt, "a local instruction stands next"))
-}
-
-/// Processor 0's own work is taken.
-fn is_taken(rt: &impl Abort, core: &mut Core<'_>) -> Result<(), AllocError> {
-    let done = worked(rt, core, 0)?;
-    assert!(*rt; hand_in(core, 0, done) == Ok(()));
-    Ok(())
-}
-
-/// Work that a processor hands in isn't taken, for this reason, and no entry is added.
-fn is_left(rt: &impl Abort, core: &mut Core<'_>, processor: usize, done: Done<'_>, why: HandIn) {
+/// Whether work that a processor hands in isn't taken, for this reason, and no entry is added.
+pub fn is_left(core: &mut Core<'_>, processor: usize, done: Done<'_>, why: HandIn) -> bool {
     let before = core.schedule().len();
-    assert!(*rt; hand_in(core, processor, done) == Err(why));
-    assert!(*rt; core.schedule().len() == before);
+    hand_in(core, processor, done) == Err(why) && core.schedule().len() == before
 }
 
-/// Work of the first iteration isn't taken from this processor.
-fn is_strange(rt: &impl Abort, core: &mut Core<'_>, processor: usize) -> Result<(), AllocError> {
-    let done = worked(rt, core, 0)?;
-    is_left(rt, core, processor, done, HandIn::Stranger);
-    Ok(())
+/// Whether work of the first iteration isn't taken from this processor.
+fn is_strange(rt: &impl Abort, core: &mut Core<'_>, processor: usize) -> bool {
+    let done = work_of(rt, core, 0, 8);
+    is_left(core, processor, done, HandIn::Stranger)
 }
 
-/// Work of the first iteration is taken from its processor once.
-fn is_taken_once(rt: &impl Abort, core: &mut Core<'_>) -> Result<(), AllocError> {
-    let again = worked(rt, core, 0)?;
-    is_taken(rt, core)?;
-    is_left(rt, core, 0, again, HandIn::Stranger);
-    Ok(())
+/// Whether processor 0's own work is taken.
+fn is_taken(rt: &impl Abort, core: &mut Core<'_>) -> bool {
+    let done = work_of(rt, core, 0, 8);
+    hand_in(core, 0, done) == Ok(())
+}
+
+/// Whether work of the first iteration is taken from its processor once.
+fn is_taken_once(rt: &impl Abort, core: &mut Core<'_>) -> bool {
+    let again = work_of(rt, core, 0, 8);
+    is_taken(rt, core) && is_left(core, 0, again, HandIn::Stranger)
 }
 
 /// Turns of both processors until the end.
-fn both_end(core: &mut Core<'_>) -> Result<(), HandIn> {
+fn both_end(rt: &impl Abort, core: &mut Core<'_>) {
     for _ in 0..ROUNDS {
-        turn(core, 0, 8)?;
-        turn(core, 1, 8)?;
+        turn(rt, core, 0, 8);
+        turn(rt, core, 1, 8);
     }
-    Ok(())
 }
 
-/// Work that was done before the end is handed in behind it.
-fn is_late(rt: &impl Abort, core: &mut Core<'_>) -> Result<(), HandIn> {
-    let late = worked(rt, core, 1)?;
-    both_end(core)?;
-    is_left(rt, core, 1, late, HandIn::Ended);
-    Ok(())
+/// Whether work that was done before the end isn't taken behind it.
+fn is_late(rt: &impl Abort, core: &mut Core<'_>) -> bool {
+    let late = work_of(rt, core, 1, 8);
+    both_end(rt, core);
+    is_left(core, 1, late, HandIn::Ended)
 }
 
 /// Each processor takes a ticket.
-const TICKETS: [Deed; 2] = [
+static TICKETS: [Deed; 2] = [
     Deed::Picks(0, Choice::Ticket, Stepped::Went(Some(0))),
     Deed::Picks(1, Choice::Ticket, Stepped::Went(Some(1))),
 ];
 
-/// Two iterations are held, and work of the first is handed in by the second's processor, by one that
-/// isn't there, and by its own; then work of the second behind the end.
-fn handed_in(rt: &impl Abort, core: &mut Core<'_>) -> Result<(), Fail> {
-    are_done(rt, core, &TICKETS)?;
-    is_strange(rt, core, 1)?;
-    is_strange(rt, core, 2)?;
-    is_taken_once(rt, core)?;
-    Ok(is_late(rt, core)?)
+/// A core whose processors hold the iterations of a loop of two trips.
+fn holding<'c>(rt: &(impl Abort + AllocGlobal), code: &'c Code) -> Core<'c> {
+    let mut core = opened(rt, code);
+    are_done(rt, &mut core, &TICKETS);
+    core
 }
 
-fn hand_in_once(rt: &(impl Abort + AllocGlobal), code: &Code) -> Result<(), Fail> {
-    let mut core = opened(rt, code)?;
-    handed_in(rt, &mut core)
+/// Whether work of the first iteration is taken once, of its own processor, and not of the second's or of
+/// one that isn't there; and work of the second not behind the end.
+fn is_handed_in_once(rt: &impl Abort, core: &mut Core<'_>) -> bool {
+    is_strange(rt, core, 1)
+        && is_strange(rt, core, 2)
+        && is_taken_once(rt, core)
+        && is_late(rt, core)
 }
 
 #[test]
-fn work_is_handed_in_once(rt: HostRuntime) -> Result<(), Fail> {
-    hand_in_once(&rt, &of_two_records(&rt)?)
+fn work_is_handed_in_once(rt: HostRuntime) {
+    let code = of_two_records(&rt);
+    assert!(rt; is_handed_in_once(&rt, &mut holding(&rt, &code)));
 }
 
-/// A core whose processors hold the iterations of a loop of two trips.
-fn holding<'c>(rt: &(impl Abort + AllocGlobal), code: &'c Code) -> Result<Core<'c>, Fail> {
-    let mut core = opened(rt, code)?;
-    are_done(rt, &mut core, &TICKETS)?;
-    Ok(core)
+/// Whether work of what a processor of another core holds isn't taken of processor 0, whose own then is.
+fn is_of_another(rt: &impl Abort, core: &mut Core<'_>, other: &Core<'_>, processor: usize) -> bool {
+    let strange = work_of(rt, other, processor, 8);
+    is_left(core, 0, strange, HandIn::Stranger) && is_taken(rt, core)
 }
 
-/// Work of what a processor of another core holds isn't taken of processor 0, whose own then is.
-fn is_of_another(
-    rt: &impl Abort,
-    core: &mut Core<'_>,
-    other: &Core<'_>,
-    processor: usize,
-) -> Result<(), Fail> {
-    let strange = worked(rt, other, processor)?;
-    is_left(rt, core, 0, strange, HandIn::Stranger);
-    Ok(is_taken(rt, core)?)
-}
-
-/// Work of a core is handed in to that of a code.
-fn is_of_a_stranger(
-    rt: &(impl Abort + AllocGlobal),
-    code: &Code,
-    stranger: &Core<'_>,
-    processor: usize,
-) -> Result<(), Fail> {
-    let mut core = holding(rt, code)?;
-    is_of_another(rt, &mut core, stranger, processor)
-}
-
-/// Work of one code's core is handed in to another one's.
+/// Whether work of one code's core isn't taken of another one's.
 fn is_of_another_core(
     rt: &(impl Abort + AllocGlobal),
     code: &Code,
     other: &Code,
     processor: usize,
-) -> Result<(), Fail> {
-    let stranger = holding(rt, other)?;
-    is_of_a_stranger(rt, code, &stranger, processor)
+) -> bool {
+    let stranger = holding(rt, other);
+    is_of_another(rt, &mut holding(rt, code), &stranger, processor)
 }
 
+/// Of another frame of another core; and of another code, where the frames of both cores are equal.
 #[test]
-fn work_of_another_frame_of_another_core(rt: HostRuntime) -> Result<(), Fail> {
-    let code = of_two_records(&rt)?;
-    is_of_another_core(&rt, &code, &code, 1)
-}
-
-/// The frames of both cores are equal, their code isn't.
-#[test]
-fn work_of_another_code(rt: HostRuntime) -> Result<(), Fail> {
-    let code = of_two_records(&rt)?;
-    is_of_another_core(&rt, &code, &assembled(&rt, &TWO, &[&RECORD, &QUOTIENT])?, 0)
+fn work_of_another_core(rt: HostRuntime) {
+    let code = of_two_records(&rt);
+    assert!(rt; is_of_another_core(&rt, &code, &code, 1));
+    let other = assembled(&rt, &TWO, &[&RECORD, &QUOTIENT]);
+    assert!(rt; is_of_another_core(&rt, &code, &other, 0));
 }

@@ -25,6 +25,8 @@ mod links;
 #[cfg(test)]
 mod sharing;
 #[cfg(test)]
+mod sure;
+#[cfg(test)]
 mod threads;
 #[cfg(test)]
 mod worked;

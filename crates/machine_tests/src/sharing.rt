@@ -1,14 +1,12 @@
 //! A core under a lock, at which two threads take turns.
 
-use crate::calls::core_of;
 use crate::driven::is_sequential;
 use crate::drivers::turn;
-use crate::worked::{SQUARES, compiled};
-use machine::Code;
+use crate::sure::{compiled, core_of};
+use crate::worked::SQUARES;
 use replay::{Core, Stepped};
 use std::process::Abort;
 use std::sync::{Mutex, Wait};
-use std::test::Fail;
 use std::thread::{Threads, join, yield_now};
 
 /// How many turns a thread takes at most.
@@ -42,15 +40,9 @@ fn shared<'c, R: Abort + Threads + Wait + Sync>(rt: &R, core: Core<'c>) -> Core<
 }
 
 /// Two threads take turns at a core until its run has ended. The answer is the sequential one.
-fn is_shared<R: Abort + AllocGlobal + Threads + Wait + Sync>(
-    rt: &R,
-    code: &Code,
-) -> Result<(), Fail> {
-    let core = shared(rt, core_of(rt.alloc(), code, b"", 2, 2)?);
-    is_sequential(rt, &core, SQUARES)
-}
-
 #[test]
-fn core_under_a_lock(rt: HostRuntime) -> Result<(), Fail> {
-    is_shared(&rt, &compiled(rt.alloc(), SQUARES)?)
+fn core_under_a_lock(rt: HostRuntime) {
+    let code = compiled(&rt, SQUARES);
+    let core = shared(&rt, core_of(&rt, &code, b"", 2, 2));
+    assert!(rt; is_sequential(&rt, &core, SQUARES));
 }

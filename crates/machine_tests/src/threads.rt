@@ -1,15 +1,15 @@
 //! Runs in threads: what comes of them for many numbers of processors and open iterations.
 
 use crate::calls::{replay_of_text, text_of_schedule};
-use crate::worked::{TWO_APART, WORKED, Worked, compiled, same_answers, sequential, worked_out};
+use crate::sure::{compiled, sequential};
+use crate::worked::{TWO_APART, Worked, programs, same_answers, worked_out};
 use ast::Answer;
 use machine::Code;
 use processors::{NoGate, Report, RunRefusal, run};
 use replay::ReplayRefusal;
-use std::alloc::{AllocError, Global};
+use std::alloc::Global;
 use std::process::Abort;
 use std::sync::Wait;
-use std::test::Fail;
 use std::thread::Threads;
 
 /// A run in threads. What is proved of it isn't carried through the tests.
@@ -34,14 +34,11 @@ fn replay_of(
 }
 
 /// Whether the schedule of a run replays to the run's answer, once it was written and read.
-fn replays(
-    alloc: Global,
-    code: &Code,
-    input: &[u8],
-    report: &Report,
-) -> Result<bool, ReplayRefusal> {
-    let again = replay_of(alloc, code, input, report)?;
-    Ok(same_answers(code, &again, &report.answer))
+fn replays(alloc: Global, code: &Code, input: &[u8], report: &Report) -> bool {
+    match replay_of(alloc, code, input, report) {
+        Ok(again) => same_answers(code, &again, &report.answer),
+        Err(_) => false,
+    }
 }
 
 /// Whether the steps of the processors are those of the run, and no more iterations overlapped than
@@ -56,80 +53,90 @@ fn adds_up(report: &Report, p: u64, s: u64) -> bool {
         && report.overlap <= u128::from(s)
 }
 
-/// One run, whose answer is this one and whose schedule replays to it.
-pub fn runs_to<R: Abort + AllocGlobal + Threads + Wait + Sync>(
+/// The report of a run that comes to its end.
+fn report_of<R: Abort + AllocGlobal + Threads + Wait + Sync>(
+    rt: &R,
+    code: &Code,
+    input: &[u8],
+    p: u64,
+    s: u64,
+) -> Report {
+    ran(rt, code, input, p, s).expect(rt, "the run comes to its end")
+}
+
+/// Whether the answer of a run is this one, and its schedule replays to it.
+fn is_answered(alloc: Global, code: &Code, input: &[u8], report: &Report, answer: &Answer) -> bool {
+    same_answers(code, &report.answer, answer) && replays(alloc, code, input, report)
+}
+
+/// Whether a run has this answer, to which its schedule replays, and adds up.
+fn is_right<R: Abort + AllocGlobal + Threads + Wait + Sync>(
     rt: &R,
     code: &Code,
     input: &[u8],
     p: u64,
     s: u64,
     answer: &Answer,
-) -> Result<(), Fail> {
-    let report = ran(rt, code, input, p, s)?;
-    assert!(rt; same_answers(code, &report.answer, answer), "p {p}, s {s}");
-    assert!(rt; replays(rt.alloc(), code, input, &report)?, "p {p}, s {s}");
-    assert!(rt; adds_up(&report, p, s), "p {p}, s {s}");
-    Ok(())
+) -> bool {
+    let report = report_of(rt, code, input, p, s);
+    adds_up(&report, p, s) && is_answered(rt.alloc(), code, input, &report, answer)
 }
 
-/// The runs of the code of a row.
-fn code_runs<R: Abort + AllocGlobal + Threads + Wait + Sync>(
-    rt: &R,
-    row: &Worked,
-    code: &Code,
-    answer: &Answer,
-) -> Result<(), Fail> {
-    for p in 1..5 {
-        for s in [1, 2, 4, 256] {
-            runs_to(rt, code, row.input, p, s, answer)?;
-        }
-    }
-    Ok(())
-}
-
-/// The runs of a row.
-fn row_runs<R: Abort + AllocGlobal + Threads + Wait + Sync>(
-    rt: &R,
-    row: &Worked,
-) -> Result<(), Fail> {
-    let answer = worked_out(rt, row)?;
-    code_runs(rt, row, &compiled(rt.alloc(), row.source)?, &answer)
-}
-
-#[test]
-fn rows(rt: HostRuntime) -> Result<(), Fail> {
-    for row in &WORKED {
-        row_runs(&rt, row)?;
-    }
-    Ok(())
-}
-
-/// The runs of a source come to the sequential answer.
-fn source_runs<R: Abort + AllocGlobal + Threads + Wait + Sync>(
-    rt: &R,
-    source: &[u8],
-    sizes: &[(u64, u64)],
-) -> Result<(), Fail> {
-    let answer = sequential(rt.alloc(), source, b"")?;
-    sizes_run(rt, &compiled(rt.alloc(), source)?, sizes, &answer)
-}
-
-/// The runs of code by so many processors, with so many iterations open.
+/// The runs of code by so many processors, with so many iterations open, have this answer.
 fn sizes_run<R: Abort + AllocGlobal + Threads + Wait + Sync>(
     rt: &R,
     code: &Code,
+    input: &[u8],
     sizes: &[(u64, u64)],
     answer: &Answer,
-) -> Result<(), Fail> {
+) {
     for (p, s) in sizes {
-        runs_to(rt, code, b"", *p, *s, answer)?;
+        assert!(rt; is_right(rt, code, input, *p, *s, answer), "p {p}, s {s}");
     }
-    Ok(())
+}
+
+/// The runs of a source have this answer.
+pub fn source_runs<R: Abort + AllocGlobal + Threads + Wait + Sync>(
+    rt: &R,
+    source: &[u8],
+    input: &[u8],
+    sizes: &[(u64, u64)],
+    answer: &Answer,
+) {
+    sizes_run(rt, &compiled(rt, source), input, sizes, answer);
+}
+
+/// One to four processors, with few slots and with many.
+static SIZES: [(u64, u64); 16] = [
+    (1, 1),
+    (1, 2),
+    (1, 4),
+    (1, 256),
+    (2, 1),
+    (2, 2),
+    (2, 4),
+    (2, 256),
+    (3, 1),
+    (3, 2),
+    (3, 4),
+    (3, 256),
+    (4, 1),
+    (4, 2),
+    (4, 4),
+    (4, 256),
+];
+
+/// The runs of a row.
+fn row_runs<R: Abort + AllocGlobal + Threads + Wait + Sync>(rt: &R, row: &Worked) {
+    let answer = worked_out(rt, row);
+    source_runs(rt, row.source, row.input, &SIZES, &answer);
 }
 
 #[test]
-fn many_processors_of_one_iteration(rt: HostRuntime) -> Result<(), Fail> {
-    source_runs(&rt, TWO_APART, &[(64, 1)])
+fn rows(rt: HostRuntime) {
+    for row in programs() {
+        row_runs(&rt, row);
+    }
 }
 
 /// So many short iterations that one processor alone goes on to begin them.
@@ -140,27 +147,36 @@ const SHORT: &[u8] = b"      INTEGER A(200)
       END
 ";
 
+/// Sources, and the sizes by which they run: many processors with one iteration at a time, and few and many
+/// of them with short iterations.
+static FURTHER: [(&[u8], &[(u64, u64)]); 2] = [
+    (TWO_APART, &[(64, 1)]),
+    (SHORT, &[(1, 4), (2, 4), (4, 4), (64, 4)]),
+];
+
 #[test]
-fn short_iterations(rt: HostRuntime) -> Result<(), Fail> {
-    source_runs(&rt, SHORT, &[(1, 4), (2, 4), (4, 4), (64, 4)])
+fn one_iteration_and_short_ones(rt: HostRuntime) {
+    for (source, sizes) in &FURTHER {
+        source_runs(&rt, source, b"", sizes, &sequential(&rt, source, b""));
+    }
 }
 
-/// The number of a run's refusal, and 0 where it isn't refused.
-pub fn refusal_of<R: Threads + Wait + Sync + AllocGlobal>(
+/// The number of a run's refusal, and 0 where it isn't refused. None where it finds no memory.
+fn refusal_of<R: Threads + Wait + Sync + AllocGlobal>(
     rt: &R,
     code: &Code,
     p: u64,
     s: u64,
-) -> Result<u8, AllocError> {
+) -> Option<u8> {
     match ran(rt, code, b"", p, s) {
-        Ok(_) => Ok(0),
-        Err(RunRefusal::Refused { number }) => Ok(number),
-        Err(RunRefusal::Memory { output: _output }) => Err(AllocError),
+        Ok(_) => Some(0),
+        Err(RunRefusal::Refused { number }) => Some(number),
+        Err(RunRefusal::Memory { output: _output }) => None,
     }
 }
 
 /// Numbers of processors and slots, and the number of the refusal of a run by so many.
-const NUMBERS: [(u64, u64, u8); 10] = [
+static NUMBERS: [(u64, u64, u8); 10] = [
     (0, 1, 57),
     (65, 1, 57),
     (257, 1, 57),
@@ -173,19 +189,21 @@ const NUMBERS: [(u64, u64, u8); 10] = [
     (64, 256, 0),
 ];
 
-/// The runs of code by numbers out of range, and in it.
-fn are_refused<R: Abort + AllocGlobal + Threads + Wait + Sync>(
+/// The runs of code by these numbers of processors and slots are refused so.
+pub fn are_refused<R: Abort + AllocGlobal + Threads + Wait + Sync>(
     rt: &R,
     code: &Code,
-) -> Result<(), Fail> {
-    for (p, s, wanted) in NUMBERS {
-        let number = refusal_of(rt, code, p, s)?;
-        assert!(rt; number == wanted, "p {p}, s {s}");
+    numbers: &[(u64, u64, u8)],
+) {
+    for (p, s, wanted) in numbers {
+        assert!(rt;
+            refusal_of(rt, code, *p, *s) == Some(*wanted),
+            "p {p}, s {s}"
+        );
     }
-    Ok(())
 }
 
 #[test]
-fn numbers_out_of_range(rt: HostRuntime) -> Result<(), Fail> {
-    are_refused(&rt, &compiled(rt.alloc(), b"      END\n")?)
+fn numbers_out_of_range(rt: HostRuntime) {
+    are_refused(&rt, &compiled(&rt, b"      END\n"), &NUMBERS);
 }

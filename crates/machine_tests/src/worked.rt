@@ -1,5 +1,6 @@
 //! Worked programs, and what their runs are set beside.
 
+use crate::sure;
 use ast::{Answer, End, Fault, Program, Refusal};
 use codegen::compile;
 use interpreter::run_seq;
@@ -7,7 +8,6 @@ use machine::Code;
 use profile_check::program;
 use std::alloc::Global;
 use std::process::Abort;
-use std::test::Fail;
 
 /// A program with an input, the records that it prints, and its end.
 pub struct Worked {
@@ -53,8 +53,7 @@ pub const INDEX_ARRAY: &[u8] = b"      INTEGER A(3),IX(6)
       END
 ";
 
-/// The programs.
-pub const WORKED: [Worked; 36] = [
+static WORKED: [Worked; 36] = [
     Worked {
         name: "only end",
         source: b"      END\n",
@@ -474,6 +473,11 @@ pub const WORKED: [Worked; 36] = [
     },
 ];
 
+/// The programs.
+pub fn programs() -> &'static [Worked] {
+    &WORKED
+}
+
 /// The program of a source.
 fn read(alloc: Global, source: &[u8]) -> Result<Program, Refusal> {
     program(alloc, source)
@@ -499,12 +503,16 @@ pub fn sequential(alloc: Global, source: &[u8], input: &[u8]) -> Result<Answer, 
     answer_of(alloc, &read(alloc, source)?, input)
 }
 
-/// The sequential answer of a worked program, which has the records and the end that it should have.
-pub fn worked_out(rt: &(impl Abort + AllocGlobal), row: &Worked) -> Result<Answer, Fail> {
-    let answer = sequential(rt.alloc(), row.source, row.input)?;
-    assert!(*rt; answer.output.as_slice() == row.output, "{}", row.name);
-    assert!(*rt; answer.end == row.end, "{}", row.name);
-    Ok(answer)
+/// Whether an answer has the records and the end that a worked program should have.
+fn is_worked_out(answer: &Answer, row: &Worked) -> bool {
+    answer.output.as_slice() == row.output && answer.end == row.end
+}
+
+/// The sequential answer of a worked program.
+pub fn worked_out(rt: &(impl Abort + AllocGlobal), row: &Worked) -> Answer {
+    let answer = sure::sequential(rt, row.source, row.input);
+    assert!(*rt; is_worked_out(&answer, row), "{}", row.name);
+    answer
 }
 
 /// Whether two stores have the same values, name by name.

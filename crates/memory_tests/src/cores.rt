@@ -3,7 +3,7 @@
 use crate::calls;
 use crate::plans::is_planned;
 use crate::programs::{is_answer, program_of};
-use crate::rows::{AGAIN, ROWS, Row};
+use crate::rows::{AGAIN, OTHERWISE, Row, rows};
 use ast::{Answer, Program, Refusal};
 use codegen::{Compiled, LoopReport};
 use machine::{Code, Done, Frame};
@@ -87,12 +87,24 @@ fn hands_in_again(rt: &impl Abort, core: &mut Core<'_>, q: usize, from: Frame) {
     calls::hand_in(core, q, anew).expect(rt, AGAIN);
 }
 
+/// Whether a core takes local work of processor `q`; where it finds no memory for it nothing has changed.
+fn takes_in(rt: &impl Abort, core: &mut Core<'_>, q: usize, done: Done<'_>) -> bool {
+    let before = seen(core, q);
+    match calls::hand_in(core, q, done) {
+        Err(HandIn::Memory) => {
+            assert!(*rt; seen(core, q) == before);
+            false
+        }
+        given => {
+            given.expect(rt, OTHERWISE);
+            true
+        }
+    }
+}
+
 /// Processor `q` hands in local work that leads from its frame.
 fn gives(rt: &impl Abort, core: &mut Core<'_>, q: usize, done: Done<'_>, spare: Frame) {
-    let before = seen(core, q);
-    if let Err(refusal) = calls::hand_in(core, q, done) {
-        assert!(*rt; refusal == HandIn::Memory);
-        assert!(*rt; seen(core, q) == before);
+    if !takes_in(rt, core, q, done) {
         hands_in_again(rt, core, q, spare);
     }
 }
@@ -106,7 +118,7 @@ fn hands_in(rt: &impl Abort, core: &mut Core<'_>, q: usize, from: Frame) {
 }
 
 /// What an idle processor takes up: the highest iteration that is ready, else a ticket, else main.
-const HIGHEST_FIRST: [Choice; 12] = [
+static HIGHEST_FIRST: [Choice; 12] = [
     Choice::Iteration(9),
     Choice::Iteration(8),
     Choice::Iteration(7),
@@ -130,8 +142,8 @@ enum Picker {
 
 /// Processor `q`, which holds nothing, takes up the first of these that it may.
 fn takes(rt: &impl Abort, core: &mut Core<'_>, q: usize) {
-    for choice in HIGHEST_FIRST {
-        if let Stepped::Went(_) = pick(rt, core, q, choice) {
+    for choice in &HIGHEST_FIRST {
+        if let Stepped::Went(_) = pick(rt, core, q, *choice) {
             break;
         }
     }
@@ -158,11 +170,8 @@ fn turn(rt: &impl Abort, core: &mut Core<'_>, q: usize, picker: Picker) {
 /// A core of two processors, and of two iterations at once.
 fn core_of<'c>(rt: &(impl Abort + AllocGlobal), code: &'c Code, input: &'c [u8]) -> Core<'c> {
     match calls::core_of(rt.alloc(), code, input) {
-        Ok(core) => core,
-        Err(refusal) => {
-            assert!(*rt; refusal == CoreRefusal::Memory);
-            calls::core_of(rt.alloc(), code, input).expect(rt, AGAIN)
-        }
+        Err(CoreRefusal::Memory) => calls::core_of(rt.alloc(), code, input).expect(rt, AGAIN),
+        given => given.expect(rt, OTHERWISE),
     }
 }
 
@@ -172,7 +181,6 @@ fn drive(rt: &impl Abort, core: &mut Core<'_>, picker: Picker) {
         turn(rt, core, 1, picker);
         turn(rt, core, 0, picker);
     }
-    assert!(*rt; core.has_ended());
 }
 
 /// The answer of a core whose run has ended.
@@ -200,11 +208,8 @@ fn text_of(rt: &impl Abort, schedule: &Schedule) -> Vec<u8> {
 
 fn parsed(rt: &(impl Abort + AllocGlobal), text: &[u8]) -> Schedule {
     match calls::parsed(rt.alloc(), text) {
-        Ok(schedule) => schedule,
-        Err(refusal) => {
-            assert!(*rt; refusal == ReplayRefusal::Memory);
-            calls::parsed(rt.alloc(), text).expect(rt, AGAIN)
-        }
+        Err(ReplayRefusal::Memory) => calls::parsed(rt.alloc(), text).expect(rt, AGAIN),
+        given => given.expect(rt, OTHERWISE),
     }
 }
 
@@ -216,11 +221,10 @@ fn replayed(
     schedule: &Schedule,
 ) -> Answer {
     match calls::replayed(rt.alloc(), code, input, schedule) {
-        Ok(answer) => answer,
-        Err(refusal) => {
-            assert!(*rt; refusal == ReplayRefusal::Memory);
+        Err(ReplayRefusal::Memory) => {
             calls::replayed(rt.alloc(), code, input, schedule).expect(rt, AGAIN)
         }
+        given => given.expect(rt, OTHERWISE),
     }
 }
 
@@ -231,59 +235,69 @@ fn upgraded(
     schedule: &Schedule,
 ) -> Schedule {
     match calls::upgraded(rt.alloc(), code, input, schedule) {
-        Ok(schedule) => schedule,
-        Err(refusal) => {
-            assert!(*rt; refusal == ReplayRefusal::Memory);
+        Err(ReplayRefusal::Memory) => {
             calls::upgraded(rt.alloc(), code, input, schedule).expect(rt, AGAIN)
         }
+        given => given.expect(rt, OTHERWISE),
     }
 }
 
-/// A schedule of the second version leads to the row's answer, and is upgraded to itself.
+/// Whether a schedule leads to the row's answer, and is upgraded to this text.
 fn leads(
     rt: &(impl Abort + AllocGlobal),
     code: &Code,
     row: &Row,
     schedule: &Schedule,
     text: &[u8],
-) {
-    is_answer(rt, &replayed(rt, code, row.input, schedule), row);
-    let again = upgraded(rt, code, row.input, schedule);
-    assert!(*rt; text_of(rt, &again).as_slice() == text);
+) -> bool {
+    is_answer(&replayed(rt, code, row.input, schedule), row)
+        && text_of(rt, &upgraded(rt, code, row.input, schedule)).as_slice() == text
 }
 
-/// The schedule of a core, copied and written. It leads to the row's answer, once it was read.
-fn leaves(rt: &(impl Abort + AllocGlobal), core: &Core<'_>, row: &Row) -> Vec<u8> {
-    let text = text_of(rt, &copy_of(rt, core.schedule()));
-    leads(rt, core.code(), row, &parsed(rt, &text), &text);
-    text
+/// The schedule of a core, copied and written.
+fn text_left(rt: &impl Abort, core: &Core<'_>) -> Vec<u8> {
+    text_of(rt, &copy_of(rt, core.schedule()))
 }
 
 /// The code of a program, with the reports of its loops.
 fn compiled(rt: &(impl Abort + AllocGlobal), program: &Program) -> Compiled {
     match calls::compiled(rt.alloc(), program) {
-        Ok(compiled) => compiled,
-        Err(refusal) => {
-            assert!(*rt; refusal == Refusal::Memory);
-            calls::compiled(rt.alloc(), program).expect(rt, AGAIN)
-        }
+        Err(Refusal::Memory) => calls::compiled(rt.alloc(), program).expect(rt, AGAIN),
+        given => given.expect(rt, OTHERWISE),
     }
 }
 
-/// Each loop has its plan.
-fn are_reported(rt: &impl Abort, reports: &[LoopReport], row: &Row) {
-    assert!(*rt; reports.len() == row.loops.len());
+/// Whether each loop has its plan.
+fn are_reported(reports: &[LoopReport], row: &Row) -> bool {
     for (report, range) in reports.iter().zip(row.loops) {
-        assert!(*rt; report.line == range.first);
-        is_planned(rt, &report.plan, range);
+        if report.line != range.first || !is_planned(&report.plan, range) {
+            return false;
+        }
     }
+    reports.len() == row.loops.len()
 }
 
 /// The code of a row, each of whose loops has its plan.
 pub fn code_of(rt: &(impl Abort + AllocGlobal), row: &Row) -> Code {
     let Compiled { code, reports } = compiled(rt, &program_of(rt, row));
-    are_reported(rt, &reports, row);
+    assert!(*rt; are_reported(&reports, row));
     code
+}
+
+/// Whether a letter stands before the name of what is picked, up to the end of the line.
+fn is_letter(byte: u8) -> bool {
+    matches!(byte, b'M' | b'T' | b'I')
+}
+
+/// What stands in place of a byte of a schedule in the first version: nothing behind a pick's letter.
+fn unnamed(byte: u8, is_named: bool) -> Option<u8> {
+    if is_letter(byte) {
+        Some(b'0')
+    } else if is_named && byte != b'\n' {
+        None
+    } else {
+        Some(byte)
+    }
 }
 
 /// A schedule of the second version whose picks are the core's, in the first one.
@@ -291,65 +305,42 @@ fn in_first_version(alloc: Global, text: &[u8]) -> Result<Vec<u8>, AllocError> {
     let mut made = Vec::from_slice(alloc, b"DOACROSS SCHEDULE 1")?;
     let mut is_named = false;
     for byte in text.strip_prefix(b"DOACROSS SCHEDULE 2").unwrap_or(&[]) {
-        match byte {
-            b'M' | b'T' | b'I' => {
-                is_named = true;
-                made.push(b'0')?;
-            }
-            b'\n' => {
-                is_named = false;
-                made.push(b'\n')?;
-            }
-            _ => {
-                if !is_named {
-                    made.push(*byte)?;
-                }
-            }
+        if let Some(kept) = unnamed(*byte, is_named) {
+            made.push(kept)?;
         }
+        is_named = is_letter(*byte) || is_named && *byte != b'\n';
     }
     Ok(made)
 }
 
-/// A run of a row has its answer, to which its schedule leads, whose text this is.
+/// The text of the schedule of a row's run, which has the row's answer. The schedule leads to it.
 fn text_of_run(rt: &(impl Abort + AllocGlobal), code: &Code, row: &Row, picker: Picker) -> Vec<u8> {
     let mut core = core_of(rt, code, row.input);
     drive(rt, &mut core, picker);
-    is_answer(rt, &answer_of(rt, &core), row);
-    leaves(rt, &core, row)
+    assert!(*rt; is_answer(&answer_of(rt, &core), row));
+    let text = text_left(rt, &core);
+    assert!(*rt; leads(rt, code, row, &parsed(rt, &text), &text));
+    text
 }
 
-/// A schedule of the first version leads to the row's answer, and is upgraded to this one.
-fn is_first(
-    rt: &(impl Abort + AllocGlobal),
-    code: &Code,
-    row: &Row,
-    first: &Schedule,
-    text: &[u8],
-) {
-    is_answer(rt, &replayed(rt, code, row.input, first), row);
-    let named = upgraded(rt, code, row.input, first);
-    assert!(*rt; text_of(rt, &named).as_slice() == text);
-}
-
-/// The schedule of a row's run, without the names of what is picked, is upgraded to it.
-fn has_steps(rt: &(impl Abort + AllocGlobal), code: &Code, row: &Row) -> Result<(), AllocError> {
+/// Whether the schedule of a row's run, without the names of what is picked, is upgraded to it.
+fn has_steps(rt: &(impl Abort + AllocGlobal), code: &Code, row: &Row) -> Result<bool, AllocError> {
     let text = text_of_run(rt, code, row, Picker::Core);
     let unnamed = in_first_version(rt.alloc(), &text)?;
-    is_first(rt, code, row, &parsed(rt, &unnamed), &text);
-    Ok(())
+    Ok(leads(rt, code, row, &parsed(rt, &unnamed), &text))
 }
 
 #[test]
 fn want_of_memory_in_steps(rt: HostRuntime) -> Result<(), Fail> {
-    for row in &ROWS {
-        has_steps(&rt, &code_of(&rt, row), row)?;
+    for row in rows() {
+        assert!(rt; has_steps(&rt, &code_of(&rt, row), row)?);
     }
     Ok(())
 }
 
 #[test]
 fn want_of_memory_in_picks(rt: HostRuntime) {
-    for row in &ROWS {
+    for row in rows() {
         text_of_run(&rt, &code_of(&rt, row), row, Picker::HighestFirst);
     }
 }

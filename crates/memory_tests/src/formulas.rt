@@ -2,7 +2,7 @@
 
 use crate::calls::{add_code, expr, loops};
 use crate::programs::program_of;
-use crate::rows::{AGAIN, ROWS};
+use crate::rows::{AGAIN, OTHERWISE, rows};
 use ast::{Expr, Kind, Node, Operator, Program, Refusal};
 use expr_code::Places;
 use loop_tree::{LoopView, ScalarSet};
@@ -15,7 +15,7 @@ use std::test::Fail;
 const LINE: u32 = 9;
 
 /// Texts, and their values where I is 5 and each element is its subscript.
-const TEXTS: [(&[u8], i64); 6] = [
+static TEXTS: [(&[u8], i64); 6] = [
     (b"I*I", 25),
     (b"A(I-2)+1", 4),
     (b"A(I-1)+1", 5),
@@ -57,24 +57,21 @@ fn value_of(expression: &Expr) -> Option<i64> {
 /// The expression of a text.
 fn read(rt: &(impl Abort + AllocGlobal), text: &[u8]) -> Expr {
     match expr(rt.alloc(), text, LINE) {
-        Ok(read) => read,
-        Err(refusal) => {
-            assert!(*rt; refusal == Refusal::Memory);
-            expr(rt.alloc(), text, LINE).expect(rt, AGAIN)
-        }
+        Err(Refusal::Memory) => expr(rt.alloc(), text, LINE).expect(rt, AGAIN),
+        given => given.expect(rt, OTHERWISE),
     }
 }
 
 #[test]
 fn want_of_memory_in_formulas(rt: HostRuntime) {
-    for (text, value) in TEXTS {
-        assert!(rt; value_of(&read(&rt, text)) == Some(value));
+    for (text, value) in &TEXTS {
+        assert!(rt; value_of(&read(&rt, text)) == Some(*value));
     }
 }
 
 /// The code of what the first four rows assign first in their first loops: I*I, A(I-2)+1, A(I-1)+1 and
 /// 1+MOD(I*I,3).
-const CODE: [&[Does]; 4] = [
+static CODE: [&[Does]; 4] = [
     &[Does::Index, Does::Index, Does::Binary(Operator::Multiply)],
     &[
         Does::Index,
@@ -210,7 +207,7 @@ fn first_has_code(
 
 #[test]
 fn want_of_memory_in_code(rt: HostRuntime) -> Result<(), Fail> {
-    for (row, wanted) in ROWS.iter().zip(&CODE) {
+    for (row, wanted) in rows().iter().zip(&CODE) {
         first_has_code(&rt, &program_of(&rt, row), wanted)?;
     }
     Ok(())

@@ -2,7 +2,7 @@
 
 use crate::calls::{check, loops, plan, private_scalars};
 use crate::programs::program_of;
-use crate::rows::{AGAIN, Mark, Planned, ROWS, Range};
+use crate::rows::{AGAIN, Mark, OTHERWISE, Planned, Range, rows};
 use ast::{Name, Program};
 use dependence::{LoopPlan, PlanStmt};
 use loop_tree::{LoopTree, LoopView, ScalarSet};
@@ -17,12 +17,14 @@ fn tree_of<'p>(rt: &(impl Abort + AllocGlobal), program: &'p Program) -> LoopTre
     }
 }
 
-/// Names are these, in this order.
-fn are_named(rt: &impl Abort, names: &[Name], wanted: &[&[u8]]) {
-    assert!(*rt; names.len() == wanted.len());
+/// Whether names are these, in this order.
+fn are_named(names: &[Name], wanted: &[&[u8]]) -> bool {
     for (name, wanted) in names.iter().zip(wanted) {
-        assert!(*rt; name.trimmed() == *wanted);
+        if name.trimmed() != *wanted {
+            return false;
+        }
     }
+    names.len() == wanted.len()
 }
 
 /// The private scalars of a loop.
@@ -44,23 +46,24 @@ fn mark_of(part: &PlanStmt) -> Option<Mark> {
     }
 }
 
-/// The parts of a body are these.
-fn are_parts(rt: &impl Abort, body: &[PlanStmt], wanted: &[Mark]) {
-    assert!(*rt; body.len() == wanted.len());
+/// Whether the parts of a body are these.
+fn are_parts(body: &[PlanStmt], wanted: &[Mark]) -> bool {
     for (part, mark) in body.iter().zip(wanted) {
-        assert!(*rt; mark_of(part) == Some(*mark));
+        if mark_of(part) != Some(*mark) {
+            return false;
+        }
     }
+    body.len() == wanted.len()
 }
 
-/// A plan is the wanted one.
-pub fn is_planned(rt: &impl Abort, found: &LoopPlan, wanted: &Range) {
+/// Whether a plan is the wanted one.
+pub fn is_planned(found: &LoopPlan, wanted: &Range) -> bool {
     match (found, &wanted.plan) {
-        (LoopPlan::Serial(reason), Planned::Serial(number)) => assert!(*rt; reason == number),
+        (LoopPlan::Serial(reason), Planned::Serial(number)) => reason == number,
         (LoopPlan::Body { body, privates, .. }, Planned::Body(marks)) => {
-            are_named(rt, &privates.names, wanted.privates);
-            are_parts(rt, body, marks);
+            are_named(&privates.names, wanted.privates) && are_parts(body, marks)
         }
-        _ => panic!(*rt; "a serial loop in place of an open one, or the other way round"),
+        _ => false,
     }
 }
 
@@ -74,24 +77,24 @@ fn plan_of(rt: &(impl Abort + AllocGlobal), view: &LoopView<'_, '_>) -> LoopPlan
 
 /// A plan is accepted.
 fn is_accepted(rt: &(impl Abort + AllocGlobal), view: &LoopView<'_, '_>, found: &LoopPlan) {
-    if let Err(fault) = check(rt.alloc(), view, found) {
-        assert!(*rt; fault == PlanFault::Memory);
-        check(rt.alloc(), view, found).expect(rt, AGAIN);
+    match check(rt.alloc(), view, found) {
+        Err(PlanFault::Memory) => check(rt.alloc(), view, found).expect(rt, AGAIN),
+        given => given.expect(rt, OTHERWISE),
     }
 }
 
-/// A loop's plan is the wanted one, and is accepted.
-fn has_plan(rt: &(impl Abort + AllocGlobal), view: &LoopView<'_, '_>, wanted: &Range) {
+/// Whether a loop's plan, which is accepted, is the wanted one.
+fn has_plan(rt: &(impl Abort + AllocGlobal), view: &LoopView<'_, '_>, wanted: &Range) -> bool {
     let found = plan_of(rt, view);
-    is_planned(rt, &found, wanted);
     is_accepted(rt, view, &found);
+    is_planned(&found, wanted)
 }
 
-/// A loop is the wanted one.
-fn is_loop(rt: &(impl Abort + AllocGlobal), view: &LoopView<'_, '_>, wanted: &Range) {
-    assert!(*rt; view.line() == wanted.first);
-    are_named(rt, &privates_of(rt, view).names, wanted.privates);
-    has_plan(rt, view, wanted);
+/// Whether a loop is the wanted one.
+fn is_loop(rt: &(impl Abort + AllocGlobal), view: &LoopView<'_, '_>, wanted: &Range) -> bool {
+    view.line() == wanted.first
+        && are_named(&privates_of(rt, view).names, wanted.privates)
+        && has_plan(rt, view, wanted)
 }
 
 /// The loops of a program are these.
@@ -102,7 +105,7 @@ fn are_loops(rt: &(impl Abort + AllocGlobal), tree: &LoopTree<'_>, wanted: &[Ran
         number = number.wrapping_add(1);
         assert!(*rt; 1 <= number);
         assert!(*rt; number <= tree.count());
-        is_loop(rt, &tree.view(number), range);
+        assert!(*rt; is_loop(rt, &tree.view(number), range));
     }
 }
 
@@ -113,7 +116,7 @@ fn has_loops(rt: &(impl Abort + AllocGlobal), program: &Program, wanted: &[Range
 
 #[test]
 fn want_of_memory_in_loops(rt: HostRuntime) {
-    for row in &ROWS {
+    for row in rows() {
         has_loops(&rt, &program_of(&rt, row), row.loops);
     }
 }

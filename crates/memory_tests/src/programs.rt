@@ -1,7 +1,7 @@
 //! From texts to programs, and to their answers one statement after another.
 
 use crate::calls::{blocks, program, run_seq, statement, statements};
-use crate::rows::{AGAIN, ROWS, Range, Row};
+use crate::rows::{AGAIN, OTHERWISE, Range, Row, rows};
 use ast::{Answer, Kind, Line, Program, Refusal, Stmt};
 use fixed_form::Labelled;
 use std::alloc::AllocError;
@@ -12,20 +12,19 @@ use structure::Blocks;
 /// The statements of a source.
 fn statements_of(rt: &(impl Abort + AllocGlobal), source: &[u8]) -> Vec<Labelled> {
     match statements(rt.alloc(), source) {
-        Ok(list) => list,
-        Err(refusal) => {
-            assert!(*rt; refusal == Refusal::Memory);
-            statements(rt.alloc(), source).expect(rt, AGAIN)
-        }
+        Err(Refusal::Memory) => statements(rt.alloc(), source).expect(rt, AGAIN),
+        given => given.expect(rt, OTHERWISE),
     }
 }
 
-/// There are so many statements, each of which has a line of its own.
-fn are_lines(rt: &impl Abort, list: &[Labelled], count: usize) {
-    assert!(*rt; list.len() == count);
+/// Whether there are so many statements, each of which has a line of its own.
+fn are_lines(list: &[Labelled], count: usize) -> bool {
     for (place, one) in list.iter().enumerate() {
-        assert!(*rt; one.line as usize == place.wrapping_add(1));
+        if one.line as usize != place.wrapping_add(1) {
+            return false;
+        }
     }
+    list.len() == count
 }
 
 /// Whether a DO stands on this line.
@@ -41,21 +40,23 @@ fn begins_loop(row: &Row, line: Line) -> bool {
 /// The tree of a statement.
 fn tree_of(rt: &(impl Abort + AllocGlobal), line: &Labelled) -> Stmt {
     match statement(rt.alloc(), line) {
-        Ok(read) => read,
-        Err(refusal) => {
-            assert!(*rt; refusal == Refusal::Memory);
-            statement(rt.alloc(), line).expect(rt, AGAIN)
-        }
+        Err(Refusal::Memory) => statement(rt.alloc(), line).expect(rt, AGAIN),
+        given => given.expect(rt, OTHERWISE),
     }
 }
 
-/// A statement. Those that begin loops are the row's.
+/// Whether a tree is that of a statement. Those that begin loops are the row's.
+fn is_tree(tree: &Stmt, row: &Row, line: &Labelled) -> bool {
+    tree.line == line.line
+        && tree.label == line.label
+        && matches!(&tree.kind, Kind::Do(_)) == begins_loop(row, tree.line)
+}
+
+/// A statement.
 fn read(rt: &(impl Abort + AllocGlobal), row: &Row, line: &Labelled) -> Stmt {
-    let read = tree_of(rt, line);
-    assert!(*rt; read.line == line.line);
-    assert!(*rt; read.label == line.label);
-    assert!(*rt; matches!(&read.kind, Kind::Do(_)) == begins_loop(row, read.line));
-    read
+    let tree = tree_of(rt, line);
+    assert!(*rt; is_tree(&tree, row, line));
+    tree
 }
 
 fn trees_of(
@@ -73,45 +74,43 @@ fn trees_of(
 /// Where the ranges of statements stand.
 fn ranges_of(rt: &(impl Abort + AllocGlobal), lines: &[Labelled], trees: &[Stmt]) -> Blocks {
     match blocks(rt.alloc(), lines, trees) {
-        Ok(found) => found,
-        Err(refusal) => {
-            assert!(*rt; refusal == Refusal::Memory);
-            blocks(rt.alloc(), lines, trees).expect(rt, AGAIN)
+        Err(Refusal::Memory) => blocks(rt.alloc(), lines, trees).expect(rt, AGAIN),
+        given => given.expect(rt, OTHERWISE),
+    }
+}
+
+/// Whether ranges are these; a statement's number is one less than its line.
+fn are_ranges(found: &Blocks, wanted: &[Range]) -> bool {
+    for (span, range) in found.spans.iter().zip(wanted) {
+        if span.first.wrapping_add(1) != range.first as usize
+            || span.last.wrapping_add(1) != range.last as usize
+        {
+            return false;
         }
     }
+    found.spans.len() == wanted.len()
 }
 
-/// Ranges are these; a statement's number is one less than its line.
-fn are_ranges(rt: &impl Abort, found: &Blocks, wanted: &[Range]) {
-    assert!(*rt; found.spans.len() == wanted.len());
-    for (span, range) in found.spans.iter().zip(wanted) {
-        assert!(*rt; span.first.wrapping_add(1) == range.first as usize);
-        assert!(*rt; span.last.wrapping_add(1) == range.last as usize);
-    }
-}
-
-/// The trees of a row's statements, and their ranges.
+/// Whether the trees of a row's statements have its ranges.
 fn has_trees(
     rt: &(impl Abort + AllocGlobal),
     row: &Row,
     lines: &[Labelled],
-) -> Result<(), AllocError> {
+) -> Result<bool, AllocError> {
     let trees = trees_of(rt, row, lines)?;
-    are_ranges(rt, &ranges_of(rt, lines, &trees), row.loops);
-    Ok(())
+    Ok(are_ranges(&ranges_of(rt, lines, &trees), row.loops))
 }
 
-/// The statements of a row.
-fn has_statements(rt: &(impl Abort + AllocGlobal), row: &Row) -> Result<(), AllocError> {
+/// Whether the statements of a row are these.
+fn has_statements(rt: &(impl Abort + AllocGlobal), row: &Row) -> Result<bool, AllocError> {
     let lines = statements_of(rt, row.source);
-    are_lines(rt, &lines, row.statements);
-    has_trees(rt, row, &lines)
+    Ok(are_lines(&lines, row.statements) && has_trees(rt, row, &lines)?)
 }
 
 #[test]
 fn want_of_memory_in_statements(rt: HostRuntime) -> Result<(), Fail> {
-    for row in &ROWS {
-        has_statements(&rt, row)?;
+    for row in rows() {
+        assert!(rt; has_statements(&rt, row)?);
     }
     Ok(())
 }
@@ -119,11 +118,8 @@ fn want_of_memory_in_statements(rt: HostRuntime) -> Result<(), Fail> {
 /// The program of a row.
 pub fn program_of(rt: &(impl Abort + AllocGlobal), row: &Row) -> Program {
     match program(rt.alloc(), row.source) {
-        Ok(made) => made,
-        Err(refusal) => {
-            assert!(*rt; refusal == Refusal::Memory);
-            program(rt.alloc(), row.source).expect(rt, AGAIN)
-        }
+        Err(Refusal::Memory) => program(rt.alloc(), row.source).expect(rt, AGAIN),
+        given => given.expect(rt, OTHERWISE),
     }
 }
 
@@ -135,10 +131,9 @@ fn answer_of(rt: &(impl Abort + AllocGlobal), program: &Program, row: &Row) -> A
     }
 }
 
-/// An answer is the row's.
-pub fn is_answer(rt: &impl Abort, answer: &Answer, row: &Row) {
-    assert!(*rt; answer.output.as_slice() == row.output);
-    assert!(*rt; answer.end == row.end);
+/// Whether an answer is the row's.
+pub fn is_answer(answer: &Answer, row: &Row) -> bool {
+    answer.output.as_slice() == row.output && answer.end == row.end
 }
 
 fn copy_of(rt: &impl Abort, program: &Program) -> Program {
@@ -148,15 +143,15 @@ fn copy_of(rt: &impl Abort, program: &Program) -> Program {
     }
 }
 
-/// The copy of a row's program has the row's answer.
-fn has_answer(rt: &(impl Abort + AllocGlobal), program: &Program, row: &Row) {
-    assert!(*rt; program.statements == row.statements);
-    is_answer(rt, &answer_of(rt, &copy_of(rt, program), row), row);
+/// Whether the copy of a row's program has the row's answer.
+fn has_answer(rt: &(impl Abort + AllocGlobal), program: &Program, row: &Row) -> bool {
+    program.statements == row.statements
+        && is_answer(&answer_of(rt, &copy_of(rt, program), row), row)
 }
 
 #[test]
 fn want_of_memory_in_programs(rt: HostRuntime) {
-    for row in &ROWS {
-        has_answer(&rt, &program_of(&rt, row), row);
+    for row in rows() {
+        assert!(rt; has_answer(&rt, &program_of(&rt, row), row));
     }
 }

@@ -5,6 +5,9 @@ use ast::{End, Fault, Line};
 /// What a panic says where a call gives nothing again.
 pub const AGAIN: &str = "there is memory for a second call";
 
+/// What a panic says where a call gives nothing, though there was memory.
+pub const OTHERWISE: &str = "a call has no other fault than want of memory";
+
 /// What stands in the body of a plan.
 #[derive(Clone, Copy, PartialEq, Eq)]
 pub enum Mark {
@@ -356,7 +359,7 @@ N = 16
 ",
 };
 
-pub const ROWS: [Row; 7] = [
+static ROWS: [Row; 7] = [
     SQUARES,
     TWO_APART,
     FAULTS,
@@ -365,3 +368,8 @@ pub const ROWS: [Row; 7] = [
     READS_NO_VALUE,
     WIDE,
 ];
+
+/// The programs.
+pub fn rows() -> &'static [Row] {
+    &ROWS
+}

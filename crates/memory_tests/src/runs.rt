@@ -2,58 +2,58 @@
 
 use crate::calls::ran;
 use crate::cores::code_of;
-use crate::rows::{ROWS, Row};
+use crate::programs::is_answer;
+use crate::rows::{AGAIN, Row, rows};
 use machine::Code;
 use processors::{Report, RunRefusal};
 use std::process::Abort;
 use std::sync::Wait;
 use std::thread::Threads;
 
-/// Whether a run came to its end, which is the row's. Where it found no memory, a beginning of the row's
-/// records has gone out.
-fn has_ended(rt: &impl Abort, came: Result<Report, RunRefusal>, row: &Row) -> bool {
-    match came {
-        Ok(report) => {
-            assert!(*rt; report.answer.output.as_slice() == row.output);
-            assert!(*rt; report.answer.end == row.end);
-            true
+/// Whether a run found no memory, and a beginning of the row's records had gone out, or couldn't start a
+/// thread.
+fn is_given_up(refusal: &RunRefusal, row: &Row) -> bool {
+    match refusal {
+        RunRefusal::Memory { output } => {
+            row.output.starts_with(output) && (output.is_empty() || output.ends_with(b"\n"))
         }
-        Err(RunRefusal::Memory { output }) => {
-            assert!(*rt; row.output.starts_with(&output));
-            assert!(*rt; output.is_empty() || output.ends_with(b"\n"));
-            false
-        }
-        Err(RunRefusal::Refused { number }) => {
-            assert!(*rt; number == 58);
-            false
-        }
+        RunRefusal::Refused { number } => *number == 58,
     }
 }
 
-/// A run that finds no memory, or can't start a thread, gives up; the next one has its answer.
-fn ends<R: Abort + AllocGlobal + Threads + Wait + Sync>(
+/// The report of a run, at once or when it's made again.
+fn report_of<R: Abort + AllocGlobal + Threads + Wait + Sync>(
     rt: &R,
     code: &Code,
     row: &Row,
     p: u64,
     s: u64,
-) {
-    if !has_ended(rt, ran(rt, code, row.input, p, s), row) {
-        let again = ran(rt, code, row.input, p, s);
-        assert!(*rt; has_ended(rt, again, row));
+) -> Report {
+    match ran(rt, code, row.input, p, s) {
+        Ok(report) => report,
+        Err(refusal) => {
+            assert!(rt; is_given_up(&refusal, row));
+            ran(rt, code, row.input, p, s).expect(rt, AGAIN)
+        }
     }
+}
+
+/// A run that finds no memory, or can't start a thread, gives up; the next one has its answer.
+fn ends<R: Abort + AllocGlobal + Threads + Wait + Sync>(rt: &R, row: &Row, p: u64, s: u64) {
+    let report = report_of(rt, &code_of(rt, row), row, p, s);
+    assert!(rt; is_answer(&report.answer, row));
 }
 
 #[test]
 fn want_of_memory_by_one_processor(rt: HostRuntime) {
-    for row in &ROWS {
-        ends(&rt, &code_of(&rt, row), row, 1, 1);
+    for row in rows() {
+        ends(&rt, row, 1, 1);
     }
 }
 
 #[test]
 fn want_of_memory_by_three_processors(rt: HostRuntime) {
-    for row in &ROWS {
-        ends(&rt, &code_of(&rt, row), row, 3, 4);
+    for row in rows() {
+        ends(&rt, row, 3, 4);
     }
 }

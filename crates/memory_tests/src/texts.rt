@@ -1,6 +1,6 @@
 //! The engines, over texts.
 
-use crate::rows::{AGAIN, ROWS, Row};
+use crate::rows::{AGAIN, OTHERWISE, Row, rows};
 use engines::{EngineFault, Wants, check, list, replay, run, seq, upgrade};
 use std::alloc::{AllocError, Global};
 use std::process::Abort;
@@ -11,25 +11,57 @@ use std::thread::Threads;
 /// More than each of these writes, so that a writer takes no memory.
 const ROOM: usize = 4_096;
 
-/// Whether an engine found no memory; it met no other fault.
-fn is_refused(rt: &impl Abort, given: &Result<u8, EngineFault>) -> bool {
-    match given {
-        Ok(_) => false,
-        Err(fault) => {
-            assert!(*rt; matches!(fault, EngineFault::Memory));
-            true
-        }
-    }
-}
-
 /// The status of a run that shows its faults.
 fn status_of(row: &Row) -> u8 {
     if row.told.is_empty() { 0 } else { 2 }
 }
 
-/// Two texts, one behind the other.
-fn are(text: &[u8], first: &[u8], second: &[u8]) -> bool {
-    text.strip_prefix(first) == Some(second)
+/// What is wanted of an engine.
+#[derive(Clone, Copy)]
+enum Asked<'s> {
+    Check,
+    List,
+    Seq,
+    /// The replay of this schedule.
+    Replay(&'s [u8]),
+    /// The upgrade of this schedule, which is of the second version.
+    Upgrade(&'s [u8]),
+}
+
+/// The status that an engine is to give.
+fn wanted_status(row: &Row, asked: Asked<'_>) -> u8 {
+    match asked {
+        Asked::Seq | Asked::Replay(_) => status_of(row),
+        _ => 0,
+    }
+}
+
+/// Whether as much as this may have been written where an engine found no memory. Only `seq` writes before
+/// its end.
+fn may_be_begun(out: &[u8], row: &Row, asked: Asked<'_>) -> bool {
+    match asked {
+        Asked::Seq => row.output.starts_with(out),
+        _ => out.is_empty(),
+    }
+}
+
+/// Whether these parts, one behind the other, were written.
+fn are_written(out: &[u8], first: &[u8], second: &[u8], third: &[u8]) -> bool {
+    match out.strip_prefix(first) {
+        Some(behind) => behind.strip_prefix(second) == Some(third),
+        None => false,
+    }
+}
+
+/// Whether an engine has written what it should.
+fn is_written(out: &[u8], row: &Row, asked: Asked<'_>) -> bool {
+    match asked {
+        Asked::Check => out == row.accepted,
+        Asked::List => out == row.listing,
+        Asked::Seq => are_written(out, row.output, row.told, row.stored),
+        Asked::Replay(_) => are_written(out, row.output, row.told, b""),
+        Asked::Upgrade(schedule) => out == schedule,
+    }
 }
 
 fn check_into(alloc: Global, row: &Row, out: &mut Vec<u8>) -> Result<u8, EngineFault> {
@@ -42,82 +74,89 @@ fn list_into(alloc: Global, row: &Row, out: &mut Vec<u8>) -> Result<u8, EngineFa
     list(alloc, &mut source, out)
 }
 
-/// What `check` writes, at once or when it's asked again.
-fn checks(rt: &(impl Abort + AllocGlobal), row: &Row, out: &mut Vec<u8>) {
-    let mut given = check_into(rt.alloc(), row, out);
-    if is_refused(rt, &given) {
-        assert!(*rt; out.is_empty());
-        given = check_into(rt.alloc(), row, out);
-    }
-    assert!(*rt; given.expect(rt, AGAIN) == 0);
+fn seq_into(alloc: Global, row: &Row, out: &mut Vec<u8>) -> Result<u8, EngineFault> {
+    let mut source = row.source;
+    let mut input = row.input;
+    seq(alloc, &mut source, &mut input, true, 65_536, out)
 }
 
-fn is_checked(rt: &(impl Abort + AllocGlobal), row: &Row) -> Result<(), AllocError> {
-    let mut out = Vec::with_capacity(rt.alloc(), ROOM)?;
-    checks(rt, row, &mut out);
-    assert!(*rt; out.as_slice() == row.accepted);
-    Ok(())
-}
-
-/// What `list` writes, at once or when it's asked again.
-fn lists(rt: &(impl Abort + AllocGlobal), row: &Row, out: &mut Vec<u8>) {
-    let mut given = list_into(rt.alloc(), row, out);
-    if is_refused(rt, &given) {
-        assert!(*rt; out.is_empty());
-        given = list_into(rt.alloc(), row, out);
-    }
-    assert!(*rt; given.expect(rt, AGAIN) == 0);
-}
-
-fn is_listed(rt: &(impl Abort + AllocGlobal), row: &Row) -> Result<(), AllocError> {
-    let mut out = Vec::with_capacity(rt.alloc(), ROOM)?;
-    lists(rt, row, &mut out);
-    assert!(*rt; out.as_slice() == row.listing);
-    Ok(())
-}
-
-fn seq_into(
-    rt: &(impl Abort + AllocGlobal),
+fn replay_into(
+    alloc: Global,
     row: &Row,
+    mut schedule: &[u8],
     out: &mut Vec<u8>,
 ) -> Result<u8, EngineFault> {
     let mut source = row.source;
     let mut input = row.input;
-    seq(rt.alloc(), &mut source, &mut input, true, 65_536, out)
+    replay(alloc, &mut source, &mut input, &mut schedule, out)
 }
 
-/// What `seq` writes, at once or when it's asked again.
-fn goes_alone(rt: &(impl Abort + AllocGlobal), row: &Row, out: &mut Vec<u8>) {
-    let mut given = seq_into(rt, row, out);
-    if is_refused(rt, &given) {
-        assert!(*rt; row.output.starts_with(out));
-        out.clear();
-        given = seq_into(rt, row, out);
+/// What `upgrade` gives; 1, which is wrong, where it shows something.
+fn upgrade_into(
+    alloc: Global,
+    row: &Row,
+    mut schedule: &[u8],
+    upgraded: &mut Vec<u8>,
+) -> Result<u8, EngineFault> {
+    let mut source = row.source;
+    let mut input = row.input;
+    let mut shown = Vec::new(alloc);
+    let given = upgrade(
+        alloc,
+        &mut source,
+        &mut input,
+        &mut schedule,
+        &mut shown,
+        upgraded,
+    );
+    if shown.is_empty() { given } else { Ok(1) }
+}
+
+/// What an engine gives.
+fn given(alloc: Global, row: &Row, asked: Asked<'_>, out: &mut Vec<u8>) -> Result<u8, EngineFault> {
+    match asked {
+        Asked::Check => check_into(alloc, row, out),
+        Asked::List => list_into(alloc, row, out),
+        Asked::Seq => seq_into(alloc, row, out),
+        Asked::Replay(schedule) => replay_into(alloc, row, schedule, out),
+        Asked::Upgrade(schedule) => upgrade_into(alloc, row, schedule, out),
     }
-    assert!(*rt; given.expect(rt, AGAIN) == status_of(row));
 }
 
-/// Whether a row's records, what is told of their end and the store were written.
-fn is_shown(out: &[u8], row: &Row) -> bool {
-    match out.strip_prefix(row.output) {
-        Some(behind) => are(behind, row.told, row.stored),
-        None => false,
+/// The status that an engine gave, at once or when it was asked again.
+fn status_at_last(
+    rt: &(impl Abort + AllocGlobal),
+    row: &Row,
+    asked: Asked<'_>,
+    out: &mut Vec<u8>,
+) -> u8 {
+    match given(rt.alloc(), row, asked, out) {
+        Err(EngineFault::Memory) => {
+            assert!(*rt; may_be_begun(out, row, asked));
+            out.clear();
+            given(rt.alloc(), row, asked, out).expect(rt, AGAIN)
+        }
+        first => first.expect(rt, OTHERWISE),
     }
 }
 
-fn runs_alone(rt: &(impl Abort + AllocGlobal), row: &Row) -> Result<(), AllocError> {
+/// Whether an engine writes what it should.
+fn writes(
+    rt: &(impl Abort + AllocGlobal),
+    row: &Row,
+    asked: Asked<'_>,
+) -> Result<bool, AllocError> {
     let mut out = Vec::with_capacity(rt.alloc(), ROOM)?;
-    goes_alone(rt, row, &mut out);
-    assert!(*rt; is_shown(&out, row));
-    Ok(())
+    let status = status_at_last(rt, row, asked, &mut out);
+    Ok(status == wanted_status(row, asked) && is_written(&out, row, asked))
 }
 
 #[test]
 fn want_of_memory_in_sources(rt: HostRuntime) -> Result<(), Fail> {
-    for row in &ROWS {
-        is_checked(&rt, row)?;
-        is_listed(&rt, row)?;
-        runs_alone(&rt, row)?;
+    for row in rows() {
+        assert!(rt; writes(&rt, row, Asked::Check)?);
+        assert!(rt; writes(&rt, row, Asked::List)?);
+        assert!(rt; writes(&rt, row, Asked::Seq)?);
     }
     Ok(())
 }
@@ -149,136 +188,57 @@ fn run_into<R: Abort + AllocGlobal + Threads + Wait + Sync>(
     )
 }
 
-/// Whether a run gave up: for want of memory, or as a thread couldn't be started. It met no other fault.
-fn gave_up(rt: &impl Abort, given: &Result<u8, EngineFault>) -> bool {
-    match given {
-        Ok(_) => false,
+/// Whether a run gave up: for want of memory, or as a thread couldn't be started.
+fn is_given_up(fault: &EngineFault) -> bool {
+    fault.status() == 5 || fault.status() == 58
+}
+
+/// The status that a run in threads gives, at once or when it's made again.
+fn status_of_run<R: Abort + AllocGlobal + Threads + Wait + Sync>(
+    rt: &R,
+    row: &Row,
+    schedule: &mut Vec<u8>,
+    out: &mut Vec<u8>,
+) -> u8 {
+    match run_into(rt, row, schedule, out) {
+        Ok(status) => status,
         Err(fault) => {
-            assert!(*rt; fault.status() == 5 || fault.status() == 58);
-            true
+            assert!(rt; is_given_up(&fault));
+            assert!(rt; schedule.is_empty() && row.output.starts_with(out));
+            out.clear();
+            run_into(rt, row, schedule, out).expect(rt, AGAIN)
         }
     }
 }
 
-/// What a run in threads writes, at once or when it's made again.
-fn runs_into<R: Abort + AllocGlobal + Threads + Wait + Sync>(
-    rt: &R,
-    row: &Row,
-    schedule: &mut Vec<u8>,
-    out: &mut Vec<u8>,
-) {
-    let mut given = run_into(rt, row, schedule, out);
-    if gave_up(rt, &given) {
-        assert!(*rt; schedule.is_empty());
-        assert!(*rt; row.output.starts_with(out));
-        out.clear();
-        given = run_into(rt, row, schedule, out);
-    }
-    assert!(*rt; given.expect(rt, AGAIN) == status_of(row));
-}
-
-/// A run of a row in threads shows what it should.
+/// Whether a run of a row in threads shows what it should.
 fn runs<R: Abort + AllocGlobal + Threads + Wait + Sync>(
     rt: &R,
     row: &Row,
     schedule: &mut Vec<u8>,
-) -> Result<(), AllocError> {
+) -> Result<bool, AllocError> {
     let mut out = Vec::with_capacity(rt.alloc(), ROOM)?;
-    runs_into(rt, row, schedule, &mut out);
-    assert!(*rt; is_shown(&out, row));
-    Ok(())
+    let status = status_of_run(rt, row, schedule, &mut out);
+    Ok(status == status_of(row) && is_written(&out, row, Asked::Seq))
 }
 
-fn replay_into(
-    rt: &(impl Abort + AllocGlobal),
-    row: &Row,
-    schedule: &[u8],
-    out: &mut Vec<u8>,
-) -> Result<u8, EngineFault> {
-    let mut source = row.source;
-    let mut input = row.input;
-    let mut schedule = schedule;
-    replay(rt.alloc(), &mut source, &mut input, &mut schedule, out)
-}
-
-/// What `replay` writes, at once or when it's asked again.
-fn replays_into(rt: &(impl Abort + AllocGlobal), row: &Row, schedule: &[u8], out: &mut Vec<u8>) {
-    let mut given = replay_into(rt, row, schedule, out);
-    if is_refused(rt, &given) {
-        assert!(*rt; out.is_empty());
-        given = replay_into(rt, row, schedule, out);
-    }
-    assert!(*rt; given.expect(rt, AGAIN) == status_of(row));
-}
-
-/// A schedule leads to what the row shows, the store aside.
-fn replays(rt: &(impl Abort + AllocGlobal), row: &Row, schedule: &[u8]) -> Result<(), AllocError> {
-    let mut out = Vec::with_capacity(rt.alloc(), ROOM)?;
-    replays_into(rt, row, schedule, &mut out);
-    assert!(*rt; are(&out, row.output, row.told));
-    Ok(())
-}
-
-fn upgrade_into(
-    rt: &(impl Abort + AllocGlobal),
-    row: &Row,
-    schedule: &[u8],
-    out: &mut Vec<u8>,
-    upgraded: &mut Vec<u8>,
-) -> Result<u8, EngineFault> {
-    let mut source = row.source;
-    let mut input = row.input;
-    let mut schedule = schedule;
-    upgrade(
-        rt.alloc(),
-        &mut source,
-        &mut input,
-        &mut schedule,
-        out,
-        upgraded,
-    )
-}
-
-/// What `upgrade` writes, at once or when it's asked again. It shows nothing.
-fn upgrades_into(
-    rt: &(impl Abort + AllocGlobal),
-    row: &Row,
-    schedule: &[u8],
-    upgraded: &mut Vec<u8>,
-) {
-    let mut out = Vec::new(rt.alloc());
-    let mut given = upgrade_into(rt, row, schedule, &mut out, upgraded);
-    if is_refused(rt, &given) {
-        assert!(*rt; upgraded.is_empty());
-        given = upgrade_into(rt, row, schedule, &mut out, upgraded);
-    }
-    assert!(*rt; given.expect(rt, AGAIN) == 0);
-    assert!(*rt; out.is_empty());
-}
-
-/// A schedule of the second version is given back.
-fn is_kept(rt: &(impl Abort + AllocGlobal), row: &Row, schedule: &[u8]) -> Result<(), AllocError> {
-    let mut upgraded = Vec::with_capacity(rt.alloc(), ROOM)?;
-    upgrades_into(rt, row, schedule, &mut upgraded);
-    assert!(*rt; upgraded.as_slice() == schedule);
-    Ok(())
-}
-
-/// A run of a row, its replay and its upgrade.
+/// Whether a run of a row, its replay and its upgrade write what they should.
 fn has_schedule<R: Abort + AllocGlobal + Threads + Wait + Sync>(
     rt: &R,
     row: &Row,
-) -> Result<(), AllocError> {
+) -> Result<bool, AllocError> {
     let mut schedule = Vec::with_capacity(rt.alloc(), ROOM)?;
-    runs(rt, row, &mut schedule)?;
-    replays(rt, row, &schedule)?;
-    is_kept(rt, row, &schedule)
+    Ok(
+        runs(rt, row, &mut schedule)?
+            && writes(rt, row, Asked::Replay(&schedule))?
+            && writes(rt, row, Asked::Upgrade(&schedule))?,
+    )
 }
 
 #[test]
 fn want_of_memory_in_schedules(rt: HostRuntime) -> Result<(), Fail> {
-    for row in &ROWS {
-        has_schedule(&rt, row)?;
+    for row in rows() {
+        assert!(rt; has_schedule(&rt, row)?);
     }
     Ok(())
 }
