@@ -8,4 +8,5 @@ pub mod Meeting
 pub mod Promise
 pub mod Reformed
 pub mod Runs
+pub mod Strides
 mod Table

@@ -1,12 +1,16 @@
 pub mod ConstantValues
 pub mod Ends
 pub mod Gathered
+pub mod Intrinsics
 pub mod Known
 pub mod KnownTrips
 pub mod Marked
 pub mod Numbers
+pub mod Occurring
+pub mod Picked
 pub mod Placed
 pub mod Program
 pub mod Ranges
 pub mod References
 pub mod RegularLoops
+pub mod Terms

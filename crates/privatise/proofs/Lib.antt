@@ -3,3 +3,4 @@ pub mod Changes
 pub mod Exactly
 pub mod Flows
 pub mod Forward
+pub mod Passed
