@@ -37,7 +37,7 @@ fn offset(dimension: &Dimension, subscript: i64) -> usize
 }
 
 /// The place one subscript further.
-#[tactic(auto, using(crate::proofs::Offsets::narrow, crate::proofs::Offsets::together))]
+#[tactic(auto, using(crate::proofs::Offsets::narrow))]
 fn further(
     place: Option<usize>,
     stride: usize,

@@ -1,29 +1,26 @@
 -- Activities as they begin.
 use Rattle.std.proofs.Common.{inl, ◌≡◌, ◌∙◌, ℕ, zero, suc, ◌+◌, ◌<◌, List, [], ◌∷◌, get_or, Option, Some, None, refl, sym, ap, subst, arith}
-use Rattle.std.specs.Prelude.{ℤ, pos, ◌%◌, option_map, replicate}
+use Rattle.std.specs.Prelude.{pos, ◌%◌, option_map, replicate}
 use Rattle.std.proofs.lemmas.Bool.{ne_eqb}
 use Rattle.std.proofs.lemmas.List.{length-replicate}
 use Rattle.ast.specs.Store.{StoreOf, zeros}
-use Rattle.ec_kernel.specs.View.{View, IsKernel, NoWaiter, places}
+use Rattle.ec_kernel.specs.View.{IsKernel, NoWaiter, places}
 use Rattle.machine.specs.Code.{Code}
 use Rattle.machine.specs.Laid.{count_of, number_at}
 use Rattle.machine.specs.State.{Active, Machine, Wait, Who, until_retired}
 use Rattle.machine.specs.Frame.{Frame}
 use Rattle.machine.specs.View.{Input, main_frame}
 use Rattle.machine.specs.declared.code.Variable.{Variable}
-use Rattle.ast.specs.Input.{records_of}
 use Rattle.replay.specs.Core.{IsCore}
-use Rattle.replay.specs.Parts.{Kept, Standing, active, held_of, machine_of, numbered, point_of, standing, store_of, value_in, wait_in}
-use Rattle.replay.specs.PartsView.{input_of, wait}
+use Rattle.replay.specs.Parts.{Kept, Shared, Standing, active, held_of, machine_of, numbered, point_of, standing, store_of, value_in, wait_in}
+use Rattle.replay.specs.PartsView.{input_of, shared_of, wait}
 use Rattle.replay.specs.Replays.{at_first, beginning}
 use Rattle.replay.specs.Waiting.{Stands}
 use Rattle.replay.specs.declared.parts.Until.TheVariants.{Retired}
 use Rattle.replay.specs.declared.activities.Activities.{Activities}
-use Rattle.replay.specs.Activities.{kept_in}
+use Rattle.replay.specs.Activities.{input_at_first, kept_in, shared_at_first}
 use Rattle.replay.proofs.Shares.{holders, standings}
 use Rattle.machine.specs.FrameView as frames
-use Rattle.machine.specs.declared.code.Open.{Open}
-use Rattle.ast.specs.declared.fault.End.{End}
 use Rattle.replay.proofs.Leading.{no_counts}
 
 pub no_waiters : (n : ℕ) → NoWaiter (replicate n [])
@@ -41,8 +38,8 @@ places_of s j = let d : 1 + j ≡ 0 → ⊥ = λ z. omega (arith, z) in rw (ne_e
 -- what a core keeps as it begins
 abbrev pub first_kept : Code → List ℕ → ℕ → ℕ → Kept
 first_kept code input p s = record {
-  shared = record { cells = replicate (count_of code.variables) (pos 0); order = at_first s; output = []; loop = None; ended = None };
-  input = record { left = []; records = records_of input };
+  shared = shared_at_first code s;
+  input = input_at_first input;
   main = main_frame code;
   waiting = Some (until_retired 0);
   iterations = replicate s None;
@@ -111,13 +108,12 @@ no_holders zero = refl
 no_holders (suc p) = ap (λ (hs : List (Option Who)). None ∷ hs) (no_holders p)
 
 -- activities of which these parts are known
-pub kept_first : (code : Code) (input : List ℕ) (p s : ℕ) (a : Activities) → a.shared.cells.items ≡ replicate (count_of code.variables) (pos 0) → a.shared.kernel ≡ at_first s → a.shared.output.items ≡ [] → a.shared.open ≡ None → a.shared.ended ≡ None
-    → input_of a.main.input ≡ record { left = []; records = records_of input } → frames.frame_of a.main.frame ≡ main_frame code → a.main.wait ≡ Some (Retired 0) → standings a.iterations.items ≡ replicate s None → a.held.items ≡ replicate p None → kept_in a ≡ first_kept code input p s
-kept_first code input p s a c k o l e i f w t h =
-    made a.shared.cells.items (replicate (count_of code.variables) (pos 0)) a.shared.kernel (at_first s) a.shared.output.items [] a.shared.open None a.shared.ended None (input_of a.main.input) (record { left = []; records = records_of input }) (frames.frame_of a.main.frame) (main_frame code)
-    (option_map wait a.main.wait) (Some (until_retired 0)) (standings a.iterations.items) (replicate s None) (holders a.held.items) (replicate p None) c k o l e i f (ap (λ u. option_map wait u) w) t
-    (ap holders h ∙ no_holders p)
+pub kept_first : (code : Code) (input : List ℕ) (p s : ℕ) (a : Activities) → shared_of a.shared ≡ shared_at_first code s → input_of a.main.input ≡ input_at_first input
+    → frames.frame_of a.main.frame ≡ main_frame code → a.main.wait ≡ Some (Retired 0) → standings a.iterations.items ≡ replicate s None → a.held.items ≡ replicate p None → kept_in a ≡ first_kept code input p s
+kept_first code input p s a k i f w t h =
+    made (shared_of a.shared) (shared_at_first code s) (input_of a.main.input) (input_at_first input) (frames.frame_of a.main.frame) (main_frame code) (option_map wait a.main.wait) (Some (until_retired 0)) (standings a.iterations.items) (replicate s None) (holders a.held.items) (replicate p None) k i f
+    (ap (λ u. option_map wait u) w) t (ap holders h ∙ no_holders p)
   where
-    made : (c c' : List ℤ) (k k' : View) (o o' : List ℕ) (l l' : Option Open) (e e' : Option End) (i i' : Input) (f f' : Frame) (w w' : Option Wait) (t t' : List (Option Standing)) (h h' : List (Option Who)) → c ≡ c' → k ≡ k' → o ≡ o' → l ≡ l' → e ≡ e' → i ≡ i' → f ≡ f' → w ≡ w' → t ≡ t' → h ≡ h'
-        → ◌≡◌ {A = Kept} (record { shared = record { cells = c; order = k; output = o; loop = l; ended = e }; input = i; main = f; waiting = w; iterations = t; held = h }) (record { shared = record { cells = c'; order = k'; output = o'; loop = l'; ended = e' }; input = i'; main = f'; waiting = w'; iterations = t'; held = h' })
-    made c c' k k' o o' l l' e e' i i' f f' w w' t t' h h' a1 a2 a3 a4 a5 a6 a7 a8 a9 a10 = cc
+    made : (k k' : Shared) (i i' : Input) (f f' : Frame) (w w' : Option Wait) (t t' : List (Option Standing)) (h h' : List (Option Who)) → k ≡ k' → i ≡ i' → f ≡ f' → w ≡ w' → t ≡ t' → h ≡ h'
+        → ◌≡◌ {A = Kept} (record { shared = k; input = i; main = f; waiting = w; iterations = t; held = h }) (record { shared = k'; input = i'; main = f'; waiting = w'; iterations = t'; held = h' })
+    made k k' i i' f f' w w' t t' h h' a1 a2 a3 a4 a5 a6 = cc

@@ -22,6 +22,7 @@ pub mod Cells
 pub mod Ends
 pub mod Parking
 pub mod Recorded
+mod Records
 pub mod Stepping
 pub mod Led
 pub mod Taken

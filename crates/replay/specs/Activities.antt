@@ -1,15 +1,18 @@
 -- What the activities of a core stand for, and what a call of them did.
-use Rattle.std.specs.Prelude.{◌≡◌, ◌≤◌, ℕ, Bool, true, false, length, map, Option, Some, None, option_map}
+use Rattle.std.specs.Prelude.{◌≡◌, ◌≤◌, ℕ, Bool, true, false, List, [], length, map, Option, Some, None, option_map, pos, replicate}
+use Rattle.ast.specs.Input.{records_of}
 use Rattle.machine.specs.Code.{Code}
 use Rattle.machine.specs.CodeView.{code_of}
 use Rattle.machine.specs.Frame.{Frame}
 use Rattle.machine.specs.FrameView as frames
+use Rattle.machine.specs.Laid.{count_of}
 use Rattle.machine.specs.State as machine
 use Rattle.machine.specs.State.{Who, the_main, iteration, take_main, take_iteration, take_ticket}
 use Rattle.replay.specs.Core.{IsCore}
-use Rattle.replay.specs.Parts.{Kept, Standing, point_of}
+use Rattle.machine.specs.View.{Input}
+use Rattle.replay.specs.Parts.{Kept, Shared, Standing, point_of}
 use Rattle.replay.specs.PartsView.{input_of, shared_of, standing_of, wait}
-use Rattle.replay.specs.Replays.{Point, frame_of}
+use Rattle.replay.specs.Replays.{Point, at_first, frame_of}
 use Rattle.replay.specs.declared.activities.Activities.{Activities}
 use Rattle.replay.specs.declared.activities.Choice.{Choice}
 use Rattle.replay.specs.declared.activities.Choice.TheVariants as choices
@@ -24,6 +27,13 @@ abbrev pub chosen : Choice → machine.Choice
 chosen choices.Main = take_main
 chosen (choices.Iteration k) = take_iteration k
 chosen choices.Ticket = take_ticket
+
+-- what is shared as main begins, and its input
+abbrev pub shared_at_first : Code → ℕ → Shared
+shared_at_first code s = record { cells = replicate (count_of code.variables) (pos 0); order = at_first s; output = []; loop = None; ended = None }
+
+abbrev pub input_at_first : List ℕ → Input
+input_at_first input = record { left = []; records = records_of input }
 
 abbrev pub kept_in : Activities → Kept
 kept_in a = record {

@@ -1,9 +1,14 @@
 //! The activities of a core and what they share, one step a function.
 
-ghost use Rattle.std.specs.Prelude.{◌≡◌, ◌≤◌, [], IfOk, None, map, option_map, replicate};
+ghost use Rattle.std.specs.Prelude.{◌≡◌, ◌≤◌, [], IfOk, None, Some, map, option_map, replicate};
 ghost use Rattle.ec_kernel.specs.View.{IsKernel};
-ghost use Rattle.replay.specs.PartsView.{standing_of};
+ghost use Rattle.machine.specs.CodeView.{code_of};
+ghost use Rattle.machine.specs.FrameView.{frame_of};
+ghost use Rattle.machine.specs.View.{main_frame};
+ghost use Rattle.replay.specs.Activities.{input_at_first, shared_at_first};
+ghost use Rattle.replay.specs.PartsView.{input_of, shared_of, standing_of};
 ghost use Rattle.replay.specs.Replays.{at_first};
+ghost use Rattle.replay.specs.declared.parts.Until.TheVariants.{Retired};
 
 use crate::input::Input;
 use crate::parts::{Iteration, Main, Shared, Until};
@@ -70,6 +75,34 @@ fn first_kernel(alloc: Global, slots: usize) -> Result<Kernel, AllocError>
     Ok(kernel)
 }
 
+/// What is shared as main begins.
+fn first_shared(alloc: Global, code: &Code, slots: usize) -> Result<Shared, AllocError>
+    requires { slots ≤ 256 }
+    ensures shared { IfOk result (λ s. shared_of s ≡ shared_at_first (code_of code.now) slots) }
+    ensures kept { IfOk result (λ s. IsKernel s.kernel) }
+{
+    Ok(Shared {
+        cells: vec![in alloc; 0; code.cells()]?,
+        kernel: first_kernel(alloc, slots)?,
+        output: Vec::new(alloc),
+        open: None,
+        ended: None,
+    })
+}
+
+/// Main as it begins.
+fn first_main<'c>(alloc: Global, code: &Code, input: &'c [u8]) -> Result<Main<'c>, AllocError>
+    ensures frame { IfOk result (λ m. frame_of m.frame ≡ main_frame (code_of code.now)) }
+    ensures wait { IfOk result (λ m. m.wait ≡ Some (Retired 0)) }
+    ensures input { IfOk result (λ m. input_of m.input ≡ input_at_first input.now) }
+{
+    Ok(Main {
+        frame: Frame::main(alloc, code)?,
+        wait: Some(Until::Retired { value: 0 }),
+        input: Input::new(alloc, input),
+    })
+}
+
 /// So many places in which no iteration stands.
 fn no_iterations(alloc: Global, slots: usize) -> Result<Vec<Option<Iteration>>, AllocError>
     ensures { IfOk result (λ v. map (λ o. option_map standing_of o) v.items ≡ replicate slots None) }
@@ -116,18 +149,8 @@ impl<'c> Activities<'c> {
         Ok(Activities {
             code,
             slots,
-            shared: Shared {
-                cells: vec![in alloc; 0; code.cells()]?,
-                kernel: first_kernel(alloc, slots)?,
-                output: Vec::new(alloc),
-                open: None,
-                ended: None,
-            },
-            main: Main {
-                frame: Frame::main(alloc, code)?,
-                wait: Some(Until::Retired { value: 0 }),
-                input: Input::new(alloc, input),
-            },
+            shared: first_shared(alloc, code, slots)?,
+            main: first_main(alloc, code, input)?,
             iterations: no_iterations(alloc, slots)?,
             held: free_processors(alloc, processors)?,
         })

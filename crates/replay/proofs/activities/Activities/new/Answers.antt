@@ -1,14 +1,13 @@
-use Rattle.std.proofs.Common.{◌≡◌, ◌∙◌, ◌<◌, ℕ, None, Some, length, refl, sym, ap, subst, arith}
-use Rattle.std.specs.Prelude.{Option, pos, replicate}
+use Rattle.std.proofs.Common.{◌≡◌, ◌∙◌, ◌<◌, None, length, ap, subst, sym, arith}
+use Rattle.std.specs.Prelude.{Option}
 use Rattle.std.proofs.lemmas.List.{length-replicate}
 use Rattle.ec_kernel.specs.View.{IsKernel, View}
 use Rattle.machine.specs.CodeView.{code_of}
 use Rattle.replay.specs.Activities.{kept_in}
 use Rattle.replay.specs.Core.{IsCore}
-use Rattle.replay.specs.Parts.{Kept, point_of}
+use Rattle.replay.specs.Parts.{Kept, Shared, point_of}
 use Rattle.replay.specs.declared.activities.Activities.{Activities}
 use Rattle.replay.specs.declared.activities.Holder.{Holder}
-use Rattle.replay.specs.declared.parts.Until.TheVariants.{Retired}
 use Rattle.replay.proofs.Beginning.{begins, first_core, first_kept, kept_first}
 use Rattle.std.proofs.lemmas.Grind.{common_steps}
 use Rattle.replay.proofs.activities.Activities.new.Goals as goal
@@ -19,14 +18,14 @@ returns-clause-point c =
     let a : Activities = record {
       code = c.args.code;
       slots = c.args.slots;
-      shared = record { cells = c.in_ok-vec.field-0; kernel = c.in_ok-first_kernel.field-0; output = c.new.result; «open» = None; ended = None };
-      main = record { frame = c.in_ok-main.field-0; wait = Some (Retired 0); input = c.new-2.result };
+      shared = c.in_ok-first_shared.field-0;
+      main = c.in_ok-first_main.field-0;
       iterations = c.in_ok-no_iterations.field-0;
       held = c.in_ok-free_processors.field-0;
     } in
     let same : kept_in a ≡ first_kept code c.args.input.now c.args.processors c.args.slots =
-    kept_first code c.args.input.now c.args.processors c.args.slots a (c.in_ok-vec.ensures.items_if_clones_equal (λ y e. e) ∙ ap (λ (n : ℕ). replicate n (pos 0)) c.cells.ensures) c.in_ok-first_kernel.ensures.kernel c.new.ensures.items refl refl
-    c.new-2.ensures c.in_ok-main.ensures refl c.in_ok-no_iterations.ensures c.in_ok-free_processors.ensures in
+    kept_first code c.args.input.now c.args.processors c.args.slots a c.in_ok-first_shared.ensures.shared c.in_ok-first_main.ensures.input c.in_ok-first_main.ensures.frame c.in_ok-first_main.ensures.wait
+    c.in_ok-no_iterations.ensures c.in_ok-free_processors.ensures in
     ap (λ (y : Kept). point_of code.variables c.args.slots y) same ∙ begins code c.args.input.now c.args.processors c.args.slots
 
 pub returns-clause-stand : goal.returns-clause-stand
@@ -35,15 +34,15 @@ returns-clause-stand c =
     let a : Activities = record {
       code = c.args.code;
       slots = c.args.slots;
-      shared = record { cells = c.in_ok-vec.field-0; kernel = c.in_ok-first_kernel.field-0; output = c.new.result; «open» = None; ended = None };
-      main = record { frame = c.in_ok-main.field-0; wait = Some (Retired 0); input = c.new-2.result };
+      shared = c.in_ok-first_shared.field-0;
+      main = c.in_ok-first_main.field-0;
       iterations = c.in_ok-no_iterations.field-0;
       held = c.in_ok-free_processors.field-0;
     } in
     let same : kept_in a ≡ first_kept code c.args.input.now c.args.processors c.args.slots =
-    kept_first code c.args.input.now c.args.processors c.args.slots a (c.in_ok-vec.ensures.items_if_clones_equal (λ y e. e) ∙ ap (λ (n : ℕ). replicate n (pos 0)) c.cells.ensures) c.in_ok-first_kernel.ensures.kernel c.new.ensures.items refl refl
-    c.new-2.ensures c.in_ok-main.ensures refl c.in_ok-no_iterations.ensures c.in_ok-free_processors.ensures in
-    let kernel = subst (λ (v : View). IsKernel v) c.in_ok-first_kernel.ensures.kernel c.in_ok-first_kernel.ensures.kept in
+    kept_first code c.args.input.now c.args.processors c.args.slots a c.in_ok-first_shared.ensures.shared c.in_ok-first_main.ensures.input c.in_ok-first_main.ensures.frame c.in_ok-first_main.ensures.wait
+    c.in_ok-no_iterations.ensures c.in_ok-free_processors.ensures in
+    let kernel = subst (λ (v : View). IsKernel v) (ap (λ (s : Shared). s.order) c.in_ok-first_shared.ensures.shared) c.in_ok-first_shared.ensures.kept in
     let some : 0 < c.args.slots = omega (arith, c.requires.sizes.1.0) in
     record {
       core = subst (λ (y : Kept). IsCore code c.args.slots y) (sym same) (first_core code c.args.input.now c.args.processors c.args.slots some kernel);
