@@ -1,7 +1,9 @@
 //! What no clause says of the commands: that they succeed, and which call is the last where one
 //! fails.
 
-use commands::{Command, FileFault, NamedFiles, Threaded, obey};
+use command_line::{Command, Threaded};
+use commands::obey;
+use files::{FileFault, NamedFiles};
 use std::alloc::{AllocError, Global};
 use std::io::{Eprint, Error, ErrorKind, Print, Result as IoResult};
 use std::process::Abort;

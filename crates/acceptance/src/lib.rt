@@ -21,4 +21,4 @@ mod shown;
 #[cfg(test)]
 mod streams;
 #[cfg(test)]
-mod threaded;
+mod threads;

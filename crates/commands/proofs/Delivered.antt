@@ -4,7 +4,8 @@ use Rattle.std.specs.Global.{Global}
 use Rattle.engines.specs.declared.drawn.Drawn.{Drawn}
 use Rattle.engines.specs.declared.drawn.Drawn.TheVariants.{Picture, Shown}
 use Rattle.engines.specs.declared.page.Page.{Page}
-use Rattle.commands.specs.Deeds.{Deed, GivesFile}
+use Rattle.files.specs.Deeds.{Deed}
+use Rattle.commands.specs.Deeds.{GivesFile}
 use Rattle.commands.specs.Pictures.{EndsDrawing}
 use Rattle.commands.specs.Statuses.{Ends, IsPage}
 

@@ -1,8 +1,9 @@
 -- Files are read one after another, and what follows of that.
 use Rattle.std.proofs.Common.{◌≡◌, ◌∙◌, refl, ℕ, Bool, List, Option, Result, Ok, Err, inl, inr, subst}
-use Rattle.commands.specs.Deeds.{AfterCompare, AfterFile, AfterTexts, Compares, Deed, HasRead, Reads, ReadsFile, ReadsTexts, UnlessRead, noted}
-use Rattle.commands.specs.declared.fault.FileFault.{FileFault}
-use Rattle.commands.specs.declared.files.Unread.{Unread}
+use Rattle.files.specs.Deeds.{Compares, Deed, HasRead, Reads, noted}
+use Rattle.files.specs.declared.fault.FileFault.{FileFault}
+use Rattle.files.specs.declared.files.Unread.{Unread}
+use Rattle.commands.specs.Deeds.{AfterCompare, AfterFile, AfterTexts, ReadsFile, ReadsTexts, UnlessRead}
 use Rattle.engines.specs.declared.texts.Texts.{Texts}
 
 -- a file was read, and what is made of it goes on from there

@@ -4,7 +4,8 @@ use Rattle.std.specs.Global.{Global}
 use Rattle.engines.specs.Schedules.{Upgrading}
 use Rattle.engines.specs.declared.page.Page.{Page}
 use Rattle.engines.specs.declared.replays.Upgraded.TheVariants.{Text, Shown}
-use Rattle.commands.specs.Deeds.{Deed, GivesFile}
+use Rattle.files.specs.Deeds.{Deed}
+use Rattle.commands.specs.Deeds.{GivesFile}
 use Rattle.commands.specs.Statuses.{Ends, EndsUpgrade, IsPage}
 
 -- a schedule's text went to a file

@@ -5,13 +5,14 @@ use Rattle.engines.specs.Engines.{Checks}
 use Rattle.engines.specs.Lists.{ListsAs}
 use Rattle.engines.specs.Schedules.{Replaying}
 use Rattle.engines.specs.declared.outcome.Outcome.{Outcome}
-use Rattle.commands.specs.Deeds.{Deed, ReadsFile, ReadsInput, ReadsTexts, UnlessRead}
+use Rattle.files.specs.Deeds.{Deed}
+use Rattle.commands.specs.Deeds.{ReadsFile, ReadsInput, ReadsTexts, UnlessRead}
 use Rattle.commands.specs.Pictures.{DrawsFile, TimesFiles}
 use Rattle.commands.specs.Running.{RunsRead, named}
 use Rattle.commands.specs.Statuses.{Ends, EndsSeq, EndsUpgrade, OfPrint}
-use Rattle.commands.specs.declared.command.Command.{Command}
-use Rattle.commands.specs.declared.command.Command.TheVariants.{Check, ListLoops, ShowCode, Seq, Run, Replay, Upgrade, Draw, Timeline, Explain, ExplainSerial}
-use Rattle.commands.specs.declared.command.Threaded.{Threaded}
+use Rattle.command_line.specs.declared.command.Command.{Command}
+use Rattle.command_line.specs.declared.command.Command.TheVariants.{Check, ListLoops, ShowCode, Seq, Run, Replay, Upgrade, Draw, Timeline, Explain, ExplainSerial}
+use Rattle.command_line.specs.declared.command.Threaded.{Threaded}
 
 -- the source is read, and what is allowed of it is written
 abbrev pub OnSource : (List ℕ → Outcome → List ℕ → Type 0) → (source : List ℕ) → (before after : Option (List Deed)) → (old new : Option (List ℕ)) → ℕ → Type 0

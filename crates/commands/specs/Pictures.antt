@@ -5,7 +5,8 @@ use Rattle.engines.specs.Timeline.{Times}
 use Rattle.engines.specs.declared.drawing.Portion.{Portion}
 use Rattle.engines.specs.declared.drawn.Drawn.{Drawn}
 use Rattle.engines.specs.declared.drawn.Drawn.TheVariants.{Picture, Shown, NoLoop}
-use Rattle.commands.specs.Deeds.{Deed, GivesFile, ReadsFile, ReadsTexts, UnlessRead}
+use Rattle.files.specs.Deeds.{Deed}
+use Rattle.commands.specs.Deeds.{GivesFile, ReadsFile, ReadsTexts, UnlessRead}
 use Rattle.commands.specs.Statuses.{Ends, IsPage}
 
 -- what drawing comes to is written: a picture to OUT alone, why there is none to standard output alone;

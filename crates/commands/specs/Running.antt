@@ -1,15 +1,16 @@
 -- What `run` reads and writes.
 use Rattle.std.specs.Prelude.{◌≡◌, ℕ, List, [], ◌∷◌, Option, Some, None, Result, Ok, Err, is_some, option_map}
-use Rattle.engines.specs.Running.{Running, WritesText, text_of}
 use Rattle.engines.specs.declared.fault.EngineFault.{EngineFault}
 use Rattle.engines.specs.declared.fault.EngineFault.TheVariants as faults
 use Rattle.engines.specs.declared.given.Wants.{Wants}
 use Rattle.engines.specs.declared.outcome.Outcome.{Outcome}
-use Rattle.engines.specs.declared.ran.Ran.{Ran}
-use Rattle.engines.specs.declared.ran.Ran.TheVariants as ran
-use Rattle.commands.specs.Deeds.{Deed, GivesFirst, ReadsFile, ReadsInput}
+use Rattle.threaded.specs.Running.{Running, WritesText, text_of}
+use Rattle.threaded.specs.declared.ran.Ran.{Ran}
+use Rattle.threaded.specs.declared.ran.Ran.TheVariants as ran
+use Rattle.files.specs.Deeds.{Deed}
+use Rattle.commands.specs.Deeds.{GivesFirst, ReadsFile, ReadsInput}
 use Rattle.commands.specs.Statuses.{exit_of}
-use Rattle.commands.specs.declared.command.Threaded.{Threaded}
+use Rattle.command_line.specs.declared.command.Threaded.{Threaded}
 
 -- what is wanted of a run
 abbrev pub wants_of : Threaded → Wants

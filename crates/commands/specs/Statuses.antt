@@ -7,7 +7,8 @@ use Rattle.engines.specs.declared.outcome.Outcome.{Outcome}
 use Rattle.engines.specs.declared.page.Page.{Page}
 use Rattle.engines.specs.declared.replays.Upgraded.{Upgraded}
 use Rattle.engines.specs.declared.replays.Upgraded.TheVariants.{Text, Shown}
-use Rattle.commands.specs.Deeds.{Deed, GivesFile}
+use Rattle.files.specs.Deeds.{Deed}
+use Rattle.commands.specs.Deeds.{GivesFile}
 
 -- the exit status of what work on texts comes to
 abbrev pub exit_of : Result Outcome EngineFault → ℕ

@@ -1,14 +1,14 @@
 //! `code`: what is made of a source.
 
 ghost use Rattle.engines.specs.Coded.{ShowsCode};
+ghost use Rattle.files.specs.Deeds.{got};
 ghost use Rattle.commands.specs.Commands.{OnSource};
-ghost use Rattle.commands.specs.Deeds.{AfterFile, got};
+ghost use Rattle.commands.specs.Deeds.{AfterFile};
 ghost use Rattle.commands.specs.Statuses.{Ends};
 
-use crate::fault::FileFault;
-use crate::files::NamedFiles;
 use crate::told::{refuse_file, tell};
 use engines::code_text;
+use files::{FileFault, NamedFiles};
 use std::io::Write;
 
 /// Shows the code of the source of a file.

@@ -3,14 +3,14 @@
 ghost use Rattle.std.specs.Prelude.{◌≡◌};
 ghost use Rattle.engines.specs.Drawing.{Draws};
 ghost use Rattle.engines.specs.Timeline.{Times};
-ghost use Rattle.commands.specs.Deeds.{AfterCompare, AfterFile, AfterTexts, ReadsFile, ReadsTexts, got};
+ghost use Rattle.files.specs.Deeds.{got};
+ghost use Rattle.commands.specs.Deeds.{AfterCompare, AfterFile, AfterTexts, ReadsFile, ReadsTexts};
 ghost use Rattle.commands.specs.Pictures.{DrawsFile, EndsDrawing, TimesFiles};
 ghost use Rattle.commands.specs.Statuses.{Ends, IsPage};
 
-use crate::fault::FileFault;
-use crate::files::{NamedFiles, Names, Unread, read_texts};
 use crate::told::{give_file, refuse_file, refuse_out, show_page, tell, tell_of};
 use engines::{Drawn, EngineFault, Page, Portion, Texts, draw_text, timeline_texts};
+use files::{FileFault, NamedFiles, Names, Unread, read_texts};
 use remarks::Place;
 use std::io::Write;
 

@@ -3,20 +3,12 @@
 #![tactic(auto)]
 
 mod code_file;
-mod command;
 mod drawings;
-mod fault;
-mod files;
-mod host_files;
 mod obeying;
 mod schedules;
 mod sources;
 mod threads;
 mod told;
 
-pub use command::{Command, Threaded};
-pub use fault::FileFault;
-pub use files::NamedFiles;
-pub use host_files::HostFiles;
 pub use obeying::obey;
 pub use told::status_of_print;

@@ -3,15 +3,15 @@
 ghost use Rattle.commands.specs.Commands.{Obeys};
 
 use crate::code_file::code_file;
-use crate::command::Command;
 use crate::drawings::{draw_file, timeline_files};
-use crate::files::{NamedFiles, Names};
 use crate::schedules::{replay_files, upgrade_files};
 use crate::sources::{check_file, list_file, seq_files};
 use crate::threads::run_files;
 use crate::told::status_of_print;
+use command_line::Command;
 use engines::Portion;
 use explanations::explain;
+use files::{NamedFiles, Names};
 use std::io::Write;
 use std::sync::Wait;
 use std::thread::Threads;

@@ -5,11 +5,11 @@ ghost use Rattle.commands.specs.Commands.{OnTexts, Upgrades};
 ghost use Rattle.commands.specs.Deeds.{AfterCompare, AfterTexts, ReadsTexts};
 ghost use Rattle.commands.specs.Statuses.{Ends, EndsUpgrade};
 
-use crate::files::{NamedFiles, Names, Unread, read_texts};
 use crate::told::{
     give_file, refuse_file, refuse_out, show_page, tell_of, tell_replay, warn_of_run,
 };
 use engines::{EngineFault, Texts, Upgraded, replay_texts, upgrade_texts};
+use files::{NamedFiles, Names, Unread, read_texts};
 use std::io::Write;
 
 /// Replays the schedule of a file. Where the sequential run tells more of its fault that is made behind

@@ -3,16 +3,16 @@
 ghost use Rattle.std.specs.Prelude.{◌≡◌, option_map};
 ghost use Rattle.engines.specs.Engines.{Checks};
 ghost use Rattle.engines.specs.Lists.{ListsAs};
+ghost use Rattle.files.specs.Deeds.{got};
 ghost use Rattle.commands.specs.Commands.{OnInput, OnSource};
-ghost use Rattle.commands.specs.Deeds.{AfterFile, ReadsInput, got};
+ghost use Rattle.commands.specs.Deeds.{AfterFile, ReadsInput};
 ghost use Rattle.commands.specs.Statuses.{Ends, EndsSeq};
 
-use crate::fault::FileFault;
-use crate::files::NamedFiles;
 use crate::told::{refuse_file, tell, tell_run, warn_of_run};
 use engines::{
     EngineFault, Survey, Verdict, judged, seq_noted, surveyed, tell_loops, tell_verdict,
 };
+use files::{FileFault, NamedFiles};
 use messages::tell_further;
 use reasons::say_why_serial;
 use remarks::warn;

@@ -1,20 +1,21 @@
 //! `run`: programs in threads, their files, and what is said of them on standard error.
 
 ghost use Rattle.std.specs.Prelude.{◌≡◌, ◌∷◌, option_map};
+ghost use Rattle.files.specs.Deeds.{Compares, got, noted, unput};
 ghost use Rattle.commands.specs.Commands.{RunsFiles};
-ghost use Rattle.commands.specs.Deeds.{AfterCompare, AfterFile, AfterPut, Compares, ReadsInput, got, noted, unput};
+ghost use Rattle.commands.specs.Deeds.{AfterCompare, AfterFile, AfterPut, ReadsInput};
 ghost use Rattle.commands.specs.Running.{EndsRun, RunsRead, ShowsRan, Shown, WritesRun, named, schedule_of};
 
-use crate::command::Threaded;
-use crate::fault::FileFault;
-use crate::files::NamedFiles;
 use crate::told::{refuse_file, refuse_out, refuse_write, tell_known, warn_of_run};
-use engines::{EngineFault, Outcome, Ran, Wants, Whole, run_texts};
+use command_line::Threaded;
+use engines::{EngineFault, Outcome, Wants};
+use files::{FileFault, NamedFiles};
 use messages::say_figures;
 use std::io;
 use std::io::Write;
 use std::sync::Wait;
 use std::thread::Threads;
+use threaded::{Ran, Whole, run_texts};
 
 /// Runs the source of a file in threads, if its schedule is to go to none of the files that are
 /// read. Where the sequential run tells more of its fault that is made behind it, onto `nowhere`.

@@ -1,12 +1,12 @@
 //! What is said on standard error, and the exit status that goes with it.
 
 ghost use Rattle.std.specs.Prelude.{◌≡◌, OnErr, OnOk};
-ghost use Rattle.commands.specs.Deeds.{GivesFile, OfError, OfWrite, file_status, unput};
+ghost use Rattle.files.specs.Deeds.{file_status, unput};
+ghost use Rattle.commands.specs.Deeds.{GivesFile, OfError, OfWrite};
 ghost use Rattle.commands.specs.Statuses.{Ends, IsPage, OfPrint, exit_of};
 
-use crate::fault::FileFault;
-use crate::files::{NamedFiles, Names};
 use engines::{EngineFault, Note, Outcome, Page, Sequential, Texts, known_of};
+use files::{FileFault, NamedFiles, Names};
 use messages::{LastRecord, Message};
 use reasons::Met;
 use remarks::{Place, warn_of_columns};

@@ -2,11 +2,11 @@
 use Rattle.std.specs.Prelude.{◌≡◌, ◌⊎◌, ⊤, ℕ, List, Option}
 use Rattle.clap.specs.Words.{Text}
 use Rattle.commands.specs.Commands.{Obeys}
-use Rattle.commands.specs.Deeds.{Deed}
-use Rattle.commands.specs.declared.command.Command.{Command}
-use Rattle.doac.specs.CommandLine.{Names, NamesNone, line_status}
-use Rattle.doac.specs.declared.command.LineFault.{LineFault}
-use Rattle.doac.specs.declared.command.LineFault.TheVariants.{Help}
+use Rattle.command_line.specs.CommandLine.{Names, NamesNone, line_status}
+use Rattle.command_line.specs.declared.command.Command.{Command}
+use Rattle.command_line.specs.declared.matches.LineFault.{LineFault}
+use Rattle.command_line.specs.declared.matches.LineFault.TheVariants.{Help}
+use Rattle.files.specs.Deeds.{Deed}
 
 -- it is help, or the version, which is printed
 abbrev pub IsPrinted : LineFault → Type 0

@@ -1,9 +1,6 @@
 //! `doac`: checks and runs FORTRAN 77 programs, also in threads, and repeats runs of the machine.
 #![tactic(auto)]
 
-mod command;
-mod command_line;
-mod help;
 mod program;
 
 use std::io::IsTerminal;

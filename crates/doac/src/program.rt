@@ -4,10 +4,10 @@ ghost use Rattle.std.specs.Prelude.{map};
 ghost use Rattle.commands.specs.Deeds.{OfError};
 ghost use Rattle.doac.specs.Following.{EndsLine, Follows};
 
-use crate::command::LineFault;
-use crate::command_line::command;
-use commands::{HostFiles, NamedFiles, obey, status_of_print};
+use command_line::LineFault;
+use commands::{obey, status_of_print};
 use either::Either::{Left, Right};
+use files::{HostFiles, NamedFiles};
 use remarks::VisibleLines;
 use std::convert::AsStr;
 use std::io::Write;
@@ -50,7 +50,7 @@ fn follow<
     ensures { Follows (map S.text words.now)
         (F.done files.old) (F.done files.new) (W.contents out.old) (W.contents out.new) result }
 {
-    match command(rt.alloc(), words) {
+    match command_line::read(rt.alloc(), words) {
         Ok(command) => obey(rt, files, out, nowhere, command, most),
         Err(fault) => refuse_line(rt, &fault),
     }

@@ -1,4 +1,3 @@
-pub mod Answered
 pub mod Counts
 pub mod Drawings
 pub mod Listings

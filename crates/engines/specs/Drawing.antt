@@ -1,12 +1,12 @@
 -- What `draw` may write of a source text.
 use Rattle.std.specs.Prelude.{◌≡◌, ◌==◌, ◌-◌, ℕ, if◌then◌else◌, List, [], length, Option, None, Some, slice_get}
+use Rattle.arrows.specs.declared.picture.LoopPicture.{LoopPicture}
 use Rattle.ast.specs.Program.{ProgramTree}
 use Rattle.codegen.specs.declared.reports.LoopReport.{LoopReport}
 use Rattle.dependence.specs.declared.plan.LoopPlan.{LoopPlan}
 use Rattle.dependence.specs.declared.plan.LoopPlan.TheVariants.{Serial, Body}
-use Rattle.pictures.specs.Arrows.{IsDrawn}
 use Rattle.pictures.specs.Dependences.{AreArrows}
-use Rattle.pictures.specs.declared.picture.LoopPicture.{LoopPicture}
+use Rattle.pictures.specs.Drawn.{IsDrawn}
 use Rattle.engines.specs.Lists.{IsReported}
 use Rattle.engines.specs.Schedules.{IsNoCode}
 use Rattle.engines.specs.declared.drawing.Portion.{Portion}

@@ -7,7 +7,6 @@ pub mod Engines
 pub mod Listing
 pub mod Lists
 pub mod Reading
-pub mod Running
 pub mod Schedules
 pub mod Shown
 pub mod Timeline

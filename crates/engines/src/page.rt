@@ -27,7 +27,7 @@ pub struct Page {
 }
 
 /// What `check` writes of a verdict.
-pub fn told(alloc: Global, verdict: &Verdict) -> Result<Page, AllocError>
+pub(crate) fn told(alloc: Global, verdict: &Verdict) -> Result<Page, AllocError>
     requires { IsJudged verdict.now }
     ensures { IfOk result (λ page. Tells verdict.now page.outcome page.text.items) }
 {
@@ -50,6 +50,7 @@ fn accepted(alloc: Global, program: &Program) -> Result<Page, AllocError>
     })
 }
 
+/// The page of a source that is refused.
 pub fn refused(alloc: Global, number: u8, line: Line) -> Result<Page, AllocError>
     ensures { IfOk result (λ page. (page.outcome ≡ Outcome.Refused number line)
         × (page.text.items ≡ refused number line)) }
@@ -62,6 +63,7 @@ pub fn refused(alloc: Global, number: u8, line: Line) -> Result<Page, AllocError
     })
 }
 
+/// The outcome of a run that ended so.
 pub fn outcome(end: End) -> Outcome
     ensures { result ≡ outcome_of end }
 {
@@ -72,6 +74,8 @@ pub fn outcome(end: End) -> Outcome
     }
 }
 
+/// Appends what follows the records of a run that ended so: at a fault or a STOP its line, and without
+/// either, where it is wanted, the store.
 pub fn append_end(
     text: &mut Vec<u8>,
     end: End,

@@ -33,7 +33,7 @@ pub fn rows<'a>(
 }
 
 /// Puts names into byte order.
-pub fn sort_by_name(rows: &mut [Row<'_>])
+pub(crate) fn sort_by_name(rows: &mut [Row<'_>])
     ensures same { IsPermutation (map row_view rows.old) (map row_view rows.new) }
     ensures order { IsSortedByKey (λ r. r.symbol.name) byte_order (map row_view rows.new) }
 {

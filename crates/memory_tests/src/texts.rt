@@ -1,12 +1,13 @@
 //! The engines, over texts.
 
 use crate::rows::{AGAIN, OTHERWISE, Row, rows};
-use engines::{EngineFault, Wants, check, list, replay, run, seq, upgrade};
+use engines::{EngineFault, Wants, check, list, replay, seq, upgrade};
 use std::alloc::{AllocError, Global};
 use std::process::Abort;
 use std::sync::Wait;
 use std::test::Fail;
 use std::thread::Threads;
+use threaded::run;
 
 /// More than each of these writes, so that a writer takes no memory.
 const ROOM: usize = 4_096;

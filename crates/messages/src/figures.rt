@@ -1,7 +1,7 @@
 //! What standard error says of how a run went.
 
-use engines::Figures;
 use processors::Effort;
+use threaded::Figures;
 
 /// Says on standard error what each processor did, how far iterations overlapped, and how many steps
 /// there were beside three times those of the program alone.

@@ -1,22 +1,16 @@
 -- Texts that are put together of several.
 use Rattle.std.proofs.Common.{◌≡◌, ◌∙◌, ◌+◌, ◌<◌, ◌++◌, ◌∷◌, [], List, ap, arith, codes, get_or, length, subst, sym, refl, take, ℕ}
 use Rattle.std.proofs.lemmas.List.{append-nil, append_assoc, length-take-le, take_more}
-use Rattle.pictures.specs.Arrows.{IsDrawn, arrows}
-use Rattle.pictures.specs.Markup.{marks, opening, words}
+use Rattle.arrows.specs.Arrows.{arrows}
+use Rattle.arrows.specs.Markup.{marks, opening, words}
+use Rattle.arrows.specs.declared.mark.Class.{Class}
+use Rattle.arrows.specs.declared.mark.Mark.{Mark}
+use Rattle.arrows.specs.declared.picture.LoopPicture.{LoopPicture}
+use Rattle.arrows.specs.declared.svg.Point.{Point}
+use Rattle.arrows.specs.declared.svg.Size.{Size}
+use Rattle.pictures.specs.Drawn.{IsDrawn}
 use Rattle.pictures.specs.Runs.{AreFigures, AreNumbered, IsFigure, figure}
-use Rattle.pictures.specs.declared.mark.Class.{Class}
-use Rattle.pictures.specs.declared.mark.Mark.{Mark}
-use Rattle.pictures.specs.declared.picture.LoopPicture.{LoopPicture}
-use Rattle.pictures.specs.declared.svg.Point.{Point}
-use Rattle.pictures.specs.declared.svg.Size.{Size}
 use Rattle.pictures.specs.declared.gathering.Lane.{Lane}
-
--- four texts appended one after another
-pub appended : (x a b c d y₁ y₂ y₃ y₄ : List ℕ) → y₁ ≡ x ++ a → y₂ ≡ y₁ ++ b → y₃ ≡ y₂ ++ c → y₄ ≡ y₃ ++ d → y₄ ≡ x ++ (((a ++ b) ++ c) ++ d)
-appended x a b c d y₁ y₂ y₃ y₄ first second third fourth =
-    let two : y₂ ≡ x ++ (a ++ b) = second ∙ ap (λ (xs : List ℕ). xs ++ b) first ∙ append_assoc x a b in
-    let three : y₃ ≡ x ++ ((a ++ b) ++ c) = third ∙ ap (λ (xs : List ℕ). xs ++ c) two ∙ append_assoc x (a ++ b) c in
-    fourth ∙ ap (λ (xs : List ℕ). xs ++ d) three ∙ append_assoc x ((a ++ b) ++ c) d
 
 -- a whole picture of a loop
 pub drawn : (p : LoopPicture) (size : Size) (sheet : List ℕ) (front back : List Mark) (first shown body text : List ℕ)

@@ -1,6 +1,6 @@
 -- The dependences that a picture has arrows of.
 use Rattle.std.specs.Prelude.{◌≡◌, ◌-◌, ℕ, List, get_or, map}
-use Rattle.pictures.specs.declared.picture.Arrow.{Arrow}
+use Rattle.arrows.specs.declared.picture.Arrow.{Arrow}
 
 -- the event, the distance and the sink's line
 abbrev pub dependence : Arrow → ℕ × ℕ × ℕ

@@ -1,7 +1,5 @@
-pub mod Arrows
 pub mod Dependences
-pub mod Escaped
+pub mod Drawn
 pub mod Looks
-pub mod Markup
 pub mod Runs
 pub mod Sketches

@@ -1,11 +1,11 @@
 -- What is marked in the picture of a loop that stays serial.
 use Rattle.std.specs.Prelude.{◌≡◌, ◌==◌, ◌+◌, ℕ, if◌then◌else◌, List, [], ◌∷◌, Option, Some, None, option_map}
 use Rattle.std.specs.List.{All}
-use Rattle.pictures.specs.declared.picture.Counted.{Counted}
-use Rattle.pictures.specs.declared.picture.Look.{Look}
-use Rattle.pictures.specs.declared.picture.Look.TheVariants.{Plain, Marked}
-use Rattle.pictures.specs.declared.picture.LoopPicture.{LoopPicture}
-use Rattle.pictures.specs.declared.picture.Row.{Row}
+use Rattle.arrows.specs.declared.picture.Counted.{Counted}
+use Rattle.arrows.specs.declared.picture.Look.{Look}
+use Rattle.arrows.specs.declared.picture.Look.TheVariants.{Plain, Marked}
+use Rattle.arrows.specs.declared.picture.LoopPicture.{LoopPicture}
+use Rattle.arrows.specs.declared.picture.Row.{Row}
 
 -- how the statement of a line looks, by the line of the one that is in the way
 abbrev pub look_of : ℕ → Option ℕ → Look

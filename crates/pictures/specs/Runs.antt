@@ -1,13 +1,13 @@
 -- What is gathered of a run's processors, and said below its picture.
 use Rattle.std.specs.Prelude.{◌≡◌, ◌+◌, ◌-◌, ◌^◌, ℕ, min, nat_lt, if◌then◌else◌, codes, decimal, List, [], ◌∷◌, ◌++◌, get_or, length, set}
-use Rattle.pictures.specs.Markup.{words}
+use Rattle.arrows.specs.Markup.{words}
+use Rattle.arrows.specs.declared.mark.Class.{Class}
+use Rattle.arrows.specs.declared.svg.Point.{Point}
 use Rattle.pictures.specs.declared.gathering.Came.{Came}
 use Rattle.pictures.specs.declared.gathering.Came.TheVariants.{Nothing, Advanced, Parked, Retired, Ended}
 use Rattle.pictures.specs.declared.gathering.Gathered.{Gathered}
 use Rattle.pictures.specs.declared.gathering.Lane.{Lane}
 use Rattle.pictures.specs.declared.gathering.Turn.{Turn}
-use Rattle.pictures.specs.declared.mark.Class.{Class}
-use Rattle.pictures.specs.declared.svg.Point.{Point}
 
 -- ---- what is gathered of each processor
 

@@ -1,17 +1,15 @@
 //! The picture of a loop.
 
 ghost use Rattle.std.specs.Prelude.{◌≡◌, ◌++◌, IfOk, OnOk};
-ghost use Rattle.pictures.specs.Arrows.{IsDrawn};
-ghost use Rattle.pictures.specs.Markup as markup;
+ghost use Rattle.arrows.specs.Markup as markup;
+ghost use Rattle.pictures.specs.Drawn.{IsDrawn};
 
-use crate::arrows::{arrows, sinks};
 use crate::legend::{add_legend, height};
-use crate::mark::{Class, Mark};
 use crate::marks::{add_advances, add_awaits};
-use crate::picture::{Counted, Look, LoopPicture, Row, Statement};
-use crate::places::{BOX, Place, corner, exit, place_in, width};
-use crate::style::SHEET;
-use crate::svg::{Point, Size, append_marks, opening};
+use arrows::{
+    BOX, Class, Counted, Look, LoopPicture, Mark, Place, Point, Row, SHEET, Size, Statement,
+    append_marks, arrows_of, corner, exit, opening, place_in, sinks, width,
+};
 use ast::{Line, Name};
 use std::alloc::{AllocError, Global};
 
@@ -381,7 +379,7 @@ pub fn draw(alloc: Global, picture: &LoopPicture<'_>) -> Result<Vec<u8>, AllocEr
     ensures { IfOk result (λ text. IsDrawn picture.now text.items) }
 {
     let front = front(alloc, picture)?;
-    let arrows = arrows(alloc, picture)?;
+    let arrows = arrows_of(alloc, picture)?;
     let back = back(alloc, picture)?;
     let mut text = opening(alloc, size(picture), SHEET)?;
     append_body(&mut text, &front, &arrows, &back)?;

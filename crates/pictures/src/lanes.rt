@@ -1,14 +1,14 @@
 //! The picture of a run.
 
 ghost use Rattle.std.specs.Prelude.{◌≡◌, ◌++◌, IfOk, OnOk};
-ghost use Rattle.pictures.specs.Markup as markup;
+ghost use Rattle.arrows.specs.Markup as markup;
 ghost use Rattle.pictures.specs.Runs as spec;
 ghost use Rattle.pictures.specs.Runs.{AreFigures, TellsRun};
 
 use crate::gathering::{Awaited, Cell, Gathered, Held, Lane};
-use crate::mark::Class;
-use crate::style::SHEET;
-use crate::svg::{Point, Size, append_class, append_number, append_tile, append_words, opening};
+use arrows::{
+    Class, Point, SHEET, Size, append_class, append_number, append_tile, append_words, opening,
+};
 use std::alloc::{AllocError, Global};
 
 /// Where the lanes begin, from the left and from the top.

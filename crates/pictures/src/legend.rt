@@ -1,11 +1,8 @@
 //! What is said below the picture of a loop.
 
 use crate::drawing::add_words;
-use crate::mark::Mark;
 use crate::marks::class_of;
-use crate::picture::{Arrow, LoopPicture};
-use crate::places::bottom;
-use crate::svg::Point;
+use arrows::{Arrow, LoopPicture, Mark, Point, bottom};
 use std::alloc::{AllocError, Global};
 
 /// How many dependences are told in words.

@@ -5,9 +5,9 @@ ghost use Rattle.pictures.specs.Dependences as spec;
 ghost use Rattle.pictures.specs.Dependences.{AreArrows};
 ghost use Rattle.pictures.specs.Looks.{AreMarked, Marks};
 
-use crate::picture::{Arrow, Look, LoopPicture, Statement};
 use crate::sketch::{Sketch, add_plan, add_range, look_of};
 use crate::source_text::statement_of;
+use arrows::{Arrow, Look, LoopPicture, Statement};
 use ast::{Line, Name, Node};
 use dependence::PlanStmt;
 use std::alloc::{AllocError, Global};

@@ -1,10 +1,6 @@
 //! Where iterations wait, and where they tell that they have come so far.
 
-use crate::mark::{Class, Mark};
-use crate::picture::{Advance, Arrow};
-use crate::places::{entry, exit, place_in};
-use crate::style::hue;
-use crate::svg::Point;
+use arrows::{Advance, Arrow, Class, Mark, Point, entry, exit, hue, place_in};
 use std::alloc::{AllocError, Global};
 
 /// How far two marks of one box are apart, and how far a second line of them is below the first.

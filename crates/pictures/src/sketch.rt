@@ -4,8 +4,8 @@ ghost use Rattle.std.specs.Prelude.{◌≡◌, OnOk};
 ghost use Rattle.pictures.specs.Looks as looks;
 ghost use Rattle.pictures.specs.Sketches.{HasSameMarks, KeepsMarks};
 
-use crate::picture::{Advance, Counted, Look, Row, Statement};
 use crate::source_text::statement_of;
+use arrows::{Advance, Counted, Look, Row, Statement};
 use ast::{Arm, Line, Node};
 use dependence::{PlanArm, PlanStmt};
 use std::alloc::{AllocError, Global};

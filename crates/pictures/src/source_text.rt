@@ -2,7 +2,7 @@
 
 ghost use Rattle.std.specs.Prelude.{◌≡◌};
 
-use crate::picture::Statement;
+use arrows::Statement;
 use ast::Line;
 use bstr::ByteSlice;
 use std::alloc::{AllocError, Global};

@@ -1,0 +1,11 @@
+//! The command that the words of a command line name, or why they name none, as clap reads them.
+#![tactic(auto)]
+
+mod command;
+mod help;
+mod matches;
+mod parser;
+
+pub use command::{Command, Threaded};
+pub use matches::LineFault;
+pub use parser::read;

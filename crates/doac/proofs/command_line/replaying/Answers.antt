@@ -1,5 +1,0 @@
-use Rattle.doac.specs.CommandLine.{schedule, source, whole_input}
-use Rattle.doac.proofs.command_line.replaying.Goals as goal
-
-pub returns : goal.returns
-returns c = c.with.ensures _ schedule (c.with-line-2.ensures _ whole_input (c.with-line.ensures _ source c.named.ensures c.source.ensures.rule) c.whole_input.ensures.rule) c.schedule.ensures.rule

@@ -1,0 +1,61 @@
+-- What the program does with files, one thing after another, by their names.
+use Rattle.std.specs.Prelude.{◌≡◌, ◌++◌, ◌⊎◌, ℕ, Bool, List, [], ◌∷◌, Option, Some, None, Result, Ok, Err, Vec, option_map}
+use Rattle.std.specs.Global.{Global}
+use Rattle.std.specs.declared.io.Error.{Error}
+use Rattle.engines.specs.declared.fault.ReadFault.{ReadFault}
+use Rattle.engines.specs.declared.fault.ReadFault.TheVariants as reading
+use Rattle.engines.specs.declared.texts.Texts.{Texts}
+use Rattle.files.specs.declared.fault.FileFault.{FileFault}
+use Rattle.files.specs.declared.fault.FileFault.TheVariants.{Opening, Reading, Memory}
+use Rattle.files.specs.declared.files.Unread.{Unread}
+
+-- A name is compared with those of other files, whether it is one of theirs; a file is read, and its bytes
+-- were had or not; a file is given bytes, all of them or, by an error, none.
+pub data Deed : Type 0 where
+  Compares : (name : List ℕ) → (others : List (List ℕ)) → Bool → Deed
+  Reads : (name : List ℕ) → Result (List ℕ) FileFault → Deed
+  Replaces : (name bytes : List ℕ) → Option Error → Deed
+
+-- one more thing is done, where it is known what was
+abbrev pub noted : Option (List Deed) → Deed → Option (List Deed)
+noted known deed = option_map (λ deeds. deeds ++ deed ∷ []) known
+
+-- the bytes that were had, or why not
+abbrev pub got : Result (Vec ℕ Global) FileFault → Result (List ℕ) FileFault
+got (Ok bytes) = Ok bytes.items
+got (Err fault) = Err fault
+
+-- the same where the file's name goes with it
+abbrev pub unread : Result (Vec ℕ Global) Unread → Result (List ℕ) FileFault
+unread (Ok bytes) = Ok bytes.items
+unread (Err file) = Err file.fault
+
+-- the error by which none were given, if there was one
+abbrev pub unput : {T : Type 0} → Result T Error → Option Error
+unput (Ok done) = None
+unput (Err error) = Some error
+
+-- what a failed read of an opened file comes to
+abbrev pub of_read : ReadFault → FileFault
+of_read (reading.Reader e) = Reading e
+of_read reading.Memory = Memory
+
+abbrev pub of_reads : Result (Vec ℕ Global) ReadFault → Result (Vec ℕ Global) FileFault
+of_reads (Ok bytes) = Ok bytes
+of_reads (Err fault) = Err (of_read fault)
+
+-- the exit status of a file whose bytes can't be had
+abbrev pub file_status : FileFault → ℕ
+file_status (Opening e) = 4
+file_status (Reading e) = 4
+file_status Memory = 5
+
+-- three files were read in this order, up to the first whose bytes couldn't be had
+abbrev pub HasRead : (source input schedule : List ℕ) → (before after : Option (List Deed)) → Result Texts Unread → Type 0
+HasRead source input schedule before after (Ok texts) =
+    after ≡ noted (noted (noted before (Reads source (Ok texts.source.items))) (Reads input (Ok texts.input.items))) (Reads schedule (Ok texts.schedule.items))
+HasRead source input schedule before after (Err file) =
+    (after ≡ noted before (Reads source (Err file.fault)))
+    ⊎ (((text : List ℕ) × (after ≡ noted (noted before (Reads source (Ok text))) (Reads input (Err file.fault))))
+    ⊎ ((text : List ℕ) × (given : List ℕ)
+    × (after ≡ noted (noted (noted before (Reads source (Ok text))) (Reads input (Ok given))) (Reads schedule (Err file.fault)))))

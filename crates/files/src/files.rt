@@ -1,0 +1,79 @@
+//! The files that the program reads and writes, by their names.
+
+ghost use Rattle.std.specs.Prelude.{◌≡◌, List, Option, None, map};
+ghost use Rattle.files.specs.Deeds.{Compares, Deed, HasRead, Reads, Replaces, got, noted, unread, unput};
+
+use crate::fault::FileFault;
+use engines::Texts;
+use std::io;
+
+/// Files, by their names.
+pub trait NamedFiles {
+    // What has been done with them, one thing after another, where it is known.
+    ghost done: { Self → Option (List Deed) } = { λ _. None };
+
+    /// All bytes of a file.
+    fn read(&mut self, name: &str) -> Result<Vec<u8>, FileFault>
+        ensures { done self.new ≡ noted (done self.old) (Reads name.now (got result)) };
+
+    /// Whether a name is that of one of these files, by whatever path, if that is a plain file.
+    /// Where it can't be told it isn't.
+    fn is_one_of(&mut self, name: &str, others: &[&str]) -> bool
+        ensures { done self.new ≡ noted (done self.old)
+            (Compares name.now (map (λ other. other.now) others.now) result) };
+
+    /// Gives the file of this name these bytes. A plain file has all of them, or at an error what
+    /// it had.
+    fn replace(&mut self, name: &str, bytes: &[u8]) -> io::Result<()>
+        ensures { done self.new ≡ noted (done self.old)
+            (Replaces name.now bytes.now (unput result)) };
+}
+
+/// The names of the files that a replay takes.
+#[derive(Clone, Copy)]
+pub struct Names<'a> {
+    pub source: &'a str,
+    pub input: &'a str,
+    pub schedule: &'a str,
+}
+
+/// A file whose bytes couldn't be had.
+#[derive(Drop)]
+pub struct Unread<'a> {
+    pub name: &'a str,
+    pub fault: FileFault,
+}
+
+/// What was read of a file, with its name where that failed.
+fn named<'a>(name: &'a str, read: Result<Vec<u8>, FileFault>) -> Result<Vec<u8>, Unread<'a>>
+    ensures { unread result ≡ got read }
+{
+    match read {
+        Ok(bytes) => Ok(bytes),
+        Err(fault) => Err(Unread { name, fault }),
+    }
+}
+
+/// All bytes of a file of this name.
+fn read_named<'a, F: NamedFiles>(files: &mut F, name: &'a str) -> Result<Vec<u8>, Unread<'a>>
+    ensures { F.done files.new ≡ noted (F.done files.old) (Reads name.now (unread result)) }
+{
+    let read = files.read(name);
+    named(name, read)
+}
+
+/// All bytes of the files that a replay takes, read in this order, each only where those before
+/// it were had.
+pub fn read_texts<'a, F: NamedFiles>(files: &mut F, names: Names<'a>) -> Result<Texts, Unread<'a>>
+    ensures { HasRead names.entry.source.now names.entry.input.now names.entry.schedule.now
+        (F.done files.old) (F.done files.new) result }
+{
+    let source = read_named(files, names.source)?;
+    let input = read_named(files, names.input)?;
+    let schedule = read_named(files, names.schedule)?;
+    Ok(Texts {
+        source,
+        input,
+        schedule,
+    })
+}

@@ -1,0 +1,10 @@
+//! The files that the program reads and writes, by their names: the machine's, or any others.
+#![tactic(auto)]
+
+mod fault;
+mod files;
+mod host_files;
+
+pub use fault::FileFault;
+pub use files::{NamedFiles, Names, Unread, read_texts};
+pub use host_files::HostFiles;

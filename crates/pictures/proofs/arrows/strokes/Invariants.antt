@@ -1,6 +1,0 @@
-use Rattle.std.proofs.Common.{◌≡◌}
-use Rattle.pictures.specs.Arrows.{arrow_in, strokes}
-use Rattle.pictures.proofs.arrows.strokes.Given as goal
-
-abbrev pub invariant-loop-column : goal.invariant-loop-column
-invariant-loop-column l = l.out.items ≡ strokes l.column (arrow_in l.ends l.distance)

@@ -1,0 +1,153 @@
+-- What `run` may come to with a source text and an input, and what it writes of that.
+use Rattle.std.specs.Prelude.{◌≡◌, ◌⊎◌, ⊤, ℕ, Bool, true, false, List, [], Option, Some, None, Result, Ok, Err, Vec, option_map}
+use Rattle.std.specs.Global.{Global}
+use Rattle.std.specs.Io.KnownBytes.{Appends}
+use Rattle.ast.specs.Meaning.{seq}
+use Rattle.ast.specs.Program.{ProgramTree}
+use Rattle.ast.specs.Symbols.{Symbol}
+use Rattle.ast.specs.View.{cells}
+use Rattle.ast.specs.declared.answer.Answer.{Answer}
+use Rattle.codegen.specs.Headline.{IsBeginning}
+use Rattle.machine.specs.Code.{Code}
+use Rattle.machine.specs.State.{AreSizes, Ended}
+use Rattle.replay.specs.Replays.{Point, Replays}
+use Rattle.replay.specs.Schedules.{SchedText, Schedule}
+use Rattle.engines.specs.Engines.{AppendsPart, ShowsRun, outcome_of, status_of}
+use Rattle.engines.specs.Schedules.{IsNoCode, WithCode}
+use Rattle.engines.specs.Shown.{EndShown, Extends, refused}
+use Rattle.engines.specs.View.{rows_from}
+use Rattle.engines.specs.declared.fault.EngineFault.{EngineFault}
+use Rattle.engines.specs.declared.fault.EngineFault.TheVariants as faults
+use Rattle.engines.specs.declared.given.Wants.{Wants}
+use Rattle.engines.specs.declared.outcome.Outcome.{Outcome}
+use Rattle.engines.specs.declared.outcome.Outcome.TheVariants as outcomes
+use Rattle.threaded.specs.declared.ran.Ran.{Ran}
+use Rattle.threaded.specs.declared.ran.Ran.TheVariants.{Refused, Whole as Came, Memory, OutOfRange, NotStarted, Stuck}
+use Rattle.threaded.specs.declared.ran.Whole.{Whole}
+
+-- The text is that of a schedule of so many processors and slots. It leads the code on the input to an end
+-- that is the sequential program's.
+pub record IsScheduleOf (tree : ProgramTree) (code : Code) (input : List ℕ) (p s : ℕ) (text : List ℕ) : Type 0 where
+  pub schedule : Schedule
+  pub spelled : SchedText schedule text
+  pub processors : schedule.processors ≡ p
+  pub slots : schedule.slots ≡ s
+  pub point : Point
+  pub replays : Replays code input schedule point
+  pub ended : Ended point.machine (seq tree input).output (seq tree input).end (seq tree input).store
+
+-- a text is there exactly where it is wanted, and this holds of it
+abbrev pub WhereWanted : Bool → Option (Vec ℕ Global) → (List ℕ → Type 0) → Type 0
+WhereWanted true (Some text) P = P text.items
+WhereWanted true None P = ⊥
+WhereWanted false (Some text) P = ⊥
+WhereWanted false None P = ⊤
+
+-- The numbers are in range, the sequential program's answer is shown, and the schedule, where it is
+-- wanted, is one that leads to this answer.
+pub record IsWhole (tree : ProgramTree) (code : Code) (input : List ℕ) (w : Wants) (whole : Whole) : Type 0 where
+  pub sizes : AreSizes w.processors w.slots
+  pub shown : ShowsRun w.store tree input whole.page.outcome whole.page.text.items
+  pub schedule : WhereWanted w.schedule whole.schedule (IsScheduleOf tree code input w.processors w.slots)
+
+-- What is shown of an answer, and of the schedule that leads to it; where there is no memory for that, the
+-- records alone.
+abbrev pub Shows : Wants → List Symbol → Answer → Schedule → Ran → Type 0
+Shows w symbols answer x (Refused page) = ⊥
+Shows w symbols answer x (Came whole) =
+    (whole.page.outcome ≡ outcome_of answer.end)
+    × Extends (EndShown w.store (rows_from (cells answer.store) 0 symbols) answer.end) answer.output.items whole.page.text.items
+    × WhereWanted w.schedule whole.schedule (SchedText x)
+Shows w symbols answer x (Memory output) = output.items ≡ answer.output.items
+Shows w symbols answer x OutOfRange = ⊥
+Shows w symbols answer x NotStarted = ⊥
+Shows w symbols answer x Stuck = ⊥
+
+-- a refusal is shown; or nothing, where there is no memory for that
+abbrev pub ShowsRefusal : (number line : ℕ) → Ran → Type 0
+ShowsRefusal number line (Refused page) = (page.outcome ≡ outcomes.Refused number line) × (page.text.items ≡ refused number line)
+ShowsRefusal number line (Memory output) = output.items ≡ []
+ShowsRefusal number line _ = ⊥
+
+-- the source is refused so, by its text or for its code
+abbrev pub IsNoCodeAs : List ℕ → Outcome → List ℕ → Type 0
+IsNoCodeAs source (outcomes.Refused number line) text = IsNoCode source number line text
+IsNoCodeAs source _ text = ⊥
+
+-- what a run of code may come to
+abbrev pub ComesOf : ProgramTree → Code → (input : List ℕ) → Wants → Ran → Type 0
+ComesOf tree code input w (Refused page) = ⊥
+ComesOf tree code input w (Came whole) = IsWhole tree code input w whole
+ComesOf tree code input w (Memory output) = IsBeginning output.items (seq tree input).output
+ComesOf tree code input w OutOfRange = AreSizes w.processors w.slots → ⊥
+ComesOf tree code input w NotStarted = AreSizes w.processors w.slots
+ComesOf tree code input w Stuck = AreSizes w.processors w.slots
+
+-- What `run` may come to with a source: where there is no memory for its code, nothing has gone out.
+abbrev pub Running : (source input : List ℕ) → Wants → Ran → Type 0
+Running source input w (Refused page) = IsNoCodeAs source page.outcome page.text.items
+Running source input w (Came whole) = WithCode source (λ tree code. ComesOf tree code input w (Came whole))
+Running source input w (Memory output) = (output.items ≡ []) ⊎ WithCode source (λ tree code. ComesOf tree code input w (Memory output))
+Running source input w OutOfRange = WithCode source (λ tree code. ComesOf tree code input w OutOfRange)
+Running source input w NotStarted = WithCode source (λ tree code. ComesOf tree code input w NotStarted)
+Running source input w Stuck = WithCode source (λ tree code. ComesOf tree code input w Stuck)
+
+-- ---- what is written: the schedule's writer has bytes from `before` to `after`, the other one's from
+-- `old` to `new`
+
+abbrev pub text_of : Option (Vec ℕ Global) → Option (List ℕ)
+text_of = option_map (λ v. v.items)
+
+-- known bytes grow by a text, if there is one
+abbrev pub Grows : Option (List ℕ) → (old new : Option (List ℕ)) → Type 0
+Grows None old new = new ≡ old
+Grows (Some text) old new = Appends old new text
+
+-- there is a text, and they grow by a beginning of it, of which something is missing
+abbrev pub GrowsPart : Option (List ℕ) → (old new : Option (List ℕ)) → Type 0
+GrowsPart None old new = ⊥
+GrowsPart (Some text) old new = AppendsPart old new text
+
+-- The schedule's text was written, if it is wanted, and then the page; or a beginning of one of them, and
+-- nothing behind it.
+abbrev pub WritesWhole : Whole → (before after old new : Option (List ℕ)) → Result Outcome EngineFault → Type 0
+WritesWhole x before after old new (Ok outcome) =
+    (outcome ≡ x.page.outcome) × Grows (text_of x.schedule) before after × Appends old new x.page.text.items
+WritesWhole x before after old new (Err (faults.Writing e)) =
+    (GrowsPart (text_of x.schedule) before after × (new ≡ old))
+    ⊎ (Grows (text_of x.schedule) before after × AppendsPart old new x.page.text.items)
+WritesWhole x before after old new (Err _) = ⊥
+
+-- a text was written, or a beginning of it, with this answer where all of it was
+abbrev pub WritesText : List ℕ → Result Outcome EngineFault → (old new : Option (List ℕ)) → Result Outcome EngineFault → Type 0
+WritesText text answer old new (Err (faults.Writing e)) = AppendsPart old new text
+WritesText text answer old new result = (result ≡ answer) × Appends old new text
+
+-- What came of a run was written: of one that was given up for want of memory the records that had gone
+-- out, and of one that there isn't nothing.
+abbrev pub WritesRan : Ran → (before after old new : Option (List ℕ)) → Result Outcome EngineFault → Type 0
+WritesRan (Refused page) before after old new result = (after ≡ before) × WritesText page.text.items (Ok page.outcome) old new result
+WritesRan (Came whole) before after old new result = WritesWhole whole before after old new result
+WritesRan (Memory output) before after old new result = (after ≡ before) × WritesText output.items (Err faults.Memory) old new result
+WritesRan OutOfRange before after old new result = (result ≡ Err faults.OutOfRange) × (after ≡ before) × (new ≡ old)
+WritesRan NotStarted before after old new result = (result ≡ Err faults.NotStarted) × (after ≡ before) × (new ≡ old)
+WritesRan Stuck before after old new result = (result ≡ Err faults.Stuck) × (after ≡ before) × (new ≡ old)
+
+-- what may come of a run was written, with this answer
+pub record WroteRan (allows : Ran → Type 0) (before after old new : Option (List ℕ)) (result : Result Outcome EngineFault) : Type 0 where
+  pub ran : Ran
+  pub allowed : allows ran
+  pub written : WritesRan ran before after old new result
+
+-- the same, with the status of an outcome
+abbrev pub WroteStatus : (Ran → Type 0) → (before after old new : Option (List ℕ)) → ℕ → Type 0
+WroteStatus allows before after old new status = (outcome : Outcome) × (status ≡ status_of outcome) × WroteRan allows before after old new (Ok outcome)
+
+-- What a fault leaves of the writers: both as they were where reading failed, and otherwise what is written
+-- of what came of a run; or both as they were for want of memory to read.
+abbrev pub LeavesRun : EngineFault → (before after old new : Option (List ℕ)) → Type 0 → Type 0
+LeavesRun (faults.Source e) before after old new wrote = (after ≡ before) × (new ≡ old)
+LeavesRun (faults.Input e) before after old new wrote = (after ≡ before) × (new ≡ old)
+LeavesRun (faults.Schedule e) before after old new wrote = ⊥
+LeavesRun faults.Memory before after old new wrote = ((after ≡ before) × (new ≡ old)) ⊎ wrote
+LeavesRun _ before after old new wrote = wrote
