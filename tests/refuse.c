@@ -4,7 +4,10 @@
    REFUSE=CALL:N   the Nth call of CALL fails; REFUSE=CALL:N+ that one and each behind it. CALL is memory
                    (malloc and realloc), open, read, write, sync, rename or thread. Standard error isn't
                    counted.
+   REASON=E        is what errno says of such a call, in place of the usual; with 0 a write that is refused
+                   doesn't fail, and takes no byte.
    FEW=K           each read and each write moves at most K bytes.
+   OPENED=FILE     gets a line with the name of each file that is opened, or that would be.
    REFUSED=FILE    is made when the first call is refused. */
 #define _GNU_SOURCE
 #include <dlfcn.h>
@@ -25,6 +28,8 @@ static unsigned long first[CALLS];
 static int and_on[CALLS];
 static size_t few;
 static const char *mark;
+static const char *notes;
+static int given = -1;
 
 static int (*real_open)(const char *, int, ...);
 static ssize_t (*real_write)(int, const void *, size_t);
@@ -33,10 +38,13 @@ __attribute__((constructor)) static void begin(void)
 {
     const char *refuse = getenv("REFUSE");
     const char *bytes = getenv("FEW");
+    const char *reason = getenv("REASON");
 
     real_open = dlsym(RTLD_NEXT, "open");
     real_write = dlsym(RTLD_NEXT, "write");
     mark = getenv("REFUSED");
+    notes = getenv("OPENED");
+    given = reason ? atoi(reason) : -1;
     few = bytes ? strtoul(bytes, 0, 10) : 0;
     for (int call = 0; refuse && call < CALLS; call++) {
         size_t length = strlen(names[call]);
@@ -60,8 +68,21 @@ static int is_refused(enum call call, int reason)
         return 0;
     if (number == first[call] && mark)
         close(real_open(mark, O_WRONLY | O_CREAT, 0600));
-    errno = reason;
+    errno = given > 0 ? given : reason;
     return 1;
+}
+
+/* Notes that a file of this name is to be opened. */
+static void note(const char *path)
+{
+    int file;
+
+    if (!notes)
+        return;
+    file = real_open(notes, O_WRONLY | O_CREAT | O_APPEND, 0600);
+    if (real_write(file, path, strlen(path)) < 0 || real_write(file, "\n", 1) < 0)
+        abort();
+    close(file);
 }
 
 static size_t at_most(size_t bytes)
@@ -93,6 +114,7 @@ int open(const char *path, int flags, ...)
     va_start(rest, flags);
     mode = flags & O_CREAT ? va_arg(rest, mode_t) : 0;
     va_end(rest);
+    note(path);
     return is_refused(OPEN, EMFILE) ? -1 : real_open(path, flags, mode);
 }
 
@@ -108,7 +130,9 @@ ssize_t write(int file, const void *bytes, size_t size)
 {
     if (file == STDERR_FILENO)
         return real_write(file, bytes, size);
-    return is_refused(WRITE, ENOSPC) ? -1 : real_write(file, bytes, at_most(size));
+    if (is_refused(WRITE, ENOSPC))
+        return given ? -1 : 0;
+    return real_write(file, bytes, at_most(size));
 }
 
 int fsync(int file)
