@@ -1,4 +1,5 @@
 pub mod Accesses
+pub mod Appending
 pub mod Beginnings
 pub mod Checking
 pub mod Computing

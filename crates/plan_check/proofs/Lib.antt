@@ -3,6 +3,7 @@ pub mod Appending
 pub mod Bridge
 pub mod Changes
 pub mod Claimed
+pub mod Comparing
 pub mod EachOnce
 pub mod Equal
 pub mod Facts
@@ -12,6 +13,7 @@ pub mod Grouped
 pub mod Judged
 pub mod Members
 pub mod Naming
+pub mod Nodes
 pub mod Parallel
 pub mod Passing
 pub mod Ranks
@@ -20,6 +22,7 @@ pub mod Rows
 pub mod Sound
 pub mod Stripped
 pub mod Telling
+pub mod Tested
 pub mod Tokens
 pub mod Turning
 pub mod Verdicts
