@@ -73,7 +73,7 @@ pub less_second : (a b : ℤ) → int_lt b a ≡ true → b ≡ less a b
 less_second a b h = ap (λ (c : Bool). if c then b else a) (sym h)
 
 -- the arguments of an intrinsic function
-parted : (es : List Expr) (e : Expr) → 1 ≤ length es → e ≡ get_or es 0 e → terms (map term es) ≡ then_term (term e) (terms (map term (take (length es - 1) (drop 1 es))))
+pub parted : (es : List Expr) (e : Expr) → 1 ≤ length es → e ≡ get_or es 0 e → terms (map term es) ≡ then_term (term e) (terms (map term (take (length es - 1) (drop 1 es))))
 parted [] e h is = absurd (omega (arith, h))
 parted (d ∷ ds) e h is =
     ap (λ (x : Expr). then_term (term x) (terms (map term ds))) (sym is)

@@ -1,6 +1,6 @@
 -- Laws of the items of a PRINT.
 use Rattle.std.proofs.Common.{◌≡◌, ◌∙◌, ◌+◌, ◌<◌, ℕ, suc, subst, Bool, true, false, List, [], ◌∷◌, ◌++◌, Result, Ok, Err, refl, sym, ap, append_assoc, is_err, length, take, drop, get_or, map, arith, add-one, drop-cons}
-use Rattle.std.proofs.lemmas.List.{append-nil, take-take, take_all}
+use Rattle.std.proofs.lemmas.List.{append-nil, drop_more, take-take, take_all}
 use Rattle.std.specs.Prelude.{ℤ, IsErrAnd}
 use Rattle.ast.specs.Meaning.{LookUp, Run, exec_plain, given, looked_up, printed, value}
 use Rattle.ast.specs.Record.{Printed, number, text, items_printed, rest_printed, record_of}
@@ -12,9 +12,12 @@ use Rattle.ast.specs.declared.statement.Item.{Item}
 use Rattle.ast.specs.declared.fault.End.{End}
 use Rattle.ast.specs.declared.fault.End.TheVariants.{Done, Fault as Faulted}
 use Rattle.ast.specs.declared.fault.Fault.{Fault}
+use Rattle.interpreter.specs.CodeView.{part}
 use Rattle.interpreter.specs.Placed.{PlacedItems}
 use Rattle.interpreter.specs.Printing.{Keeps, all_shown, shown, item_onto, items_onto, record_onto}
+use Rattle.interpreter.specs.Running.{printed_part}
 use Rattle.interpreter.specs.Runs.{Gives, Reaches, closed}
+use Rattle.interpreter.specs.declared.code.Piece.{Piece}
 use Rattle.interpreter.specs.declared.stop.Stop.{Stop}
 use Rattle.interpreter.specs.declared.stop.Stop.TheVariants.{Memory, Fault as Fails, Stopped as Stops}
 use Rattle.interpreter.proofs.Evaluating.{failed}
@@ -106,3 +109,14 @@ settled ss (Err (Fails f l)) run new left items line d h a b =
     ∙ ap (λ (n : ℕ). closed (record run { end = Faulted f n })) h.1
     ∙ ap closed (stops (printed (looked_up ss run.store) items) line run f (sym (record_on run.output items (looked_up ss run.store)) ∙ h.0))
 settled ss (Err (Stops l)) run new left items line d h a b = absurd h
+
+-- the next part of a record, and the others
+pub piece_shown : (frame : List ℤ) (pieces : List Piece) (i : ℕ) (piece : Piece) (first : Bool) (new old whole : List ℕ) → i < length pieces → piece ≡ get_or pieces i piece → new ≡ old ++ shown first (printed_part frame (part piece)) → old ++ all_shown first (map (printed_part frame) (map part (drop i pieces))) ≡ whole → new ++ all_shown false (map (printed_part frame) (map part (drop (i + 1) pieces))) ≡ whole
+piece_shown frame pieces i piece first new old whole h is made so_far =
+    let here = shown first (printed_part frame (part piece)) in
+    let others = map (printed_part frame) (map part (drop (i + 1) pieces)) in
+    ap (λ (l : List ℕ). l ++ rest_printed others) made
+    ∙ append_assoc old here (rest_printed others)
+    ∙ ap (λ (l : List ℕ). old ++ l) (sym (shown_on first (printed_part frame (part piece)) others))
+    ∙ sym (ap (λ (ps : List Piece). old ++ all_shown first (map (printed_part frame) (map part ps))) (drop_more pieces i piece h ∙ ap (λ (p : Piece). p ∷ drop (i + 1) pieces) (sym is)))
+    ∙ so_far

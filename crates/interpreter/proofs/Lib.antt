@@ -14,6 +14,7 @@ pub mod Halting
 pub mod Held
 pub mod Items
 pub mod Lands
+pub mod Laying
 pub mod Leading
 pub mod Nesting
 pub mod Numbering
