@@ -13,7 +13,7 @@ use Rattle.ast.specs.declared.fault.End.{End}
 use Rattle.ast.specs.declared.fault.End.TheVariants.{Done, Stopped, Fault as FaultedAt}
 use Rattle.ast.specs.declared.refusal.Refusal.TheVariants.{Refused as RefusedAt}
 use Rattle.interpreter.specs.Answers.{Streams as Ended}
-use Rattle.interpreter.specs.Handing.{AppendsPart}
+use Rattle.handing.specs.Handing.{AppendsPart}
 use Rattle.interpreter.specs.declared.run_end.RunEnd.{RunEnd}
 use Rattle.interpreter.specs.declared.run_end.RunFault.{RunFault}
 use Rattle.interpreter.specs.declared.run_end.RunFault.TheVariants as run_faults

@@ -8,8 +8,8 @@ use Rattle.ast.specs.ProgramView.{program as program_of}
 use Rattle.ast.specs.declared.fault.End.{End}
 use Rattle.ast.specs.declared.fault.End.TheVariants.{Done, Stopped, Fault as FaultedAt}
 use Rattle.ast.specs.declared.fault.Fault.TheVariants as kinds
-use Rattle.interpreter.specs.Handing.{Begins, FallsShort}
-pub use Rattle.interpreter.specs.Handing.{AppendsPart}
+use Rattle.handing.specs.Handing.{Begins, FallsShort}
+pub use Rattle.handing.specs.Handing.{AppendsPart}
 use Rattle.profile_check.specs.Causes.{Refuses}
 use Rattle.profile_check.specs.Reads.{Reads}
 use Rattle.ast.specs.Symbols.{Symbol}

@@ -2,7 +2,7 @@
 
 use crate::fault::EngineFault;
 use crate::page::Page;
-use interpreter::write_all;
+use handing::write_all;
 use std::io::Write;
 
 /// What a command that makes a picture comes to.

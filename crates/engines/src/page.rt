@@ -15,7 +15,7 @@ use crate::shown::{append_accepted, append_fault, append_refused, append_stopped
 use crate::store::append_store;
 use crate::verdict::Verdict;
 use ast::{End, Line, Program};
-use interpreter::write_all;
+use handing::write_all;
 use std::alloc::{AllocError, Global};
 use std::io::Write;
 

@@ -18,7 +18,7 @@ use crate::shown::append_no_schedule;
 use crate::verdict::{Verdict, judged};
 use ast::{Answer, Program};
 use codegen::{CompileRefusal, compile};
-use interpreter::write_all;
+use handing::write_all;
 use machine::Code;
 use replay::{ReplayRefusal, Schedule, replay, upgrade};
 use std::alloc::{AllocError, Global};

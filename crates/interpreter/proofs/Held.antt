@@ -9,8 +9,9 @@ use Rattle.ast.specs.Program.{ProgramTree}
 use Rattle.ast.specs.Store.{StoreOf, same_name, value_at, values_from}
 use Rattle.ast.specs.Symbols.{Symbol, size, cells_of}
 use Rattle.ast.specs.declared.answer.Answer.{Answer}
-use Rattle.interpreter.specs.Answers.{IsAnswer, HoldsValues, element_value}
-use Rattle.interpreter.proofs.Finding.{same}
+use Rattle.tree_run.specs.Answers.{IsAnswer}
+use Rattle.tree_run.proofs.Finding.{same}
+use Rattle.interpreter.specs.Answers.{HoldsValues, element_value}
 
 value_listed : (f : ℕ → ℤ) (k n p : ℕ) → slice_get (values_from f k n) p ≡ (if nat_lt p n then Some (f (k + p)) else None)
 value_listed f k zero p = rw (leb-suc-zero p) refl

@@ -1,5 +1,7 @@
 -- Answers of a run.
 use Rattle.std.specs.Prelude.{◌≡◌, ℕ, ℤ, nat_lt, if◌then◌else◌, List, [], ◌∷◌, Option, Some, None, Result, Ok, Err}
+use Rattle.std.specs.declared.alloc.AllocError.{AllocError}
+use Rattle.std.specs.Io.KnownBytes.{Appends}
 use Rattle.ast.specs.Meaning.{Run, seq}
 use Rattle.ast.specs.Program.{ProgramTree}
 use Rattle.ast.specs.Store.{StoreOf, same_name, value_at}
@@ -8,24 +10,12 @@ use Rattle.ast.specs.View.{cells}
 use Rattle.ast.specs.declared.answer.Answer.{Answer}
 use Rattle.ast.specs.declared.fault.End.{End}
 use Rattle.ast.specs.declared.fault.End.TheVariants.{Done, Stopped, Fault as Faulted}
-use Rattle.std.specs.declared.alloc.AllocError.{AllocError}
-use Rattle.std.specs.Io.KnownBytes.{Appends}
-use Rattle.interpreter.specs.Handing.{Begins, FallsShort}
+use Rattle.handing.specs.Handing.{Begins, FallsShort}
+use Rattle.tree_run.specs.declared.stop.Stop.{Stop}
+use Rattle.tree_run.specs.declared.stop.Stop.TheVariants.{Memory, Fault as Fails, Stopped as Stops}
 use Rattle.interpreter.specs.declared.run_end.RunEnd.{RunEnd}
 use Rattle.interpreter.specs.declared.run_end.RunFault.{RunFault}
 use Rattle.interpreter.specs.declared.run_end.RunFault.TheVariants as faults
-use Rattle.interpreter.specs.declared.stop.Stop.{Stop}
-use Rattle.interpreter.specs.declared.stop.Stop.TheVariants.{Memory, Fault as Fails, Stopped as Stops}
-
--- The answer tells of a run: its output, its end, and its store, by a program's symbols.
-pub record Tells (symbols : List Symbol) (run : Run) (answer : Answer) : Type 0 where
-  pub output : answer.output.items ≡ run.output
-  pub end : answer.end ≡ run.end
-  pub store : cells answer.store ≡ cells_of symbols run.store
-
--- The answer is that of the program's meaning on an input, the store at a fault or a STOP included.
-abbrev pub IsAnswer : ProgramTree → List ℕ → Answer → Type 0
-IsAnswer program input answer = Tells program.symbols (seq program input) answer
 
 -- what a store has for a name at a place, where one of the symbols has that name and such an element
 abbrev pub element_value : List Symbol → StoreOf → List ℕ → ℕ → Option ℤ

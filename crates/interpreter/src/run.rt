@@ -2,17 +2,18 @@
 
 ghost use Rattle.std.specs.Prelude.{◌≡◌, IfOk};
 ghost use Rattle.ast.specs.ProgramView.{program as program_of};
-ghost use Rattle.interpreter.specs.Answers.{ended, HoldsValues, IsAnswer, Streams};
+ghost use Rattle.tree_run.specs.Answers.{IsAnswer};
+ghost use Rattle.interpreter.specs.Answers.{ended, HoldsValues, Streams};
 
 use crate::fast::run_lowered;
-use crate::handing::write_all;
-use crate::machine::Machine;
 use crate::run_end::{RunEnd, RunFault};
-use crate::statements::exec_block;
-use crate::stop::Stop;
 use ast::{Answer, End, Program};
+use handing::write_all;
 use std::alloc::{AllocError, Global};
 use std::io::Write;
+use tree_run::machine::Machine;
+use tree_run::statements::exec_block;
+use tree_run::stop::Stop;
 
 /// How many bytes of records may wait where the output is kept.
 const KEPT_AT_ONCE: usize = 65_536;

@@ -7,7 +7,7 @@ ghost use Rattle.threaded.specs.Running.{Grows, GrowsPart, WritesText, text_of};
 
 use crate::figures::Figures;
 use engines::{EngineFault, Outcome, Page};
-use interpreter::write_all;
+use handing::write_all;
 use std::io::Write;
 
 /// A run that came to its end.

@@ -2,8 +2,8 @@ use Rattle.std.proofs.Common.{List, map, sym, subst}
 use Rattle.ast.specs.Symbols.{Symbol}
 use Rattle.ast.specs.View.{block_view, symbol}
 use Rattle.ast.specs.declared.tree.Node.{Node}
-use Rattle.interpreter.specs.Placed.{PlacedBlock}
-use Rattle.interpreter.proofs.Placing.{placed}
+use Rattle.tree_run.specs.Placed.{PlacedBlock}
+use Rattle.tree_run.proofs.Placing.{placed}
 use Rattle.interpreter.proofs.run.run_tree.Goals as goal
 
 pub exec_block-answered-requires : goal.exec_block-answered-requires

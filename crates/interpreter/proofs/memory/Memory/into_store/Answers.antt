@@ -1,9 +1,0 @@
-use Rattle.ast.specs.View.{cells}
-use Rattle.interpreter.specs.View.{symbols_in}
-use Rattle.interpreter.proofs.Cells.{told}
-use Rattle.interpreter.proofs.memory.Memory.into_store.Goals as goal
-
-pub returns : goal.returns
-returns c =
-    let m = c.args.self in
-    told (cells m.store) (symbols_in m) m.fits m.distinct

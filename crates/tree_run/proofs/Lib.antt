@@ -1,0 +1,10 @@
+pub mod Blocks
+pub mod Cells
+pub mod Evaluating
+pub mod Finding
+pub mod Items
+pub mod Offsets
+pub mod Placing
+pub mod Seats
+pub mod Terms
+pub mod Values
