@@ -1,9 +1,9 @@
 -- What drawing comes to, written.
 use Rattle.std.proofs.Common.{refl, ℕ, List, Option, Vec, inr}
 use Rattle.std.specs.Global.{Global}
+use Rattle.pages.specs.declared.page.Page.{Page}
 use Rattle.engines.specs.declared.drawn.Drawn.{Drawn}
 use Rattle.engines.specs.declared.drawn.Drawn.TheVariants.{Picture, Shown}
-use Rattle.engines.specs.declared.page.Page.{Page}
 use Rattle.files.specs.Deeds.{Deed}
 use Rattle.commands.specs.Deeds.{GivesFile}
 use Rattle.commands.specs.Pictures.{EndsDrawing}

@@ -4,7 +4,7 @@ use Rattle.files.specs.Deeds.{Compares, Deed, HasRead, Reads, noted}
 use Rattle.files.specs.declared.fault.FileFault.{FileFault}
 use Rattle.files.specs.declared.files.Unread.{Unread}
 use Rattle.commands.specs.Deeds.{AfterCompare, AfterFile, AfterTexts, ReadsFile, ReadsTexts, UnlessRead}
-use Rattle.engines.specs.declared.texts.Texts.{Texts}
+use Rattle.pages.specs.declared.texts.Texts.{Texts}
 
 -- a file was read, and what is made of it goes on from there
 pub read_on : (name : List ℕ) (before mid after : Option (List Deed)) (old new : Option (List ℕ)) (status : ℕ) (made : Option (List Deed) → List ℕ → Type 0) (given : Result (List ℕ) FileFault)

@@ -2,14 +2,14 @@
 use Rattle.std.proofs.Common.{◌≡◌, ℕ, List, Option, Result, Ok, Err, subst, sym}
 use Rattle.std.proofs.KnownBytes.{Keeps-refl}
 use Rattle.ast.specs.ProgramView.{program as program_of}
+use Rattle.pages.specs.declared.fault.EngineFault.{EngineFault}
+use Rattle.pages.specs.declared.fault.EngineFault.TheVariants.{Source, Input, Schedule, Writing, Memory, OutOfRange, NotStarted, Stuck}
+use Rattle.pages.specs.declared.outcomes.Outcome.{Outcome}
+use Rattle.pages.specs.declared.outcomes.Outcome.TheVariants.{Completed, Refused, Faulted, NoSchedule}
 use Rattle.engines.specs.Engines.{Checks, IsRefused, IsVerdict, Tells, Works}
-use Rattle.commands.specs.Statuses.{Ends, exit_of}
-use Rattle.engines.specs.declared.fault.EngineFault.{EngineFault}
-use Rattle.engines.specs.declared.fault.EngineFault.TheVariants.{Source, Input, Schedule, Writing, Memory, OutOfRange, NotStarted, Stuck}
-use Rattle.engines.specs.declared.outcome.Outcome.{Outcome}
-use Rattle.engines.specs.declared.outcome.Outcome.TheVariants.{Completed, Refused, Faulted, NoSchedule}
 use Rattle.engines.specs.declared.verdict.Verdict.{Verdict}
 use Rattle.engines.specs.declared.verdict.Verdict.TheVariants as verdict
+use Rattle.commands.specs.Statuses.{Ends, exit_of}
 
 -- what is told of a source's verdict is what `check` may write of the source
 allowed_by : (source : List ℕ) (v : Verdict) (outcome : Outcome) (text : List ℕ) → IsVerdict source v → Tells v outcome text → Checks source outcome text

@@ -1,8 +1,8 @@
 -- What an upgrade comes to, written.
 use Rattle.std.proofs.Common.{refl, ℕ, List, Option, Vec, inr}
 use Rattle.std.specs.Global.{Global}
+use Rattle.pages.specs.declared.page.Page.{Page}
 use Rattle.engines.specs.Schedules.{Upgrading}
-use Rattle.engines.specs.declared.page.Page.{Page}
 use Rattle.engines.specs.declared.replays.Upgraded.TheVariants.{Text, Shown}
 use Rattle.files.specs.Deeds.{Deed}
 use Rattle.commands.specs.Deeds.{GivesFile}

@@ -1,10 +1,10 @@
 -- What each command does: which files it reads, in which order, what it writes where, and its exit status.
 use Rattle.std.specs.Prelude.{◌≡◌, ℕ, List, [], ◌∷◌, Option, Some, None, option_map}
+use Rattle.pages.specs.declared.outcomes.Outcome.{Outcome}
 use Rattle.engines.specs.Coded.{ShowsCode}
 use Rattle.engines.specs.Engines.{Checks}
 use Rattle.engines.specs.Lists.{ListsAs}
 use Rattle.engines.specs.Schedules.{Replaying}
-use Rattle.engines.specs.declared.outcome.Outcome.{Outcome}
 use Rattle.files.specs.Deeds.{Deed}
 use Rattle.commands.specs.Deeds.{ReadsFile, ReadsInput, ReadsTexts, UnlessRead}
 use Rattle.commands.specs.Pictures.{DrawsFile, TimesFiles}

@@ -3,7 +3,7 @@ use Rattle.std.specs.Prelude.{◌≡◌, ◌≢◌, ℕ, Bool, true, false, List
 use Rattle.std.specs.IoError.{error_kind}
 use Rattle.std.specs.declared.io.Error.{Error}
 use Rattle.std.specs.declared.io.ErrorKind.TheVariants.{OutOfMemory}
-use Rattle.engines.specs.declared.texts.Texts.{Texts}
+use Rattle.pages.specs.declared.texts.Texts.{Texts}
 use Rattle.files.specs.Deeds.{Deed, Compares, Reads, Replaces, file_status, noted}
 use Rattle.files.specs.declared.fault.FileFault.{FileFault}
 use Rattle.files.specs.declared.files.Unread.{Unread}

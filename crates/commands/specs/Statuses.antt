@@ -1,10 +1,11 @@
 -- Exit statuses, and what is written to standard output.
 use Rattle.std.specs.Prelude.{◌≡◌, ◌⊎◌, ℕ, Bool, List, Option, Result, Ok, Err}
-use Rattle.engines.specs.Engines.{Streaming, Works, fault_status, status_of}
+use Rattle.pages.specs.Outcomes.{fault_status, status_of}
+use Rattle.pages.specs.declared.fault.EngineFault.{EngineFault}
+use Rattle.pages.specs.declared.outcomes.Outcome.{Outcome}
+use Rattle.pages.specs.declared.page.Page.{Page}
+use Rattle.engines.specs.Engines.{Streaming, Works}
 use Rattle.engines.specs.Schedules.{Upgrading}
-use Rattle.engines.specs.declared.fault.EngineFault.{EngineFault}
-use Rattle.engines.specs.declared.outcome.Outcome.{Outcome}
-use Rattle.engines.specs.declared.page.Page.{Page}
 use Rattle.engines.specs.declared.replays.Upgraded.{Upgraded}
 use Rattle.engines.specs.declared.replays.Upgraded.TheVariants.{Text, Shown}
 use Rattle.files.specs.Deeds.{Deed}

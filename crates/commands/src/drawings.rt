@@ -9,8 +9,9 @@ ghost use Rattle.commands.specs.Pictures.{DrawsFile, EndsDrawing, TimesFiles};
 ghost use Rattle.commands.specs.Statuses.{Ends, IsPage};
 
 use crate::told::{give_file, refuse_file, refuse_out, show_page, tell, tell_of};
-use engines::{Drawn, EngineFault, Page, Portion, Texts, draw_text, timeline_texts};
+use engines::{Drawn, Portion, draw_text, timeline_texts};
 use files::{FileFault, NamedFiles, Names, Unread, read_texts};
+use pages::{EngineFault, Page, Texts};
 use remarks::Place;
 use std::io::Write;
 

@@ -8,8 +8,9 @@ ghost use Rattle.commands.specs.Statuses.{Ends, EndsUpgrade};
 use crate::told::{
     give_file, refuse_file, refuse_out, show_page, tell_of, tell_replay, warn_of_run,
 };
-use engines::{EngineFault, Texts, Upgraded, replay_texts, upgrade_texts};
+use engines::{Upgraded, replay_texts, upgrade_texts};
 use files::{NamedFiles, Names, Unread, read_texts};
+use pages::{EngineFault, Texts};
 use std::io::Write;
 
 /// Replays the schedule of a file. Where the sequential run tells more of its fault that is made behind

@@ -9,11 +9,10 @@ ghost use Rattle.commands.specs.Deeds.{AfterFile, ReadsInput};
 ghost use Rattle.commands.specs.Statuses.{Ends, EndsSeq};
 
 use crate::told::{refuse_file, tell, tell_run, warn_of_run};
-use engines::{
-    EngineFault, Survey, Verdict, judged, seq_noted, surveyed, tell_loops, tell_verdict,
-};
+use engines::{Survey, Verdict, judged, seq_noted, surveyed, tell_loops, tell_verdict};
 use files::{FileFault, NamedFiles};
 use messages::tell_further;
+use pages::EngineFault;
 use reasons::say_why_serial;
 use remarks::warn;
 use std::io::Write;

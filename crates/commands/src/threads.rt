@@ -8,9 +8,10 @@ ghost use Rattle.commands.specs.Running.{EndsRun, RunsRead, ShowsRan, Shown, Wri
 
 use crate::told::{refuse_file, refuse_out, refuse_write, tell_known, warn_of_run};
 use command_line::Threaded;
-use engines::{EngineFault, Outcome, Wants};
+use engines::Wants;
 use files::{FileFault, NamedFiles};
 use messages::say_figures;
+use pages::{EngineFault, Outcome};
 use std::io;
 use std::io::Write;
 use std::sync::Wait;

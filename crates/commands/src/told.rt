@@ -5,9 +5,10 @@ ghost use Rattle.files.specs.Deeds.{file_status, unput};
 ghost use Rattle.commands.specs.Deeds.{GivesFile, OfError, OfWrite};
 ghost use Rattle.commands.specs.Statuses.{Ends, IsPage, OfPrint, exit_of};
 
-use engines::{EngineFault, Note, Outcome, Page, Sequential, Texts, known_of};
+use engines::{Note, Sequential, known_of};
 use files::{FileFault, NamedFiles, Names};
 use messages::{LastRecord, Message};
+use pages::{EngineFault, Outcome, Page, Texts};
 use reasons::Met;
 use remarks::{Place, warn_of_columns};
 use std::io::{self, Write};

@@ -1,10 +1,10 @@
 -- What is written of a picture.
 use Rattle.std.proofs.Common.{◌≡◌, ℕ, List, Option, Result, Ok, Err, IfOk, IfErr}
+use Rattle.pages.specs.Outcomes.{IsWriting}
+use Rattle.pages.specs.declared.fault.EngineFault.{EngineFault}
+use Rattle.pages.specs.declared.fault.EngineFault.TheVariants.{Source, Input, Schedule, Writing, Memory, OutOfRange, NotStarted, Stuck}
 use Rattle.engines.specs.Drawn.{DrawWorks, WritesDrawn, WritesPart, drawn_status}
-use Rattle.engines.specs.Engines.{IsWriting}
 use Rattle.engines.specs.declared.drawn.Drawn.{Drawn}
-use Rattle.engines.specs.declared.fault.EngineFault.{EngineFault}
-use Rattle.engines.specs.declared.fault.EngineFault.TheVariants.{Source, Input, Schedule, Writing, Memory, OutOfRange, NotStarted, Stuck}
 
 pub of_written : (allows : Drawn → Type 0) (drawn : Drawn) (old new before after : Option (List ℕ)) (r : Result ℕ EngineFault) → allows drawn
     → IfOk r (λ status. (status ≡ drawn_status drawn) × WritesDrawn drawn old new before after)

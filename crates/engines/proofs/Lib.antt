@@ -3,6 +3,5 @@ pub mod Drawings
 pub mod Listings
 pub mod Pages
 pub mod Replayed
-pub mod StoreRows
 pub mod Surveys
 pub mod Upgrading

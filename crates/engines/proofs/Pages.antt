@@ -19,14 +19,15 @@ use Rattle.interpreter.specs.declared.run_end.RunFault.{RunFault}
 use Rattle.interpreter.specs.declared.run_end.RunFault.TheVariants as run_faults
 use Rattle.profile_check.specs.Causes.{Refuses}
 use Rattle.profile_check.specs.Reads.{Reads}
-use Rattle.engines.specs.Engines.{FollowsRecords, IsRefusal, IsRun, Runs, ShowsRun, Streaming, Works, engine_fault, outcome_of}
-use Rattle.engines.specs.Shown.{EndShown, Extends, Row, refused, row_of}
-use Rattle.engines.specs.View.{rows_from}
-use Rattle.engines.specs.declared.fault.EngineFault.{EngineFault}
-use Rattle.engines.specs.declared.fault.EngineFault.TheVariants.{Source, Input, Schedule, Writing, Memory, OutOfRange, NotStarted, Stuck}
-use Rattle.engines.specs.declared.outcome.Outcome.{Outcome}
-use Rattle.engines.specs.declared.outcome.Outcome.TheVariants.{Refused}
-use Rattle.engines.proofs.StoreRows.{rows_whole}
+use Rattle.pages.specs.Outcomes.{outcome_of}
+use Rattle.pages.specs.Shown.{EndShown, Extends, Row, refused, row_of}
+use Rattle.pages.specs.View.{rows_from}
+use Rattle.pages.specs.declared.fault.EngineFault.{EngineFault}
+use Rattle.pages.specs.declared.fault.EngineFault.TheVariants.{Source, Input, Schedule, Writing, Memory, OutOfRange, NotStarted, Stuck}
+use Rattle.pages.specs.declared.outcomes.Outcome.{Outcome}
+use Rattle.pages.specs.declared.outcomes.Outcome.TheVariants.{Refused}
+use Rattle.pages.proofs.StoreRows.{rows_whole}
+use Rattle.engines.specs.Engines.{FollowsRecords, IsRefusal, IsRun, Runs, ShowsRun, Streaming, Works, engine_fault}
 
 -- the store at the end of a run has a cell for each symbol
 pub cells_fit : (program : ProgramTree) (input : List ℕ) (ended : RunEnd) (old new : Option (List ℕ)) → Ended program input old new (Ok ended) → length (cells ended.store) ≡ length program.symbols

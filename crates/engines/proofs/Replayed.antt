@@ -12,11 +12,11 @@ use Rattle.machine.specs.Code.{Code}
 use Rattle.replay.proofs.Running.{is_run}
 use Rattle.replay.specs.Replayed.{IsReplay}
 use Rattle.replay.specs.Schedules.{SchedText, Schedule}
-use Rattle.engines.specs.Engines.{outcome_of}
+use Rattle.pages.specs.Outcomes.{outcome_of}
+use Rattle.pages.specs.Shown.{EndShown, Extends, Row, row_of}
+use Rattle.pages.specs.declared.outcomes.Outcome.{Outcome}
 use Rattle.engines.specs.Schedules.{IsReplayed, ShowsReplay}
-use Rattle.engines.specs.Shown.{EndShown, Extends, Row, row_of}
 use Rattle.engines.specs.Timeline.{IsTimed}
-use Rattle.engines.specs.declared.outcome.Outcome.{Outcome}
 
 -- without a store the rows don't count
 any_rows : (e : End) (old new : List Row) (text : List ℕ) → EndShown false old e text → EndShown false new e text

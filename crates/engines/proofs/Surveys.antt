@@ -2,16 +2,16 @@
 use Rattle.std.proofs.Common.{ℕ, List, Option, Result, Ok, Err, inl, inr, subst, sym}
 use Rattle.std.specs.Prelude.{◌≡◌, ◌⊎◌, Bool, true, false}
 use Rattle.ast.specs.ProgramView.{program as program_of}
-use Rattle.engines.specs.Engines.{IsRefusal, Works}
+use Rattle.pages.specs.Shown.{refused}
 use Rattle.codegen.specs.declared.reports.LoopReport.{LoopReport}
+use Rattle.pages.specs.declared.fault.EngineFault.{EngineFault}
+use Rattle.pages.specs.declared.fault.EngineFault.TheVariants.{Source, Input, Schedule, Writing, Memory, OutOfRange, NotStarted, Stuck}
+use Rattle.pages.specs.declared.outcomes.Outcome.{Outcome}
+use Rattle.pages.specs.declared.outcomes.Outcome.TheVariants.{Completed, Refused, Faulted, NoSchedule}
+use Rattle.engines.specs.Engines.{IsRefusal, Works}
 use Rattle.engines.specs.Listing.{Lines, LinesWhy}
 use Rattle.engines.specs.Lists.{HasLongCode, IsSurvey, Lists, ListsAs, ListsBy, TellsAs, TellsBy, TellsLoops}
 use Rattle.engines.specs.Schedules.{IsNoCode}
-use Rattle.engines.specs.Shown.{refused}
-use Rattle.engines.specs.declared.fault.EngineFault.{EngineFault}
-use Rattle.engines.specs.declared.fault.EngineFault.TheVariants.{Source, Input, Schedule, Writing, Memory, OutOfRange, NotStarted, Stuck}
-use Rattle.engines.specs.declared.outcome.Outcome.{Outcome}
-use Rattle.engines.specs.declared.outcome.Outcome.TheVariants.{Completed, Refused, Faulted, NoSchedule}
 use Rattle.engines.specs.declared.survey.Survey.{Survey}
 use Rattle.engines.specs.declared.survey.Survey.TheVariants as survey
 

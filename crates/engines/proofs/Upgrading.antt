@@ -1,12 +1,12 @@
 -- What is written of an upgrade.
 use Rattle.std.proofs.Common.{◌≡◌, ℕ, List, Option, Result, Ok, Err, IfOk, IfErr, subst, sym}
-use Rattle.engines.specs.Engines.{Gives, IsWriting}
-use Rattle.engines.specs.Reading.{AreGiven, OfTexts}
+use Rattle.pages.specs.Outcomes.{IsWriting}
+use Rattle.pages.specs.Reading.{AreGiven, Gives, OfTexts}
+use Rattle.pages.specs.declared.fault.EngineFault.{EngineFault}
+use Rattle.pages.specs.declared.fault.EngineFault.TheVariants.{Source, Input, Schedule, Writing, Memory, OutOfRange, NotStarted, Stuck}
+use Rattle.pages.specs.declared.texts.Texts.{Texts}
 use Rattle.engines.specs.Schedules.{LeavesBoth, UpgradeWorks, Upgrading, WritesPart, WritesUpgraded, WroteUpgraded, WroteUpgradedPart, upgrade_status}
-use Rattle.engines.specs.declared.fault.EngineFault.{EngineFault}
-use Rattle.engines.specs.declared.fault.EngineFault.TheVariants.{Source, Input, Schedule, Writing, Memory, OutOfRange, NotStarted, Stuck}
 use Rattle.engines.specs.declared.replays.Upgraded.{Upgraded}
-use Rattle.engines.specs.declared.texts.Texts.{Texts}
 
 pub of_written : (allows : Upgraded → Type 0) (made : Upgraded) (old new before after : Option (List ℕ)) (r : Result ℕ EngineFault) → allows made
     → IfOk r (λ status. (status ≡ upgrade_status made) × WritesUpgraded made old new before after)

@@ -14,7 +14,7 @@ use Rattle.machine.specs.declared.instr.Act.{Act}
 use Rattle.machine.specs.declared.instr.Act.TheVariants as acts
 use Rattle.machine.specs.declared.instr.Axis.{Axis}
 use Rattle.machine.specs.declared.instr.Instr.{Instr}
-use Rattle.engines.specs.Shown.{at_line}
+use Rattle.pages.specs.Shown.{at_line}
 
 -- ---- what instructions cite
 

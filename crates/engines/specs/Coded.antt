@@ -1,9 +1,9 @@
 -- What `code` may write of a source text.
 use Rattle.std.specs.Prelude.{◌≡◌, List, ℕ}
+use Rattle.pages.specs.declared.outcomes.Outcome.{Outcome}
+use Rattle.pages.specs.declared.outcomes.Outcome.TheVariants.{Completed, Refused, Faulted, NoSchedule}
 use Rattle.engines.specs.CodeLines.{code_lines}
 use Rattle.engines.specs.Schedules.{IsNoCode, WithCode}
-use Rattle.engines.specs.declared.outcome.Outcome.{Outcome}
-use Rattle.engines.specs.declared.outcome.Outcome.TheVariants.{Completed, Refused, Faulted, NoSchedule}
 
 -- the lines of the code of the program that the source reads as, or the line of its refusal, by its
 -- text or for its code

@@ -7,13 +7,13 @@ use Rattle.dependence.specs.declared.plan.LoopPlan.{LoopPlan}
 use Rattle.dependence.specs.declared.plan.LoopPlan.TheVariants.{Serial, Body}
 use Rattle.pictures.specs.Dependences.{AreArrows}
 use Rattle.pictures.specs.Drawn.{IsDrawn}
+use Rattle.pages.specs.declared.outcomes.Outcome.{Outcome}
+use Rattle.pages.specs.declared.outcomes.Outcome.TheVariants.{Refused}
 use Rattle.engines.specs.Lists.{IsReported}
 use Rattle.engines.specs.Schedules.{IsNoCode}
 use Rattle.engines.specs.declared.drawing.Portion.{Portion}
 use Rattle.engines.specs.declared.drawn.Drawn.{Drawn}
 use Rattle.engines.specs.declared.drawn.Drawn.TheVariants.{Picture, Shown, NoLoop}
-use Rattle.engines.specs.declared.outcome.Outcome.{Outcome}
-use Rattle.engines.specs.declared.outcome.Outcome.TheVariants.{Refused}
 
 -- what is kept of a loop, by its report and its plan
 abbrev pub kept_of : LoopReport → LoopPlan → List (ℕ × ℕ × ℕ)

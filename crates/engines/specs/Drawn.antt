@@ -2,12 +2,13 @@
 use Rattle.std.specs.Prelude.{◌≡◌, ℕ, List, Option, Result, Ok, Err, Vec}
 use Rattle.std.specs.Global.{Global}
 use Rattle.std.specs.Io.KnownBytes.{Appends}
-use Rattle.engines.specs.Engines.{AppendsPart, of_source, status_of}
+use Rattle.handing.specs.Handing.{AppendsPart}
+use Rattle.pages.specs.Outcomes.{of_source, status_of}
+use Rattle.pages.specs.declared.fault.EngineFault.{EngineFault}
+use Rattle.pages.specs.declared.fault.EngineFault.TheVariants.{Memory, Writing}
+use Rattle.pages.specs.declared.fault.ReadFault.{ReadFault}
 use Rattle.engines.specs.declared.drawn.Drawn.{Drawn}
 use Rattle.engines.specs.declared.drawn.Drawn.TheVariants.{Picture, Shown, NoLoop}
-use Rattle.engines.specs.declared.fault.EngineFault.{EngineFault}
-use Rattle.engines.specs.declared.fault.EngineFault.TheVariants.{Memory, Writing}
-use Rattle.engines.specs.declared.fault.ReadFault.{ReadFault}
 
 -- the exit status of what such a command comes to
 abbrev pub drawn_status : Drawn → ℕ

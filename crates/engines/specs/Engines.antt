@@ -1,15 +1,12 @@
 -- What the engines do: which bytes they may write of a source text, and with which outcome.
-use Rattle.std.specs.Prelude.{◌≡◌, ◌⊎◌, ℕ, Bool, true, false, IfSome, List, ⊤, Option, Result, Ok, Err, Vec}
+use Rattle.std.specs.Prelude.{◌≡◌, ◌⊎◌, ℕ, Bool, true, false, List, ⊤, Option, Result, Ok, Err, Vec}
 use Rattle.std.specs.Global.{Global}
 use Rattle.std.specs.Io.KnownBytes.{Appends, IsAtEnd, Keeps}
 use Rattle.ast.specs.Meaning.{seq}
 use Rattle.ast.specs.Program.{ProgramTree}
 use Rattle.ast.specs.ProgramView.{program as program_of}
-use Rattle.ast.specs.declared.fault.End.{End}
-use Rattle.ast.specs.declared.fault.End.TheVariants.{Done, Stopped, Fault as FaultedAt}
 use Rattle.ast.specs.declared.fault.Fault.TheVariants as kinds
-use Rattle.handing.specs.Handing.{Begins, FallsShort}
-pub use Rattle.handing.specs.Handing.{AppendsPart}
+use Rattle.handing.specs.Handing.{AppendsPart, Begins, FallsShort}
 use Rattle.profile_check.specs.Causes.{Refuses}
 use Rattle.profile_check.specs.Reads.{Reads}
 use Rattle.ast.specs.Symbols.{Symbol}
@@ -17,34 +14,18 @@ use Rattle.ast.specs.View.{cells}
 use Rattle.interpreter.specs.declared.run_end.RunEnd.{RunEnd}
 use Rattle.interpreter.specs.declared.run_end.RunFault.{RunFault}
 use Rattle.interpreter.specs.declared.run_end.RunFault.TheVariants as run_faults
-use Rattle.engines.specs.Shown.{accepted, refused, EndShown, Shown}
-use Rattle.engines.specs.View.{rows_from}
-use Rattle.engines.specs.declared.fault.EngineFault.{EngineFault}
-use Rattle.engines.specs.declared.fault.EngineFault.TheVariants.{Source, Input, Schedule, Writing, Memory, OutOfRange, NotStarted, Stuck}
-use Rattle.engines.specs.declared.fault.ReadFault.{ReadFault}
-use Rattle.engines.specs.declared.fault.ReadFault.TheVariants as reading
-use Rattle.engines.specs.declared.outcome.Outcome.{Outcome}
-use Rattle.engines.specs.declared.outcome.Outcome.TheVariants.{Completed, Refused, Faulted, NoSchedule}
+use Rattle.pages.specs.Outcomes.{outcome_of, status_of}
+use Rattle.pages.specs.Reading.{Gives, OfText}
+use Rattle.pages.specs.Shown.{accepted, refused, EndShown, Shown}
+use Rattle.pages.specs.View.{rows_from}
+use Rattle.pages.specs.declared.fault.EngineFault.{EngineFault}
+use Rattle.pages.specs.declared.fault.EngineFault.TheVariants.{Source, Input, Schedule, Writing, Memory, OutOfRange, NotStarted, Stuck}
+use Rattle.pages.specs.declared.fault.ReadFault.{ReadFault}
+use Rattle.pages.specs.declared.outcomes.Outcome.{Outcome}
+use Rattle.pages.specs.declared.outcomes.Outcome.TheVariants.{Completed, Refused, Faulted, NoSchedule}
+use Rattle.engines.specs.declared.given.Given.{Given}
 use Rattle.engines.specs.declared.verdict.Verdict.{Verdict}
 use Rattle.engines.specs.declared.verdict.Verdict.TheVariants as verdict
-
--- the exit status of an outcome
-abbrev pub status_of : Outcome → ℕ
-status_of Completed = 0
-status_of (Refused number line) = 1
-status_of (Faulted fault line) = 2
-status_of (NoSchedule number line) = 6
-
--- the exit status of an engine's fault
-abbrev pub fault_status : EngineFault → ℕ
-fault_status (Source e) = 4
-fault_status (Input e) = 4
-fault_status (Schedule e) = 4
-fault_status (Writing e) = 4
-fault_status Memory = 5
-fault_status OutOfRange = 3
-fault_status NotStarted = 5
-fault_status Stuck = 5
 
 -- the source reads as a program, and this is its line
 pub record IsAccepted (source text : List ℕ) : Type 0 where
@@ -84,12 +65,6 @@ Checks source (Refused number line) text = IsRefused source number line text
 Checks source (Faulted fault line) text = ⊥
 Checks source (NoSchedule number line) text = ⊥
 
--- the outcome of a run that ended so
-abbrev pub outcome_of : End → Outcome
-outcome_of Done = Completed
-outcome_of (Stopped line) = Completed
-outcome_of (FaultedAt fault line) = Faulted fault line
-
 -- the program's run on the input has this outcome, and this is shown of it
 pub record ShowsRun (store : Bool) (tree : ProgramTree) (input : List ℕ) (outcome : Outcome) (text : List ℕ) : Type 0 where
   pub ended : outcome ≡ outcome_of (seq tree input).end
@@ -107,14 +82,6 @@ Runs store source input Completed text = IsRun store source input Completed text
 Runs store source input (Refused number line) text = IsRefused source number line text
 Runs store source input (Faulted fault line) text = IsRun store source input (Faulted fault line) text
 Runs store source input (NoSchedule number line) text = ⊥
-
--- a reader gives a text: all that it has left, where that is known
-abbrev pub Gives : Option (List ℕ) → List ℕ → Type 0
-Gives known text = IfSome known (λ bytes. text ≡ bytes)
-
--- this holds of some text that a reader gives
-abbrev pub OfText : Option (List ℕ) → (List ℕ → Type 0) → Type 0
-OfText known P = (text : List ℕ) × Gives known text × P text
 
 -- the writer's bytes grew by a text that an outcome allows
 pub record Wrote (allows : Outcome → List ℕ → Type 0) (old new : Option (List ℕ)) (outcome : Outcome) : Type 0 where
@@ -248,22 +215,12 @@ abbrev pub AfterRead : Result (Vec ℕ Global) ReadFault → (ReadFault → Engi
 AfterRead (Err fault) comes_to old new result made = (result ≡ Err (comes_to fault)) × Keeps old new
 AfterRead (Ok bytes) comes_to old new result made = made bytes.items
 
--- what a failed read of the source comes to, of the input, and of the schedule
-abbrev pub of_source : ReadFault → EngineFault
-of_source (reading.Reader e) = Source e
-of_source reading.Memory = Memory
-
-abbrev pub of_input : ReadFault → EngineFault
-of_input (reading.Reader e) = Input e
-of_input reading.Memory = Memory
-
-abbrev pub of_schedule : ReadFault → EngineFault
-of_schedule (reading.Reader e) = Schedule e
-of_schedule reading.Memory = Memory
-
-abbrev pub IsWriting : EngineFault → Type 0
-IsWriting (Writing e) = ⊤
-IsWriting fault = ⊥
+-- what reading an input comes to after a source: no fault is its
+abbrev pub AfterGiven : (source : List ℕ) (old new : Option (List ℕ)) → Result Given EngineFault → Type 0
+AfterGiven source old new (Ok given) = (given.source.items ≡ source) × Gives old given.input.items × IsAtEnd new
+AfterGiven source old new (Err (Input e)) = ⊤
+AfterGiven source old new (Err Memory) = ⊤
+AfterGiven source old new (Err _) = ⊥
 
 -- the sequential run tells more of what a run came to: which subscript, or which record of the input
 abbrev pub wants_run : Result Outcome EngineFault → Bool

@@ -6,8 +6,5 @@ pub mod Drawn
 pub mod Engines
 pub mod Listing
 pub mod Lists
-pub mod Reading
 pub mod Schedules
-pub mod Shown
 pub mod Timeline
-pub mod View

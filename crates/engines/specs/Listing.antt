@@ -7,8 +7,8 @@ use Rattle.codegen.specs.declared.reports.LoopReport.{LoopReport}
 use Rattle.dependence.specs.PlanView.{plan_block}
 use Rattle.dependence.specs.declared.plan.LoopPlan.{LoopPlan}
 use Rattle.dependence.specs.declared.plan.LoopPlan.TheVariants.{Serial, Body}
+use Rattle.pages.specs.Shown.{at_line, byte_order}
 use Rattle.engines.specs.Advanced.{is_behind, spots}
-use Rattle.engines.specs.Shown.{at_line, byte_order}
 use Rattle.engines.specs.declared.spots.Spot.{Spot}
 use Rattle.engines.specs.declared.spots.Spot.TheVariants.{Behind, Arm, Made}
 

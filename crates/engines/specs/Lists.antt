@@ -7,12 +7,12 @@ use Rattle.codegen.specs.Reports.{Reports}
 use Rattle.codegen.specs.declared.reports.LoopReport.{LoopReport}
 use Rattle.machine.specs.Code.{Code}
 use Rattle.profile_check.specs.Reads.{Reads}
+use Rattle.pages.specs.Shown.{refused}
+use Rattle.pages.specs.declared.outcomes.Outcome.{Outcome}
+use Rattle.pages.specs.declared.outcomes.Outcome.TheVariants.{Completed, Refused, Faulted, NoSchedule}
 use Rattle.engines.specs.Engines.{IsRefusal}
 use Rattle.engines.specs.Listing.{Lines, LinesWhy, ListingOf}
 use Rattle.engines.specs.Schedules.{IsNoCode}
-use Rattle.engines.specs.Shown.{refused}
-use Rattle.engines.specs.declared.outcome.Outcome.{Outcome}
-use Rattle.engines.specs.declared.outcome.Outcome.TheVariants.{Completed, Refused, Faulted, NoSchedule}
 use Rattle.engines.specs.declared.survey.Survey.{Survey}
 use Rattle.engines.specs.declared.survey.Survey.TheVariants as survey
 

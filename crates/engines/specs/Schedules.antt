@@ -10,14 +10,16 @@ use Rattle.replay.specs.Refusals.{Refuses}
 use Rattle.replay.specs.Replayed.{GivesNone, HasStop, IsUpgrade}
 use Rattle.replay.specs.Replays.{Point, Replays}
 use Rattle.replay.specs.Schedules.{SchedText, Schedule}
-use Rattle.engines.specs.Engines.{AppendsPart, IsRefused, ShowsRun, status_of}
-use Rattle.engines.specs.Shown.{no_schedule, refused}
-use Rattle.engines.specs.declared.fault.EngineFault.{EngineFault}
-use Rattle.engines.specs.declared.fault.EngineFault.TheVariants.{Memory, Writing}
+use Rattle.handing.specs.Handing.{AppendsPart}
+use Rattle.pages.specs.Outcomes.{status_of}
+use Rattle.pages.specs.Shown.{no_schedule, refused}
+use Rattle.pages.specs.declared.fault.EngineFault.{EngineFault}
+use Rattle.pages.specs.declared.fault.EngineFault.TheVariants.{Memory, Writing}
+use Rattle.pages.specs.declared.outcomes.Outcome.{Outcome}
+use Rattle.pages.specs.declared.outcomes.Outcome.TheVariants.{Completed, Refused, Faulted, NoSchedule}
+use Rattle.engines.specs.Engines.{IsRefused, ShowsRun}
 use Rattle.engines.specs.declared.replays.Upgraded.{Upgraded}
 use Rattle.engines.specs.declared.replays.Upgraded.TheVariants.{Text, Shown}
-use Rattle.engines.specs.declared.outcome.Outcome.{Outcome}
-use Rattle.engines.specs.declared.outcome.Outcome.TheVariants.{Completed, Refused, Faulted, NoSchedule}
 
 -- a source reads as a program which has code, and of these this holds
 pub record WithCode (source : List ℕ) (P : ProgramTree → Code → Type 0) : Type 0 where

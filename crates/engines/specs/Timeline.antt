@@ -6,11 +6,11 @@ use Rattle.machine.specs.Code.{Code}
 use Rattle.replay.specs.Replayed.{GivesNone}
 use Rattle.replay.specs.Replays.{Point, Replays}
 use Rattle.replay.specs.Schedules.{SchedText, Schedule}
+use Rattle.pages.specs.declared.outcomes.Outcome.{Outcome}
+use Rattle.pages.specs.declared.outcomes.Outcome.TheVariants.{Refused, NoSchedule}
 use Rattle.engines.specs.Schedules.{IsNoCode, IsNoSchedule, WithCode}
 use Rattle.engines.specs.declared.drawn.Drawn.{Drawn}
 use Rattle.engines.specs.declared.drawn.Drawn.TheVariants.{Picture, Shown, NoLoop}
-use Rattle.engines.specs.declared.outcome.Outcome.{Outcome}
-use Rattle.engines.specs.declared.outcome.Outcome.TheVariants.{Refused, NoSchedule}
 
 -- The text is a schedule's, which leads the code on the input where the sequential program ends.
 pub record IsTimed (tree : ProgramTree) (code : Code) (input schedule : List ℕ) : Type 0 where

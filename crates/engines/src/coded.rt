@@ -6,11 +6,10 @@ ghost use Rattle.profile_check.specs.Reads.{Reads};
 ghost use Rattle.engines.specs.Coded.{ShowsCode};
 
 use crate::code_lines::code_lines;
-use crate::outcome::Outcome;
-use crate::page::{Page, refused};
 use crate::verdict::{Verdict, judged};
 use ast::Program;
 use codegen::{CompileRefusal, compile};
+use pages::{Outcome, Page, refused};
 use std::alloc::{AllocError, Global};
 
 /// The lines of a program's code, or of its refusal.

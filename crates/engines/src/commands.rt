@@ -2,22 +2,20 @@
 //! what came of it.
 
 ghost use Rattle.std.specs.Prelude.{◌≡◌, ◌⊎◌, IfOk, IfErr};
+ghost use Rattle.pages.specs.Outcomes.{of_input, of_source};
+ghost use Rattle.pages.specs.Reading.{LeavesThree, OfText, OfTexts};
 ghost use Rattle.engines.specs.Coded.{ShowsCode};
-ghost use Rattle.engines.specs.Engines.{AfterRead, Began, Checks, FellShort, IsJudged, Leaves, LeavesOfSource, LeavesSeq, LeavesReader, LeavesReaders, OfText, Runs, Streaming, StreamingWith, Tells, Works, WroteAs, WrotePart, of_input, of_source};
+ghost use Rattle.engines.specs.Engines.{AfterRead, Began, Checks, FellShort, IsJudged, Leaves, LeavesOfSource, LeavesSeq, LeavesReader, LeavesReaders, Runs, Streaming, StreamingWith, Tells, Works, WroteAs, WrotePart};
 ghost use Rattle.engines.specs.Lists.{Lists, TellsAs, TellsLoops, TellsWhy};
-ghost use Rattle.engines.specs.Reading.{LeavesThree, OfTexts};
 ghost use Rattle.engines.specs.Schedules.{LeavesBoth, Replaying, UpgradeWorks, Upgrading, WroteUpgraded, WroteUpgradedPart};
 
 use crate::coded::coded;
-use crate::fault::{EngineFault, ReadFault};
-use crate::outcome::Outcome;
-use crate::page::told;
 use crate::replays::{replayed, upgrade_texts};
 use crate::sequential::seq_texts;
-use crate::streams::read_all;
 use crate::survey::{Survey, shown_loops, shown_reasons, surveyed};
-use crate::texts::read_three;
+use crate::told::told;
 use crate::verdict::{Verdict, judged};
+use pages::{EngineFault, Outcome, ReadFault, read_all, read_three};
 use std::alloc::Global;
 use std::io::{Read, Write};
 

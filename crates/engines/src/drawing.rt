@@ -3,22 +3,21 @@
 ghost use Rattle.std.specs.Prelude.{◌≡◌, [], IfOk, IfErr, option_map};
 ghost use Rattle.ast.specs.ProgramView.{program as program_of};
 ghost use Rattle.pictures.specs.Dependences.{AreArrows};
+ghost use Rattle.pages.specs.Reading.{OfText};
 ghost use Rattle.engines.specs.Drawing as spec;
 ghost use Rattle.engines.specs.Drawing.{Draws, IsLoopPicture, kept_of};
 ghost use Rattle.engines.specs.Drawn.{AfterSource, DrawWorks, WroteDrawn, WroteDrawnPart};
-ghost use Rattle.engines.specs.Engines.{LeavesReader, OfText};
+ghost use Rattle.engines.specs.Engines.{LeavesReader};
 ghost use Rattle.engines.specs.Lists.{IsReported, IsSurvey};
 ghost use Rattle.engines.specs.Schedules.{LeavesBoth};
 
 use crate::drawn::Drawn;
-use crate::fault::{EngineFault, ReadFault};
-use crate::page::refused;
-use crate::streams::read_all;
 use crate::survey::{Survey, surveyed};
 use ast::{Node, Program};
 use codegen::LoopReport;
 use dependence::{LoopPlan, PlanStmt};
 use loop_tree::{LoopTree, ScalarSet, loops};
+use pages::{EngineFault, ReadFault, read_all, refused};
 use pictures::{
     Frame, LoopPicture, OpenLoop, SerialLoop, draw as draw_loop, lines_of, open_picture,
     serial_picture,

@@ -1,8 +1,7 @@
 //! What commands that make a picture come to, and how that is written.
 
-use crate::fault::EngineFault;
-use crate::page::Page;
 use handing::write_all;
+use pages::{EngineFault, Page};
 use std::io::Write;
 
 /// What a command that makes a picture comes to.
@@ -18,8 +17,8 @@ pub enum Drawn {
 
 impl Drawn {
     ghost use Rattle.std.specs.Prelude.{◌≡◌, IfOk, IfErr};
+    ghost use Rattle.pages.specs.Outcomes.{IsWriting};
     ghost use Rattle.engines.specs.Drawn.{WritesDrawn, WritesPart, drawn_status};
-    ghost use Rattle.engines.specs.Engines.{IsWriting};
 
     /// Writes the picture to `picture`, or the page to `out`, and gives the exit status: 0, or that of the
     /// page, or 3 where there is no such loop, of which nothing is written.

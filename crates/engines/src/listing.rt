@@ -3,19 +3,19 @@
 ghost use Rattle.std.specs.Prelude.{◌≡◌, ◌∷◌, ◌++◌, [], IfOk, OnOk, false, map, true};
 ghost use Rattle.ast.specs.View.{letters};
 ghost use Rattle.dependence.specs.PlanView.{plan_block};
+ghost use Rattle.pages.specs.Shown.{Extends};
 ghost use Rattle.engines.specs.Advanced.{spots as spots_in};
 ghost use Rattle.engines.specs.Listing as spec;
 ghost use Rattle.engines.specs.Listing.{InByteOrder, Lines, LinesWhy, Listing, ListingOf};
-ghost use Rattle.engines.specs.Shown.{Extends};
 ghost use Rattle.engines.specs.declared.spots.Spot.TheVariants.{Behind};
 
-use crate::shown::append_line;
 use crate::spots::{Spot, add_spots};
 use ast::{Line, Name};
 use codegen::LoopReport;
 use dependence::{LoopPlan, PlanStmt};
 use explanations::append_number;
 use loop_tree::LoopTree;
+use pages::append_line;
 use reasons::why;
 use std::alloc::{AllocError, Global};
 

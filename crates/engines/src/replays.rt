@@ -6,20 +6,17 @@ ghost use Rattle.codegen.specs.Headline.{Headline};
 ghost use Rattle.machine.specs.CodeView.{code_of};
 ghost use Rattle.profile_check.specs.Reads.{Reads};
 ghost use Rattle.replay.specs.Schedules.{SchedText};
-ghost use Rattle.engines.specs.Engines.{outcome_of};
+ghost use Rattle.pages.specs.Outcomes.{outcome_of};
+ghost use Rattle.pages.specs.Shown.{EndShown, Extends, no_schedule};
+ghost use Rattle.pages.specs.declared.outcomes.Outcome.TheVariants as outcomes;
 ghost use Rattle.engines.specs.Schedules.{Replaying, ShowsReplay, Upgrades, Upgrading};
-ghost use Rattle.engines.specs.Shown.{EndShown, Extends, no_schedule};
-ghost use Rattle.engines.specs.declared.outcome.Outcome.TheVariants as outcomes;
 
-use crate::fault::EngineFault;
-use crate::outcome::Outcome;
-use crate::page::{Page, append_end, outcome, refused};
-use crate::shown::append_no_schedule;
 use crate::verdict::{Verdict, judged};
 use ast::{Answer, Program};
 use codegen::{CompileRefusal, compile};
 use handing::write_all;
 use machine::Code;
+use pages::{EngineFault, Outcome, Page, append_end, append_no_schedule, outcome, refused};
 use replay::{ReplayRefusal, Schedule, replay, upgrade};
 use std::alloc::{AllocError, Global};
 use std::io::Write;
@@ -35,7 +32,7 @@ pub enum Upgraded {
 
 impl Upgraded {
     ghost use Rattle.std.specs.Prelude.{◌≡◌, IfOk, IfErr};
-    ghost use Rattle.engines.specs.Engines.{IsWriting};
+    ghost use Rattle.pages.specs.Outcomes.{IsWriting};
     ghost use Rattle.engines.specs.Schedules.{WritesPart, WritesUpgraded, upgrade_status};
 
     /// Writes the schedule's text to `upgraded`, or the page to `out`, and gives the exit status.

@@ -4,18 +4,16 @@ ghost use Rattle.std.specs.Prelude.{◌≡◌, IfOk, List, false, length, map, �
 ghost use Rattle.ast.specs.ProgramView.{program as program_of};
 ghost use Rattle.ast.specs.View.{cells, symbol as symbol_of};
 ghost use Rattle.profile_check.specs.Reads.{Reads};
-ghost use Rattle.engines.specs.Engines.{FollowsRecords, Streaming, Works, engine_fault, outcome_of, wants_run};
-ghost use Rattle.engines.specs.Shown.{EndShown, refused};
-ghost use Rattle.engines.specs.View.{rows_from};
+ghost use Rattle.pages.specs.Outcomes.{outcome_of};
+ghost use Rattle.pages.specs.Shown.{EndShown, refused};
+ghost use Rattle.pages.specs.View.{rows_from};
+ghost use Rattle.engines.specs.Engines.{FollowsRecords, Streaming, Works, engine_fault, wants_run};
 
-use crate::fault::EngineFault;
 use crate::note::Note;
-use crate::outcome::Outcome;
-use crate::page::{Page, append_end, outcome, refused};
-use crate::rows::rows;
 use crate::verdict::{Verdict, judged};
 use ast::{End, Fault, Line, Program, Store};
 use interpreter::{RunEnd, RunFault, run_onto};
+use pages::{EngineFault, Outcome, Page, append_end, outcome, refused, rows};
 use remarks::Beyond;
 use std::alloc::{AllocError, Global};
 use std::io::Write;

@@ -7,12 +7,11 @@ ghost use Rattle.engines.specs.Listing.{LinesWhy, Listing, ListingOf};
 ghost use Rattle.engines.specs.Lists.{IsSurvey, TellsLoops, TellsWhy};
 
 use crate::listing::{listing, listing_why};
-use crate::outcome::Outcome;
-use crate::page::{Page, refused};
 use crate::verdict::{Verdict, judged};
 use ast::{Line, Program};
 use codegen::{CompileRefusal, LoopReport, compile};
 use loop_tree::loops;
+use pages::{Outcome, Page, refused};
 use std::alloc::{AllocError, Global};
 
 /// What is said of a source's loops.

@@ -2,9 +2,9 @@
 use Rattle.std.specs.Prelude.{◌≡◌, ◌++◌, ◌⊎◌, ℕ, Bool, List, [], ◌∷◌, Option, Some, None, Result, Ok, Err, Vec, option_map}
 use Rattle.std.specs.Global.{Global}
 use Rattle.std.specs.declared.io.Error.{Error}
-use Rattle.engines.specs.declared.fault.ReadFault.{ReadFault}
-use Rattle.engines.specs.declared.fault.ReadFault.TheVariants as reading
-use Rattle.engines.specs.declared.texts.Texts.{Texts}
+use Rattle.pages.specs.declared.fault.ReadFault.{ReadFault}
+use Rattle.pages.specs.declared.fault.ReadFault.TheVariants as reading
+use Rattle.pages.specs.declared.texts.Texts.{Texts}
 use Rattle.files.specs.declared.fault.FileFault.{FileFault}
 use Rattle.files.specs.declared.fault.FileFault.TheVariants.{Opening, Reading, Memory}
 use Rattle.files.specs.declared.files.Unread.{Unread}

@@ -1,6 +1,6 @@
 //! Why the bytes of a file couldn't be had.
 
-use engines::ReadFault;
+use pages::ReadFault;
 use std::io;
 use thiserror::Error;
 

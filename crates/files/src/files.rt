@@ -4,7 +4,7 @@ ghost use Rattle.std.specs.Prelude.{◌≡◌, List, Option, None, map};
 ghost use Rattle.files.specs.Deeds.{Compares, Deed, HasRead, Reads, Replaces, got, noted, unread, unput};
 
 use crate::fault::FileFault;
-use engines::Texts;
+use pages::Texts;
 use std::io;
 
 /// Files, by their names.

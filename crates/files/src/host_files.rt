@@ -2,12 +2,12 @@
 
 ghost use Rattle.std.specs.Prelude.{◌≡◌, IfOk, OnOk};
 ghost use Rattle.std.specs.Io.KnownBytes.{IsAtEnd};
-ghost use Rattle.engines.specs.Engines.{Gives};
+ghost use Rattle.pages.specs.Reading.{Gives};
 ghost use Rattle.files.specs.Deeds.{of_reads};
 
 use crate::fault::FileFault;
 use crate::files::NamedFiles;
-use engines::{ReadFault, read_all};
+use pages::{ReadFault, read_all};
 use std::alloc::Global;
 use std::fs::{OpenFile, OpenOptions};
 use std::io::{Read, Write};

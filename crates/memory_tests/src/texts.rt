@@ -1,7 +1,8 @@
 //! The engines, over texts.
 
 use crate::rows::{AGAIN, OTHERWISE, Row, rows};
-use engines::{EngineFault, Wants, check, list, replay, seq, upgrade};
+use engines::{Wants, check, list, replay, seq, upgrade};
+use pages::EngineFault;
 use std::alloc::{AllocError, Global};
 use std::process::Abort;
 use std::sync::Wait;

@@ -3,7 +3,8 @@
 use crate::message::Message;
 use ast::Line;
 use bstr::ByteSlice;
-use engines::{Outcome, Verdict, judged};
+use engines::{Verdict, judged};
+use pages::Outcome;
 use remarks::{LABEL_COLUMNS, Squeezed, has_outer, is_blank, is_comment, is_continuation};
 use std::alloc::{AllocError, Global};
 

@@ -2,9 +2,10 @@
 
 use ast::Line;
 use bstr::ByteSlice;
-use engines::{Note, Outcome};
+use engines::Note;
 use explanations::explain::{Explanation, Origin, fault, refusal};
 use explanations::fault_number;
+use pages::Outcome;
 use remarks::{
     Caret, Cause, Place, Squeezed, Visible, break_place, cause_of, hint, hint_of_schedule,
 };

@@ -2,7 +2,7 @@
 
 use ast::{Fault, Line};
 use bstr::ByteSlice;
-use engines::{EngineFault, Outcome};
+use pages::{EngineFault, Outcome};
 use remarks::{Place, Visible};
 use std::fmt::{Display, Formatter, Result as FmtResult, Write};
 

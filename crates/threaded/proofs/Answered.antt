@@ -20,12 +20,13 @@ use Rattle.processors.specs.declared.report.RunRefusal.TheVariants as runs
 use Rattle.replay.proofs.Running.{is_run}
 use Rattle.replay.specs.Replayed.{IsAnswer, stored}
 use Rattle.replay.specs.Schedules.{SchedText, Schedule}
-use Rattle.engines.specs.Engines.{ShowsRun, outcome_of}
-use Rattle.engines.specs.Shown.{EndShown, Extends, Row, row_of}
-use Rattle.engines.specs.View.{rows_from}
+use Rattle.pages.specs.Outcomes.{outcome_of}
+use Rattle.pages.specs.Shown.{EndShown, Extends, Row, row_of}
+use Rattle.pages.specs.View.{rows_from}
+use Rattle.pages.specs.declared.outcomes.Outcome.{Outcome}
+use Rattle.pages.proofs.StoreRows.{rows_whole}
+use Rattle.engines.specs.Engines.{ShowsRun}
 use Rattle.engines.specs.declared.given.Wants.{Wants}
-use Rattle.engines.specs.declared.outcome.Outcome.{Outcome}
-use Rattle.engines.proofs.StoreRows.{rows_whole}
 use Rattle.threaded.specs.Running.{ComesOf, IsScheduleOf, Shows, WhereWanted}
 use Rattle.threaded.specs.declared.ran.Ran.{Ran}
 use Rattle.threaded.specs.declared.ran.Ran.TheVariants.{Refused, Whole as Came, Memory, OutOfRange, NotStarted, Stuck}

@@ -12,15 +12,17 @@ use Rattle.machine.specs.Code.{Code}
 use Rattle.machine.specs.State.{AreSizes, Ended}
 use Rattle.replay.specs.Replays.{Point, Replays}
 use Rattle.replay.specs.Schedules.{SchedText, Schedule}
-use Rattle.engines.specs.Engines.{AppendsPart, ShowsRun, outcome_of, status_of}
+use Rattle.handing.specs.Handing.{AppendsPart}
+use Rattle.pages.specs.Outcomes.{outcome_of, status_of}
+use Rattle.pages.specs.Shown.{EndShown, Extends, refused}
+use Rattle.pages.specs.View.{rows_from}
+use Rattle.pages.specs.declared.fault.EngineFault.{EngineFault}
+use Rattle.pages.specs.declared.fault.EngineFault.TheVariants as faults
+use Rattle.pages.specs.declared.outcomes.Outcome.{Outcome}
+use Rattle.pages.specs.declared.outcomes.Outcome.TheVariants as outcomes
+use Rattle.engines.specs.Engines.{ShowsRun}
 use Rattle.engines.specs.Schedules.{IsNoCode, WithCode}
-use Rattle.engines.specs.Shown.{EndShown, Extends, refused}
-use Rattle.engines.specs.View.{rows_from}
-use Rattle.engines.specs.declared.fault.EngineFault.{EngineFault}
-use Rattle.engines.specs.declared.fault.EngineFault.TheVariants as faults
 use Rattle.engines.specs.declared.given.Wants.{Wants}
-use Rattle.engines.specs.declared.outcome.Outcome.{Outcome}
-use Rattle.engines.specs.declared.outcome.Outcome.TheVariants as outcomes
 use Rattle.threaded.specs.declared.ran.Ran.{Ran}
 use Rattle.threaded.specs.declared.ran.Ran.TheVariants.{Refused, Whole as Came, Memory, OutOfRange, NotStarted, Stuck}
 use Rattle.threaded.specs.declared.ran.Whole.{Whole}

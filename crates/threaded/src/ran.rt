@@ -1,13 +1,13 @@
 //! What came of a run, and how it is written.
 
 ghost use Rattle.std.specs.Prelude.{Err, IfErr, OnOk};
-ghost use Rattle.engines.specs.Engines.{IsWriting};
-ghost use Rattle.engines.specs.declared.fault.EngineFault.TheVariants as faults;
+ghost use Rattle.pages.specs.Outcomes.{IsWriting};
+ghost use Rattle.pages.specs.declared.fault.EngineFault.TheVariants as faults;
 ghost use Rattle.threaded.specs.Running.{Grows, GrowsPart, WritesText, text_of};
 
 use crate::figures::Figures;
-use engines::{EngineFault, Outcome, Page};
 use handing::write_all;
+use pages::{EngineFault, Outcome, Page};
 use std::io::Write;
 
 /// A run that came to its end.

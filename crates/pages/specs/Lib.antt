@@ -1,0 +1,4 @@
+pub mod Outcomes
+pub mod Reading
+pub mod Shown
+pub mod View

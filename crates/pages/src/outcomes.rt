@@ -1,0 +1,38 @@
+//! How an engine's work on a source ended.
+
+ghost use Rattle.std.specs.Prelude.{◌≡◌};
+ghost use Rattle.pages.specs.Outcomes.{status_of};
+
+use ast::{Fault, Line};
+
+/// How an engine's work on a source ended. Lines are counted from 1; a refusal for what an empty
+/// file lacks has line 0.
+#[derive(Clone, Copy)]
+pub enum Outcome {
+    /// The source was accepted, and its run, if it was wanted, came to END or to a STOP.
+    Completed,
+    /// The source was refused by this number, at this line.
+    Refused { number: u8, line: Line },
+    /// The run faulted at this line.
+    Faulted { fault: Fault, line: Line },
+    /// The schedule was refused by this number, at this line of its own text.
+    NoSchedule { number: u8, line: usize },
+}
+
+impl Outcome {
+    ghost use Rattle.std.specs.Prelude.{◌≡◌};
+    ghost use Rattle.pages.specs.Outcomes.{status_of};
+
+    /// The exit status: 0, 1 for a source that was refused, 2 for a fault, 6 for a
+    /// schedule that was refused.
+    pub fn status(self) -> u8
+        ensures { result ≡ status_of self }
+    {
+        match self {
+            Outcome::Completed => 0,
+            Outcome::Refused { .. } => 1,
+            Outcome::Faulted { .. } => 2,
+            Outcome::NoSchedule { .. } => 6,
+        }
+    }
+}

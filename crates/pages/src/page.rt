@@ -1,0 +1,94 @@
+//! What is written of a refusal and of the end of a run.
+
+ghost use Rattle.std.specs.Prelude.{◌≡◌, IfOk, OnOk, map};
+ghost use Rattle.pages.specs.Outcomes.{outcome_of};
+ghost use Rattle.pages.specs.Shown.{EndShown, Extends, refused};
+ghost use Rattle.pages.specs.View.{row_view};
+
+use crate::fault::EngineFault;
+use crate::outcomes::Outcome;
+use crate::row::Row;
+use crate::shown::{append_fault, append_refused, append_stopped};
+use crate::store::append_store;
+use ast::{End, Line};
+use handing::write_all;
+use std::alloc::{AllocError, Global};
+use std::io::Write;
+
+/// The text that an engine writes, and its outcome.
+#[derive(Drop)]
+pub struct Page {
+    pub text: Vec<u8>,
+    pub outcome: Outcome,
+}
+
+/// The page of a source that is refused.
+pub fn refused(alloc: Global, number: u8, line: Line) -> Result<Page, AllocError>
+    ensures { IfOk result (λ page. (page.outcome ≡ Outcome.Refused number line)
+        × (page.text.items ≡ refused number line)) }
+{
+    let mut text = Vec::new(alloc);
+    append_refused(&mut text, number, line)?;
+    Ok(Page {
+        text,
+        outcome: Outcome::Refused { number, line },
+    })
+}
+
+/// The outcome of a run that ended so.
+pub fn outcome(end: End) -> Outcome
+    ensures { result ≡ outcome_of end }
+{
+    match end {
+        End::Done => Outcome::Completed,
+        End::Stopped(_) => Outcome::Completed,
+        End::Fault(fault, line) => Outcome::Faulted { fault, line },
+    }
+}
+
+/// Appends what follows the records of a run that ended so: at a fault or a STOP its line, and without
+/// either, where it is wanted, the store.
+pub fn append_end(
+    text: &mut Vec<u8>,
+    end: End,
+    rows: &mut [Row<'_>],
+    store: bool,
+) -> Result<(), AllocError>
+    ensures { OnOk result (Extends (EndShown store (map row_view rows.old) end) text.old.items text.new.items) }
+{
+    match end {
+        End::Fault(fault, line) => append_fault(text, fault, line),
+        End::Stopped(line) => append_stopped(text, line),
+        End::Done => append_wanted(text, rows, store),
+    }
+}
+
+fn append_wanted(text: &mut Vec<u8>, rows: &mut [Row<'_>], store: bool) -> Result<(), AllocError>
+    ensures { OnOk result (Extends (EndShown store (map row_view rows.old) End.Done) text.old.items text.new.items) }
+{
+    if store {
+        append_store(text, rows)
+    } else {
+        Ok(())
+    }
+}
+
+impl Page {
+    ghost use Rattle.std.specs.Prelude.{◌≡◌, IfOk, IfErr};
+    ghost use Rattle.std.specs.Io.KnownBytes.{Appends};
+    ghost use Rattle.handing.specs.Handing.{AppendsPart};
+    ghost use Rattle.pages.specs.Outcomes.{IsWriting};
+
+    /// Writes the text.
+    pub fn write<W: Write>(&self, writer: &mut W) -> Result<Outcome, EngineFault>
+        ensures ok { IfOk result (λ outcome. (outcome ≡ self.now.outcome)
+            × Appends (W.contents writer.old) (W.contents writer.new) self.now.text.items) }
+        ensures err { IfErr result (λ fault. IsWriting fault
+            × AppendsPart (W.contents writer.old) (W.contents writer.new) self.now.text.items) }
+    {
+        match write_all(writer, &self.text) {
+            Ok(()) => Ok(self.outcome),
+            Err(error) => Err(EngineFault::Writing(error)),
+        }
+    }
+}
