@@ -241,13 +241,20 @@ fn append_bounds(out: &mut Vec<u8>, lower: i64, upper: i128) -> Result<(), Alloc
     append_number(out, upper)
 }
 
+/// Appends how many elements lie between two neighbours by a subscript.
+fn append_stride(out: &mut Vec<u8>, stride: u32) -> Result<(), AllocError>
+    ensures { OnOk result (out.new.items ≡ out.old.items ++ codes " BY " ++ decimal stride) }
+{
+    out.extend_from_slice(b" BY ")?;
+    append_number(out, stride)
+}
+
 /// Appends the bounds of a subscript, and how many elements lie between two neighbours by it.
 fn append_axis(out: &mut Vec<u8>, axis: Axis) -> Result<(), AllocError>
     ensures { OnOk result (out.new.items ≡ out.old.items ++ spec.axis_words axis) }
 {
     append_bounds(out, axis.lower, upper_bound(axis))?;
-    out.extend_from_slice(b" BY ")?;
-    append_number(out, axis.stride)
+    append_stride(out, axis.stride)
 }
 
 /// Appends the place behind a skip of so many instructions.
