@@ -11,7 +11,7 @@ use Rattle.codegen.specs.Headline.{Headline}
 use Rattle.machine.specs.Code.{Code}
 use Rattle.replay.proofs.Running.{is_run}
 use Rattle.replay.specs.Replayed.{IsReplay}
-use Rattle.replay.specs.Schedules.{SchedText, Schedule}
+use Rattle.schedules.specs.Schedules.{SchedText, Schedule}
 use Rattle.engines.specs.Engines.{outcome_of}
 use Rattle.engines.specs.Schedules.{IsReplayed, ShowsReplay}
 use Rattle.engines.specs.Shown.{EndShown, Extends, Row, row_of}

@@ -6,10 +6,10 @@ use Rattle.ast.specs.Program.{ProgramTree}
 use Rattle.codegen.specs.Program.{HasLongCode, IsCompiled}
 use Rattle.machine.specs.Code.{Code}
 use Rattle.profile_check.specs.Reads.{Reads}
-use Rattle.replay.specs.Refusals.{Refuses}
 use Rattle.replay.specs.Replayed.{GivesNone, HasStop, IsUpgrade}
 use Rattle.replay.specs.Replays.{Point, Replays}
-use Rattle.replay.specs.Schedules.{SchedText, Schedule}
+use Rattle.schedules.specs.Refusals.{Refuses}
+use Rattle.schedules.specs.Schedules.{SchedText, Schedule}
 use Rattle.engines.specs.Engines.{AppendsPart, IsRefused, ShowsRun, status_of}
 use Rattle.engines.specs.Shown.{no_schedule, refused}
 use Rattle.engines.specs.declared.fault.EngineFault.{EngineFault}

@@ -5,7 +5,7 @@ use Rattle.ast.specs.Program.{ProgramTree}
 use Rattle.machine.specs.Code.{Code}
 use Rattle.replay.specs.Replayed.{GivesNone}
 use Rattle.replay.specs.Replays.{Point, Replays}
-use Rattle.replay.specs.Schedules.{SchedText, Schedule}
+use Rattle.schedules.specs.Schedules.{SchedText, Schedule}
 use Rattle.engines.specs.Schedules.{IsNoCode, IsNoSchedule, WithCode}
 use Rattle.engines.specs.declared.drawn.Drawn.{Drawn}
 use Rattle.engines.specs.declared.drawn.Drawn.TheVariants.{Picture, Shown, NoLoop}

@@ -5,7 +5,7 @@ ghost use Rattle.ast.specs.ProgramView.{program as program_of};
 ghost use Rattle.codegen.specs.Headline.{Headline};
 ghost use Rattle.machine.specs.CodeView.{code_of};
 ghost use Rattle.profile_check.specs.Reads.{Reads};
-ghost use Rattle.replay.specs.Schedules.{SchedText};
+ghost use Rattle.schedules.specs.Schedules.{SchedText};
 ghost use Rattle.engines.specs.Engines.{outcome_of};
 ghost use Rattle.engines.specs.Schedules.{Replaying, ShowsReplay, Upgrades, Upgrading};
 ghost use Rattle.engines.specs.Shown.{EndShown, Extends, no_schedule};
@@ -20,7 +20,8 @@ use ast::{Answer, Program};
 use codegen::{CompileRefusal, compile};
 use handing::write_all;
 use machine::Code;
-use replay::{ReplayRefusal, Schedule, replay, upgrade};
+use replay::{replay, upgrade};
+use schedules::{ReplayRefusal, Schedule};
 use std::alloc::{AllocError, Global};
 use std::io::Write;
 

@@ -19,7 +19,7 @@ use Rattle.processors.specs.Refused.{IsRefused}
 use Rattle.processors.specs.declared.report.RunRefusal.TheVariants as runs
 use Rattle.replay.proofs.Running.{is_run}
 use Rattle.replay.specs.Replayed.{IsAnswer, stored}
-use Rattle.replay.specs.Schedules.{SchedText, Schedule}
+use Rattle.schedules.specs.Schedules.{SchedText, Schedule}
 use Rattle.engines.specs.Engines.{ShowsRun, outcome_of}
 use Rattle.engines.specs.Shown.{EndShown, Extends, Row, row_of}
 use Rattle.engines.specs.View.{rows_from}
