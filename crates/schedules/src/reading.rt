@@ -1,8 +1,9 @@
 //! Reads the parts of a schedule's text.
 
-ghost use Rattle.std.specs.Prelude.{◌≡◌, ◌≤◌, option_map};
-ghost use Rattle.machine.specs.State.{most_processors};
-ghost use Rattle.schedules.specs.Reading.{act_at, after, bounded, counted_at, entry_at, header_at, line_at, picked_at, size_at, sizes_at};
+ghost use Rattle.std.specs.Prelude.{◌≡◌, ◌≤◌, ℕ, List, Option, Some, codes, option_map};
+ghost use Rattle.machine.specs.State.{most_processors, most_slots};
+ghost use Rattle.schedules.specs.Reading.{act_at, after, bounded, counted_at, entry_at, header_at, if_some, iteration_at, line_at, picked_at, size_at, sizes_at};
+ghost use Rattle.schedules.specs.Schedules.{Act as ActOf};
 ghost use Rattle.schedules.specs.View.{act as act_of, entry as entry_of, read_as};
 
 use crate::entry::{Act, Entry, Version};
@@ -65,13 +66,21 @@ fn size(text: &[u8], most: u16) -> Option<(u16, &[u8])>
     Some((bounded(number?, most)?, rest))
 }
 
+/// The number of slots, which stands behind that of processors and ends the second line, with that of
+/// processors before it, and what stands after that line.
+fn slots_behind(processors: u16, text: &[u8]) -> Option<(u16, u16, &[u8])>
+    ensures { option_map {U = ℕ × ℕ × List ℕ} (λ x. (x.0, x.1, x.2.now)) result ≡ if_some (size_at most_slots text.now) (λ y. if_some (after (codes "\n") y.1) (λ w. Some (processors, y.0, w))) }
+{
+    let (slots, rest) = size(text, MOST_SLOTS)?;
+    Some((processors, slots, after(rest, b"\n")?))
+}
+
 /// The numbers of processors and slots in the second line, and what stands after that line.
 pub fn sizes(text: &[u8]) -> Option<(u16, u16, &[u8])>
     ensures { option_map (λ x. (x.0, x.1, x.2.now)) result ≡ sizes_at text.now }
 {
     let (processors, rest) = size(text, MOST_PROCESSORS)?;
-    let (slots, rest) = size(after(rest, b" ")?, MOST_SLOTS)?;
-    Some((processors, slots, after(rest, b"\n")?))
+    slots_behind(processors, after(rest, b" ")?)
 }
 
 /// So many local instructions, or a shared step, as a text begins with it, and what stands after it.
@@ -85,6 +94,14 @@ fn counted(text: &[u8]) -> Option<(Act, &[u8])>
     }
 }
 
+/// The pick of an iteration that a text begins with, and what stands after it.
+fn iteration(text: &[u8]) -> Option<(Act, &[u8])>
+    ensures { option_map (λ x. (act_of x.0, x.1.now)) result ≡ iteration_at text.now }
+{
+    let (iteration, rest) = number(after(text, b"I ")?)?;
+    Some((Act::PickIteration(iteration?), rest))
+}
+
 /// A pick that a text begins with, and what stands after it.
 fn picked(text: &[u8]) -> Option<(Act, &[u8])>
     ensures { option_map (λ x. (act_of x.0, x.1.now)) result ≡ picked_at text.now }
@@ -95,8 +112,7 @@ fn picked(text: &[u8]) -> Option<(Act, &[u8])>
     if let Some(rest) = after(text, b"T") {
         return Some((Act::TakeTicket, rest));
     }
-    let (iteration, rest) = number(after(text, b"I ")?)?;
-    Some((Act::PickIteration(iteration?), rest))
+    iteration(text)
 }
 
 /// What a processor does, as a text begins with it, and what stands after it.
@@ -111,14 +127,26 @@ fn act(version: Version, text: &[u8]) -> Option<(Act, &[u8])>
     counted(text)
 }
 
+/// What a processor does, which stands behind its number and ends the line of an entry, with that number
+/// before it, and what stands after the line.
+fn act_behind(
+    processor: Option<u128>,
+    version: Version,
+    text: &[u8],
+) -> Option<(Option<u128>, Act, &[u8])>
+    ensures { option_map {U = Option ℕ × ActOf × List ℕ} (λ x. (x.0, act_of x.1, x.2.now)) result ≡ if_some (act_at version text.now) (λ y. if_some (after (codes "\n") y.1) (λ w. Some (processor, y.0, w))) }
+{
+    let (act, rest) = act(version, text)?;
+    Some((processor, act, after(rest, b"\n")?))
+}
+
 /// The line that a text begins with, where it has the form of an entry: the processor's number, what
 /// it does, and what stands after the line.
 fn line(version: Version, text: &[u8]) -> Option<(Option<u128>, Act, &[u8])>
     ensures { option_map (λ x. (x.0, act_of x.1, x.2.now)) result ≡ line_at version text.now }
 {
     let (processor, rest) = number(text)?;
-    let (act, rest) = act(version, after(rest, b" ")?)?;
-    Some((processor, act, after(rest, b"\n")?))
+    act_behind(processor, version, after(rest, b" ")?)
 }
 
 /// The entry that a text begins with, and what stands after its line.
