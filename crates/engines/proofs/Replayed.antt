@@ -11,7 +11,7 @@ use Rattle.codegen.specs.Headline.{Headline}
 use Rattle.machine.specs.Code.{Code}
 use Rattle.replay.proofs.Running.{is_run}
 use Rattle.replay.specs.Replayed.{IsReplay}
-use Rattle.replay.specs.Schedules.{SchedText, Schedule}
+use Rattle.schedules.specs.Schedules.{SchedText, Schedule}
 use Rattle.pages.specs.Outcomes.{outcome_of}
 use Rattle.pages.specs.Shown.{EndShown, Extends, Row, row_of}
 use Rattle.pages.specs.declared.outcomes.Outcome.{Outcome}

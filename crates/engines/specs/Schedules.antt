@@ -6,10 +6,9 @@ use Rattle.ast.specs.Program.{ProgramTree}
 use Rattle.codegen.specs.Program.{HasLongCode, IsCompiled}
 use Rattle.machine.specs.Code.{Code}
 use Rattle.profile_check.specs.Reads.{Reads}
-use Rattle.replay.specs.Refusals.{Refuses}
 use Rattle.replay.specs.Replayed.{GivesNone, HasStop, IsUpgrade}
 use Rattle.replay.specs.Replays.{Point, Replays}
-use Rattle.replay.specs.Schedules.{SchedText, Schedule}
+use Rattle.schedules.specs.Schedules.{SchedText, Schedule}
 use Rattle.handing.specs.Handing.{AppendsPart}
 use Rattle.pages.specs.Outcomes.{status_of}
 use Rattle.pages.specs.Shown.{no_schedule, refused}

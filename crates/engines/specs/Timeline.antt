@@ -5,7 +5,7 @@ use Rattle.ast.specs.Program.{ProgramTree}
 use Rattle.machine.specs.Code.{Code}
 use Rattle.replay.specs.Replayed.{GivesNone}
 use Rattle.replay.specs.Replays.{Point, Replays}
-use Rattle.replay.specs.Schedules.{SchedText, Schedule}
+use Rattle.schedules.specs.Schedules.{SchedText, Schedule}
 use Rattle.pages.specs.declared.outcomes.Outcome.{Outcome}
 use Rattle.pages.specs.declared.outcomes.Outcome.TheVariants.{Refused, NoSchedule}
 use Rattle.engines.specs.Schedules.{IsNoCode, IsNoSchedule, WithCode}

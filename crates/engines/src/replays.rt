@@ -5,7 +5,7 @@ ghost use Rattle.ast.specs.ProgramView.{program as program_of};
 ghost use Rattle.codegen.specs.Headline.{Headline};
 ghost use Rattle.machine.specs.CodeView.{code_of};
 ghost use Rattle.profile_check.specs.Reads.{Reads};
-ghost use Rattle.replay.specs.Schedules.{SchedText};
+ghost use Rattle.schedules.specs.Schedules.{SchedText};
 ghost use Rattle.pages.specs.Outcomes.{outcome_of};
 ghost use Rattle.pages.specs.Shown.{EndShown, Extends, no_schedule};
 ghost use Rattle.pages.specs.declared.outcomes.Outcome.TheVariants as outcomes;
@@ -17,7 +17,8 @@ use codegen::{CompileRefusal, compile};
 use handing::write_all;
 use machine::Code;
 use pages::{EngineFault, Outcome, Page, append_end, append_no_schedule, outcome, refused};
-use replay::{ReplayRefusal, Schedule, replay, upgrade};
+use replay::{replay, upgrade};
+use schedules::{ReplayRefusal, Schedule};
 use std::alloc::{AllocError, Global};
 use std::io::Write;
 

@@ -5,7 +5,7 @@ ghost use Rattle.ast.specs.ProgramView.{program as program_of};
 ghost use Rattle.codegen.specs.Headline.{Headline};
 ghost use Rattle.machine.specs.CodeView.{code_of};
 ghost use Rattle.profile_check.specs.Reads.{Reads};
-ghost use Rattle.replay.specs.Schedules.{SchedText};
+ghost use Rattle.schedules.specs.Schedules.{SchedText};
 ghost use Rattle.pages.specs.Reading.{LeavesThree, OfTexts};
 ghost use Rattle.engines.specs.Drawn.{DrawWorks, WroteDrawn, WroteDrawnPart};
 ghost use Rattle.engines.specs.Schedules.{LeavesBoth};
@@ -22,7 +22,8 @@ use codegen::{CompileRefusal, compile};
 use machine::Code;
 use pages::{EngineFault, append_end, read_three, refused};
 use pictures::{Ending, Gathered, timeline as draw_run};
-use replay::{ReplayRefusal, Schedule, replay};
+use replay::replay;
+use schedules::{ReplayRefusal, Schedule};
 use std::alloc::{AllocError, Global};
 use std::io::{Read, Write};
 

@@ -6,7 +6,8 @@ ghost use Rattle.replay.specs.Activities.{AreActivities};
 use crate::driving::begun;
 use machine::{Code, Next, stands_next};
 use pictures::{Awaited, Came, Gathered, Held, Turn};
-use replay::{Act, Activities, Choice, Entry, Holder, Schedule, Version, upgrade};
+use replay::{Activities, Choice, Holder, upgrade};
+use schedules::{Act, Entry, Schedule, Version};
 use std::alloc::{AllocError, Global};
 
 /// What stands next in an iteration.

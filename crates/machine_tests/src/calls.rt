@@ -3,9 +3,8 @@
 
 use ast::Answer;
 use machine::{Code, Done, Frame, stands_local};
-use replay::{
-    Choice, Core, CoreRefusal, HandIn, ReplayRefusal, Schedule, Stepped, replay, upgrade,
-};
+use replay::{Choice, Core, CoreRefusal, HandIn, Stepped, replay, upgrade};
+use schedules::{ReplayRefusal, Schedule};
 use std::alloc::{AllocError, Global};
 
 pub fn core_of<'c>(

@@ -5,7 +5,8 @@ use crate::calls::{
 };
 use crate::endless::assembled;
 use machine::{Act as Does, Code, Done};
-use replay::{Core, CoreRefusal, HandIn, ReplayRefusal, Schedule, Stepped};
+use replay::{Core, CoreRefusal, HandIn, Stepped};
+use schedules::{ReplayRefusal, Schedule};
 use std::alloc::{AllocError, Global};
 use std::process::Abort;
 use std::test::Fail;

@@ -6,7 +6,7 @@ use crate::worked::{TWO_APART, Worked, programs, same_answers, worked_out};
 use ast::Answer;
 use machine::Code;
 use processors::{NoGate, Report, RunRefusal, run};
-use replay::ReplayRefusal;
+use schedules::ReplayRefusal;
 use std::alloc::Global;
 use std::process::Abort;
 use std::sync::Wait;

@@ -6,8 +6,8 @@ use Rattle.ast.specs.declared.answer.Answer.{Answer}
 use Rattle.replay.specs.CoreView.{CoreView, point_at}
 use Rattle.replay.specs.Replayed.{IsAnswer}
 use Rattle.replay.specs.Replays.{Point, Replays, beginning}
-use Rattle.replay.specs.Schedules.{IsSchedule, Schedule}
-use Rattle.replay.specs.declared.entry.Version.TheVariants.{Second}
+use Rattle.schedules.specs.Schedules.{IsSchedule, Schedule}
+use Rattle.schedules.specs.declared.entry.Version.TheVariants.{Second}
 use Rattle.processors.specs.Calls.{IsCoreOf, IsOutputOf, IsRunOf, IsStateOf}
 
 -- nothing has gone out where nothing has been done

@@ -6,7 +6,7 @@ use Rattle.machine.specs.State.{AreSizes, Machine}
 use Rattle.replay.specs.CoreView.{CoreView}
 use Rattle.replay.specs.Replayed.{IsReplay}
 use Rattle.replay.specs.Replays.{Point, Replays}
-use Rattle.replay.specs.Schedules.{IsSchedule, Schedule}
+use Rattle.schedules.specs.Schedules.{IsSchedule, Schedule}
 
 -- a core with this code and input, and so many processors and slots
 pub record IsCoreOf (code : Code) (input : List ℕ) (p s : ℕ) (x : CoreView) : Type 0 where

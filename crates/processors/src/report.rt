@@ -1,7 +1,8 @@
 //! What runs come to.
 
 use ast::Answer;
-use replay::{Schedule, Tally};
+use replay::Tally;
+use schedules::Schedule;
 
 /// What one processor of a run did.
 #[derive(Clone, Copy, Default, PartialEq, Eq)]

@@ -4,7 +4,8 @@ ghost use Rattle.std.specs.Prelude.{◌≡◌};
 ghost use Rattle.machine.specs.CodeView.{code_of};
 
 use machine::{Code, Work};
-use replay::{Act, Choice, Core, CoreRefusal, Entry, HandIn, Stepped};
+use replay::{Choice, Core, CoreRefusal, HandIn, Stepped};
+use schedules::{Act, Entry};
 use std::alloc::{AllocError, Global};
 
 /// A core at the beginning of a run of so many processors with so many open iterations; `None` where no

@@ -6,7 +6,8 @@ use codegen::compile;
 use machine::{Code, Done, Frame, Next, stands_local, stands_next};
 use profile_check::program;
 use remarks::Visible;
-use replay::{Act, Choice, Core, Entry, Schedule};
+use replay::{Choice, Core};
+use schedules::{Act, Entry, Schedule};
 use std::alloc::{AllocError, Global};
 use std::fmt::{Display, Formatter, Result as FmtResult, Write};
 

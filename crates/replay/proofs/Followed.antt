@@ -3,17 +3,17 @@ use Rattle.std.proofs.Common.{inl, inr, ◌≡◌, ◌∙◌, ℕ, zero, suc, �
 use Rattle.std.proofs.lemmas.List.{length-append}
 use Rattle.ast.specs.declared.fault.End.{End}
 use Rattle.machine.specs.Code.{Code}
+use Rattle.schedules.specs.Refusals.{Explains}
+use Rattle.schedules.specs.Schedules.{Act, works, shares, picks_main, picks, takes_ticket, AreEntries, Entry, IsAct, Schedule, with_entry}
+use Rattle.schedules.specs.declared.entry.Version.{Version}
+use Rattle.schedules.specs.declared.entry.Version.TheVariants.{First, Second}
+use Rattle.schedules.specs.declared.refusal.ReplayRefusal.{ReplayRefusal}
+use Rattle.schedules.specs.declared.refusal.ReplayRefusal.TheVariants.{Memory, Refused}
 use Rattle.replay.specs.Activities.{AreActivities, Stays, code_in, point_in}
 use Rattle.replay.specs.Making.{AreNamed, IsNamed, LeadsOnly, MadeAs}
-use Rattle.replay.specs.Refusals.{Explains}
 use Rattle.replay.specs.Replayed.{CannotBeMade, NamesPicks, NoneLeads, StopsAt}
 use Rattle.replay.specs.Replays.{Point, Works, Does, Leads}
-use Rattle.replay.specs.Schedules.{Act, works, shares, picks_main, picks, takes_ticket, AreEntries, Entry, IsAct, Schedule, with_entry}
 use Rattle.replay.specs.declared.activities.Activities.{Activities}
-use Rattle.replay.specs.declared.entry.Version.{Version}
-use Rattle.replay.specs.declared.entry.Version.TheVariants.{First, Second}
-use Rattle.replay.specs.declared.refusal.ReplayRefusal.{ReplayRefusal}
-use Rattle.replay.specs.declared.refusal.ReplayRefusal.TheVariants.{Memory, Refused}
 
 -- the entries before this line were made, and the rest is left
 pub record Follows (v : Version) (code : Code) (s : ℕ) (start : Point) (all rest : List Entry) (line : ℕ) (a : Point) : Type 0 where

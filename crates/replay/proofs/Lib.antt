@@ -1,9 +1,3 @@
-pub mod Keeping
-pub mod Lists
-pub mod Numbers
-pub mod Parsing
-pub mod Texts
-pub mod Wholes
 pub mod Running
 pub mod Maps
 pub mod Queues
@@ -15,7 +9,6 @@ pub mod Entering
 pub mod Remaining
 pub mod Going
 pub mod Determined
-pub mod Taking
 pub mod Alone
 pub mod Followed
 pub mod Cells

@@ -9,21 +9,21 @@ use Rattle.machine.specs.Code.{Code}
 use Rattle.machine.specs.Frame.{Frame}
 use Rattle.machine.specs.Local.{locals}
 use Rattle.machine.specs.State.{Wait, until_count, until_retired, Who, Choice, take_main, take_iteration, take_ticket}
+use Rattle.schedules.specs.Schedules.{Entry, Schedule, with_entry}
+use Rattle.schedules.specs.declared.entry.Version.{Version}
+use Rattle.schedules.specs.declared.entry.Version.TheVariants.{Second}
 use Rattle.replay.specs.Activities.{Stays, code_in, frame_at, frame_held, kept_in, point_in, who}
 use Rattle.replay.specs.Core.{IsCore}
 use Rattle.replay.specs.CoreView.{CoreView, point_at}
 use Rattle.replay.specs.Parts.{Kept, Standing, held_of, point_of, standing, wait_in}
 use Rattle.replay.specs.Picking.{is_due, main_up, iteration_up}
 use Rattle.replay.specs.Replays.{Point, ByRule, Moves, Picks, Works, Does, Replays, beginning}
-use Rattle.replay.specs.Schedules.{Entry, Schedule, with_entry}
 use Rattle.replay.specs.Stepping.{HasEnded, IsFrom, IsStuck, PicksUp, Steps}
 use Rattle.replay.specs.Tallies.{Again, Tallies, steps}
 use Rattle.replay.specs.Waiting.{Stands}
 use Rattle.replay.specs.Whole.{AreParts, Counted, IsSame, IsWhole, seen_as}
 use Rattle.replay.specs.declared.activities.Activities.{Activities}
 use Rattle.replay.specs.declared.activities.Holder.{Holder}
-use Rattle.replay.specs.declared.entry.Version.{Version}
-use Rattle.replay.specs.declared.entry.Version.TheVariants.{Second}
 use Rattle.replay.specs.declared.stepped.Stepped.{Stepped}
 use Rattle.replay.specs.declared.stepped.Stepped.TheVariants.{Went, Idle, Ended}
 use Rattle.replay.specs.declared.stepped.Tally.{Tally}

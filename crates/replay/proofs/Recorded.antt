@@ -6,12 +6,12 @@ use Rattle.std.proofs.lemmas.List.{length-map}
 use Rattle.machine.specs.Frame.{Frame}
 use Rattle.machine.specs.Local.{locals}
 use Rattle.machine.specs.State.{Wait, Who, Choice, take_main, take_iteration, take_ticket}
+use Rattle.schedules.specs.Schedules.{works, shares, Schedule, with_entry}
 use Rattle.replay.specs.Activities.{AreActivities, code_in, frame_at, kept_in, point_in, who}
 use Rattle.replay.specs.Making.{pick_of}
 use Rattle.replay.specs.Parts.{held_of, numbered, wait_in}
 use Rattle.replay.specs.PartsView.{standing_of, wait}
 use Rattle.replay.specs.Replays.{Point, Moves, Picks, Works, wait_of}
-use Rattle.replay.specs.Schedules.{works, shares, Schedule, with_entry}
 use Rattle.replay.specs.Tallies.{steps, takes_parked}
 use Rattle.replay.specs.Whole.{AreParts, IsMore, IsSame}
 use Rattle.replay.specs.declared.activities.Activities.{Activities}

@@ -7,10 +7,10 @@ use Rattle.machine.specs.Frame.{Frame}
 use Rattle.machine.specs.State.{Active, Machine, CodeRun, CodeStep, Init, Wait, Who, the_main, iteration, Choice, take_main, take_iteration, take_ticket, Takes, Turn, Move, MainMove, put_at}
 use Rattle.machine.specs.View.{View, doing, loading, storing, printing, reading, awaiting, advancing, opening, joining, leaving, breaking, halting, stuck, view, trips_of, begin}
 use Rattle.machine.specs.declared.code.Open.{Open}
+use Rattle.schedules.specs.Schedules.{Act, works, shares, picks_main, picks, takes_ticket, Entry, AreEntries, IsAct}
+use Rattle.schedules.specs.declared.entry.Version.{Version}
+use Rattle.schedules.specs.declared.entry.Version.TheVariants.{First, Second}
 use Rattle.replay.specs.Replays.{Point, slot, frame_of, wait_of, view_in, local_in, moved, taken, Picks, Works, Does, Leads, beginning, EveryRun, IsRun}
-use Rattle.replay.specs.Schedules.{Act, works, shares, picks_main, picks, takes_ticket, Entry, AreEntries, IsAct}
-use Rattle.replay.specs.declared.entry.Version.{Version}
-use Rattle.replay.specs.declared.entry.Version.TheVariants.{First, Second}
 
 -- ---- the numbers of iterations are below how many steps were made
 

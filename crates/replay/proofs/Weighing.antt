@@ -8,12 +8,12 @@ use Rattle.machine.specs.State.{Active, Machine, CodeStep, Who, the_main, iterat
 use Rattle.machine.specs.View.{View, view, trips_of, begin}
 use Rattle.machine.specs.declared.code.Open.{Open}
 use Rattle.machine.proofs.Views.{local_is_doing}
+use Rattle.schedules.specs.Schedules.{Act, works, shares, picks_main, picks, takes_ticket, AreEntries, Entry}
+use Rattle.schedules.specs.declared.entry.Version.{Version}
+use Rattle.schedules.specs.declared.entry.Version.TheVariants.{First, Second}
 use Rattle.replay.specs.Activities.{frame_at, frame_held}
 use Rattle.replay.specs.Replays.{Point, Picks, Works, Does, beginning, frame_in, frame_of}
-use Rattle.replay.specs.Schedules.{Act, works, shares, picks_main, picks, takes_ticket, AreEntries, Entry}
 use Rattle.replay.specs.Tallies.{Again, AreCounts, Tallies, Weighed, steps}
-use Rattle.replay.specs.declared.entry.Version.{Version}
-use Rattle.replay.specs.declared.entry.Version.TheVariants.{First, Second}
 use Rattle.replay.proofs.Parking.{local_still, put_here, works_still}
 use Rattle.replay.proofs.Running.{picked_step}
 

@@ -1,11 +1,11 @@
 -- A core as its callers see it.
 use Rattle.std.specs.Prelude.{◌≡◌, ℕ, List, [], ◌∷◌}
 use Rattle.machine.specs.Code.{Code}
+use Rattle.schedules.specs.Schedules.{Entry, Schedule, with_entries}
+use Rattle.schedules.specs.declared.entry.Version.TheVariants.{Second}
 use Rattle.replay.specs.Parts.{Kept, point_of}
 use Rattle.replay.specs.Replays.{Point, beginning}
-use Rattle.replay.specs.Schedules.{Entry, Schedule, with_entries}
 use Rattle.machine.specs.State.{AreSizes}
-use Rattle.replay.specs.declared.entry.Version.TheVariants.{Second}
 
 -- its code and input, the schedule of what it did, and what it keeps
 pub record CoreView : Type 0 where

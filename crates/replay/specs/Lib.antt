@@ -1,7 +1,6 @@
 pub mod Activities
 pub mod Core
 pub mod CoreView
-pub mod Kept
 pub mod Least
 pub mod Loading
 pub mod MainTurns
@@ -11,15 +10,11 @@ pub mod PartsView
 pub mod Picking
 pub mod Printing
 pub mod Putting
-pub mod Reading
-pub mod Refusals
 pub mod Replayed
 pub mod Replays
-pub mod Schedules
 pub mod Sharing
 pub mod Stepping
 pub mod Tallies
 pub mod Turns
-pub mod View
 pub mod Waiting
 pub mod Whole

@@ -2,12 +2,12 @@
 use Rattle.std.specs.Prelude.{◌≡◌, ℕ, List, [], ◌∷◌, Option, Some, None, ⊤}
 use Rattle.machine.specs.Code.{Code}
 use Rattle.machine.specs.State.{Choice, take_main, take_iteration, take_ticket}
+use Rattle.schedules.specs.Schedules.{Act, works, shares, picks_main, picks, takes_ticket, Entry, IsAct}
+use Rattle.schedules.specs.declared.entry.Version.{Version}
+use Rattle.schedules.specs.declared.entry.Version.TheVariants.{Second}
 use Rattle.replay.specs.Activities.{code_in, point_in}
 use Rattle.replay.specs.Replays.{Point, Does, Leads}
-use Rattle.replay.specs.Schedules.{Act, works, shares, picks_main, picks, takes_ticket, Entry, IsAct}
 use Rattle.replay.specs.declared.activities.Activities.{Activities}
-use Rattle.replay.specs.declared.entry.Version.{Version}
-use Rattle.replay.specs.declared.entry.Version.TheVariants.{Second}
 
 -- the entry of a choice
 abbrev pub pick_of : Choice → Act

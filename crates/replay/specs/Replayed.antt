@@ -7,11 +7,11 @@ use Rattle.ast.specs.declared.fault.End.{End}
 use Rattle.machine.specs.Code.{Code}
 use Rattle.machine.specs.State.{Machine}
 use Rattle.machine.specs.declared.code.Variable.{Variable}
+use Rattle.schedules.specs.Schedules.{Act, Entry, Schedule}
+use Rattle.schedules.specs.declared.entry.Version.{Version}
+use Rattle.schedules.specs.declared.entry.Version.TheVariants.{Second}
 use Rattle.replay.specs.Making.{AreNamed}
 use Rattle.replay.specs.Replays.{Point, Does, Leads, Replays, beginning}
-use Rattle.replay.specs.Schedules.{Act, Entry, Schedule}
-use Rattle.replay.specs.declared.entry.Version.{Version}
-use Rattle.replay.specs.declared.entry.Version.TheVariants.{Second}
 
 -- the name of each variable, and how many cells it has
 abbrev pub shapes_of : List Variable → List (List ℕ × ℕ)

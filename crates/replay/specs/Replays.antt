@@ -8,9 +8,9 @@ use Rattle.machine.specs.Local.{is_local}
 use Rattle.machine.specs.State.{Active, Machine, CodeRun, CodeStep, Init, Wait, until_count, until_retired, Who, the_main, iteration, Choice, take_main, take_iteration, take_ticket, Takes, AreSizes}
 use Rattle.machine.specs.View.{View, advancing, leaving, opening, stuck, most_events, view, trips_of, begin}
 use Rattle.machine.specs.declared.code.Open.{Open}
-use Rattle.replay.specs.Schedules.{IsSchedule, Act, works, shares, picks_main, picks, takes_ticket, Entry, Schedule}
-use Rattle.replay.specs.declared.entry.Version.{Version}
-use Rattle.replay.specs.declared.entry.Version.TheVariants.{First, Second}
+use Rattle.schedules.specs.Schedules.{IsSchedule, Act, works, shares, picks_main, picks, takes_ticket, Entry, Schedule}
+use Rattle.schedules.specs.declared.entry.Version.{Version}
+use Rattle.schedules.specs.declared.entry.Version.TheVariants.{First, Second}
 
 -- ---- Beside the machine's state stands who waits and who became ready when: a kernel of
 -- eventcounts, in which main has slot 0 and iteration k slot 1 + k mod s. No two open iterations have

@@ -4,11 +4,11 @@ use Rattle.ast.specs.declared.fault.End.{End}
 use Rattle.machine.specs.Code.{Code}
 use Rattle.machine.specs.Frame.{Frame}
 use Rattle.machine.specs.State.{Choice, take_ticket, CodeStep, Machine, AreSizes}
+use Rattle.schedules.specs.Schedules.{bursts, works, shares}
 use Rattle.replay.specs.Activities.{frame_at}
 use Rattle.replay.specs.CoreView.{CoreView, IsAfter, IsFurther, point_at}
 use Rattle.replay.specs.Making.{pick_of}
 use Rattle.replay.specs.Replays.{Point, ByRule, Moves, Picks, Works, local_in}
-use Rattle.replay.specs.Schedules.{bursts, works, shares}
 use Rattle.replay.specs.declared.stepped.CoreRefusal.{CoreRefusal}
 use Rattle.replay.specs.declared.stepped.CoreRefusal.TheVariants as refusals
 use Rattle.replay.specs.declared.stepped.HandIn.{HandIn}

@@ -6,9 +6,9 @@ use Rattle.machine.specs.Solo.{Still, Weight}
 use Rattle.machine.specs.State.{Machine, Choice, CodeRun, Init, take_ticket}
 use Rattle.machine.specs.View.{view, trips_of, begin}
 use Rattle.machine.specs.declared.code.Open.{Open}
+use Rattle.schedules.specs.Schedules.{Act, works, Entry, IsSchedule, Schedule}
+use Rattle.schedules.specs.declared.entry.Version.{Version}
 use Rattle.replay.specs.Replays.{Point, Does, beginning}
-use Rattle.replay.specs.Schedules.{Act, works, Entry, IsSchedule, Schedule}
-use Rattle.replay.specs.declared.entry.Version.{Version}
 
 abbrev pub steps : Act → ℕ
 steps (works n) = n

@@ -2,20 +2,18 @@
 
 ghost use Rattle.std.specs.Prelude.{◌≡◌, ◌<◌, ◌+◌, IfOk, IfErr, OnOk, length, None};
 ghost use Rattle.machine.specs.CodeView.{code_of};
+ghost use Rattle.schedules.specs.Refusals.{Explains};
+ghost use Rattle.schedules.specs.Schedules.{IsAct};
+ghost use Rattle.schedules.specs.View.{act as act_view};
 ghost use Rattle.replay.specs.Activities.{AreActivities, AreOf, Stays, code_in, point_in};
 ghost use Rattle.replay.specs.Making.{LeadsOnly, MadeAs};
-ghost use Rattle.replay.specs.Refusals.{Explains};
 ghost use Rattle.replay.specs.Replayed.{CannotBeMade, NoneLeads, StopsAt};
 ghost use Rattle.replay.specs.Replays.{beginning};
-ghost use Rattle.replay.specs.Schedules.{IsAct};
-ghost use Rattle.replay.specs.View.{act as act_view};
 
 use crate::activities::Activities;
-use crate::entry::{Act, Entry, Version};
 use crate::making::make;
-use crate::refusal::ReplayRefusal;
-use crate::schedule::Schedule;
 use machine::Code;
+use schedules::{Act, Entry, ReplayRefusal, Schedule, Version};
 use std::alloc::Global;
 
 /// Makes the entry at a line, and gives what it did, each pick named.

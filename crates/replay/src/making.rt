@@ -1,15 +1,15 @@
 //! Entries of schedules, made by activities.
 
 ghost use Rattle.std.specs.Prelude.{◌≡◌, ◌<◌, IfOk, false, length, option_map};
+ghost use Rattle.schedules.specs.Schedules.{IsAct, shares, works};
+ghost use Rattle.schedules.specs.declared.entry.Version.TheVariants.{First, Second};
+ghost use Rattle.schedules.specs.View.{act as act_view};
 ghost use Rattle.replay.specs.Activities.{AreActivities, Stays, chosen, code_in, point_in};
 ghost use Rattle.replay.specs.Making.{Made, pick_of};
 ghost use Rattle.replay.specs.Replays.{Moves, Point};
-ghost use Rattle.replay.specs.Schedules.{IsAct, shares, works};
-ghost use Rattle.replay.specs.declared.entry.Version.TheVariants.{First, Second};
-ghost use Rattle.replay.specs.View.{act as act_view};
 
 use crate::activities::{Activities, Choice};
-use crate::entry::{Act, Entry, Version};
+use schedules::{Act, Entry, Version};
 use std::alloc::AllocError;
 
 /// The entry of a choice.

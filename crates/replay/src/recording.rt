@@ -11,11 +11,10 @@ ghost use Rattle.replay.specs.Tallies.{takes_parked};
 ghost use Rattle.replay.specs.Whole.{AreParts, IsBurst, IsSame, IsWorked, Shares, TakesUp};
 
 use crate::activities::{Activities, Choice, Holder};
-use crate::entry::{Act, Entry};
 use crate::making::pick_of;
-use crate::schedule::Schedule;
 use crate::stepped::Tally;
 use machine::Frame;
+use schedules::{Act, Entry, Schedule};
 use std::alloc::AllocError;
 
 /// Whether iteration `number` is what a processor holds.

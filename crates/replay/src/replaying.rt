@@ -2,15 +2,14 @@
 
 ghost use Rattle.std.specs.Prelude.{IfOk, IfErr};
 ghost use Rattle.machine.specs.CodeView.{code_of};
-ghost use Rattle.replay.specs.Refusals.{Explains};
+ghost use Rattle.schedules.specs.Refusals.{Explains};
 ghost use Rattle.replay.specs.Replayed.{GivesNone, IsReplay, NeverEnds};
 
 use crate::answering::answer_of;
 use crate::following::{begun, follow};
-use crate::refusal::ReplayRefusal;
-use crate::schedule::Schedule;
 use ast::Answer;
 use machine::Code;
+use schedules::{ReplayRefusal, Schedule};
 use std::alloc::Global;
 
 /// The answer of the run that a schedule describes, turn by turn.

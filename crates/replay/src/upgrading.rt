@@ -2,20 +2,18 @@
 
 ghost use Rattle.std.specs.Prelude.{◌≡◌, IfOk, IfErr, OnOk, []};
 ghost use Rattle.machine.specs.CodeView.{code_of};
+ghost use Rattle.schedules.specs.Refusals.{Explains};
+ghost use Rattle.schedules.specs.Schedules.{IsSchedule};
+ghost use Rattle.schedules.specs.declared.entry.Version.TheVariants.{First, Second};
 ghost use Rattle.replay.specs.Activities.{AreActivities, AreOf, code_in, point_in};
 ghost use Rattle.replay.specs.Making.{AreNamed, LeadsOnly};
-ghost use Rattle.replay.specs.Refusals.{Explains};
 ghost use Rattle.replay.specs.Replayed.{HasStop, IsUpgrade, LeadsNowhere, NamesPicks, NoneLeads, StopsAt};
 ghost use Rattle.replay.specs.Replays.{Leads};
-ghost use Rattle.replay.specs.Schedules.{IsSchedule};
-ghost use Rattle.replay.specs.declared.entry.Version.TheVariants.{First, Second};
 
 use crate::activities::Activities;
-use crate::entry::{Entry, Version};
 use crate::following::{begun, follow, make_at};
-use crate::refusal::ReplayRefusal;
-use crate::schedule::Schedule;
 use machine::Code;
+use schedules::{Entry, ReplayRefusal, Schedule, Version};
 use std::alloc::Global;
 
 /// Makes the entries of a schedule from the beginning on, and adds them to another one, each pick

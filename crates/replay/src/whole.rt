@@ -6,13 +6,12 @@ ghost use Rattle.replay.specs.Stepping.{begun_by};
 
 use crate::activities::{Activities, Choice, Holder};
 use crate::answering::answer;
-use crate::entry::Version;
 use crate::parts::Shared;
 use crate::recording;
-use crate::schedule::Schedule;
 use crate::stepped::{CoreRefusal, HandIn, Stepped, Tally};
 use ast::Answer;
 use machine::{Code, Done, Frame, Work, stands_local};
+use schedules::{Schedule, Version};
 use std::alloc::{AllocError, Global};
 use std::marker::Model;
 
@@ -73,6 +72,7 @@ impl<'c> Core<'c> {
     ghost use Rattle.machine.specs.CodeView.{code_of};
     ghost use Rattle.machine.specs.FrameView.{frame_of};
     ghost use Rattle.machine.specs.WorkView.{IsSpent, work_of};
+    ghost use Rattle.schedules.specs.declared.entry.Version.TheVariants.{Second};
     ghost use Rattle.replay.specs.Activities.{chosen, frame_at, who};
     ghost use Rattle.replay.specs.CoreView.{CoreView, IsNew, point_at};
     ghost use Rattle.replay.specs.Least.{IsLeast, has_ticket};
@@ -82,7 +82,6 @@ impl<'c> Core<'c> {
     ghost use Rattle.replay.specs.Replays.{Replays, beginning, local_in};
     ghost use Rattle.replay.specs.Stepping.{CannotHandIn, HandsIn, HasLocal, IsFrom, IsGoing, HasEnded, KeepsGoing, MayTry, NoCore, PicksUp, Steps, WentOrLocal};
     ghost use Rattle.replay.specs.Tallies.{Tallies};
-    ghost use Rattle.replay.specs.declared.entry.Version.TheVariants.{Second};
 
     /// A run at its beginning, of `p` processors, 1 to 64, with `s` iterations open at most, 1 to 256.
     ///

@@ -19,7 +19,7 @@ use Rattle.processors.specs.Refused.{IsRefused}
 use Rattle.processors.specs.declared.report.RunRefusal.TheVariants as runs
 use Rattle.replay.proofs.Running.{is_run}
 use Rattle.replay.specs.Replayed.{IsAnswer, stored}
-use Rattle.replay.specs.Schedules.{SchedText, Schedule}
+use Rattle.schedules.specs.Schedules.{SchedText, Schedule}
 use Rattle.pages.specs.Outcomes.{outcome_of}
 use Rattle.pages.specs.Shown.{EndShown, Extends, Row, row_of}
 use Rattle.pages.specs.View.{rows_from}

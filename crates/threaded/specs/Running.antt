@@ -11,7 +11,7 @@ use Rattle.codegen.specs.Headline.{IsBeginning}
 use Rattle.machine.specs.Code.{Code}
 use Rattle.machine.specs.State.{AreSizes, Ended}
 use Rattle.replay.specs.Replays.{Point, Replays}
-use Rattle.replay.specs.Schedules.{SchedText, Schedule}
+use Rattle.schedules.specs.Schedules.{SchedText, Schedule}
 use Rattle.handing.specs.Handing.{AppendsPart}
 use Rattle.pages.specs.Outcomes.{outcome_of, status_of}
 use Rattle.pages.specs.Shown.{EndShown, Extends, refused}

@@ -1,5 +1,5 @@
 use Rattle.std.proofs.Common.{length}
-use Rattle.replay.specs.Kept.{entries_of}
+use Rattle.schedules.specs.Kept.{entries_of}
 use Rattle.replay.proofs.Followed.{Following}
 use Rattle.replay.proofs.following.follow.Given as goal
 

@@ -1,5 +1,5 @@
 use Rattle.std.proofs.Common.{length}
-use Rattle.replay.specs.Kept.{entries_of}
+use Rattle.schedules.specs.Kept.{entries_of}
 use Rattle.replay.proofs.Followed.{FollowingNamed}
 use Rattle.replay.proofs.upgrading.follow_naming.Given as goal
 

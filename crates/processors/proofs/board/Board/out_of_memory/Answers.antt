@@ -1,5 +1,5 @@
 use Rattle.std.proofs.Common.{subst}
-use Rattle.replay.specs.Schedules.{IsSchedule}
+use Rattle.schedules.specs.Schedules.{IsSchedule}
 use Rattle.processors.proofs.Keeping.{output_of}
 use Rattle.processors.proofs.board.Board.out_of_memory.Goals as goal
 

@@ -1,7 +1,7 @@
 use Rattle.std.proofs.Common.{sym, subst}
 use Rattle.replay.specs.CoreView.{CoreView, point_at}
 use Rattle.replay.specs.Replayed.{IsAnswer}
-use Rattle.replay.specs.Schedules.{IsSchedule}
+use Rattle.schedules.specs.Schedules.{IsSchedule}
 use Rattle.processors.proofs.Keeping.{run_of}
 use Rattle.processors.proofs.board.Board.report_of.Goals as goal
 

@@ -1,6 +1,6 @@
 use Rattle.machine.specs.CodeView.{code_of}
 use Rattle.machine.specs.FrameView.{frame_of}
-use Rattle.replay.specs.Schedules.{works}
+use Rattle.schedules.specs.Schedules.{works}
 use Rattle.replay.proofs.Onwards.{becomes, is_there, whole_more, whole_same}
 use Rattle.replay.proofs.whole.Core.put.Goals as goal
 

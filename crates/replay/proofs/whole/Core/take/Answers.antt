@@ -1,6 +1,6 @@
+use Rattle.schedules.specs.declared.entry.Version.TheVariants.{Second}
 use Rattle.replay.specs.Activities.{chosen, code_in, point_in}
 use Rattle.replay.specs.Making.{pick_of}
-use Rattle.replay.specs.declared.entry.Version.TheVariants.{Second}
 use Rattle.replay.proofs.Alone.{named_pick}
 use Rattle.replay.proofs.Onwards.{whole_more}
 use Rattle.replay.proofs.whole.Core.take.Goals as goal

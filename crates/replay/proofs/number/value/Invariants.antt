@@ -1,6 +1,0 @@
-use Rattle.std.proofs.Common.{◌≡◌, ◌<◌, ◌^◌, drop}
-use Rattle.replay.specs.Reading.{value, value_after}
-use Rattle.replay.proofs.number.value.Given as goal
-
-abbrev pub invariant-loop-digit : goal.invariant-loop-digit
-invariant-loop-digit l = (l.total < 2 ^ 128) × (value_after l.total (drop l.digit-index l.digits) ≡ value l.digits)

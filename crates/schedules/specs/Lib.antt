@@ -1,0 +1,5 @@
+pub mod Kept
+pub mod Reading
+pub mod Refusals
+pub mod Schedules
+pub mod View
