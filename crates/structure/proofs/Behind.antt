@@ -5,6 +5,7 @@ use Rattle.std.specs.Option.{unwrap_or}
 use Rattle.std.proofs.lemmas.List.{get_or-reverse, reverse-append, append-nil}
 use Rattle.ast.specs.Tree.{Statement, Kind, do_loop, block_if, else_if, else_arm, end_if, logical_if, program, integer, dimension, parameters, assign, go_on, print, read, stop, end}
 use Rattle.structure.specs.Backward.{with_end, last_place, span_to}
+use Rattle.structure.specs.Parts.{part_of}
 use Rattle.structure.specs.Rules.{is_some_and}
 use Rattle.structure.specs.Spans.{before_label, before_end_if, nested, is_end_if, span_at, spans_from}
 
@@ -70,7 +71,7 @@ pass ends place total ss kind h e n (suc k) =
     more (get_or ends (suc k) total) (before_end_if (suc k) ss) place (h (suc k)) ∙ ap (λ (d : ℕ). place + (before_end_if d ss + 1)) (sym (n (suc k)))
 
 end-behind : (ends : List ℕ) (place total : ℕ) (ss : List Statement) (kind : Kind) → ((k : ℕ) → get_or ends k total ≡ (place + 1) + before_end_if k ss)
-    → (k : ℕ) → get_or (with_end place kind ends) k total ≡ place + with_kind k kind ss
+    → (k : ℕ) → get_or (with_end place (part_of kind) ends) k total ≡ place + with_kind k kind ss
 end-behind ends place total ss end_if h zero = omega arith
 end-behind ends place total ss end_if h (suc k) =
     more (get_or ends k total) (before_end_if k ss) place (h k) ∙ ap (λ (d : ℕ). place + (before_end_if d ss + 1)) (sym (minus-one k))
@@ -97,7 +98,7 @@ end-behind ends place total ss end h k = pass ends place total ss end h refl (λ
 pub behind-more : (labels labels' : ℕ → Option ℕ) (ends ends' : List ℕ) (place total : ℕ) (s : Statement) (ss : List Statement)
     → Behind labels ends (place + 1) total ss
     → ((l : ℕ) → labels' l ≡ cond (is_some_and (λ own. nat_eq own l) s.label) (Some place) (labels l))
-    → ends' ≡ with_end place s.kind ends
+    → ends' ≡ with_end place (part_of s.kind) ends
     → Behind labels' ends' place total (s ∷ ss)
 behind-more labels labels' ends ends' place total s ss h k e = record {
   label = λ l. label-behind labels labels' place total l s ss s.label refl (h.label l) (k l);
@@ -105,7 +106,7 @@ behind-more labels labels' ends ends' place total s ss h k e = record {
 }
 
 span-by : (labels : ℕ → Option ℕ) (ends : List ℕ) (place total : ℕ) (ss : List Statement) (kind : Kind) → Behind labels ends (place + 1) total ss
-    → span_to place (last_place labels ends total kind) ≡ span_at place kind ss
+    → span_to place (last_place labels ends total (part_of kind)) ≡ span_at place kind ss
 span-by labels ends place total ss (do_loop d) h = ap (λ (n : ℕ). (place, n) ∷ []) (h.label d.terminal)
 span-by labels ends place total ss (block_if c) h = ap (λ (n : ℕ). (place, n) ∷ []) (h.end_if 0)
 span-by labels ends place total ss end_if h = refl
@@ -132,8 +133,8 @@ pub record Gathered (labels : ℕ → Option ℕ) (ends : List ℕ) (spans : Lis
 pub gathered-more : (labels labels' : ℕ → Option ℕ) (ends ends' : List ℕ) (spans spans' : List (ℕ × ℕ)) (place total : ℕ) (s : Statement) (ss : List Statement)
     → Gathered labels ends spans (place + 1) total ss
     → ((l : ℕ) → labels' l ≡ cond (is_some_and (λ own. nat_eq own l) s.label) (Some place) (labels l))
-    → ends' ≡ with_end place s.kind ends
-    → spans' ≡ span_to place (last_place labels ends total s.kind) ++ spans
+    → ends' ≡ with_end place (part_of s.kind) ends
+    → spans' ≡ span_to place (last_place labels ends total (part_of s.kind)) ++ spans
     → Gathered labels' ends' spans' place total (s ∷ ss)
 gathered-more labels labels' ends ends' spans spans' place total s ss h k e f = record {
   behind = behind-more labels labels' ends ends' place total s ss h.behind k e;

@@ -2,3 +2,4 @@ pub mod Agreement
 pub mod Behind
 pub mod Broken
 pub mod Exactly
+pub mod Parts

@@ -2,7 +2,7 @@
 -- statement to the first.
 use Rattle.std.specs.Prelude.{ℕ, List, ◌∷◌, drop, get_or, map, reverse, Option, Some, None, option_map, option_to_list}
 use Rattle.std.specs.Option.{unwrap_or}
-use Rattle.ast.specs.Tree.{Kind, do_loop, block_if, end_if}
+use Rattle.structure.specs.Parts.{Part, do_part, if_part, end_if_part}
 use Rattle.structure.specs.declared.span.Blocks.{Blocks}
 use Rattle.structure.specs.declared.span.Span.{Span}
 
@@ -19,15 +19,15 @@ spans_kept spans = map span_of (reverse spans)
 
 -- the places of the END IFs that no IF matches, the first of them first, with one statement more
 -- before them
-abbrev pub with_end : ℕ → Kind → List ℕ → List ℕ
-with_end place end_if ends = place ∷ ends
-with_end place (block_if c) ends = drop 1 ends
+abbrev pub with_end : ℕ → Part → List ℕ → List ℕ
+with_end place end_if_part ends = place ∷ ends
+with_end place if_part ends = drop 1 ends
 with_end place _ ends = ends
 
 -- the last place of what a statement opens; `total` where it stands nowhere
-abbrev pub last_place : (ℕ → Option ℕ) → List ℕ → ℕ → Kind → Option ℕ
-last_place labels ends total (do_loop h) = Some (unwrap_or (labels h.terminal) total)
-last_place labels ends total (block_if c) = Some (get_or ends 0 total)
+abbrev pub last_place : (ℕ → Option ℕ) → List ℕ → ℕ → Part → Option ℕ
+last_place labels ends total (do_part terminal x) = Some (unwrap_or (labels terminal) total)
+last_place labels ends total if_part = Some (get_or ends 0 total)
 last_place labels ends total _ = None
 
 abbrev pub span_to : ℕ → Option ℕ → List (ℕ × ℕ)

@@ -2,9 +2,46 @@
 
 ghost use Rattle.std.specs.Prelude.{◌≡◌};
 ghost use Rattle.ast.specs.View.{kind as kind_of};
+ghost use Rattle.structure.specs.Parts.{part_of};
 ghost use Rattle.structure.specs.Rules as spec;
+ghost use Rattle.structure.specs.View.{part};
 
-use ast::Kind;
+use ast::{Kind, Label, Name};
+
+/// What a statement opens or ends, its label aside.
+#[derive(Clone, Copy)]
+pub enum Part {
+    /// It opens a range: the label of its terminal statement, and its DO variable.
+    Do(Label, Name),
+    If,
+    Else,
+    EndIf,
+    /// It opens and ends nothing.
+    Other,
+}
+
+pub fn part_of(kind: &Kind) -> Part
+    ensures { part result ≡ part_of (kind_of kind.now) }
+{
+    match kind {
+        Kind::Do(head) => Part::Do(head.terminal, head.variable.name),
+        Kind::If(_) => Part::If,
+        Kind::Else => Part::Else,
+        Kind::EndIf => Part::EndIf,
+        Kind::Program(_)
+        | Kind::Integer(_)
+        | Kind::Dimension(_)
+        | Kind::Parameter(_)
+        | Kind::Assign(_, _)
+        | Kind::Continue
+        | Kind::ElseIf(_)
+        | Kind::LogicalIf(_, _)
+        | Kind::Print(_)
+        | Kind::Read(_)
+        | Kind::Stop
+        | Kind::End => Part::Other,
+    }
+}
 
 /// Whether a statement is PROGRAM.
 pub fn is_program(kind: &Kind) -> bool

@@ -1,6 +1,7 @@
 //! The order of statements, their labels, DO ranges and IF blocks.
 #![tactic(auto)]
 
+mod gathered;
 mod kinds;
 mod opened;
 mod span;

@@ -1,12 +1,14 @@
 //! DO ranges and IF blocks that are open.
 
-ghost use Rattle.std.specs.Prelude.{◌≡◌, ◌&&◌, OnOk, map};
+ghost use Rattle.std.specs.Prelude.{◌≡◌, ◌&&◌, ◌∷◌, OnOk, map};
 ghost use Rattle.std.specs.List.{list_any};
 ghost use Rattle.ast.specs.View.{kind as kind_of};
 ghost use Rattle.structure.specs.Open as spec;
+ghost use Rattle.structure.specs.Parts.{begun_by};
 ghost use Rattle.structure.specs.Rules.{begins_with, is_any_range, is_around, is_block, is_misplaced_arm, is_other_range, is_range_of, may_go_on};
-ghost use Rattle.structure.specs.View.{opened};
+ghost use Rattle.structure.specs.View.{opened, part};
 
+use crate::kinds::Part;
 use ast::{Kind, Label, Name};
 use std::alloc::AllocError;
 
@@ -190,27 +192,29 @@ fn end_block(structures: &mut Vec<Open>)
     }
 }
 
-/// What a statement opens and ends, its label aside.
-pub fn begin(structures: &mut Vec<Open>, kind: &Kind) -> Result<(), AllocError>
-    ensures { OnOk result (map opened structures.new.items ≡ spec.begun (kind_of kind.now) (map opened structures.old.items)) }
+/// Opens a structure inside those that are open.
+fn add_inside(structures: &mut Vec<Open>, one: Open) -> Result<(), AllocError>
+    ensures { OnOk result (map opened structures.new.items ≡ opened one ∷ map opened structures.old.items) }
 {
-    match kind {
-        Kind::Do(head) => structures.insert(0, Open::Range(head.terminal, head.variable.name))?,
-        Kind::If(_) => structures.insert(0, Open::Block(false))?,
-        Kind::Else => mark_else(structures),
-        Kind::EndIf => end_block(structures),
-        Kind::Program(_)
-        | Kind::Integer(_)
-        | Kind::Dimension(_)
-        | Kind::Parameter(_)
-        | Kind::Assign(_, _)
-        | Kind::Continue
-        | Kind::ElseIf(_)
-        | Kind::LogicalIf(_, _)
-        | Kind::Print(_)
-        | Kind::Read(_)
-        | Kind::Stop
-        | Kind::End => {}
-    }
+    structures.insert(0, one)?;
     Ok(())
+}
+
+/// What a statement opens and ends, its label aside.
+pub fn begin(structures: &mut Vec<Open>, one: Part) -> Result<(), AllocError>
+    ensures { OnOk result (map opened structures.new.items ≡ begun_by (part one) (map opened structures.old.items)) }
+{
+    match one {
+        Part::Do(terminal, variable) => add_inside(structures, Open::Range(terminal, variable)),
+        Part::If => add_inside(structures, Open::Block(false)),
+        Part::Else => {
+            mark_else(structures);
+            Ok(())
+        }
+        Part::EndIf => {
+            end_block(structures);
+            Ok(())
+        }
+        Part::Other => Ok(()),
+    }
 }

@@ -10,7 +10,7 @@ ghost use Rattle.structure.specs.View.{opened};
 ghost use Rattle.std.specs.Prelude.{map, OnOk};
 
 use crate::kinds::{
-    holds_wrong_statement, is_declaration, is_end, is_program, may_not_end_a_range,
+    holds_wrong_statement, is_declaration, is_end, is_program, may_not_end_a_range, part_of,
 };
 use crate::opened::{
     Open, begin, begins_with_range, end_ranges, has_range_of, has_variable, is_around_block,
@@ -91,13 +91,14 @@ fn add_label(labels: &mut IndexSet<Label>, label: Option<Label>) -> Result<bool,
 }
 
 /// What a statement ends and opens, its label first.
+#[tactic(auto, using(crate::proofs::Parts::begun_is))]
 fn go_on(structures: &mut Vec<Open>, stmt: &Stmt) -> Result<(), AllocError>
     ensures { OnOk result (map opened structures.new.items ≡ spec.after (map opened structures.old.items) (statement stmt.now)) }
 {
     if let Some(label) = stmt.label {
         end_ranges(structures, label);
     }
-    begin(structures, &stmt.kind)
+    begin(structures, part_of(&stmt.kind))
 }
 
 impl Structure {

@@ -1,19 +1,17 @@
 //! The rules on order, labels, ranges and blocks, over all statements, and the spans of structures.
 
-ghost use Rattle.std.specs.Prelude.{◌≡◌, ◌++◌, ℕ, Err, IfErr, IfOk, Ok, OnOk, Some, cond, get_or, map, nat_eq, reverse};
-ghost use Rattle.std.specs.Option.{unwrap_or};
-ghost use Rattle.indexmap.specs.IndexMap.{get};
+ghost use Rattle.std.specs.Prelude.{◌≡◌, ℕ, Err, IfErr, IfOk, Ok, OnOk, map};
 ghost use Rattle.ast.specs.Answers.{Gives, Says};
-ghost use Rattle.ast.specs.View.{kind as kind_of, statement};
-ghost use Rattle.structure.specs.Backward.{last_place, span_of, span_to, spans_in, spans_kept, with_end};
-ghost use Rattle.structure.specs.Rules.{BreakFirst, Keep, is_some_and, rules};
+ghost use Rattle.ast.specs.View.{statement};
+ghost use Rattle.structure.specs.Backward.{span_of, spans_in};
+ghost use Rattle.structure.specs.Rules.{BreakFirst, Keep, rules};
 ghost use Rattle.structure.specs.Spans.{spans_of};
 
+use crate::gathered::Gathered;
 use crate::span::{Blocks, Span};
 use crate::structure::Structure;
-use ast::{Kind, Label, Refusal, Stmt};
+use ast::{Refusal, Stmt};
 use fixed_form::Labelled;
-use indexmap::IndexMap;
 use std::alloc::{AllocError, Global};
 
 /// Whether the statements keep the rules: the first one that doesn't, with the lowest rule it breaks.
@@ -33,129 +31,18 @@ fn keep_rules(alloc: Global, statements: &[Stmt]) -> Result<(), Refusal>
     Ok(())
 }
 
-/// The place of the first statement with a label.
-fn place_of(labels: &IndexMap<Label, usize>, label: Label, total: usize) -> usize
-    ensures { result ≡ unwrap_or (get nat_eq labels.now label) total }
-{
-    match labels.get(&label) {
-        Some(place) => *place,
-        None => total,
-    }
-}
-
-/// The place of the first END IF that no IF matches.
-fn innermost_end(ends: &[usize], total: usize) -> usize
-    ensures { result ≡ get_or (reverse ends.now) 0 total }
-{
-    if ends.is_empty() {
-        total
-    } else {
-        ends[ends.len() - 1]
-    }
-}
-
-/// The last place of what a statement opens.
-fn last_place(
-    labels: &IndexMap<Label, usize>,
-    ends: &[usize],
-    total: usize,
-    kind: &Kind,
-) -> Option<usize>
-    ensures { result ≡ last_place (get nat_eq labels.now) (reverse ends.now) total (kind_of kind.now) }
-{
-    match kind {
-        Kind::Do(head) => Some(place_of(labels, head.terminal, total)),
-        Kind::If(_) => Some(innermost_end(ends, total)),
-        Kind::Program(_)
-        | Kind::Integer(_)
-        | Kind::Dimension(_)
-        | Kind::Parameter(_)
-        | Kind::Assign(_, _)
-        | Kind::Continue
-        | Kind::ElseIf(_)
-        | Kind::Else
-        | Kind::EndIf
-        | Kind::LogicalIf(_, _)
-        | Kind::Print(_)
-        | Kind::Read(_)
-        | Kind::Stop
-        | Kind::End => None,
-    }
-}
-
-/// Notes the place of a label.
-fn note_label(
-    labels: &mut IndexMap<Label, usize>,
-    label: Option<Label>,
-    place: usize,
-) -> Result<(), AllocError>
-    ensures { OnOk result ((l : ℕ) → get nat_eq labels.new l ≡ cond (is_some_and (λ own. nat_eq own l) label) (Some place) (get nat_eq labels.old l)) }
-{
-    if let Some(own) = label {
-        labels.insert(own, place)?;
-    }
-    Ok(())
-}
-
-/// Notes the place of an END IF, or that an IF matches the innermost.
-fn note_end(ends: &mut Vec<usize>, kind: &Kind, place: usize) -> Result<(), AllocError>
-    ensures { OnOk result (reverse ends.new.items ≡ with_end place (kind_of kind.now) (reverse ends.old.items)) }
-{
-    match kind {
-        Kind::EndIf => ends.push(place)?,
-        Kind::If(_) => {
-            ends.pop();
-        }
-        Kind::Program(_)
-        | Kind::Integer(_)
-        | Kind::Dimension(_)
-        | Kind::Parameter(_)
-        | Kind::Assign(_, _)
-        | Kind::Do(_)
-        | Kind::Continue
-        | Kind::ElseIf(_)
-        | Kind::Else
-        | Kind::LogicalIf(_, _)
-        | Kind::Print(_)
-        | Kind::Read(_)
-        | Kind::Stop
-        | Kind::End => {}
-    }
-    Ok(())
-}
-
-/// Adds the span of what is opened at a place, if its last place is given.
-fn add_span(spans: &mut Vec<Span>, first: usize, last: Option<usize>) -> Result<(), AllocError>
-    ensures { OnOk result (spans_kept spans.new.items ≡ span_to first last ++ spans_kept spans.old.items) }
-{
-    if let Some(last) = last {
-        spans.push(Span { first, last })?;
-    }
-    Ok(())
-}
-
 /// The spans of all that the statements open.
 fn spans(alloc: Global, statements: &[Stmt]) -> Result<Vec<Span>, AllocError>
     ensures { IfOk result (λ spans. map span_of spans.items ≡ spans_of (map statement statements.now)) }
 {
-    let mut spans = Vec::new(alloc);
-    let mut labels = IndexMap::new(alloc);
-    let mut ends = Vec::new(alloc);
+    let mut gathered = Gathered::new(alloc);
     let total = statements.len();
     let mut place = total;
     while place > 0 {
         place -= 1;
-        let stmt = &statements[place];
-        add_span(
-            &mut spans,
-            place,
-            last_place(&labels, &ends, total, &stmt.kind),
-        )?;
-        note_label(&mut labels, stmt.label, place)?;
-        note_end(&mut ends, &stmt.kind, place)?;
+        gathered.note(place, total, &statements[place])?;
     }
-    spans.reverse();
-    Ok(spans)
+    Ok(gathered.into_spans())
 }
 
 /// The DO ranges and IF blocks of statements, given with what their lines say; END is the last of them
