@@ -1,5 +1,5 @@
 -- A turn of a loop over a list that appends what its next element gives.
-use Rattle.std.proofs.Common.{◌≡◌, ◌∙◌, ◌+◌, ◌<◌, ◌≤◌, ℕ, suc, List, [], ◌∷◌, ◌++◌, Option, Some, None, option_map, length, drop, get_or, map, refl, sym, ap, append_assoc, add-one, drop-cons}
+use Rattle.std.proofs.Common.{◌≡◌, ◌∙◌, ◌+◌, ◌<◌, ◌≤◌, ℕ, suc, Bool, true, false, cond, List, [], ◌∷◌, ◌++◌, Option, Some, None, option_map, length, drop, get_or, map, filter, refl, sym, ap, append_assoc, add-one, drop-cons}
 use Rattle.std.proofs.lemmas.List.{append-nil, drop_all, map-append}
 use Rattle.ast.specs.Symbols.{Extent}
 use Rattle.ast.specs.Tree as tree
@@ -25,6 +25,40 @@ goes_on {X} {Y} {U} all one first view xs i x old new target h is e w =
     ∙ ap (λ (us : List U). old ++ us) (sym (first (view x) others))
     ∙ ap (λ (ys : List Y). old ++ all ys) (sym (next_viewed view xs i x h is))
     ∙ w
+
+-- the same of the elements that a test lets through
+first_kept : {Y U : Type 0} (test : Y → Bool) (f : Y → U) (y : Y) (ys : List Y) → map f (filter test (y ∷ ys)) ≡ map f (filter test (y ∷ [])) ++ map f (filter test ys)
+first_kept {Y} {U} test f y ys = by (test y)
+  where
+    by : (b : Bool) → map f (cond b (y ∷ filter test ys) (filter test ys)) ≡ map f (cond b (y ∷ []) []) ++ map f (filter test ys)
+    by true = refl
+    by false = refl
+
+only_kept : {Y U : Type 0} (test : Y → Bool) (f : Y → U) (y : Y) → test y ≡ true → map f (filter test (y ∷ [])) ≡ f y ∷ []
+only_kept {Y} {U} test f y h = ap (λ (b : Bool). map f (cond b (y ∷ []) [])) h
+
+none_kept : {Y U : Type 0} (test : Y → Bool) (f : Y → U) (y : Y) → test y ≡ false → map f (filter test (y ∷ [])) ≡ []
+none_kept {Y} {U} test f y h = ap (λ (b : Bool). map f (cond b (y ∷ []) [])) h
+
+pub goes_on_with : {X Y U : Type 0} (test : Y → Bool) (f : Y → U) (view : X → Y) (xs : List X) (i : ℕ) (x : X) (old new target : List U) → i < length xs → x ≡ get_or xs i x
+    → test (view x) ≡ true → new ≡ old ++ f (view x) ∷ []
+    → old ++ map f (filter test (map view (drop i xs))) ≡ target → new ++ map f (filter test (map view (drop (i + 1) xs))) ≡ target
+goes_on_with {X} {Y} {U} test f view xs i x old new target h is t e w =
+    goes_on (λ ys. map f (filter test ys)) (λ y. map f (filter test (y ∷ []))) (first_kept test f) view xs i x old new target h is
+    (e ∙ ap (λ (us : List U). old ++ us) (sym (only_kept test f (view x) t))) w
+
+pub goes_on_without : {X Y U : Type 0} (test : Y → Bool) (f : Y → U) (view : X → Y) (xs : List X) (i : ℕ) (x : X) (old target : List U) → i < length xs → x ≡ get_or xs i x
+    → test (view x) ≡ false
+    → old ++ map f (filter test (map view (drop i xs))) ≡ target → old ++ map f (filter test (map view (drop (i + 1) xs))) ≡ target
+goes_on_without {X} {Y} {U} test f view xs i x old target h is t w =
+    goes_on (λ ys. map f (filter test ys)) (λ y. map f (filter test (y ∷ []))) (first_kept test f) view xs i x old old target h is
+    (sym (append-nil old) ∙ ap (λ (us : List U). old ++ us) (sym (none_kept test f (view x) t))) w
+
+-- an element within a list is the same whatever stands for one outside
+pub same_element : {X : Type 0} (xs : List X) (i : ℕ) (d e : X) → i < length xs → get_or xs i d ≡ get_or xs i e
+same_element {X} xs i d e h =
+    let both : get_or xs i d ∷ drop (suc i) xs ≡ get_or xs i e ∷ drop (suc i) xs = sym (drop-cons xs i d h) ∙ drop-cons xs i e h in
+    cc
 
 -- a second list behind the first
 pub behind : {U : Type 0} (old mid new first second : List U) → mid ≡ old ++ first → new ≡ mid ++ second → new ≡ old ++ (first ++ second)

@@ -1,18 +1,20 @@
 //! The rules over a whole program.
 
 ghost use Rattle.std.specs.Prelude.{◌≡◌, ◌<◌, ◌^◌, None, IfErr, IfOk, OnOk, map};
+ghost use Rattle.indexmap.specs.IndexSet.{insert_all};
 ghost use Rattle.ast.specs.Answers.{Gives, Says};
+ghost use Rattle.ast.specs.Store.{same_name};
 ghost use Rattle.ast.specs.View as view;
 ghost use Rattle.profile_check.specs.Checking as spec;
 ghost use Rattle.profile_check.specs.CheckingView.{before};
 ghost use Rattle.profile_check.specs.Declarations.{declared_in};
 ghost use Rattle.profile_check.specs.DeclarationsView.{declared};
-ghost use Rattle.profile_check.specs.Rules.{BreaksFirst, InProfile, lower, typed_in_whole};
+ghost use Rattle.profile_check.specs.Rules.{BreaksFirst, InProfile, lower, typed_at_top, typed_in_whole};
 
 use crate::declarations::Declarations;
 use crate::names::{add_all, typed_at_top};
 use crate::uses::add_uses;
-use ast::{Name, Refusal, Stmt};
+use ast::{Kind, Name, Refusal, Stmt};
 use indexmap::IndexSet;
 use std::alloc::{AllocError, Global};
 use structure::Structure;
@@ -60,14 +62,21 @@ fn rule_broken(
     Ok(lower(order, own))
 }
 
+/// Takes in the names that a statement gives a type for the whole program.
+fn add_typed(alloc: Global, typed: &mut IndexSet<Name>, kind: &Kind) -> Result<(), AllocError>
+    ensures { OnOk result (map view.letters typed.new.keys ≡ insert_all same_name (map view.letters typed.old.keys) (typed_at_top (view.kind kind.now))) }
+{
+    let names = typed_at_top(alloc, kind)?;
+    add_all(typed, &names)
+}
+
 /// The names that INTEGER statements give a type, wherever these stand.
 fn typed_anywhere(alloc: Global, stmts: &[Stmt]) -> Result<IndexSet<Name>, AllocError>
     ensures { IfOk result (λ typed. map view.letters typed.keys ≡ spec.table_of (typed_in_whole (map view.statement stmts.now))) }
 {
     let mut typed = IndexSet::new(alloc);
     for stmt in stmts {
-        let names = typed_at_top(alloc, &stmt.kind)?;
-        add_all(&mut typed, &names)?;
+        add_typed(alloc, &mut typed, &stmt.kind)?;
     }
     Ok(typed)
 }
