@@ -8,6 +8,7 @@ use Rattle.machine.specs.Code.{Code}
 use Rattle.profile_check.specs.Reads.{Reads}
 use Rattle.replay.specs.Replayed.{GivesNone, HasStop, IsUpgrade}
 use Rattle.replay.specs.Replays.{Point, Replays}
+use Rattle.schedules.specs.Refusals.{Refuses}
 use Rattle.schedules.specs.Schedules.{SchedText, Schedule}
 use Rattle.handing.specs.Handing.{AppendsPart}
 use Rattle.pages.specs.Outcomes.{status_of}
