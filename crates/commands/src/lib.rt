@@ -5,7 +5,7 @@
 mod code_file;
 mod drawings;
 mod obeying;
-mod schedules;
+mod replays;
 mod sources;
 mod threads;
 mod told;

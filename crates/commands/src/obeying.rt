@@ -4,7 +4,7 @@ ghost use Rattle.commands.specs.Commands.{Obeys};
 
 use crate::code_file::code_file;
 use crate::drawings::{draw_file, timeline_files};
-use crate::schedules::{replay_files, upgrade_files};
+use crate::replays::{replay_files, upgrade_files};
 use crate::sources::{check_file, list_file, seq_files};
 use crate::threads::run_files;
 use crate::told::status_of_print;

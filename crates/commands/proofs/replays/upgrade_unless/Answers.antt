@@ -1,7 +1,7 @@
 use Rattle.std.proofs.Common.{rules}
 use Rattle.commands.proofs.Reading.{read_three}
 use Rattle.commands.specs.Statuses.{EndsUpgrade}
-use Rattle.commands.proofs.schedules.upgrade_unless.Goals as goal
+use Rattle.commands.proofs.replays.upgrade_unless.Goals as goal
 
 pub returns : goal.returns
 returns g c =

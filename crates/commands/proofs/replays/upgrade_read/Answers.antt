@@ -3,7 +3,7 @@ use Rattle.engines.specs.Schedules.{Upgrading}
 use Rattle.engines.specs.declared.replays.Upgraded.TheVariants.{Text, Shown}
 use Rattle.commands.specs.Deeds.{GivesFile}
 use Rattle.commands.proofs.Upgrading.{of_page, of_text}
-use Rattle.commands.proofs.schedules.upgrade_read.Goals as goal
+use Rattle.commands.proofs.replays.upgrade_read.Goals as goal
 
 pub returns-in-Ok-Text : goal.returns-in-Ok-Text
 returns-in-Ok-Text g c =
