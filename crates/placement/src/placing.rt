@@ -10,8 +10,8 @@ ghost use Rattle.placement.specs.Listed as spec;
 ghost use Rattle.placement.specs.Placing.{inner_node, placed_block, placed_node};
 
 use crate::counting::{add, arms_size, block_size, node_size};
-use ast::statement::copy_of_optional;
 use ast::{Arm, DoHead, Line, Node};
+use copies::{copy_of_head, copy_of_optional, copy_of_statement};
 use dependence::{PlanArm, PlanStmt};
 use std::alloc::{AllocError, Global};
 
@@ -175,7 +175,7 @@ fn inner_loop(
     ensures { IfOk result (λ placed. plan_node placed ≡ inner_node spots.now.sources.items (spec.awaited spots.now) statement (tree.loop line (head_of head.now) (block_view range.now))) }
 {
     let first = add(statement, 1)?;
-    let copy = head.try_copy(alloc)?;
+    let copy = copy_of_head(alloc, head)?;
     let placed = inner_range(alloc, spots, first, range)?;
     Ok(made_loop(line, copy, placed))
 }
@@ -206,7 +206,7 @@ fn inner(
     ensures { IfOk result (λ placed. plan_node placed ≡ inner_node spots.now.sources.items (spec.awaited spots.now) statement (node_of node.now)) }
 {
     match node {
-        Node::Plain(plain) => Ok(PlanStmt::Plain(plain.try_copy(alloc)?)),
+        Node::Plain(plain) => Ok(PlanStmt::Plain(copy_of_statement(alloc, plain)?)),
         Node::Loop(line, head, range) => inner_loop(alloc, spots, statement, *line, head, range),
         Node::Choice(arms) => inner_choice(alloc, spots, statement, arms),
     }
@@ -292,7 +292,7 @@ fn placed(
     ensures { IfOk result (λ placed. plan_node placed ≡ placed_node spots.now.sources.items (spec.awaited spots.now) statement (node_of node.now)) }
 {
     match node {
-        Node::Plain(plain) => Ok(PlanStmt::Plain(plain.try_copy(alloc)?)),
+        Node::Plain(plain) => Ok(PlanStmt::Plain(copy_of_statement(alloc, plain)?)),
         Node::Loop(line, head, range) => inner_loop(alloc, spots, statement, *line, head, range),
         Node::Choice(arms) => placed_choice(alloc, spots, statement, arms),
     }
