@@ -1,7 +1,7 @@
 -- What the program makes of its words.
 use Rattle.std.specs.Prelude.{◌≡◌, ◌⊎◌, ⊤, ℕ, List, Option}
 use Rattle.clap.specs.Words.{Text}
-use Rattle.commands.specs.Commands.{Obeys}
+use Rattle.doac.specs.Commands.{Obeys}
 use Rattle.command_line.specs.CommandLine.{Names, NamesNone, line_status}
 use Rattle.command_line.specs.declared.command.Command.{Command}
 use Rattle.command_line.specs.declared.matches.LineFault.{LineFault}

@@ -1,1 +1,6 @@
+pub mod Commands
+pub mod Deeds
 pub mod Following
+pub mod Pictures
+pub mod Running
+pub mod Statuses

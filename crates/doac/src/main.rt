@@ -1,7 +1,14 @@
 //! `doac`: checks and runs FORTRAN 77 programs, also in threads, and repeats runs of the machine.
 #![tactic(auto)]
 
+mod code_file;
+mod drawings;
+mod obeying;
 mod program;
+mod replays;
+mod sources;
+mod threads;
+mod told;
 
 use std::io::IsTerminal;
 use std::process::ExitCode;

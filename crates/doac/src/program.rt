@@ -1,11 +1,12 @@
 //! The program: its words, its files, and what it says on standard error.
 
 ghost use Rattle.std.specs.Prelude.{map};
-ghost use Rattle.commands.specs.Deeds.{OfError};
+ghost use Rattle.doac.specs.Deeds.{OfError};
 ghost use Rattle.doac.specs.Following.{EndsLine, Follows};
 
+use crate::obeying::obey;
+use crate::told::status_of_print;
 use command_line::LineFault;
-use commands::{obey, status_of_print};
 use either::Either::{Left, Right};
 use files::{HostFiles, NamedFiles};
 use remarks::VisibleLines;

@@ -1,5 +1,0 @@
-use Rattle.commands.proofs.Reading.{read_last}
-use Rattle.commands.proofs.sources.check_file.Goals as goal
-
-pub returns : goal.returns
-returns g c = read_last _ _ _ _ _ _ _ _ c.read-text.ensures (c.check_given.ensures _)

@@ -1,5 +1,0 @@
-use Rattle.commands.proofs.Reading.{read_on}
-use Rattle.commands.proofs.threads.run_read.Goals as goal
-
-pub returns : goal.returns
-returns g c = read_on _ _ _ _ _ _ _ _ _ c.read-text.ensures c.run_given.ensures

@@ -1,0 +1,64 @@
+-- Files are read one after another, and what follows of that.
+use Rattle.std.proofs.Common.{◌≡◌, ◌∙◌, refl, ℕ, Bool, List, Option, Result, Ok, Err, inl, inr, subst}
+use Rattle.files.specs.Deeds.{Compares, Deed, HasRead, Reads, noted}
+use Rattle.files.specs.declared.fault.FileFault.{FileFault}
+use Rattle.files.specs.declared.files.Unread.{Unread}
+use Rattle.doac.specs.Deeds.{AfterCompare, AfterFile, AfterTexts, ReadsFile, ReadsTexts, UnlessRead}
+use Rattle.pages.specs.declared.texts.Texts.{Texts}
+
+-- a file was read, and what is made of it goes on from there
+pub read_on : (name : List ℕ) (before mid after : Option (List Deed)) (old new : Option (List ℕ)) (status : ℕ) (made : Option (List Deed) → List ℕ → Type 0) (given : Result (List ℕ) FileFault)
+    → mid ≡ noted before (Reads name given) → AfterFile given mid after old new status (made mid) → ReadsFile name before after old new status made
+read_on name before mid after old new status made given is rest =
+    record { given = given; rest = subst (λ (d : Option (List Deed)). AfterFile given d after old new status (made d)) is rest }
+
+-- nothing more was done with files
+stays : (given : Result (List ℕ) FileFault) (mid : Option (List Deed)) (old new : Option (List ℕ)) (status : ℕ) (made : List ℕ → Type 0)
+    → AfterFile given mid mid old new status made → AfterFile given mid mid old new status (λ text. (mid ≡ mid) × made text)
+stays (Ok text) mid old new status made rest = (refl, rest)
+stays (Err fault) mid old new status made rest = rest
+
+-- a file was read, and no other is
+pub read_last : (name : List ℕ) (before mid : Option (List Deed)) (old new : Option (List ℕ)) (status : ℕ) (made : List ℕ → Type 0) (given : Result (List ℕ) FileFault)
+    → mid ≡ noted before (Reads name given) → AfterFile given mid mid old new status made → ReadsFile name before mid old new status (λ done text. (mid ≡ done) × made text)
+read_last name before mid old new status made given is rest =
+    read_on name before mid mid old new status (λ done text. (mid ≡ done) × made text) given is (stays given mid old new status made rest)
+
+-- three files were read, and what is made of them goes on from there
+pub read_three : (source input schedule : List ℕ) (before mid after : Option (List Deed)) (old new : Option (List ℕ)) (status : ℕ) (made : Option (List Deed) → List ℕ → List ℕ → List ℕ → Type 0) (r : Result Texts Unread)
+    → HasRead source input schedule before mid r → AfterTexts r mid after old new status (made mid) → ReadsTexts source input schedule before after old new status made
+read_three source input schedule before mid after old new status made (Ok texts) is rest =
+    record {
+      given = Ok texts.source.items;
+      rest = record {
+        given = Ok texts.input.items;
+        rest = record {
+          given = Ok texts.schedule.items;
+          rest = subst (λ (d : Option (List Deed)). made d texts.source.items texts.input.items texts.schedule.items) is rest;
+        };
+      };
+    }
+read_three source input schedule before mid after old new status made (Err file) (inl is) rest =
+    record { given = Err file.fault; rest = (rest.0 ∙ is, rest.1, rest.2) }
+read_three source input schedule before mid after old new status made (Err file) (inr (inl had)) rest =
+    record { given = Ok had.0; rest = record { given = Err file.fault; rest = (rest.0 ∙ had.1, rest.1, rest.2) } }
+read_three source input schedule before mid after old new status made (Err file) (inr (inr had)) rest =
+    record { given = Ok had.0; rest = record { given = Ok had.1; rest = record { given = Err file.fault; rest = (rest.0 ∙ had.2, rest.1, rest.2) } } }
+
+stay : (r : Result Texts Unread) (mid : Option (List Deed)) (old new : Option (List ℕ)) (status : ℕ) (made : List ℕ → List ℕ → List ℕ → Type 0)
+    → AfterTexts r mid mid old new status made → AfterTexts r mid mid old new status (λ text given picks. (mid ≡ mid) × made text given picks)
+stay (Ok texts) mid old new status made rest = (refl, rest)
+stay (Err file) mid old new status made rest = rest
+
+-- three files were read, and no other is
+pub read_three_last : (source input schedule : List ℕ) (before mid : Option (List Deed)) (old new : Option (List ℕ)) (status : ℕ) (made : List ℕ → List ℕ → List ℕ → Type 0) (r : Result Texts Unread)
+    → HasRead source input schedule before mid r → AfterTexts r mid mid old new status made
+    → ReadsTexts source input schedule before mid old new status (λ done text given picks. (mid ≡ done) × made text given picks)
+read_three_last source input schedule before mid old new status made r is rest =
+    read_three source input schedule before mid mid old new status (λ done text given picks. (mid ≡ done) × made text given picks) r is (stay r mid old new status made rest)
+
+-- a name was compared with those of files that are read, and what is done where it is none goes on from there
+pub compared : (name : List ℕ) (others : List (List ℕ)) (before mid after : Option (List Deed)) (old new : Option (List ℕ)) (status : ℕ) (made : Option (List Deed) → Type 0) (is_one : Bool)
+    → mid ≡ noted before (Compares name others is_one) → AfterCompare is_one mid after old new status (made mid) → UnlessRead name others before after old new status made
+compared name others before mid after old new status made is_one is rest =
+    record { is_one = is_one; rest = subst (λ (d : Option (List Deed)). AfterCompare is_one d after old new status (made d)) is rest }

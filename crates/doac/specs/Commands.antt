@@ -1,0 +1,65 @@
+-- What each command does: which files it reads, in which order, what it writes where, and its exit status.
+use Rattle.std.specs.Prelude.{◌≡◌, ℕ, List, [], ◌∷◌, Option, Some, None, option_map}
+use Rattle.pages.specs.declared.outcomes.Outcome.{Outcome}
+use Rattle.engines.specs.Coded.{ShowsCode}
+use Rattle.engines.specs.Engines.{Checks}
+use Rattle.engines.specs.Lists.{ListsAs}
+use Rattle.engines.specs.Schedules.{Replaying}
+use Rattle.files.specs.Deeds.{Deed}
+use Rattle.doac.specs.Deeds.{ReadsFile, ReadsInput, ReadsTexts, UnlessRead}
+use Rattle.doac.specs.Pictures.{DrawsFile, TimesFiles}
+use Rattle.doac.specs.Running.{RunsRead, named}
+use Rattle.doac.specs.Statuses.{Ends, EndsSeq, EndsUpgrade, OfPrint}
+use Rattle.command_line.specs.declared.command.Command.{Command}
+use Rattle.command_line.specs.declared.command.Command.TheVariants.{Check, ListLoops, ShowCode, Seq, Run, Replay, Upgrade, Draw, Timeline, Explain, ExplainSerial}
+use Rattle.command_line.specs.declared.command.Threaded.{Threaded}
+
+-- the source is read, and what is allowed of it is written
+abbrev pub OnSource : (List ℕ → Outcome → List ℕ → Type 0) → (source : List ℕ) → (before after : Option (List Deed)) → (old new : Option (List ℕ)) → ℕ → Type 0
+OnSource allows source before after old new status =
+    ReadsFile source before after old new status (λ done text. (after ≡ done) × Ends (allows text) old new status)
+
+-- the source is read, then the input, and the command ends so on them
+abbrev pub OnInput : (List ℕ → List ℕ → Option (List ℕ) → Option (List ℕ) → ℕ → Type 0) → (source : List ℕ) → (input : Option (List ℕ)) → (before after : Option (List Deed)) → (old new : Option (List ℕ)) → ℕ → Type 0
+OnInput ends source input before after old new status =
+    ReadsFile source before after old new status (λ read text.
+    ReadsInput input read after old new status (λ done given. (after ≡ done) × ends text given old new status))
+
+-- the source is read, then the input, then the schedule, and what is allowed of them is written
+abbrev pub OnTexts : (List ℕ → List ℕ → List ℕ → Outcome → List ℕ → Type 0) → (source input schedule : List ℕ) → (before after : Option (List Deed)) → (old new : Option (List ℕ)) → ℕ → Type 0
+OnTexts allows source input schedule before after old new status =
+    ReadsTexts source input schedule before after old new status (λ done text given picks. (after ≡ done) × Ends (allows text given picks) old new status)
+
+-- the same of an upgrade, where OUT is none of them, as is found out first
+abbrev pub Upgrades : (source input schedule out : List ℕ) → (before after : Option (List Deed)) → (old new : Option (List ℕ)) → ℕ → Type 0
+Upgrades source input schedule out before after old new status =
+    UnlessRead out (source ∷ input ∷ schedule ∷ []) before after old new status (λ told.
+    ReadsTexts source input schedule told after old new status (λ done text given picks. EndsUpgrade out text given picks done after old new status))
+
+-- a program is run in threads, where the file for the schedule, if one is named, is none of those that are
+-- read, as is found out first
+abbrev pub RunsUnless : (onto : Option (List ℕ)) → Threaded → (before after : Option (List Deed)) → (old new : Option (List ℕ)) → ℕ → Type 0
+RunsUnless None t before after old new status = RunsRead t before after old new status
+RunsUnless (Some onto) t before after old new status =
+    UnlessRead onto (t.source.now ∷ named (option_map (λ i. i.now) t.input)) before after old new status (λ told. RunsRead t told after old new status)
+
+abbrev pub RunsFiles : Threaded → (before after : Option (List Deed)) → (old new : Option (List ℕ)) → ℕ → Type 0
+RunsFiles t before after old new status = RunsUnless (option_map (λ o. o.now) t.schedule) t before after old new status
+
+abbrev pub Obeys : Command → (before after : Option (List Deed)) → (old new : Option (List ℕ)) → ℕ → Type 0
+Obeys (Check source) before after old new status = OnSource Checks source.now before after old new status
+Obeys (ListLoops source why) before after old new status = OnSource (ListsAs why) source.now before after old new status
+Obeys (ShowCode source) before after old new status = OnSource ShowsCode source.now before after old new status
+Obeys (Seq source input store) before after old new status =
+    OnInput (EndsSeq store) source.now (option_map (λ i. i.now) input) before after old new status
+Obeys (Run t) before after old new status = RunsFiles t before after old new status
+Obeys (Replay source input schedule) before after old new status =
+    OnTexts Replaying source.now input.now schedule.now before after old new status
+Obeys (Upgrade source input schedule out) before after old new status =
+    Upgrades source.now input.now schedule.now out.now before after old new status
+Obeys (Draw source out number iterations) before after old new status =
+    DrawsFile (record { number = number; columns = iterations }) source.now out.now before after old new status
+Obeys (Timeline source input schedule out) before after old new status =
+    TimesFiles source.now input.now schedule.now out.now before after old new status
+Obeys (Explain number) before after old new status = (after ≡ before) × OfPrint status
+Obeys (ExplainSerial reason) before after old new status = (after ≡ before) × OfPrint status

@@ -1,0 +1,36 @@
+-- What the commands that make a picture do.
+use Rattle.std.specs.Prelude.{◌≡◌, ◌⊎◌, ℕ, List, [], ◌∷◌, Option}
+use Rattle.engines.specs.Drawing.{Draws}
+use Rattle.engines.specs.Timeline.{Times}
+use Rattle.engines.specs.declared.drawing.Portion.{Portion}
+use Rattle.engines.specs.declared.drawn.Drawn.{Drawn}
+use Rattle.engines.specs.declared.drawn.Drawn.TheVariants.{Picture, Shown, NoLoop}
+use Rattle.files.specs.Deeds.{Deed}
+use Rattle.doac.specs.Deeds.{GivesFile, ReadsFile, ReadsTexts, UnlessRead}
+use Rattle.doac.specs.Statuses.{Ends, IsPage}
+
+-- what drawing comes to is written: a picture to OUT alone, why there is none to standard output alone;
+-- where there is no such loop nothing is
+abbrev pub Delivers : (out : List ℕ) → Drawn → (before after : Option (List Deed)) → (old new : Option (List ℕ)) → ℕ → Type 0
+Delivers out (Picture text) before after old new status = GivesFile out text.items before after status × (new ≡ old)
+Delivers out (Shown page) before after old new status = (after ≡ before) × Ends (IsPage page) old new status
+Delivers out (NoLoop count) before after old new status = (after ≡ before) × (new ≡ old) × (status ≡ 3)
+
+-- what is allowed is written; for want of memory nothing is
+abbrev pub EndsDrawing : (Drawn → Type 0) → (out : List ℕ) → (before after : Option (List Deed)) → (old new : Option (List ℕ)) → ℕ → Type 0
+EndsDrawing allows out before after old new status =
+    ((after ≡ before) × (new ≡ old) × (status ≡ 5))
+    ⊎ ((came : Drawn) × allows came × Delivers out came before after old new status)
+
+-- a source is read and a loop of it drawn, where OUT isn't the source's file, as is found out first
+abbrev pub DrawsFile : Portion → (source out : List ℕ) → (before after : Option (List Deed)) → (old new : Option (List ℕ)) → ℕ → Type 0
+DrawsFile p source out before after old new status =
+    UnlessRead out (source ∷ []) before after old new status (λ told.
+    ReadsFile source told after old new status (λ done text. EndsDrawing (Draws text p) out done after old new status))
+
+-- a source, an input and a schedule are read, and their run is drawn, where OUT is none of them
+abbrev pub TimesFiles : (source input schedule out : List ℕ) → (before after : Option (List Deed)) → (old new : Option (List ℕ)) → ℕ → Type 0
+TimesFiles source input schedule out before after old new status =
+    UnlessRead out (source ∷ input ∷ schedule ∷ []) before after old new status (λ told.
+    ReadsTexts source input schedule told after old new status (λ done text given picks.
+    EndsDrawing (Times text given picks) out done after old new status))

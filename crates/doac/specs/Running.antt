@@ -1,0 +1,66 @@
+-- What `run` reads and writes.
+use Rattle.std.specs.Prelude.{◌≡◌, ℕ, List, [], ◌∷◌, Option, Some, None, Result, Ok, Err, is_some, option_map}
+use Rattle.pages.specs.declared.fault.EngineFault.{EngineFault}
+use Rattle.pages.specs.declared.fault.EngineFault.TheVariants as faults
+use Rattle.pages.specs.declared.outcomes.Outcome.{Outcome}
+use Rattle.engines.specs.declared.given.Wants.{Wants}
+use Rattle.threaded.specs.Running.{Running, WritesText, text_of}
+use Rattle.threaded.specs.declared.ran.Ran.{Ran}
+use Rattle.threaded.specs.declared.ran.Ran.TheVariants as ran
+use Rattle.files.specs.Deeds.{Deed}
+use Rattle.doac.specs.Deeds.{GivesFirst, ReadsFile, ReadsInput}
+use Rattle.doac.specs.Statuses.{exit_of}
+use Rattle.command_line.specs.declared.command.Threaded.{Threaded}
+
+-- what is wanted of a run
+abbrev pub wants_of : Threaded → Wants
+wants_of t = record { processors = t.processors; slots = t.slots; store = t.store; schedule = is_some t.schedule; tally = t.tally }
+
+-- the name of a file, if one is named
+abbrev pub named : Option (List ℕ) → List (List ℕ)
+named None = []
+named (Some name) = name ∷ []
+
+-- the text of the schedule of what came of a run, if it has one
+abbrev pub schedule_of : Ran → Option (List ℕ)
+schedule_of (ran.Whole whole) = text_of whole.schedule
+schedule_of _ = None
+
+-- What came of a run is shown on standard output: of one that was given up for want of memory the records
+-- that had gone out, and of one that there isn't nothing.
+abbrev pub ShowsRan : Ran → (old new : Option (List ℕ)) → Result Outcome EngineFault → Type 0
+ShowsRan (ran.Refused page) old new result = WritesText page.text.items (Ok page.outcome) old new result
+ShowsRan (ran.Whole whole) old new result = WritesText whole.page.text.items (Ok whole.page.outcome) old new result
+ShowsRan (ran.Memory output) old new result = WritesText output.items (Err faults.Memory) old new result
+ShowsRan ran.OutOfRange old new result = (result ≡ Err faults.OutOfRange) × (new ≡ old)
+ShowsRan ran.NotStarted old new result = (result ≡ Err faults.NotStarted) × (new ≡ old)
+ShowsRan ran.Stuck old new result = (result ≡ Err faults.Stuck) × (new ≡ old)
+
+-- it is shown, and this is the status of that
+pub record Shown (came : Ran) (old new : Option (List ℕ)) (status : ℕ) : Type 0 where
+  pub result : Result Outcome EngineFault
+  pub shows : ShowsRan came old new result
+  pub is : status ≡ exit_of result
+
+-- its schedule goes to a file first, if there are both
+abbrev pub WritesFirst : (onto schedule : Option (List ℕ)) → (before after : Option (List Deed)) → (old new : Option (List ℕ)) → ℕ → Type 0 → Type 0
+WritesFirst (Some onto) (Some schedule) before after old new status rest = GivesFirst onto schedule before after old new status rest
+WritesFirst (Some onto) None before after old new status rest = (after ≡ before) × rest
+WritesFirst None schedule before after old new status rest = (after ≡ before) × rest
+
+abbrev pub WritesRun : (onto : Option (List ℕ)) → Ran → (before after : Option (List Deed)) → (old new : Option (List ℕ)) → ℕ → Type 0
+WritesRun onto came before after old new status =
+    WritesFirst onto (schedule_of came) before after old new status (Shown came old new status)
+
+-- what may come of a source and an input is written
+pub record EndsRun (t : Threaded) (source input : List ℕ) (before after : Option (List Deed)) (old new : Option (List ℕ)) (status : ℕ) : Type 0 where
+  pub came : Ran
+  pub allowed : Running source input (wants_of t) came
+  pub written : WritesRun (option_map (λ o. o.now) t.schedule) came before after old new status
+
+-- the source is read, then the input, and then they are run
+abbrev pub RunsRead : Threaded → (before after : Option (List Deed)) → (old new : Option (List ℕ)) → ℕ → Type 0
+RunsRead t before after old new status =
+    ReadsFile t.source.now before after old new status (λ read text.
+    ReadsInput (option_map (λ i. i.now) t.input) read after old new status (λ done given.
+    EndsRun t text given done after old new status))

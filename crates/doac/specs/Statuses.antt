@@ -1,0 +1,51 @@
+-- Exit statuses, and what is written to standard output.
+use Rattle.std.specs.Prelude.{◌≡◌, ◌⊎◌, ℕ, Bool, List, Option, Result, Ok, Err}
+use Rattle.pages.specs.Outcomes.{fault_status, status_of}
+use Rattle.pages.specs.declared.fault.EngineFault.{EngineFault}
+use Rattle.pages.specs.declared.outcomes.Outcome.{Outcome}
+use Rattle.pages.specs.declared.page.Page.{Page}
+use Rattle.engines.specs.Engines.{Streaming, Works}
+use Rattle.engines.specs.Schedules.{Upgrading}
+use Rattle.engines.specs.declared.replays.Upgraded.{Upgraded}
+use Rattle.engines.specs.declared.replays.Upgraded.TheVariants.{Text, Shown}
+use Rattle.files.specs.Deeds.{Deed}
+use Rattle.doac.specs.Deeds.{GivesFile}
+
+-- the exit status of what work on texts comes to
+abbrev pub exit_of : Result Outcome EngineFault → ℕ
+exit_of (Ok outcome) = status_of outcome
+exit_of (Err fault) = fault_status fault
+
+-- Work on texts wrote to standard output what its definition says, a beginning of that where writing
+-- failed, or nothing for want of memory; and the status is that of what it came to.
+pub record Ends (allows : Outcome → List ℕ → Type 0) (old new : Option (List ℕ)) (status : ℕ) : Type 0 where
+  pub came : Result Outcome EngineFault
+  pub works : Works allows old new came
+  pub is : status ≡ exit_of came
+
+-- `seq` wrote its records to standard output while it ran, and then what follows them, or a beginning of
+-- that where writing failed or memory was refused; and the status is that of what it came to
+pub record EndsSeq (store : Bool) (source input : List ℕ) (old new : Option (List ℕ)) (status : ℕ) : Type 0 where
+  pub came : Result Outcome EngineFault
+  pub streams : Streaming store source input old new came
+  pub is : status ≡ exit_of came
+
+-- the text and the outcome are a page's
+abbrev pub IsPage : Page → Outcome → List ℕ → Type 0
+IsPage page outcome text = (outcome ≡ page.outcome) × (text ≡ page.text.items)
+
+-- what an upgrade comes to is written: the text of a schedule to OUT alone, and why there is none to
+-- standard output alone
+abbrev pub Delivers : (out : List ℕ) → Upgraded → (before after : Option (List Deed)) → (old new : Option (List ℕ)) → ℕ → Type 0
+Delivers out (Text text) before after old new status = GivesFile out text.items before after status × (new ≡ old)
+Delivers out (Shown page) before after old new status = (after ≡ before) × Ends (IsPage page) old new status
+
+-- an upgrade of these texts is written; for want of memory nothing is
+abbrev pub EndsUpgrade : (out source input schedule : List ℕ) → (before after : Option (List Deed)) → (old new : Option (List ℕ)) → ℕ → Type 0
+EndsUpgrade out source input schedule before after old new status =
+    ((after ≡ before) × (new ≡ old) × (status ≡ 5))
+    ⊎ ((came : Upgraded) × Upgrading source input schedule came × Delivers out came before after old new status)
+
+-- the status of a text that was printed: 0, or that of writing
+abbrev pub OfPrint : ℕ → Type 0
+OfPrint status = (status ≡ 0) ⊎ (status ≡ 4)

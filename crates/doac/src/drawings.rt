@@ -1,0 +1,210 @@
+//! `draw` and `timeline`: the pictures that are made of files.
+
+ghost use Rattle.std.specs.Prelude.{◌≡◌};
+ghost use Rattle.engines.specs.Drawing.{Draws};
+ghost use Rattle.engines.specs.Timeline.{Times};
+ghost use Rattle.files.specs.Deeds.{got};
+ghost use Rattle.doac.specs.Deeds.{AfterCompare, AfterFile, AfterTexts, ReadsFile, ReadsTexts};
+ghost use Rattle.doac.specs.Pictures.{DrawsFile, EndsDrawing, TimesFiles};
+ghost use Rattle.doac.specs.Statuses.{Ends, IsPage};
+
+use crate::told::{give_file, refuse_file, refuse_out, show_page, tell, tell_of};
+use engines::{Drawn, Portion, draw_text, timeline_texts};
+use files::{FileFault, NamedFiles, Names, Unread, read_texts};
+use pages::{EngineFault, Page, Texts};
+use remarks::Place;
+use std::io::Write;
+
+/// Draws a loop of the source of a file to the file `onto`, if that is another one.
+pub fn draw_file<R: Eprint + AllocGlobal, F: NamedFiles, W: Write>(
+    rt: &R,
+    files: &mut F,
+    out: &mut W,
+    source: &str,
+    onto: &str,
+    portion: Portion,
+) -> u8
+    ensures { DrawsFile portion source.now onto.now
+        (F.done files.old) (F.done files.new) (W.contents out.old) (W.contents out.new) result }
+{
+    let is_read = files.is_one_of(onto, &[source]);
+    draw_unless(rt, files, out, source, onto, portion, is_read)
+}
+
+/// The same, where it is known whether the file `onto` is read.
+fn draw_unless<R: Eprint + AllocGlobal, F: NamedFiles, W: Write>(
+    rt: &R,
+    files: &mut F,
+    out: &mut W,
+    source: &str,
+    onto: &str,
+    portion: Portion,
+    is_read: bool,
+) -> u8
+    ensures { AfterCompare is_read (F.done files.old) (F.done files.new) (W.contents out.old)
+        (W.contents out.new) result
+        (ReadsFile source.now (F.done files.old) (F.done files.new) (W.contents out.old)
+        (W.contents out.new) result
+        (λ done text. EndsDrawing (Draws text portion) onto.now
+        done (F.done files.new) (W.contents out.old) (W.contents out.new) result)) }
+{
+    if is_read {
+        return refuse_out(rt, onto);
+    }
+    let text = files.read(source);
+    draw_given(rt, files, out, source, onto, portion, text)
+}
+
+/// What `draw` makes of the bytes of its file.
+fn draw_given<R: Eprint + AllocGlobal, F: NamedFiles, W: Write>(
+    rt: &R,
+    files: &mut F,
+    out: &mut W,
+    source: &str,
+    onto: &str,
+    portion: Portion,
+    text: Result<Vec<u8>, FileFault>,
+) -> u8
+    ensures { AfterFile (got text) (F.done files.old) (F.done files.new) (W.contents out.old)
+        (W.contents out.new) result
+        (λ text. EndsDrawing (Draws text portion) onto.now
+        (F.done files.old) (F.done files.new) (W.contents out.old) (W.contents out.new) result) }
+{
+    match text {
+        Ok(text) => draw_source(rt, files, out, source, onto, portion, &text),
+        Err(fault) => refuse_file(rt, source, &fault),
+    }
+}
+
+/// Draws a loop of the text of a file to another one; standard error has its message.
+fn draw_source<R: Eprint + AllocGlobal, F: NamedFiles, W: Write>(
+    rt: &R,
+    files: &mut F,
+    out: &mut W,
+    source: &str,
+    onto: &str,
+    portion: Portion,
+    text: &[u8],
+) -> u8
+    ensures { EndsDrawing (Draws text.now portion) onto.now
+        (F.done files.old) (F.done files.new) (W.contents out.old) (W.contents out.new) result }
+{
+    match draw_text(rt.alloc(), text, portion) {
+        Ok(Drawn::Picture(picture)) => give_file(rt, files, onto, &picture),
+        Ok(Drawn::Shown(page)) => draw_shown(rt, out, source, text, &page),
+        Ok(Drawn::NoLoop(count)) => refuse_loop(rt, source, portion.number, count),
+        Err(_) => tell(rt, source, text, Err(EngineFault::Memory)),
+    }
+}
+
+/// Writes why there is no picture of a loop.
+fn draw_shown<R: Eprint + AllocGlobal, W: Write>(
+    rt: &R,
+    out: &mut W,
+    source: &str,
+    text: &[u8],
+    page: &Page,
+) -> u8
+    ensures { Ends (IsPage page.now) (W.contents out.old) (W.contents out.new) result }
+{
+    let outcome = page.write(out);
+    tell(rt, source, text, outcome)
+}
+
+/// Says on standard error that a source has no loop of a number, but so many, and gives the exit status.
+fn refuse_loop<R: Eprint>(rt: &R, name: &str, number: usize, count: usize) -> u8
+    ensures { result ≡ 3 }
+{
+    let place = Place {
+        file: name,
+        line: 0,
+    };
+    let _ = match count {
+        0 => eprintln!(rt; "{place}there is no loop to draw"),
+        1 => eprintln!(rt; "{place}there is no loop {number}: the one loop is loop 1"),
+        _ => eprintln!(rt;
+            "{place}there is no loop {number}: loops are numbered from 1 to {count}"
+        ),
+    };
+    3
+}
+
+/// Draws the run that the schedule of a file describes to the file `onto`, if that is none of those that
+/// are read.
+pub fn timeline_files<R: Eprint + AllocGlobal, F: NamedFiles, W: Write>(
+    rt: &R,
+    files: &mut F,
+    out: &mut W,
+    names: Names<'_>,
+    onto: &str,
+) -> u8
+    ensures { TimesFiles names.entry.source.now names.entry.input.now names.entry.schedule.now onto.now
+        (F.done files.old) (F.done files.new) (W.contents out.old) (W.contents out.new) result }
+{
+    let is_read = files.is_one_of(onto, &[names.source, names.input, names.schedule]);
+    timeline_unless(rt, files, out, names, onto, is_read)
+}
+
+/// The same, where it is known whether the file `onto` is read.
+fn timeline_unless<R: Eprint + AllocGlobal, F: NamedFiles, W: Write>(
+    rt: &R,
+    files: &mut F,
+    out: &mut W,
+    names: Names<'_>,
+    onto: &str,
+    is_read: bool,
+) -> u8
+    ensures { AfterCompare is_read (F.done files.old) (F.done files.new) (W.contents out.old)
+        (W.contents out.new) result
+        (ReadsTexts names.entry.source.now names.entry.input.now names.entry.schedule.now
+        (F.done files.old) (F.done files.new) (W.contents out.old) (W.contents out.new) result
+        (λ done text given picks. EndsDrawing (Times text given picks) onto.now
+        done (F.done files.new) (W.contents out.old) (W.contents out.new) result)) }
+{
+    if is_read {
+        return refuse_out(rt, onto);
+    }
+    let texts = read_texts(files, names);
+    timeline_given(rt, files, out, names, onto, texts)
+}
+
+/// What `timeline` makes of the bytes of its files.
+fn timeline_given<R: Eprint + AllocGlobal, F: NamedFiles, W: Write>(
+    rt: &R,
+    files: &mut F,
+    out: &mut W,
+    names: Names<'_>,
+    onto: &str,
+    texts: Result<Texts, Unread<'_>>,
+) -> u8
+    ensures { AfterTexts texts.entry (F.done files.old) (F.done files.new) (W.contents out.old)
+        (W.contents out.new) result
+        (λ text given picks. EndsDrawing (Times text given picks) onto.now
+        (F.done files.old) (F.done files.new) (W.contents out.old) (W.contents out.new) result) }
+{
+    match texts {
+        Ok(texts) => timeline_read(rt, files, out, names, onto, &texts),
+        Err(Unread { name, fault }) => refuse_file(rt, name, &fault),
+    }
+}
+
+/// Draws the run that a schedule describes to a file; standard error has its message.
+fn timeline_read<R: Eprint + AllocGlobal, F: NamedFiles, W: Write>(
+    rt: &R,
+    files: &mut F,
+    out: &mut W,
+    names: Names<'_>,
+    onto: &str,
+    texts: &Texts,
+) -> u8
+    ensures { EndsDrawing
+        (Times texts.now.source.items texts.now.input.items texts.now.schedule.items) onto.now
+        (F.done files.old) (F.done files.new) (W.contents out.old) (W.contents out.new) result }
+{
+    match timeline_texts(rt.alloc(), &texts.source, &texts.input, &texts.schedule) {
+        Ok(Drawn::Picture(picture)) => give_file(rt, files, onto, &picture),
+        Ok(Drawn::Shown(page)) => show_page(rt, out, names, texts, &page),
+        Ok(Drawn::NoLoop(_)) => 3,
+        Err(_) => tell_of(rt, names, texts, Err(EngineFault::Memory)),
+    }
+}

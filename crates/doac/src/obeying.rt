@@ -1,0 +1,110 @@
+//! Which command is obeyed how.
+
+ghost use Rattle.doac.specs.Commands.{Obeys};
+
+use crate::code_file::code_file;
+use crate::drawings::{draw_file, timeline_files};
+use crate::replays::{replay_files, upgrade_files};
+use crate::sources::{check_file, list_file, seq_files};
+use crate::threads::run_files;
+use crate::told::status_of_print;
+use command_line::Command;
+use engines::Portion;
+use explanations::explain;
+use files::{NamedFiles, Names};
+use std::io::Write;
+use std::sync::Wait;
+use std::thread::Threads;
+
+/// Does what a command asks for. Of a sequential run's records `most` bytes may wait to be written. What a
+/// sequential run prints that is made for a message alone, at a fault of `run` or `replay`, goes to
+/// `nowhere`, which is to show nothing.
+pub fn obey<R: Print + Eprint + AllocGlobal + Threads + Wait + Sync, F: NamedFiles, W: Write>(
+    rt: &R,
+    files: &mut F,
+    out: &mut W,
+    nowhere: &mut W,
+    command: Command<'_>,
+    most: usize,
+) -> u8
+    ensures { Obeys command.entry
+        (F.done files.old) (F.done files.new) (W.contents out.old) (W.contents out.new) result }
+{
+    match command {
+        Command::Check(source) => check_file(rt, files, out, source),
+        Command::ListLoops { source, why } => list_file(rt, files, out, source, why),
+        Command::ShowCode(source) => code_file(rt, files, out, source),
+        Command::Seq {
+            source,
+            input,
+            store,
+        } => seq_files(rt, files, out, source, input, store, most),
+        Command::Run(asked) => run_files(rt, files, out, nowhere, asked),
+        Command::Replay {
+            source,
+            input,
+            schedule,
+        } => replay_files(
+            rt,
+            files,
+            out,
+            nowhere,
+            Names {
+                source,
+                input,
+                schedule,
+            },
+        ),
+        Command::Upgrade {
+            source,
+            input,
+            schedule,
+            out: onto,
+        } => upgrade_files(
+            rt,
+            files,
+            out,
+            Names {
+                source,
+                input,
+                schedule,
+            },
+            onto,
+        ),
+        Command::Draw {
+            source,
+            out: onto,
+            number,
+            iterations,
+        } => draw_file(
+            rt,
+            files,
+            out,
+            source,
+            onto,
+            Portion {
+                number: number as usize,
+                columns: iterations,
+            },
+        ),
+        Command::Timeline {
+            source,
+            input,
+            schedule,
+            out: onto,
+        } => timeline_files(
+            rt,
+            files,
+            out,
+            Names {
+                source,
+                input,
+                schedule,
+            },
+            onto,
+        ),
+        Command::Explain(Some(number)) => status_of_print(rt, explain::explain(rt, number)),
+        Command::Explain(None) => status_of_print(rt, explain::list(rt)),
+        Command::ExplainSerial(reason) => status_of_print(rt, explain::explain_serial(rt, reason)),
+    }
+}

@@ -1,0 +1,154 @@
+//! `replay` and `upgrade`: what is made of a source, an input and a schedule.
+
+ghost use Rattle.engines.specs.Schedules.{Replaying};
+ghost use Rattle.doac.specs.Commands.{OnTexts, Upgrades};
+ghost use Rattle.doac.specs.Deeds.{AfterCompare, AfterTexts, ReadsTexts};
+ghost use Rattle.doac.specs.Statuses.{Ends, EndsUpgrade};
+
+use crate::told::{
+    give_file, refuse_file, refuse_out, show_page, tell_of, tell_replay, warn_of_run,
+};
+use engines::{Upgraded, replay_texts, upgrade_texts};
+use files::{NamedFiles, Names, Unread, read_texts};
+use pages::{EngineFault, Texts};
+use std::io::Write;
+
+/// Replays the schedule of a file. Where the sequential run tells more of its fault that is made behind
+/// it, onto `nowhere`.
+pub fn replay_files<R: Eprint + AllocGlobal, F: NamedFiles, W: Write>(
+    rt: &R,
+    files: &mut F,
+    out: &mut W,
+    nowhere: &mut W,
+    names: Names<'_>,
+) -> u8
+    ensures { OnTexts Replaying
+        names.entry.source.now names.entry.input.now names.entry.schedule.now
+        (F.done files.old) (F.done files.new) (W.contents out.old) (W.contents out.new) result }
+{
+    let texts = read_texts(files, names);
+    replay_given(rt, out, nowhere, names, texts)
+}
+
+/// What `replay` makes of the bytes of its files.
+fn replay_given<R: Eprint + AllocGlobal, W: Write>(
+    rt: &R,
+    out: &mut W,
+    nowhere: &mut W,
+    names: Names<'_>,
+    texts: Result<Texts, Unread<'_>>,
+) -> u8
+    ensures { (done : _) → AfterTexts texts.entry done done
+        (W.contents out.old) (W.contents out.new) result
+        (λ text given picks. Ends (Replaying text given picks)
+        (W.contents out.old) (W.contents out.new) result) }
+{
+    match texts {
+        Ok(texts) => replay_read(rt, out, nowhere, names, &texts),
+        Err(Unread { name, fault }) => refuse_file(rt, name, &fault),
+    }
+}
+
+/// Replays the schedule of a file; standard error has its message.
+fn replay_read<R: Eprint + AllocGlobal, W: Write>(
+    rt: &R,
+    out: &mut W,
+    nowhere: &mut W,
+    names: Names<'_>,
+    texts: &Texts,
+) -> u8
+    ensures { Ends
+        (Replaying texts.now.source.items texts.now.input.items texts.now.schedule.items)
+        (W.contents out.old) (W.contents out.new) result }
+{
+    let outcome = replay_texts(
+        rt.alloc(),
+        &texts.source,
+        &texts.input,
+        &texts.schedule,
+        out,
+    );
+    warn_of_run(rt, names.source, &texts.source, &outcome);
+    tell_replay(rt, nowhere, names, texts, outcome)
+}
+
+/// Writes the schedule of a file with its picks named to the file `onto`, if that is none of those
+/// that are read.
+pub fn upgrade_files<R: Eprint + AllocGlobal, F: NamedFiles, W: Write>(
+    rt: &R,
+    files: &mut F,
+    out: &mut W,
+    names: Names<'_>,
+    onto: &str,
+) -> u8
+    ensures { Upgrades
+        names.entry.source.now names.entry.input.now names.entry.schedule.now onto.now
+        (F.done files.old) (F.done files.new) (W.contents out.old) (W.contents out.new) result }
+{
+    let is_read = files.is_one_of(onto, &[names.source, names.input, names.schedule]);
+    upgrade_unless(rt, files, out, names, onto, is_read)
+}
+
+/// The same, where it is known whether the file `onto` is read.
+fn upgrade_unless<R: Eprint + AllocGlobal, F: NamedFiles, W: Write>(
+    rt: &R,
+    files: &mut F,
+    out: &mut W,
+    names: Names<'_>,
+    onto: &str,
+    is_read: bool,
+) -> u8
+    ensures { AfterCompare is_read
+        (F.done files.old) (F.done files.new) (W.contents out.old) (W.contents out.new) result
+        (ReadsTexts names.entry.source.now names.entry.input.now names.entry.schedule.now
+        (F.done files.old) (F.done files.new) (W.contents out.old) (W.contents out.new) result
+        (λ done text given picks. EndsUpgrade onto.now text given picks
+        done (F.done files.new) (W.contents out.old) (W.contents out.new) result)) }
+{
+    if is_read {
+        return refuse_out(rt, onto);
+    }
+    let texts = read_texts(files, names);
+    upgrade_given(rt, files, out, names, onto, texts)
+}
+
+/// What `upgrade` makes of the bytes of its files.
+fn upgrade_given<R: Eprint + AllocGlobal, F: NamedFiles, W: Write>(
+    rt: &R,
+    files: &mut F,
+    out: &mut W,
+    names: Names<'_>,
+    onto: &str,
+    texts: Result<Texts, Unread<'_>>,
+) -> u8
+    ensures { AfterTexts texts.entry
+        (F.done files.old) (F.done files.new) (W.contents out.old) (W.contents out.new) result
+        (λ text given picks. EndsUpgrade onto.now text given picks
+        (F.done files.old) (F.done files.new) (W.contents out.old) (W.contents out.new) result) }
+{
+    match texts {
+        Ok(texts) => upgrade_read(rt, files, out, names, onto, &texts),
+        Err(Unread { name, fault }) => refuse_file(rt, name, &fault),
+    }
+}
+
+/// Writes the schedule of a file with its picks named to another one, which is made where there is
+/// something to write; standard error has its message.
+fn upgrade_read<R: Eprint + AllocGlobal, F: NamedFiles, W: Write>(
+    rt: &R,
+    files: &mut F,
+    out: &mut W,
+    names: Names<'_>,
+    onto: &str,
+    texts: &Texts,
+) -> u8
+    ensures { EndsUpgrade onto.now
+        texts.now.source.items texts.now.input.items texts.now.schedule.items
+        (F.done files.old) (F.done files.new) (W.contents out.old) (W.contents out.new) result }
+{
+    match upgrade_texts(rt.alloc(), &texts.source, &texts.input, &texts.schedule) {
+        Ok(Upgraded::Text(text)) => give_file(rt, files, onto, &text),
+        Ok(Upgraded::Shown(page)) => show_page(rt, out, names, texts, &page),
+        Err(_) => tell_of(rt, names, texts, Err(EngineFault::Memory)),
+    }
+}

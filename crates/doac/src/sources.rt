@@ -1,0 +1,235 @@
+//! `check`, `list` and `seq`: what is made of a source.
+
+ghost use Rattle.std.specs.Prelude.{◌≡◌, option_map};
+ghost use Rattle.engines.specs.Engines.{Checks};
+ghost use Rattle.engines.specs.Lists.{ListsAs};
+ghost use Rattle.files.specs.Deeds.{got};
+ghost use Rattle.doac.specs.Commands.{OnInput, OnSource};
+ghost use Rattle.doac.specs.Deeds.{AfterFile, ReadsInput};
+ghost use Rattle.doac.specs.Statuses.{Ends, EndsSeq};
+
+use crate::told::{refuse_file, tell, tell_run, warn_of_run};
+use engines::{Survey, Verdict, judged, seq_noted, surveyed, tell_loops, tell_verdict};
+use files::{FileFault, NamedFiles};
+use messages::tell_further;
+use pages::EngineFault;
+use reasons::say_why_serial;
+use remarks::warn;
+use std::io::Write;
+
+/// Checks the source of a file.
+pub fn check_file<R: Eprint + AllocGlobal, F: NamedFiles, W: Write>(
+    rt: &R,
+    files: &mut F,
+    out: &mut W,
+    name: &str,
+) -> u8
+    ensures { OnSource Checks name.now
+        (F.done files.old) (F.done files.new) (W.contents out.old) (W.contents out.new) result }
+{
+    let text = files.read(name);
+    check_given(rt, out, name, text)
+}
+
+/// What `check` makes of the bytes of its file.
+fn check_given<R: Eprint + AllocGlobal, W: Write>(
+    rt: &R,
+    out: &mut W,
+    name: &str,
+    text: Result<Vec<u8>, FileFault>,
+) -> u8
+    ensures { (done : _) → AfterFile (got text) done done
+        (W.contents out.old) (W.contents out.new) result
+        (λ text. Ends (Checks text) (W.contents out.old) (W.contents out.new) result) }
+{
+    match text {
+        Ok(text) => check_source(rt, out, name, &text),
+        Err(fault) => refuse_file(rt, name, &fault),
+    }
+}
+
+/// Checks the text of a file; standard error has its warnings or its message.
+fn check_source<R: Eprint + AllocGlobal, W: Write>(
+    rt: &R,
+    out: &mut W,
+    name: &str,
+    text: &[u8],
+) -> u8
+    ensures { Ends (Checks text.now) (W.contents out.old) (W.contents out.new) result }
+{
+    match judged(rt.alloc(), text) {
+        Ok(verdict) => {
+            let outcome = tell_verdict(rt.alloc(), &verdict, out);
+            if let Verdict::Accepted(program) = &verdict {
+                warn(rt, name, text, program);
+            }
+            let status = tell(rt, name, text, outcome);
+            tell_further(rt, name, text, &verdict);
+            status
+        }
+        Err(_) => tell(rt, name, text, Err(EngineFault::Memory)),
+    }
+}
+
+/// Lists the loops of the source of a file.
+pub fn list_file<R: Eprint + AllocGlobal, F: NamedFiles, W: Write>(
+    rt: &R,
+    files: &mut F,
+    out: &mut W,
+    name: &str,
+    why: bool,
+) -> u8
+    ensures { OnSource (ListsAs why) name.now
+        (F.done files.old) (F.done files.new) (W.contents out.old) (W.contents out.new) result }
+{
+    let text = files.read(name);
+    list_given(rt, out, name, text, why)
+}
+
+/// What `list` makes of the bytes of its file.
+fn list_given<R: Eprint + AllocGlobal, W: Write>(
+    rt: &R,
+    out: &mut W,
+    name: &str,
+    text: Result<Vec<u8>, FileFault>,
+    why: bool,
+) -> u8
+    ensures { (done : _) → AfterFile (got text) done done
+        (W.contents out.old) (W.contents out.new) result
+        (λ text. Ends (ListsAs why text) (W.contents out.old) (W.contents out.new) result) }
+{
+    match text {
+        Ok(text) => list_source(rt, out, name, &text, why),
+        Err(fault) => refuse_file(rt, name, &fault),
+    }
+}
+
+/// Lists the loops of the text of a file; standard error says what keeps them serial, or has its
+/// message.
+fn list_source<R: Eprint + AllocGlobal, W: Write>(
+    rt: &R,
+    out: &mut W,
+    name: &str,
+    text: &[u8],
+    why: bool,
+) -> u8
+    ensures { Ends (ListsAs why text.now) (W.contents out.old) (W.contents out.new) result }
+{
+    match surveyed(rt.alloc(), text) {
+        Ok(survey) => {
+            let outcome = tell_loops(rt.alloc(), &survey, why, out);
+            if let Survey::Loops { program, reports } = &survey {
+                say_why_serial(rt, name, program, reports);
+            }
+            tell(rt, name, text, outcome)
+        }
+        Err(_) => tell(rt, name, text, Err(EngineFault::Memory)),
+    }
+}
+
+/// Runs the source of a file, one statement after another. Of the records that it prints `most` bytes
+/// may wait to be written.
+pub fn seq_files<R: Eprint + AllocGlobal, F: NamedFiles, W: Write>(
+    rt: &R,
+    files: &mut F,
+    out: &mut W,
+    name: &str,
+    input: Option<&str>,
+    store: bool,
+    most: usize,
+) -> u8
+    ensures { OnInput (EndsSeq store) name.now (option_map (λ i. i.now) input.entry)
+        (F.done files.old) (F.done files.new) (W.contents out.old) (W.contents out.new) result }
+{
+    let text = files.read(name);
+    seq_given(rt, files, out, name, text, input, store, most)
+}
+
+/// What `seq` makes of the bytes of its source's file: only where they were had is an input read.
+fn seq_given<R: Eprint + AllocGlobal, F: NamedFiles, W: Write>(
+    rt: &R,
+    files: &mut F,
+    out: &mut W,
+    name: &str,
+    text: Result<Vec<u8>, FileFault>,
+    input: Option<&str>,
+    store: bool,
+    most: usize,
+) -> u8
+    ensures { AfterFile (got text)
+        (F.done files.old) (F.done files.new) (W.contents out.old) (W.contents out.new) result
+        (λ text. ReadsInput (option_map (λ i. i.now) input.entry)
+        (F.done files.old) (F.done files.new) (W.contents out.old) (W.contents out.new) result
+        (λ done given. (F.done files.new ≡ done)
+        × EndsSeq store text given (W.contents out.old) (W.contents out.new) result)) }
+{
+    match text {
+        Ok(text) => seq_file(rt, files, out, name, &text, input, store, most),
+        Err(fault) => refuse_file(rt, name, &fault),
+    }
+}
+
+/// Runs the text of a file on the input that a file holds, or on an empty one where none is named.
+fn seq_file<R: Eprint + AllocGlobal, F: NamedFiles, W: Write>(
+    rt: &R,
+    files: &mut F,
+    out: &mut W,
+    name: &str,
+    text: &[u8],
+    input: Option<&str>,
+    store: bool,
+    most: usize,
+) -> u8
+    ensures { ReadsInput (option_map (λ i. i.now) input.entry)
+        (F.done files.old) (F.done files.new) (W.contents out.old) (W.contents out.new) result
+        (λ done given. (F.done files.new ≡ done)
+        × EndsSeq store text.now given (W.contents out.old) (W.contents out.new) result) }
+{
+    let Some(input) = input else {
+        return seq_source(rt, out, name, text, None, &[], store, most);
+    };
+    let given = files.read(input);
+    seq_read(rt, out, name, text, input, given, store, most)
+}
+
+/// What `seq` makes of the bytes of its input's file.
+fn seq_read<R: Eprint + AllocGlobal, W: Write>(
+    rt: &R,
+    out: &mut W,
+    name: &str,
+    text: &[u8],
+    input: &str,
+    given: Result<Vec<u8>, FileFault>,
+    store: bool,
+    most: usize,
+) -> u8
+    ensures { (done : _) → AfterFile (got given) done done
+        (W.contents out.old) (W.contents out.new) result
+        (λ given. EndsSeq store text.now given
+        (W.contents out.old) (W.contents out.new) result) }
+{
+    match given {
+        Ok(given) => seq_source(rt, out, name, text, Some(input), &given, store, most),
+        Err(fault) => refuse_file(rt, input, &fault),
+    }
+}
+
+/// Runs the text of a file on an input, which is that of a file if one is given; standard error has its
+/// message, and at a fault of the input its record.
+fn seq_source<R: Eprint + AllocGlobal, W: Write>(
+    rt: &R,
+    out: &mut W,
+    name: &str,
+    text: &[u8],
+    given: Option<&str>,
+    input: &[u8],
+    store: bool,
+    most: usize,
+) -> u8
+    ensures { EndsSeq store text.now input.now
+        (W.contents out.old) (W.contents out.new) result }
+{
+    let run = seq_noted(rt.alloc(), text, input, store, most, out);
+    warn_of_run(rt, name, text, &run.came);
+    tell_run(rt, name, text, given, input, run)
+}

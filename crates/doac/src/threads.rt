@@ -1,0 +1,269 @@
+//! `run`: programs in threads, their files, and what is said of them on standard error.
+
+ghost use Rattle.std.specs.Prelude.{◌≡◌, ◌∷◌, option_map};
+ghost use Rattle.files.specs.Deeds.{Compares, got, noted, unput};
+ghost use Rattle.doac.specs.Commands.{RunsFiles};
+ghost use Rattle.doac.specs.Deeds.{AfterCompare, AfterFile, AfterPut, ReadsInput};
+ghost use Rattle.doac.specs.Running.{EndsRun, RunsRead, ShowsRan, Shown, WritesRun, named, schedule_of};
+
+use crate::told::{refuse_file, refuse_out, refuse_write, tell_known, warn_of_run};
+use command_line::Threaded;
+use engines::Wants;
+use files::{FileFault, NamedFiles};
+use messages::say_figures;
+use pages::{EngineFault, Outcome};
+use std::io;
+use std::io::Write;
+use std::sync::Wait;
+use std::thread::Threads;
+use threaded::{Ran, Whole, run_texts};
+
+/// Runs the source of a file in threads, if its schedule is to go to none of the files that are
+/// read. Where the sequential run tells more of its fault that is made behind it, onto `nowhere`.
+pub fn run_files<R: Eprint + AllocGlobal + Threads + Wait + Sync, F: NamedFiles, W: Write>(
+    rt: &R,
+    files: &mut F,
+    out: &mut W,
+    nowhere: &mut W,
+    asked: Threaded<'_>,
+) -> u8
+    ensures { RunsFiles asked.entry
+        (F.done files.old) (F.done files.new) (W.contents out.old) (W.contents out.new) result }
+{
+    let Some(onto) = asked.schedule else {
+        return run_read(rt, files, out, nowhere, asked);
+    };
+    let is_read = is_read(files, onto, asked.source, asked.input);
+    run_unless(rt, files, out, nowhere, asked, onto, is_read)
+}
+
+/// Whether a name is that of the source's file or of the input's.
+fn is_read<F: NamedFiles>(files: &mut F, onto: &str, source: &str, input: Option<&str>) -> bool
+    ensures { F.done files.new ≡ noted (F.done files.old)
+        (Compares onto.now (source.now ∷ named (option_map (λ i. i.now) input.entry)) result) }
+{
+    match input {
+        Some(input) => files.is_one_of(onto, &[source, input]),
+        None => files.is_one_of(onto, &[source]),
+    }
+}
+
+/// The same, where it is known whether the file `onto`, which is to have the schedule, is read.
+fn run_unless<R: Eprint + AllocGlobal + Threads + Wait + Sync, F: NamedFiles, W: Write>(
+    rt: &R,
+    files: &mut F,
+    out: &mut W,
+    nowhere: &mut W,
+    asked: Threaded<'_>,
+    onto: &str,
+    is_read: bool,
+) -> u8
+    ensures { AfterCompare is_read
+        (F.done files.old) (F.done files.new) (W.contents out.old) (W.contents out.new) result
+        (RunsRead asked.entry
+        (F.done files.old) (F.done files.new) (W.contents out.old) (W.contents out.new) result) }
+{
+    if is_read {
+        return refuse_out(rt, onto);
+    }
+    run_read(rt, files, out, nowhere, asked)
+}
+
+/// Reads the source of a file and runs it.
+fn run_read<R: Eprint + AllocGlobal + Threads + Wait + Sync, F: NamedFiles, W: Write>(
+    rt: &R,
+    files: &mut F,
+    out: &mut W,
+    nowhere: &mut W,
+    asked: Threaded<'_>,
+) -> u8
+    ensures { RunsRead asked.entry
+        (F.done files.old) (F.done files.new) (W.contents out.old) (W.contents out.new) result }
+{
+    let text = files.read(asked.source);
+    run_given(rt, files, out, nowhere, asked, text)
+}
+
+/// What `run` makes of the bytes of its source's file: only where they were had is an input read.
+fn run_given<R: Eprint + AllocGlobal + Threads + Wait + Sync, F: NamedFiles, W: Write>(
+    rt: &R,
+    files: &mut F,
+    out: &mut W,
+    nowhere: &mut W,
+    asked: Threaded<'_>,
+    text: Result<Vec<u8>, FileFault>,
+) -> u8
+    ensures { AfterFile (got text)
+        (F.done files.old) (F.done files.new) (W.contents out.old) (W.contents out.new) result
+        (λ text. ReadsInput (option_map (λ i. i.now) asked.entry.input)
+        (F.done files.old) (F.done files.new) (W.contents out.old) (W.contents out.new) result
+        (λ done given. EndsRun asked.entry text given
+        done (F.done files.new) (W.contents out.old) (W.contents out.new) result)) }
+{
+    match text {
+        Ok(text) => run_file(rt, files, out, nowhere, asked, &text),
+        Err(fault) => refuse_file(rt, asked.source, &fault),
+    }
+}
+
+/// Runs the text of a file on the input that a file holds, or on an empty one where none is named.
+fn run_file<R: Eprint + AllocGlobal + Threads + Wait + Sync, F: NamedFiles, W: Write>(
+    rt: &R,
+    files: &mut F,
+    out: &mut W,
+    nowhere: &mut W,
+    asked: Threaded<'_>,
+    text: &[u8],
+) -> u8
+    ensures { ReadsInput (option_map (λ i. i.now) asked.entry.input)
+        (F.done files.old) (F.done files.new) (W.contents out.old) (W.contents out.new) result
+        (λ done given. EndsRun asked.entry text.now given
+        done (F.done files.new) (W.contents out.old) (W.contents out.new) result) }
+{
+    let Some(input) = asked.input else {
+        return run_source(rt, files, out, nowhere, asked, text, &[]);
+    };
+    let given = files.read(input);
+    run_on(rt, files, out, nowhere, asked, text, input, given)
+}
+
+/// What `run` makes of the bytes of its input's file.
+fn run_on<R: Eprint + AllocGlobal + Threads + Wait + Sync, F: NamedFiles, W: Write>(
+    rt: &R,
+    files: &mut F,
+    out: &mut W,
+    nowhere: &mut W,
+    asked: Threaded<'_>,
+    text: &[u8],
+    input: &str,
+    given: Result<Vec<u8>, FileFault>,
+) -> u8
+    ensures { AfterFile (got given)
+        (F.done files.old) (F.done files.new) (W.contents out.old) (W.contents out.new) result
+        (λ given. EndsRun asked.entry text.now given
+        (F.done files.old) (F.done files.new) (W.contents out.old) (W.contents out.new) result) }
+{
+    match given {
+        Ok(given) => run_source(rt, files, out, nowhere, asked, text, &given),
+        Err(fault) => refuse_file(rt, input, &fault),
+    }
+}
+
+/// Runs the text of a file on an input.
+fn run_source<R: Eprint + AllocGlobal + Threads + Wait + Sync, F: NamedFiles, W: Write>(
+    rt: &R,
+    files: &mut F,
+    out: &mut W,
+    nowhere: &mut W,
+    asked: Threaded<'_>,
+    text: &[u8],
+    input: &[u8],
+) -> u8
+    ensures { EndsRun asked.entry text.now input.now
+        (F.done files.old) (F.done files.new) (W.contents out.old) (W.contents out.new) result }
+{
+    let wants = Wants {
+        processors: asked.processors,
+        slots: asked.slots,
+        store: asked.store,
+        schedule: asked.schedule.is_some(),
+        tally: asked.tally,
+    };
+    let ran = run_texts(rt, rt.alloc(), text, input, wants);
+    write_run(rt, files, out, nowhere, asked, text, input, &ran)
+}
+
+/// The text of a run's schedule, if it has one.
+fn schedule_text(ran: &Ran) -> Option<&[u8]>
+    ensures { option_map (λ text. text.now) result ≡ schedule_of ran.now }
+{
+    match ran {
+        Ran::Whole(
+            Whole {
+                schedule: Some(text),
+                ..
+            },
+        ) => Some(text.as_slice()),
+        _ => None,
+    }
+}
+
+/// Writes the schedule, if there is one and a file for it, and then what is shown.
+fn write_run<R: Eprint + AllocGlobal, F: NamedFiles, W: Write>(
+    rt: &R,
+    files: &mut F,
+    out: &mut W,
+    nowhere: &mut W,
+    asked: Threaded<'_>,
+    text: &[u8],
+    input: &[u8],
+    ran: &Ran,
+) -> u8
+    ensures { WritesRun (option_map (λ o. o.now) asked.entry.schedule) ran.now
+        (F.done files.old) (F.done files.new) (W.contents out.old) (W.contents out.new) result }
+{
+    match (asked.schedule, schedule_text(ran)) {
+        (Some(onto), Some(schedule)) => {
+            let put = files.replace(onto, schedule);
+            write_behind(rt, out, nowhere, asked, text, input, ran, onto, put)
+        }
+        _ => write_shown(rt, out, nowhere, asked, text, input, ran),
+    }
+}
+
+/// Writes what is shown where the file `onto` was given the schedule.
+fn write_behind<R: Eprint + AllocGlobal, W: Write>(
+    rt: &R,
+    out: &mut W,
+    nowhere: &mut W,
+    asked: Threaded<'_>,
+    text: &[u8],
+    input: &[u8],
+    ran: &Ran,
+    onto: &str,
+    put: io::Result<()>,
+) -> u8
+    ensures { AfterPut (unput put) (W.contents out.old) (W.contents out.new) result
+        (Shown ran.now (W.contents out.old) (W.contents out.new) result) }
+{
+    match put {
+        Ok(()) => write_shown(rt, out, nowhere, asked, text, input, ran),
+        Err(error) => refuse_write(rt, onto, &error),
+    }
+}
+
+/// Writes what is shown of a run, whose schedule was written before.
+fn show<W: Write>(ran: &Ran, out: &mut W) -> Result<Outcome, EngineFault>
+    ensures { ShowsRan ran.now (W.contents out.old) (W.contents out.new) result }
+{
+    match ran {
+        Ran::Whole(whole) => whole.page.write(out),
+        _ => ran.write(&mut io::sink(), out),
+    }
+}
+
+/// Writes what is shown; standard error has the message, and how the run went.
+fn write_shown<R: Eprint + AllocGlobal, W: Write>(
+    rt: &R,
+    out: &mut W,
+    nowhere: &mut W,
+    asked: Threaded<'_>,
+    text: &[u8],
+    input: &[u8],
+    ran: &Ran,
+) -> u8
+    ensures { Shown ran.now (W.contents out.old) (W.contents out.new) result }
+{
+    let outcome = show(ran, out);
+    if let Ran::Whole(
+        Whole {
+            figures: Some(figures),
+            ..
+        },
+    ) = ran
+    {
+        say_figures(rt, figures);
+    }
+    warn_of_run(rt, asked.source, text, &outcome);
+    tell_known(rt, nowhere, asked.source, text, asked.input, input, outcome)
+}

@@ -1,0 +1,260 @@
+//! What is said on standard error, and the exit status that goes with it.
+
+ghost use Rattle.std.specs.Prelude.{◌≡◌, OnErr, OnOk};
+ghost use Rattle.files.specs.Deeds.{file_status, unput};
+ghost use Rattle.doac.specs.Deeds.{GivesFile, OfError, OfWrite};
+ghost use Rattle.doac.specs.Statuses.{Ends, IsPage, OfPrint, exit_of};
+
+use engines::{Note, Sequential, known_of};
+use files::{FileFault, NamedFiles, Names};
+use messages::{LastRecord, Message};
+use pages::{EngineFault, Outcome, Page, Texts};
+use reasons::Met;
+use remarks::{Place, warn_of_columns};
+use std::io::{self, Write};
+
+/// Says that writing failed; where nobody reads any more nobody needs to know.
+fn say_unwritten<R: Eprint>(rt: &R, error: &io::Error) {
+    match error.kind() {
+        io::ErrorKind::BrokenPipe => {}
+        _ => {
+            let _ = eprintln!(rt; "doac: writing failed: {error}");
+        }
+    }
+}
+
+/// The exit status of what was printed: 0, or 4 where that failed.
+pub fn status_of_print<R: Eprint>(rt: &R, printed: io::Result<()>) -> u8
+    ensures either { OfPrint result }
+    ensures ok { OnOk printed (result ≡ 0) }
+    ensures err { OnErr printed (result ≡ 4) }
+{
+    match printed {
+        Ok(()) => 0,
+        Err(error) => {
+            say_unwritten(rt, &error);
+            4
+        }
+    }
+}
+
+/// Says on standard error that a file couldn't be given its text, and gives the exit status: 4, or
+/// 5 where there was no memory for that.
+pub fn refuse_write<R: Eprint>(rt: &R, name: &str, error: &io::Error) -> u8
+    ensures { OfError error.now 4 result }
+{
+    let file = name;
+    let _ = eprintln!(rt; "{}writing failed: {error}", Place { file, line: 0 });
+    match error.kind() {
+        io::ErrorKind::OutOfMemory => 5,
+        _ => 4,
+    }
+}
+
+/// The exit status of giving a file its text: 0, or that of the error.
+pub fn status_of_write<R: Eprint>(rt: &R, name: &str, written: io::Result<()>) -> u8
+    ensures { OfWrite (unput written) result }
+{
+    match written {
+        Ok(()) => 0,
+        Err(error) => refuse_write(rt, name, &error),
+    }
+}
+
+/// Gives a file its text: a schedule, or a picture.
+pub fn give_file<R: Eprint, F: NamedFiles>(rt: &R, files: &mut F, onto: &str, text: &[u8]) -> u8
+    ensures { GivesFile onto.now text.now (F.done files.old) (F.done files.new) result }
+{
+    let written = files.replace(onto, text);
+    status_of_write(rt, onto, written)
+}
+
+/// Warns of lines of which not all was read, where their source was run.
+pub fn warn_of_run<R: Eprint>(
+    rt: &R,
+    name: &str,
+    text: &[u8],
+    outcome: &Result<Outcome, EngineFault>,
+) {
+    match outcome {
+        Ok(Outcome::Completed) | Ok(Outcome::Faulted { .. }) => warn_of_columns(rt, name, text),
+        _ => {}
+    }
+}
+
+/// Says on standard error why there is no outcome.
+fn say_fault<R: Eprint>(rt: &R, fault: &EngineFault) {
+    match fault {
+        EngineFault::Writing(error) => say_unwritten(rt, error),
+        _ => {
+            let _ = eprintln!(rt; "doac: {fault}");
+        }
+    }
+}
+
+/// Says on standard error that a file can't be written, as it is read too, and gives the exit
+/// status.
+pub fn refuse_out<R: Eprint>(rt: &R, name: &str) -> u8
+    ensures { result ≡ 4 }
+{
+    let file = name;
+    let _ = eprintln!(rt;
+        "{}this file is read too, so it isn't written",
+        Place { file, line: 0 }
+    );
+    4
+}
+
+/// Says on standard error why a file's bytes can't be had, and gives the exit status.
+pub fn refuse_file<R: Eprint>(rt: &R, name: &str, fault: &FileFault) -> u8
+    ensures { result ≡ file_status fault.now }
+{
+    let file = name;
+    let _ = eprintln!(rt; "{}{fault}", Place { file, line: 0 });
+    fault.status()
+}
+
+/// Says on standard error what is wrong with a file's text, or what failed, and gives the exit
+/// status.
+pub fn tell<R: Eprint + AllocGlobal>(
+    rt: &R,
+    name: &str,
+    text: &[u8],
+    outcome: Result<Outcome, EngineFault>,
+) -> u8
+    ensures { result ≡ exit_of outcome }
+{
+    tell_noted(rt, name, text, outcome, None)
+}
+
+/// The same, with what is known beside the line.
+pub fn tell_noted<R: Eprint + AllocGlobal>(
+    rt: &R,
+    name: &str,
+    text: &[u8],
+    outcome: Result<Outcome, EngineFault>,
+    note: Option<Note>,
+) -> u8
+    ensures { result ≡ exit_of outcome }
+{
+    match outcome {
+        Ok(outcome) => {
+            if let Some(message) = Message::of(rt.alloc(), name, text, outcome) {
+                let _ = rt.eprint(message.with_note(note));
+            }
+            outcome.status()
+        }
+        Err(fault) => {
+            say_fault(rt, &fault);
+            fault.status()
+        }
+    }
+}
+
+/// The same of a run on an input, which is that of a file if one is given; at a fault of the input
+/// standard error also has the record.
+pub fn tell_run<R: Eprint + AllocGlobal>(
+    rt: &R,
+    name: &str,
+    text: &[u8],
+    given: Option<&str>,
+    input: &[u8],
+    run: Sequential,
+) -> u8
+    ensures { result ≡ exit_of run.came }
+{
+    let Sequential { came, note, left } = run;
+    let last = LastRecord::of(given, input, &came, left);
+    let status = tell_noted(rt, name, text, came, note);
+    if let Some(record) = last {
+        let _ = rt.eprint(record);
+    }
+    status
+}
+
+/// The same of a run in threads, or a replay, whose answer is written: where the sequential run tells more
+/// of its fault it is made, with its records onto `nowhere`.
+pub fn tell_known<R: Eprint + AllocGlobal, W: Write>(
+    rt: &R,
+    nowhere: &mut W,
+    name: &str,
+    text: &[u8],
+    given: Option<&str>,
+    input: &[u8],
+    came: Result<Outcome, EngineFault>,
+) -> u8
+    ensures { result ≡ exit_of came }
+{
+    let run = known_of(rt.alloc(), text, input, came, nowhere);
+    tell_run(rt, name, text, given, input, run)
+}
+
+/// Why the entry in a line of a schedule can't be made, where the schedule is refused for that.
+fn obstacle<R: AllocGlobal>(rt: &R, texts: &Texts, number: u8, line: usize) -> Option<Note> {
+    let Texts {
+        source,
+        input,
+        schedule,
+    } = texts;
+    match number {
+        54 | 56 => Met::of(rt.alloc(), source, input, schedule, line).map(Note::Obstacle),
+        _ => None,
+    }
+}
+
+/// Says on standard error what is wrong with a schedule's text, or with its source's.
+pub fn tell_of<R: Eprint + AllocGlobal>(
+    rt: &R,
+    names: Names<'_>,
+    texts: &Texts,
+    outcome: Result<Outcome, EngineFault>,
+) -> u8
+    ensures { result ≡ exit_of outcome }
+{
+    match outcome {
+        Ok(Outcome::NoSchedule { number, line }) => {
+            let outcome = Outcome::NoSchedule { number, line };
+            let note = obstacle(rt, texts, number, line);
+            tell_noted(rt, names.schedule, &texts.schedule, Ok(outcome), note)
+        }
+        outcome => tell(rt, names.source, &texts.source, outcome),
+    }
+}
+
+/// The same of a replay, with what is known of its fault beside the line.
+pub fn tell_replay<R: Eprint + AllocGlobal, W: Write>(
+    rt: &R,
+    nowhere: &mut W,
+    names: Names<'_>,
+    texts: &Texts,
+    outcome: Result<Outcome, EngineFault>,
+) -> u8
+    ensures { result ≡ exit_of outcome }
+{
+    match outcome {
+        Ok(Outcome::Faulted { fault, line }) => tell_known(
+            rt,
+            nowhere,
+            names.source,
+            &texts.source,
+            Some(names.input),
+            &texts.input,
+            Ok(Outcome::Faulted { fault, line }),
+        ),
+        outcome => tell_of(rt, names, texts, outcome),
+    }
+}
+
+/// Writes what is shown of texts that have no schedule or picture to give.
+pub fn show_page<R: Eprint + AllocGlobal, W: Write>(
+    rt: &R,
+    out: &mut W,
+    names: Names<'_>,
+    texts: &Texts,
+    page: &Page,
+) -> u8
+    ensures { Ends (IsPage page.now) (W.contents out.old) (W.contents out.new) result }
+{
+    let outcome = page.write(out);
+    tell_of(rt, names, texts, outcome)
+}
