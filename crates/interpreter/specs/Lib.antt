@@ -1,5 +1,4 @@
 pub mod Answers
-pub mod Choices
 pub mod Fast
 pub mod Halts
 pub mod Kept

@@ -1,7 +1,6 @@
 //! The sequential run of a program: by its lowered code where it has any, and else by its tree.
 #![tactic(auto)]
 
-mod choices;
 mod execute;
 mod fast;
 mod run;
