@@ -125,6 +125,19 @@ fn free_processors(alloc: Global, processors: usize) -> Result<Vec<Option<Holder
     Ok(held)
 }
 
+/// Places and processors of which none is taken.
+fn none_taken(
+    alloc: Global,
+    processors: usize,
+    slots: usize,
+) -> Result<(Vec<Option<Iteration>>, Vec<Option<Holder>>), AllocError>
+    ensures iterations { IfOk result (λ r. map (λ o. option_map standing_of o) r.0.items ≡ replicate slots None) }
+    ensures held { IfOk result (λ r. r.1.items ≡ replicate processors None) }
+{
+    let iterations = no_iterations(alloc, slots)?;
+    Ok((iterations, free_processors(alloc, processors)?))
+}
+
 impl<'c> Activities<'c> {
     ghost use Rattle.std.specs.Prelude.{◌≡◌, ◌≤◌, ◌<◌, IfOk, None, Some, get_or, is_some, length, option_map, ◌%◌};
     ghost use Rattle.machine.specs.CodeView.{code_of};
@@ -146,13 +159,16 @@ impl<'c> Activities<'c> {
         ensures are { IfOk result (λ a. AreOf (code_of code.now) processors slots a) }
         ensures stand { IfOk result AreActivities }
     {
+        let shared = first_shared(alloc, code, slots)?;
+        let main = first_main(alloc, code, input)?;
+        let (iterations, held) = none_taken(alloc, processors, slots)?;
         Ok(Activities {
             code,
             slots,
-            shared: first_shared(alloc, code, slots)?,
-            main: first_main(alloc, code, input)?,
-            iterations: no_iterations(alloc, slots)?,
-            held: free_processors(alloc, processors)?,
+            shared,
+            main,
+            iterations,
+            held,
         })
     }
 

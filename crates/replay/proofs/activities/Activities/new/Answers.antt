@@ -9,7 +9,6 @@ use Rattle.replay.specs.Parts.{Kept, Shared, point_of}
 use Rattle.replay.specs.declared.activities.Activities.{Activities}
 use Rattle.replay.specs.declared.activities.Holder.{Holder}
 use Rattle.replay.proofs.Beginning.{begins, first_core, first_kept, kept_first}
-use Rattle.std.proofs.lemmas.Grind.{common_steps}
 use Rattle.replay.proofs.activities.Activities.new.Goals as goal
 
 pub returns-clause-point : goal.returns-clause-point
@@ -18,14 +17,14 @@ returns-clause-point c =
     let a : Activities = record {
       code = c.args.code;
       slots = c.args.slots;
-      shared = c.in_ok-first_shared.field-0;
-      main = c.in_ok-first_main.field-0;
-      iterations = c.in_ok-no_iterations.field-0;
-      held = c.in_ok-free_processors.field-0;
+      shared = c.in_ok-shared.shared;
+      main = c.in_ok-main.main;
+      iterations = c.in_ok-iterations.iterations;
+      held = c.in_ok-iterations.held;
     } in
     let same : kept_in a ≡ first_kept code c.args.input.now c.args.processors c.args.slots =
-    kept_first code c.args.input.now c.args.processors c.args.slots a c.in_ok-first_shared.ensures.shared c.in_ok-first_main.ensures.input c.in_ok-first_main.ensures.frame c.in_ok-first_main.ensures.wait
-    c.in_ok-no_iterations.ensures c.in_ok-free_processors.ensures in
+    kept_first code c.args.input.now c.args.processors c.args.slots a c.in_ok-shared.ensures.shared c.in_ok-main.ensures.input c.in_ok-main.ensures.frame c.in_ok-main.ensures.wait
+    c.in_ok-iterations.ensures.iterations c.in_ok-iterations.ensures.held in
     ap (λ (y : Kept). point_of code.variables c.args.slots y) same ∙ begins code c.args.input.now c.args.processors c.args.slots
 
 pub returns-clause-stand : goal.returns-clause-stand
@@ -34,20 +33,17 @@ returns-clause-stand c =
     let a : Activities = record {
       code = c.args.code;
       slots = c.args.slots;
-      shared = c.in_ok-first_shared.field-0;
-      main = c.in_ok-first_main.field-0;
-      iterations = c.in_ok-no_iterations.field-0;
-      held = c.in_ok-free_processors.field-0;
+      shared = c.in_ok-shared.shared;
+      main = c.in_ok-main.main;
+      iterations = c.in_ok-iterations.iterations;
+      held = c.in_ok-iterations.held;
     } in
     let same : kept_in a ≡ first_kept code c.args.input.now c.args.processors c.args.slots =
-    kept_first code c.args.input.now c.args.processors c.args.slots a c.in_ok-first_shared.ensures.shared c.in_ok-first_main.ensures.input c.in_ok-first_main.ensures.frame c.in_ok-first_main.ensures.wait
-    c.in_ok-no_iterations.ensures c.in_ok-free_processors.ensures in
-    let kernel = subst (λ (v : View). IsKernel v) (ap (λ (s : Shared). s.order) c.in_ok-first_shared.ensures.shared) c.in_ok-first_shared.ensures.kept in
+    kept_first code c.args.input.now c.args.processors c.args.slots a c.in_ok-shared.ensures.shared c.in_ok-main.ensures.input c.in_ok-main.ensures.frame c.in_ok-main.ensures.wait
+    c.in_ok-iterations.ensures.iterations c.in_ok-iterations.ensures.held in
+    let kernel = subst (λ (v : View). IsKernel v) (ap (λ (s : Shared). s.order) c.in_ok-shared.ensures.shared) c.in_ok-shared.ensures.kept in
     let some : 0 < c.args.slots = omega (arith, c.requires.sizes.1.0) in
     record {
       core = subst (λ (y : Kept). IsCore code c.args.slots y) (sym same) (first_core code c.args.input.now c.args.processors c.args.slots some kernel);
-      processors = omega (arith, c.requires.sizes.0.0, ap (λ xs. length xs) c.in_ok-free_processors.ensures, length-replicate {A = Option Holder} c.args.processors None);
+      processors = omega (arith, c.requires.sizes.0.0, ap (λ xs. length xs) c.in_ok-iterations.ensures.held, length-replicate {A = Option Holder} c.args.processors None);
     }
-
-pub returns-clause-are : goal.returns-clause-are
-returns-clause-are c = grind (arith, common_steps)
