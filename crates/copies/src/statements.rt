@@ -4,8 +4,8 @@ ghost use Rattle.std.specs.Prelude.{◌≡◌, IfOk, map};
 ghost use Rattle.ast.specs.View.{access, bounds, declarator, definition, head, item, kind, statement};
 
 use crate::expressions::{copy_of_access, copy_of_expression, copy_of_optional};
-use ast::statement::{Bounds, Declarator, Definition, DoHead, Item, Kind, Stmt};
 use ast::Access;
+use ast::statement::{Bounds, Declarator, Definition, DoHead, Item, Kind, Stmt};
 use std::alloc::{AllocError, Global};
 
 fn copy_of_item(alloc: Global, given: &Item) -> Result<Item, AllocError>

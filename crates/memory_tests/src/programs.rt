@@ -138,8 +138,7 @@ pub fn is_answer(answer: &Answer, row: &Row) -> bool {
 
 /// Whether a row's program has the row's answer.
 fn has_answer(rt: &(impl Abort + AllocGlobal), program: &Program, row: &Row) -> bool {
-    program.statements == row.statements
-        && is_answer(&answer_of(rt, program, row), row)
+    program.statements == row.statements && is_answer(&answer_of(rt, program, row), row)
 }
 
 #[test]
