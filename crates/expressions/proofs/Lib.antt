@@ -6,3 +6,4 @@ pub mod Public
 pub mod Sound
 pub mod Tools
 pub mod Values
+pub mod Within

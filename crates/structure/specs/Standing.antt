@@ -45,6 +45,9 @@ next t s = record {
   labels = insert_all nat_eq t.labels (option_to_list s.label);
 }
 
+abbrev pub rule_of_label : Standing → Statement → Option ℕ
+rule_of_label t s = if is_some_and (λ label. list_any (nat_eq label) t.labels) s.label then Some 41 else None
+
 abbrev pub rule_by : Standing → Statement → Option ℕ
 rule_by t s =
     if (is_program s.kind && t.begun) || (is_declaration s.kind && t.executable) then Some 30

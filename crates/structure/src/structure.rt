@@ -102,10 +102,11 @@ fn go_on(structures: &mut Vec<Open>, stmt: &Stmt) -> Result<(), AllocError>
 }
 
 impl Structure {
-    ghost use Rattle.std.specs.Prelude.{◌≡◌, IfOk, None, [], length};
+    ghost use Rattle.std.specs.Prelude.{◌≡◌, ◌&&◌, ◌||◌, IfOk, None, [], length};
+    ghost use Rattle.structure.specs.Rules.{is_declaration, is_program};
     ghost use Rattle.structure.specs.Open.{is_active};
     ghost use Rattle.ast.specs.View.{statement};
-    ghost use Rattle.structure.specs.Standing.{next, rule_by, standing, standing_after};
+    ghost use Rattle.structure.specs.Standing.{next, rule_by, rule_of_label, standing, standing_after};
 
     /// Nothing yet.
     pub fn new(alloc: Global) -> Self
@@ -134,15 +135,34 @@ impl Structure {
         has_variable(&self.opened, name)
     }
 
+    /// Whether a statement is PROGRAM and not the first, or a declaration behind an executable one.
+    fn is_out_of_order(&self, stmt: &Stmt) -> bool
+        ensures { result ≡ (is_program (statement stmt.now).kind && self.now.begun) || (is_declaration (statement stmt.now).kind && self.now.executable) }
+    {
+        is_program(&stmt.kind) && self.begun || is_declaration(&stmt.kind) && self.executable
+    }
+
+    /// Takes in a statement, unless it breaks rule 41: its label was there.
+    fn take_in(&mut self, stmt: &Stmt) -> Result<Option<u8>, AllocError>
+        ensures rule { IfOk result (λ rule. rule ≡ rule_of_label (standing self.old) (statement stmt.now)) }
+        ensures kept { IfOk result (λ rule. rule ≡ None → standing self.new ≡ next (standing self.old) (statement stmt.now)) }
+    {
+        if add_label(&mut self.labels, stmt.label)? {
+            return Ok(Some(41));
+        }
+        go_on(&mut self.opened, stmt)?;
+        self.begun = true;
+        self.executable = self.executable || !is_program(&stmt.kind) && !is_declaration(&stmt.kind);
+        Ok(None)
+    }
+
     /// The lowest rule of 30, 34 to 36 and 41 that the next statement breaks. Where it breaks none it
     /// is one of those before from now on.
     pub fn rule_broken(&mut self, stmt: &Stmt) -> Result<Option<u8>, AllocError>
         ensures rule { IfOk result (λ rule. rule ≡ rule_by (standing self.old) (statement stmt.now)) }
         ensures kept { IfOk result (λ rule. rule ≡ None → standing self.new ≡ next (standing self.old) (statement stmt.now)) }
     {
-        let is_program = is_program(&stmt.kind);
-        let is_declaration = is_declaration(&stmt.kind);
-        if is_program && self.begun || is_declaration && self.executable {
+        if self.is_out_of_order(stmt) {
             return Ok(Some(30));
         }
         if crosses(&self.opened, stmt) {
@@ -154,12 +174,6 @@ impl Structure {
         if breaks_blocks(&self.opened, stmt) {
             return Ok(Some(36));
         }
-        if add_label(&mut self.labels, stmt.label)? {
-            return Ok(Some(41));
-        }
-        go_on(&mut self.opened, stmt)?;
-        self.begun = true;
-        self.executable = self.executable || !is_program && !is_declaration;
-        Ok(None)
+        self.take_in(stmt)
     }
 }

@@ -1,5 +1,7 @@
 pub mod DoTexts
+pub mod KindParts
 pub mod Labels
+pub mod ListParts
 pub mod Public
 pub mod Rest
 pub mod Shallow

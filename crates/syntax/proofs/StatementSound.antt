@@ -180,6 +180,13 @@ declarator_sound line t x e =
     let s = name_sound line t b.0 b.1 in
     declared_sound line t s.0 b.0.1 b.0.0 x s.1 s.2 b.2
 
+definition_made : (name t rest u others spelled written : List ℕ) (e : Term) (x : Definition × List ℕ)
+    → t ≡ spelled ++ rest → IsName name spelled → rest ≡ 61 ∷ u → u ≡ written ++ others → Spells top e written
+    → done {A = Definition × List ℕ} (record { name = name; value = e }, others) ≡ Ok x → (v : List ℕ) × (t ≡ v ++ x.1) × IsDefinition x.0 v
+definition_made name t rest u others spelled written e x is named at behind spells made =
+    subst (λ (z : Definition × List ℕ). (v : List ℕ) × (t ≡ v ++ z.1) × IsDefinition z.0 v) (ok_is (record { name = name; value = e }, others) x made)
+    (spelled ++ 61 ∷ written, joined t spelled rest (61 ∷ written) others is (at ∙ ap (λ (w : List ℕ). 61 ∷ w) behind), (spelled, written, refl, named, spells))
+
 pub definition_sound : (line : ℕ) → PartSound (definition_at line) IsDefinition
 definition_sound line t x e =
     let value_of : List ℕ → List ℕ → Result (Definition × List ℕ) Break = λ name u. front_at line u >>= λ y. Ok (record { name = name; value = y.0 }, y.1) in
@@ -189,9 +196,7 @@ definition_sound line t x e =
     let c = bind_ok (wanted_at line (codes "=") b.0.1) (value_of b.0.0) x b.2 in
     let d = bind_ok (front_at line c.0) (λ y. done (record { name = b.0.0; value = y.0 }, y.1)) x c.2 in
     let v = front_sound line c.0 d.0 d.1 in
-    let behind : b.0.1 ≡ (61 ∷ v.0) ++ d.0.1 = wanted_law line (codes "=") b.0.1 c.0 c.1 ∙ ap (λ (w : List ℕ). 61 ∷ w) v.1 in
-    subst (λ (z : Definition × List ℕ). (v : List ℕ) × (t ≡ v ++ z.1) × IsDefinition z.0 v) (ok_is (record { name = b.0.0; value = d.0.0 }, d.0.1) x d.2)
-    (s.0 ++ 61 ∷ v.0, joined t s.0 b.0.1 (61 ∷ v.0) d.0.1 s.1 behind, (s.0, v.0, refl, s.2, v.2))
+    definition_made b.0.0 t b.0.1 c.0 d.0.1 s.0 v.0 d.0.0 x s.1 s.2 (wanted_law line (codes "=") b.0.1 c.0 c.1) v.1 v.2 d.2
 
 -- ---- items
 
@@ -269,6 +274,13 @@ step_sound line t s e =
           subst (λ (z : Option Term). IsStep z t) (ok_is (Some c.0) s c.2) (b.0, wanted_law line (codes ",") t b.0 b.1, whole_sound line b.0 c.0 c.1)
     ]
 
+head_made : (label : ℕ) (name t rest u others spelled written : List ℕ) (a b : Term) (s : Option Term) (h : DoHead)
+    → t ≡ spelled ++ rest → Spells top a spelled → rest ≡ 44 ∷ u → u ≡ written ++ others → Spells top b written → IsStep s others
+    → done (record { terminal = label; variable = reference_to name; first = a; last = b; step = s }) ≡ Ok h → (h.terminal ≡ label) × (h.variable ≡ reference_to name) × AreParameters h t
+head_made label name t rest u others spelled written a b s h is first_is at behind last_is step_is made =
+    subst (λ (z : DoHead). (z.terminal ≡ label) × (z.variable ≡ reference_to name) × AreParameters z t) (ok_is (record { terminal = label; variable = reference_to name; first = a; last = b; step = s }) h made)
+    (refl, refl, (spelled, written, others, is ∙ ap (λ (w : List ℕ). spelled ++ w) (at ∙ ap (λ (w : List ℕ). 44 ∷ w) behind), first_is, last_is, step_is))
+
 head_sound : (line label : ℕ) (name t : List ℕ) (h : DoHead) → head_of line label name t ≡ Ok h → (h.terminal ≡ label) × (h.variable ≡ reference_to name) × AreParameters h t
 head_sound line label name t h e =
     let made : Term → Term → Option Term → DoHead = λ a b s. record { terminal = label; variable = reference_to name; first = a; last = b; step = s } in
@@ -281,9 +293,7 @@ head_sound line label name t h e =
     let b = bind_ok (front_at line c.0) (third a.0.0) h c.2 in
     let last_is = front_sound line c.0 b.0 b.1 in
     let s = bind_ok (step_at line b.0.1) (λ s. done (made a.0.0 b.0.0 s)) h b.2 in
-    let behind : a.0.1 ≡ 44 ∷ (last_is.0 ++ b.0.1) = wanted_law line (codes ",") a.0.1 c.0 c.1 ∙ ap (λ (w : List ℕ). 44 ∷ w) last_is.1 in
-    subst (λ (z : DoHead). (z.terminal ≡ label) × (z.variable ≡ reference_to name) × AreParameters z t) (ok_is (made a.0.0 b.0.0 s.0) h s.2)
-    (refl, refl, (first_is.0, last_is.0, b.0.1, first_is.1 ∙ ap (λ (w : List ℕ). first_is.0 ++ w) behind, first_is.2, last_is.2, step_sound line b.0.1 s.0 s.1))
+    head_made label name t a.0.1 c.0 b.0.1 first_is.0 last_is.0 a.0.0 b.0.0 s.0 h first_is.1 first_is.2 (wanted_law line (codes ",") a.0.1 c.0 c.1) last_is.1 last_is.2 (step_sound line b.0.1 s.0 s.1) s.2
 
 comma_law : (t : List ℕ) → (c : List ℕ) × (t ≡ c ++ without_comma t) × IsComma c
 comma_law t = go (after (codes ",") t) refl

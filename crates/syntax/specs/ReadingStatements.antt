@@ -3,7 +3,7 @@ use Rattle.std.specs.Prelude.{ℕ, zero, suc, ◌+◌, nat_le, ◌==◌, if◌th
 use Rattle.std.specs.List.{prefix_len}
 use Rattle.ast.specs.Answers.{Break}
 use Rattle.ast.specs.Results.{◌>>=◌}
-use Rattle.ast.specs.Tree.{Term, PrintItem, value_item, text_item, Bounds, Declarator, Definition, DoHead, Kind, program, integer, dimension, parameters, assign, do_loop, go_on, block_if, else_if, else_arm, end_if, logical_if, print, read, stop, end, Statement}
+use Rattle.ast.specs.Tree.{Term, Access, PrintItem, value_item, text_item, Bounds, Declarator, Definition, DoHead, Kind, program, integer, dimension, parameters, assign, do_loop, go_on, block_if, else_if, else_arm, end_if, logical_if, print, read, stop, end, Statement}
 use Rattle.expressions.specs.Answers.{refuse}
 use Rattle.expressions.specs.Characters.{is_digit, after, value}
 use Rattle.expressions.specs.Grammar.{reference_to, depth_limit}
@@ -113,6 +113,15 @@ head_of line label name t =
     front_at line t >>= λ a. wanted_at line (codes ",") a.1 >>= λ u. front_at line u >>= λ b. step_at line b.1 >>= λ s.
     Ok (record { terminal = label; variable = reference_to name; first = a.0; last = b.0; step = s })
 
+-- behind the comma of the initial parameter, and behind the label
+abbrev pub bounded_by : ℕ → ℕ → List ℕ → Term → List ℕ → Result DoHead Break
+bounded_by line label name first t =
+    front_at line t >>= λ b. step_at line b.1 >>= λ s.
+    Ok (record { terminal = label; variable = reference_to name; first = first; last = b.0; step = s })
+
+abbrev pub counted_by : ℕ → ℕ → List ℕ → Result DoHead Break
+counted_by line label t = name_at line t >>= λ x. wanted_at line (codes "=") x.1 >>= λ u. head_of line label x.0 u
+
 abbrev pub do_at : ℕ → List ℕ → Result DoHead Break
 do_at line t =
     let n = prefix_len is_digit t in
@@ -124,11 +133,19 @@ do_at line t =
 abbrev pub assigned_at : ℕ → List ℕ → Result Kind Break
 assigned_at line t = element_at line t >>= λ x. wanted_at line (codes "=") x.1 >>= λ u. whole_at line u >>= λ e. Ok (assign x.0 e)
 
+-- behind the target of an assignment
+abbrev pub assigned_behind : ℕ → Access → List ℕ → Result Kind Break
+assigned_behind line a t = wanted_at line (codes "=") t >>= λ u. whole_at line u >>= λ e. Ok (assign a e)
+
 abbrev pub definitions_at : ℕ → List ℕ → Result (List Definition) Break
 definitions_at line t = elim (after (codes "(") t) [
   | Some u ↦ closed_list line (definition_at line) u >>= λ x. end_at line x.1 >>= λ v. Ok x.0
   | None ↦ refuse line 25
 ]
+
+-- behind the parenthesis of a PARAMETER
+abbrev pub enclosed_definitions_at : ℕ → List ℕ → Result (List Definition) Break
+enclosed_definitions_at line t = closed_list line (definition_at line) t >>= λ x. end_at line x.1 >>= λ v. Ok x.0
 
 -- behind the parenthesis of an ELSE IF
 abbrev pub arm_at : ℕ → List ℕ → Result Kind Break
@@ -163,6 +180,12 @@ worded_at line Stop t cs = if is_stop_text t cs then Ok stop else refuse line 25
 worded_at line End t cs = alone line end t
 worded_at line LeftOut t cs = refuse line 27
 
+abbrev pub block_if_at : ℕ → List ℕ → Result Kind Break
+block_if_at line t = whole_at line t >>= λ e. Ok (block_if e)
+
+abbrev pub do_loop_at : ℕ → List ℕ → Result Kind Break
+do_loop_at line t = do_at line t >>= λ h. Ok (do_loop h)
+
 -- the statement of a class, the statement of a logical IF being read by `inner`
 abbrev pub class_at : ℕ → (List ℕ → Result Kind Break) → Class → List (List ℕ) → Result Kind Break
 class_at line inner (classes.block_if u) cs = whole_at line u >>= λ e. Ok (block_if e)
@@ -183,6 +206,9 @@ initial line text k = if is_initial k text then Ok k else refuse line 25
 
 abbrev pub shallow : ℕ → Kind → Result Kind Break
 shallow line k = if nat_le (depth_of_kind k) depth_limit then Ok k else refuse line 26
+
+abbrev pub accepted : ℕ → List ℕ → Kind → Result Kind Break
+accepted line text k = initial line text k >>= shallow line
 
 -- what is left to look at, once it is known what the statement does
 abbrev pub checked_at : ℕ → Option ℕ → List ℕ → Kind → Result Statement Break

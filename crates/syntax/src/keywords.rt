@@ -1,12 +1,12 @@
 //! Statements by their keywords.
 
-ghost use Rattle.std.specs.Prelude.{◌≡◌, map, IfErr, option_map};
+ghost use Rattle.std.specs.Prelude.{◌≡◌, [], map, IfErr, option_map};
 ghost use Rattle.ast.specs.Answers.{Gives};
 ghost use Rattle.ast.specs.View.{access, declarator, definition, item, kind, letters};
 ghost use Rattle.ast.specs.declared.refusal.Refusal.TheVariants.{Refused};
 ghost use Rattle.expressions.specs.Answers.{IsRefused};
-ghost use Rattle.expressions.specs.Reading.{element_at};
-ghost use Rattle.syntax.specs.ReadingStatements.{items_at, listed, list_behind_unit, list_behind_star, open_list, part_at, definitions_at, arm_at, else_if_at, whole_name_at, alone, worded_at};
+ghost use Rattle.expressions.specs.Reading.{element_at, ended};
+ghost use Rattle.syntax.specs.ReadingStatements.{items_at, listed, list_behind_unit, list_behind_star, open_list, part_at, definitions_at, enclosed_definitions_at, arm_at, else_if_at, whole_name_at, alone, worded_at};
 ghost use Rattle.syntax.specs.Squeezing.{texts_left};
 ghost use Rattle.syntax.specs.Statements.{is_short_number, has_text, is_stop_text};
 
@@ -26,13 +26,21 @@ pub fn malformed(line: Line) -> Refusal
     Refusal::Refused { number: 25, line }
 }
 
+/// The name behind which the text stands, where it is empty.
+fn ended(name: Name, text: &[u8], line: Line) -> Result<Name, Refusal>
+    ensures reads { Gives letters result (ended line (name.letters, text.now)) }
+    ensures sure { IfErr result IsRefused }
+{
+    end(text, line)?;
+    Ok(name)
+}
+
 fn whole_name(text: &[u8], line: Line) -> Result<Name, Refusal>
     ensures reads { Gives letters result (whole_name_at line text.now) }
     ensures sure { IfErr result IsRefused }
 {
     let (name, rest) = name(text, line)?;
-    end(rest, line)?;
-    Ok(name)
+    ended(name, rest, line)
 }
 
 fn declarator_list(
@@ -43,7 +51,18 @@ fn declarator_list(
 ) -> Result<Vec<Declarator>, Refusal>
     ensures { Gives (λ v. map declarator v.items) result (open_list line (part_at bounded line) text.now) }
 {
-    let (list, _) = declarators(alloc, bounded, Vec::new(alloc), text, line, room(text))?;
+    let mut list = Vec::new(alloc);
+    declarators(alloc, bounded, &mut list, text, line, room(text))?;
+    Ok(list)
+}
+
+/// The definitions of a PARAMETER, behind whose opening parenthesis the text stands. Numbers 22 to 25.
+fn enclosed_definitions(alloc: Global, text: &[u8], line: Line) -> Result<Vec<Definition>, Refusal>
+    ensures { Gives (λ v. map definition v.items) result (enclosed_definitions_at line text.now) }
+{
+    let mut list = Vec::new(alloc);
+    let rest = definitions(alloc, &mut list, text, line, room(text))?;
+    end(rest, line)?;
     Ok(list)
 }
 
@@ -52,11 +71,7 @@ fn definition_list(alloc: Global, text: &[u8], line: Line) -> Result<Vec<Definit
     ensures { Gives (λ v. map definition v.items) result (definitions_at line text.now) }
 {
     match after(text, b"(") {
-        Some(inside) => {
-            let (list, rest) = definitions(alloc, Vec::new(alloc), inside, line, room(inside))?;
-            end(rest, line)?;
-            Ok(list)
-        }
+        Some(inside) => enclosed_definitions(alloc, inside, line),
         None => Err(malformed(line)),
     }
 }
@@ -90,22 +105,21 @@ fn item_list(
 ) -> Result<Vec<Item>, Refusal>
     ensures { Gives (λ v. map item v.items) result (listed (items_at line (texts_left constants.old)) (option_map (λ u. u.now) list.entry)) }
 {
-    match list {
-        Some(text) => items(alloc, Vec::new(alloc), text, constants, line, room(text)),
-        None => Ok(Vec::new(alloc)),
+    let mut read = Vec::new(alloc);
+    if let Some(text) = list {
+        items(alloc, &mut read, text, constants, line, room(text))?;
     }
+    Ok(read)
 }
 
 fn element_list(alloc: Global, list: Option<&[u8]>, line: Line) -> Result<Vec<Access>, Refusal>
     ensures { Gives (λ v. map access v.items) result (listed (open_list line (element_at line)) (option_map (λ u. u.now) list.entry)) }
 {
-    match list {
-        Some(text) => {
-            let (list, _) = elements(alloc, Vec::new(alloc), text, line, room(text))?;
-            Ok(list)
-        }
-        None => Ok(Vec::new(alloc)),
+    let mut read = Vec::new(alloc);
+    if let Some(text) = list {
+        elements(alloc, &mut read, text, line, room(text))?;
     }
+    Ok(read)
 }
 
 /// An ELSE IF behind whose opening parenthesis the text stands. Numbers 22 to 25.
@@ -177,6 +191,83 @@ fn stop(text: &[u8], constants: &mut IntoIter<Vec<u8>>, line: Line) -> Result<Ki
     }
 }
 
+/// PROGRAM and its name.
+fn program(text: &[u8], line: Line) -> Result<Kind, Refusal>
+    ensures reads { Gives kind result (worded_at line Keyword.Program text.now []) }
+    ensures sure { IfErr result IsRefused }
+{
+    let name = whole_name(text, line)?;
+    Ok(Kind::Program(name))
+}
+
+/// INTEGER and its declarators.
+fn integer(alloc: Global, text: &[u8], line: Line) -> Result<Kind, Refusal>
+    ensures { Gives kind result (worded_at line Keyword.Integer text.now []) }
+{
+    let list = declarator_list(alloc, false, text, line)?;
+    Ok(Kind::Integer(list))
+}
+
+/// DIMENSION and its declarators, which all have bounds.
+fn dimension(alloc: Global, text: &[u8], line: Line) -> Result<Kind, Refusal>
+    ensures { Gives kind result (worded_at line Keyword.Dimension text.now []) }
+{
+    let list = declarator_list(alloc, true, text, line)?;
+    Ok(Kind::Dimension(list))
+}
+
+/// PARAMETER and its definitions.
+fn parameter(alloc: Global, text: &[u8], line: Line) -> Result<Kind, Refusal>
+    ensures { Gives kind result (worded_at line Keyword.Parameter text.now []) }
+{
+    let list = definition_list(alloc, text, line)?;
+    Ok(Kind::Parameter(list))
+}
+
+/// `PRINT*` and its items.
+fn print(
+    alloc: Global,
+    text: &[u8],
+    constants: &mut IntoIter<Vec<u8>>,
+    line: Line,
+) -> Result<Kind, Refusal>
+    ensures { Gives kind result (worded_at line Keyword.Print text.now (texts_left constants.old)) }
+{
+    let list = list_behind_star(text, line)?;
+    let items = item_list(alloc, list, constants, line)?;
+    Ok(Kind::Print(items))
+}
+
+/// `WRITE(*,*)` and its items.
+fn write(
+    alloc: Global,
+    text: &[u8],
+    constants: &mut IntoIter<Vec<u8>>,
+    line: Line,
+) -> Result<Kind, Refusal>
+    ensures { Gives kind result (worded_at line Keyword.Write text.now (texts_left constants.old)) }
+{
+    let items = item_list(alloc, list_behind_unit(text), constants, line)?;
+    Ok(Kind::Print(items))
+}
+
+/// `READ*` and its elements.
+fn read(alloc: Global, text: &[u8], line: Line) -> Result<Kind, Refusal>
+    ensures { Gives kind result (worded_at line Keyword.Read text.now []) }
+{
+    let list = list_behind_star(text, line)?;
+    let elements = element_list(alloc, list, line)?;
+    Ok(Kind::Read(elements))
+}
+
+/// `READ(*,*)` and its elements.
+fn read_unit(alloc: Global, text: &[u8], line: Line) -> Result<Kind, Refusal>
+    ensures { Gives kind result (worded_at line Keyword.ReadUnit text.now []) }
+{
+    let elements = element_list(alloc, list_behind_unit(text), line)?;
+    Ok(Kind::Read(elements))
+}
+
 /// A statement behind whose keyword the text stands. Numbers 22 to 25, and 27.
 pub fn worded(
     alloc: Global,
@@ -188,26 +279,14 @@ pub fn worded(
     ensures { Gives kind result (worded_at line keyword text.now (texts_left constants.old)) }
 {
     match keyword {
-        Keyword::Program => Ok(Kind::Program(whole_name(text, line)?)),
-        Keyword::Integer => Ok(Kind::Integer(declarator_list(alloc, false, text, line)?)),
-        Keyword::Dimension => Ok(Kind::Dimension(declarator_list(alloc, true, text, line)?)),
-        Keyword::Parameter => Ok(Kind::Parameter(definition_list(alloc, text, line)?)),
-        Keyword::Print => {
-            let list = list_behind_star(text, line)?;
-            Ok(Kind::Print(item_list(alloc, list, constants, line)?))
-        }
-        Keyword::Write => {
-            let list = list_behind_unit(text);
-            Ok(Kind::Print(item_list(alloc, list, constants, line)?))
-        }
-        Keyword::Read => {
-            let list = list_behind_star(text, line)?;
-            Ok(Kind::Read(element_list(alloc, list, line)?))
-        }
-        Keyword::ReadUnit => {
-            let list = list_behind_unit(text);
-            Ok(Kind::Read(element_list(alloc, list, line)?))
-        }
+        Keyword::Program => program(text, line),
+        Keyword::Integer => integer(alloc, text, line),
+        Keyword::Dimension => dimension(alloc, text, line),
+        Keyword::Parameter => parameter(alloc, text, line),
+        Keyword::Print => print(alloc, text, constants, line),
+        Keyword::Write => write(alloc, text, constants, line),
+        Keyword::Read => read(alloc, text, line),
+        Keyword::ReadUnit => read_unit(alloc, text, line),
         Keyword::Continue => alone(Kind::Continue, text, line),
         Keyword::Else => alone(Kind::Else, text, line),
         Keyword::ElseIf => else_if(alloc, text, line),

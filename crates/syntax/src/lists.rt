@@ -1,6 +1,6 @@
 //! Lists, their parts parted by commas.
 
-ghost use Rattle.std.specs.Prelude.{◌≡◌, ◌+◌, ◌++◌, ◌∷◌, [], length, map, IfOk, IfErr, codes};
+ghost use Rattle.std.specs.Prelude.{◌≡◌, ◌+◌, ◌++◌, ◌∷◌, [], length, map, OnOk, IfErr, codes};
 ghost use Rattle.ast.specs.Answers.{Gives};
 ghost use Rattle.ast.specs.View.{access, bounds, declarator, definition, item, term};
 ghost use Rattle.ast.specs.declared.refusal.Refusal.TheVariants.{Refused};
@@ -64,32 +64,32 @@ fn bounds(alloc: Global, text: &[u8], line: Line) -> Result<(Bounds, &[u8]), Ref
     upper(alloc, first, rest, line)
 }
 
-fn with_bounds(mut read: Vec<Bounds>, next: Bounds) -> Result<Vec<Bounds>, AllocError>
-    ensures { IfOk result (λ v. map bounds v.items ≡ map bounds read.items ++ bounds next ∷ []) }
+fn push_bounds(read: &mut Vec<Bounds>, next: Bounds) -> Result<(), AllocError>
+    ensures { OnOk result (map bounds read.new.items ≡ map bounds read.old.items ++ bounds next ∷ []) }
 {
     read.push(next)?;
-    Ok(read)
+    Ok(())
 }
 
-/// The bounds after those that were read, the first right here, and what stands behind the closing
-/// parenthesis. `room` bounds their number.
-fn bounds_list(
+/// Reads bounds after those that were read, the first right here, and gives what stands behind the
+/// closing parenthesis. `room` bounds their number.
+fn bounds_list<'a>(
     alloc: Global,
-    read: Vec<Bounds>,
-    text: &[u8],
+    read: &mut Vec<Bounds>,
+    text: &'a [u8],
     line: Line,
     room: u128,
-) -> Result<(Vec<Bounds>, &[u8]), Refusal>
-    ensures { Gives (λ x. (map bounds x.0.items, x.1.now)) result (parts_at line (bounds_at line) (wanted_at line (codes ")")) room (map bounds read.items) text.now) }
+) -> Result<&'a [u8], Refusal>
+    ensures { Gives (λ x. (map bounds read.new.items, x.now)) result (parts_at line (bounds_at line) (wanted_at line (codes ")")) room (map bounds read.old.items) text.now) }
 {
     if room == 0 {
         return Err(spent(line));
     }
     let (next, rest) = bounds(alloc, text, line)?;
-    let longer = with_bounds(read, next)?;
+    push_bounds(read, next)?;
     match after(rest, b",") {
-        Some(behind) => bounds_list(alloc, longer, behind, line, room - 1),
-        None => Ok((longer, wanted(rest, b")", line)?)),
+        Some(behind) => bounds_list(alloc, read, behind, line, room - 1),
+        None => wanted(rest, b")", line),
     }
 }
 
@@ -99,7 +99,8 @@ fn bounds_list(
 fn array(alloc: Global, name: Name, text: &[u8], line: Line) -> Result<(Declarator, &[u8]), Refusal>
     ensures { Gives (λ x. (declarator x.0, x.1.now)) result (array_of line name.letters text.now) }
 {
-    let (bounds, rest) = bounds_list(alloc, Vec::new(alloc), text, line, room(text))?;
+    let mut bounds = Vec::new(alloc);
+    let rest = bounds_list(alloc, &mut bounds, text, line, room(text))?;
     Ok((Declarator { name, bounds }, rest))
 }
 
@@ -138,36 +139,33 @@ fn declarator(
     }
 }
 
-fn with_declarator(
-    mut read: Vec<Declarator>,
-    next: Declarator,
-) -> Result<Vec<Declarator>, AllocError>
-    ensures { IfOk result (λ v. map declarator v.items ≡ map declarator read.items ++ declarator next ∷ []) }
+fn push_declarator(read: &mut Vec<Declarator>, next: Declarator) -> Result<(), AllocError>
+    ensures { OnOk result (map declarator read.new.items ≡ map declarator read.old.items ++ declarator next ∷ []) }
 {
     read.push(next)?;
-    Ok(read)
+    Ok(())
 }
 
-/// The declarators after those that were read, the first right here, to the end of the text. `room`
-/// bounds their number. Numbers 22 to 25.
-pub fn declarators(
+/// Reads declarators after those that were read, the first right here, to the end of the text, which
+/// is given. `room` bounds their number. Numbers 22 to 25.
+pub fn declarators<'a>(
     alloc: Global,
     bounded: bool,
-    read: Vec<Declarator>,
-    text: &[u8],
+    read: &mut Vec<Declarator>,
+    text: &'a [u8],
     line: Line,
     room: u128,
-) -> Result<(Vec<Declarator>, &[u8]), Refusal>
-    ensures { Gives (λ x. (map declarator x.0.items, x.1.now)) result (parts_at line (part_at bounded line) (end_at line) room (map declarator read.items) text.now) }
+) -> Result<&'a [u8], Refusal>
+    ensures { Gives (λ x. (map declarator read.new.items, x.now)) result (parts_at line (part_at bounded line) (end_at line) room (map declarator read.old.items) text.now) }
 {
     if room == 0 {
         return Err(spent(line));
     }
     let (next, rest) = declarator(alloc, bounded, text, line)?;
-    let longer = with_declarator(read, next)?;
+    push_declarator(read, next)?;
     match after(rest, b",") {
-        Some(behind) => declarators(alloc, bounded, longer, behind, line, room - 1),
-        None => Ok((longer, end(rest, line)?)),
+        Some(behind) => declarators(alloc, bounded, read, behind, line, room - 1),
+        None => end(rest, line),
     }
 }
 
@@ -183,66 +181,63 @@ fn definition(alloc: Global, text: &[u8], line: Line) -> Result<(Definition, &[u
     Ok((Definition { name, value }, rest))
 }
 
-fn with_definition(
-    mut read: Vec<Definition>,
-    next: Definition,
-) -> Result<Vec<Definition>, AllocError>
-    ensures { IfOk result (λ v. map definition v.items ≡ map definition read.items ++ definition next ∷ []) }
+fn push_definition(read: &mut Vec<Definition>, next: Definition) -> Result<(), AllocError>
+    ensures { OnOk result (map definition read.new.items ≡ map definition read.old.items ++ definition next ∷ []) }
 {
     read.push(next)?;
-    Ok(read)
+    Ok(())
 }
 
-/// The definitions after those that were read, the first right here, and what stands behind the
-/// closing parenthesis. `room` bounds their number. Numbers 22 to 25.
-pub fn definitions(
+/// Reads definitions after those that were read, the first right here, and gives what stands behind
+/// the closing parenthesis. `room` bounds their number. Numbers 22 to 25.
+pub fn definitions<'a>(
     alloc: Global,
-    read: Vec<Definition>,
-    text: &[u8],
+    read: &mut Vec<Definition>,
+    text: &'a [u8],
     line: Line,
     room: u128,
-) -> Result<(Vec<Definition>, &[u8]), Refusal>
-    ensures { Gives (λ x. (map definition x.0.items, x.1.now)) result (parts_at line (definition_at line) (wanted_at line (codes ")")) room (map definition read.items) text.now) }
+) -> Result<&'a [u8], Refusal>
+    ensures { Gives (λ x. (map definition read.new.items, x.now)) result (parts_at line (definition_at line) (wanted_at line (codes ")")) room (map definition read.old.items) text.now) }
 {
     if room == 0 {
         return Err(spent(line));
     }
     let (next, rest) = definition(alloc, text, line)?;
-    let longer = with_definition(read, next)?;
+    push_definition(read, next)?;
     match after(rest, b",") {
-        Some(behind) => definitions(alloc, longer, behind, line, room - 1),
-        None => Ok((longer, wanted(rest, b")", line)?)),
+        Some(behind) => definitions(alloc, read, behind, line, room - 1),
+        None => wanted(rest, b")", line),
     }
 }
 
 // ---- variables and elements
 
-fn with_element(mut read: Vec<Access>, next: Access) -> Result<Vec<Access>, AllocError>
-    ensures { IfOk result (λ v. map access v.items ≡ map access read.items ++ access next ∷ []) }
+fn push_element(read: &mut Vec<Access>, next: Access) -> Result<(), AllocError>
+    ensures { OnOk result (map access read.new.items ≡ map access read.old.items ++ access next ∷ []) }
 {
     read.push(next)?;
-    Ok(read)
+    Ok(())
 }
 
-/// The elements after those that were read, the first right here, to the end of the text. `room`
-/// bounds their number. Numbers 22 to 25.
-pub fn elements(
+/// Reads elements after those that were read, the first right here, to the end of the text, which is
+/// given. `room` bounds their number. Numbers 22 to 25.
+pub fn elements<'a>(
     alloc: Global,
-    read: Vec<Access>,
-    text: &[u8],
+    read: &mut Vec<Access>,
+    text: &'a [u8],
     line: Line,
     room: u128,
-) -> Result<(Vec<Access>, &[u8]), Refusal>
-    ensures { Gives (λ x. (map access x.0.items, x.1.now)) result (parts_at line (element_at line) (end_at line) room (map access read.items) text.now) }
+) -> Result<&'a [u8], Refusal>
+    ensures { Gives (λ x. (map access read.new.items, x.now)) result (parts_at line (element_at line) (end_at line) room (map access read.old.items) text.now) }
 {
     if room == 0 {
         return Err(spent(line));
     }
     let (next, rest) = access(alloc, text, line)?;
-    let longer = with_element(read, next)?;
+    push_element(read, next)?;
     match after(rest, b",") {
-        Some(behind) => elements(alloc, longer, behind, line, room - 1),
-        None => Ok((longer, end(rest, line)?)),
+        Some(behind) => elements(alloc, read, behind, line, room - 1),
+        None => end(rest, line),
     }
 }
 
@@ -277,35 +272,32 @@ fn item<'a>(
     }
 }
 
-fn with_item(mut read: Vec<Item>, next: Item) -> Result<Vec<Item>, AllocError>
-    ensures { IfOk result (λ v. map item v.items ≡ map item read.items ++ item next ∷ []) }
+fn push_item(read: &mut Vec<Item>, next: Item) -> Result<(), AllocError>
+    ensures { OnOk result (map item read.new.items ≡ map item read.old.items ++ item next ∷ []) }
 {
     read.push(next)?;
-    Ok(read)
+    Ok(())
 }
 
-/// The items after those that were read, the first right here, to the end of the text. `room` bounds
-/// their number. Numbers 22 to 25.
-pub fn items(
+/// Reads items after those that were read, the first right here, to the end of the text, which is
+/// given. `room` bounds their number. Numbers 22 to 25.
+pub fn items<'a>(
     alloc: Global,
-    read: Vec<Item>,
-    text: &[u8],
+    read: &mut Vec<Item>,
+    text: &'a [u8],
     constants: &mut IntoIter<Vec<u8>>,
     line: Line,
     room: u128,
-) -> Result<Vec<Item>, Refusal>
-    ensures { Gives (λ v. map item v.items) result (items_from line room (map item read.items) text.now (texts_left constants.old)) }
+) -> Result<&'a [u8], Refusal>
+    ensures { Gives (λ x. map item read.new.items) result (items_from line room (map item read.old.items) text.now (texts_left constants.old)) }
 {
     if room == 0 {
         return Err(spent(line));
     }
     let (next, rest) = item(alloc, text, constants, line)?;
-    let longer = with_item(read, next)?;
+    push_item(read, next)?;
     match after(rest, b",") {
-        Some(behind) => items(alloc, longer, behind, constants, line, room - 1),
-        None => {
-            end(rest, line)?;
-            Ok(longer)
-        }
+        Some(behind) => items(alloc, read, behind, constants, line, room - 1),
+        None => end(rest, line),
     }
 }

@@ -2,9 +2,9 @@
 
 ghost use Rattle.std.specs.Prelude.{◌≡◌, ◌≤◌, length};
 ghost use Rattle.ast.specs.Answers.{Gives};
-ghost use Rattle.ast.specs.View.{head, optional_term};
+ghost use Rattle.ast.specs.View.{head, optional_term, term};
 ghost use Rattle.expressions.specs.Characters.{value};
-ghost use Rattle.syntax.specs.ReadingStatements.{step_at, head_of, do_at};
+ghost use Rattle.syntax.specs.ReadingStatements.{step_at, bounded_by, head_of, counted_by, do_at};
 ghost use Rattle.syntax.specs.Statements.{most_digits};
 
 use crate::class::without_comma;
@@ -49,7 +49,21 @@ fn head(
 {
     let (first, rest) = expression(alloc, text, line)?;
     let behind = wanted(rest, b",", line)?;
-    let (last, rest) = expression(alloc, behind, line)?;
+    bounded(alloc, terminal, variable, first, behind, line)
+}
+
+/// A DO behind the comma of whose initial parameter the text stands. Numbers 22 to 25.
+fn bounded(
+    alloc: Global,
+    terminal: Label,
+    variable: Name,
+    first: Expr,
+    text: &[u8],
+    line: Line,
+) -> Result<DoHead, Refusal>
+    ensures { Gives head result (bounded_by line terminal variable.letters (term first) text.now) }
+{
+    let (last, rest) = expression(alloc, text, line)?;
     let step = step(alloc, rest, line)?;
     let variable = reference_to(variable);
     Ok(DoHead {
@@ -61,6 +75,15 @@ fn head(
     })
 }
 
+/// A DO behind whose label the text stands, at its variable. Numbers 22 to 25.
+fn counted(alloc: Global, terminal: Label, text: &[u8], line: Line) -> Result<DoHead, Refusal>
+    ensures { Gives head result (counted_by line terminal text.now) }
+{
+    let (variable, rest) = name(text, line)?;
+    let behind = wanted(rest, b"=", line)?;
+    head(alloc, terminal, variable, behind, line)
+}
+
 /// A DO behind whose keyword the text stands. Numbers 22 to 25.
 pub fn do_head(alloc: Global, text: &[u8], line: Line) -> Result<DoHead, Refusal>
     ensures { Gives head result (do_at line text.now) }
@@ -70,7 +93,5 @@ pub fn do_head(alloc: Global, text: &[u8], line: Line) -> Result<DoHead, Refusal
         return Err(malformed(line));
     }
     let terminal = number(&text[..count]);
-    let (variable, rest) = name(without_comma(&text[count..]), line)?;
-    let behind = wanted(rest, b"=", line)?;
-    head(alloc, terminal, variable, behind, line)
+    counted(alloc, terminal, without_comma(&text[count..]), line)
 }

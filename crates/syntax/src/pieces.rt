@@ -1,6 +1,6 @@
 //! Blanks and character constants.
 
-ghost use Rattle.std.specs.Prelude.{◌≡◌, ℕ, List, [], ◌∷◌, ◌++◌, map, length, OnOk, IfOk};
+ghost use Rattle.std.specs.Prelude.{◌≡◌, ℕ, List, [], ◌∷◌, ◌++◌, map, length, Some, OnOk, IfOk};
 ghost use Rattle.syntax.specs.Pieces.{folded};
 ghost use Rattle.ast.specs.Answers.{Gives};
 ghost use Rattle.syntax.specs.Squeezing.{left_of, squeezed, finished};
@@ -123,19 +123,40 @@ fn push_folded(marks: &mut Vec<u8>, byte: u8) -> Result<(), AllocError>
     Ok(())
 }
 
-fn finish(state: Squeezing, line: Line) -> Result<Squeezed, Refusal>
-    ensures { Gives (λ s. (s.marks.items, map (λ v. v.items) s.constants.items)) result (finished line (left_of state [])) }
+/// What was read of a text that ends outside a character constant.
+fn finish_outside(state: Squeezing) -> Squeezed
+    requires { state.place ≡ Place.Outside }
+    ensures { left_of state [] ≡ Some (result.marks.items, map (λ v. v.items) result.constants.items) }
+{
+    let Squeezing {
+        marks,
+        constants,
+        ..
+    } = state;
+    Squeezed { marks, constants }
+}
+
+/// What was read of a text that ends behind the apostrophe that closes a character constant.
+fn finish_closing(state: Squeezing) -> Result<Squeezed, AllocError>
+    requires { state.place ≡ Place.Closing }
+    ensures { IfOk result (λ s. left_of state [] ≡ Some (s.marks.items, map (λ v. v.items) s.constants.items)) }
 {
     let Squeezing {
         marks,
         mut constants,
-        open,
-        place,
+        open: last,
+        ..
     } = state;
-    match place {
-        Place::Outside => {}
-        Place::Inside => return Err(Refusal::Refused { number: 21, line }),
-        Place::Closing => constants.push(open)?,
-    }
+    constants.push(last)?;
     Ok(Squeezed { marks, constants })
+}
+
+fn finish(state: Squeezing, line: Line) -> Result<Squeezed, Refusal>
+    ensures { Gives (λ s. (s.marks.items, map (λ v. v.items) s.constants.items)) result (finished line (left_of state [])) }
+{
+    match state.place {
+        Place::Outside => Ok(finish_outside(state)),
+        Place::Inside => Err(Refusal::Refused { number: 21, line }),
+        Place::Closing => Ok(finish_closing(state)?),
+    }
 }

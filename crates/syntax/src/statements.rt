@@ -3,10 +3,10 @@
 ghost use Rattle.std.specs.Prelude.{◌≡◌, List, map, IfOk, IfErr, Ok, take};
 ghost use Rattle.ast.specs.Answers.{Gives, Says};
 ghost use Rattle.ast.specs.Tree.{Statement, logical_if};
-ghost use Rattle.ast.specs.View.{kind, statement, term};
+ghost use Rattle.ast.specs.View.{access, kind, statement, term};
 ghost use Rattle.expressions.specs.Answers.{IsNumber, IsRefused, refuse};
 ghost use Rattle.syntax.specs.Pieces.{Piece, Cut, marks, constants};
-ghost use Rattle.syntax.specs.ReadingStatements.{assigned_at, kind_at, checked_at, statement_at};
+ghost use Rattle.syntax.specs.ReadingStatements.{accepted, assigned_at, assigned_behind, block_if_at, do_loop_at, kind_at, checked_at, statement_at};
 ghost use Rattle.syntax.specs.Squeezing.{texts_left, text_at};
 ghost use Rattle.syntax.specs.Statements.{is_initial, IsStatement};
 
@@ -16,22 +16,44 @@ use crate::keywords::{malformed, worded};
 use crate::lists::{room, spent};
 use crate::loops::do_head;
 use crate::pieces::{Squeezed, squeeze};
-use ast::{Expr, Kind, Line, Refusal, Stmt};
+use ast::{Access, Expr, Kind, Line, Refusal, Stmt};
 use expressions::{DEPTH_LIMIT, access, wanted, whole};
 use fixed_form::{Labelled, TEXT_WIDTH, is_end};
-use std::alloc::{AllocError, Global};
+use std::alloc::Global;
 use std::vec::IntoIter;
 
 fn assignment(alloc: Global, text: &[u8], line: Line) -> Result<Kind, Refusal>
     ensures { Gives kind result (assigned_at line text.now) }
 {
     let (target, rest) = access(alloc, text, line)?;
-    let behind = wanted(rest, b"=", line)?;
-    Ok(Kind::Assign(target, whole(alloc, behind, line)?))
+    assigned(alloc, target, rest, line)
 }
 
-fn logical_if(alloc: Global, condition: Expr, inner: Kind) -> Result<Kind, AllocError>
-    ensures { IfOk result (λ k. kind k ≡ logical_if (term condition) (kind inner)) }
+/// An assignment behind whose target the text stands. Numbers 22 to 25.
+fn assigned(alloc: Global, target: Access, text: &[u8], line: Line) -> Result<Kind, Refusal>
+    ensures { Gives kind result (assigned_behind line (access target) text.now) }
+{
+    let behind = wanted(text, b"=", line)?;
+    let value = whole(alloc, behind, line)?;
+    Ok(Kind::Assign(target, value))
+}
+
+fn block_if(alloc: Global, condition: &[u8], line: Line) -> Result<Kind, Refusal>
+    ensures { Gives kind result (block_if_at line condition.now) }
+{
+    let condition = whole(alloc, condition, line)?;
+    Ok(Kind::If(condition))
+}
+
+fn do_loop(alloc: Global, text: &[u8], line: Line) -> Result<Kind, Refusal>
+    ensures { Gives kind result (do_loop_at line text.now) }
+{
+    let head = do_head(alloc, text, line)?;
+    Ok(Kind::Do(head))
+}
+
+fn logical_if(alloc: Global, condition: Expr, inner: Kind) -> Result<Kind, Refusal>
+    ensures { Gives kind result (Ok (logical_if (term condition) (kind inner))) }
 {
     Ok(Kind::LogicalIf(condition, Box::new(alloc, inner)?))
 }
@@ -51,13 +73,13 @@ fn kind(
         return Err(spent(line));
     }
     match class_of(text) {
-        Class::BlockIf(condition) => Ok(Kind::If(whole(alloc, condition, line)?)),
+        Class::BlockIf(condition) => block_if(alloc, condition, line),
         Class::LogicalIf(condition, rest) => {
             let condition = whole(alloc, condition, line)?;
             let inner = kind(alloc, rest, constants, line, room - 1)?;
-            Ok(logical_if(alloc, condition, inner)?)
+            logical_if(alloc, condition, inner)
         }
-        Class::Do(rest) => Ok(Kind::Do(do_head(alloc, rest, line)?)),
+        Class::Do(rest) => do_loop(alloc, rest, line),
         Class::Assignment(text) => assignment(alloc, text, line),
         Class::Worded(keyword, rest) => worded(alloc, keyword, rest, constants, line),
         Class::Unclosed => Err(malformed(line)),
@@ -84,22 +106,30 @@ fn is_initial(does: &Kind, text: &[u8]) -> bool
     }
 }
 
+/// Whether a statement that does this may stand there: its text and its depth. Numbers 25 and 26.
+fn check(does: &Kind, labelled: &Labelled) -> Result<(), Refusal>
+    ensures reads { Gives (λ _. kind does.now) result (accepted labelled.now.line labelled.now.text.items (kind does.now)) }
+    ensures sure { IfErr result IsRefused }
+{
+    let line = labelled.line;
+    if !is_initial(does, &labelled.text) {
+        return Err(malformed(line));
+    }
+    if !is_shallow(does, DEPTH_LIMIT) {
+        return Err(Refusal::Refused { number: 26, line });
+    }
+    Ok(())
+}
+
 /// The statement that does this. Numbers 25 and 26.
 fn checked(does: Kind, labelled: &Labelled) -> Result<Stmt, Refusal>
     ensures reads { Gives statement result (checked_at labelled.now.line labelled.now.label labelled.now.text.items (kind does)) }
     ensures sure { IfErr result IsRefused }
 {
-    let line = labelled.line;
-    if !is_initial(&does, &labelled.text) {
-        return Err(malformed(line));
-    }
-    if !is_shallow(&does, DEPTH_LIMIT) {
-        return Err(Refusal::Refused { number: 26, line });
-    }
-    let label = labelled.label;
+    check(&does, labelled)?;
     Ok(Stmt {
-        line,
-        label,
+        line: labelled.line,
+        label: labelled.label,
         kind: does,
     })
 }

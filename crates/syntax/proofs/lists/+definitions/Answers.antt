@@ -1,0 +1,27 @@
+use Rattle.std.proofs.Common.{map, refl}
+use Rattle.std.specs.Prelude.{codes}
+use Rattle.ast.specs.View.{definition}
+use Rattle.expressions.specs.Reading.{wanted_at}
+use Rattle.expressions.proofs.Parts.{fails_at, gives_rest, spent_at, wants_memory}
+use Rattle.syntax.specs.ReadingStatements.{definition_at, parts_at}
+use Rattle.syntax.proofs.ListParts.{first_part, part_further, part_last, read_with}
+use Rattle.syntax.proofs.lists.+definitions.Goals as goal
+
+pub returns-then-room-eq0 : goal.returns-then-room-eq0
+returns-then-room-eq0 t c =
+    spent_at (λ n. parts_at c.args.line (definition_at c.args.line) (wanted_at c.args.line (codes ")")) n (map definition c.args.read.now.items) c.args.text.now) c.spent.result c.args.room c.args.line c.if-room-eq0.true c.spent.ensures refl
+
+pub returns-in_err-next : goal.returns-in_err-next
+returns-in_err-next t c =
+    fails_at _ _ _ _ _ _ c.from_residual.ensures.1 c.in_err-next.ensures (first_part c.args.line (definition_at c.args.line) (wanted_at c.args.line (codes ")")) c.args.room c.if-room-eq0.false (map definition c.args.read.now.items) c.args.text.now)
+
+pub returns-in_err-push_definition : goal.returns-in_err-push_definition
+returns-in_err-push_definition t c = wants_memory _ _ _ c.from_residual-in_err-push_definition.ensures.1
+
+pub returns-in-Some : goal.returns-in-Some
+returns-in-Some t c =
+    gives_rest _ _ _ _ (part_further c.args.line (definition_at c.args.line) (wanted_at c.args.line (codes ")")) c.args.room c.if-room-eq0.false (map definition c.args.read.now.items) _ _ c.args.text.now _ _ c.in_ok-next.ensures c.in_ok-push_definition.ensures c.in-Some.ensures) c.definitions.ensures
+
+pub returns-in-None : goal.returns-in-None
+returns-in-None t c =
+    gives_rest _ _ _ _ (part_last c.args.line (definition_at c.args.line) (wanted_at c.args.line (codes ")")) c.args.room c.if-room-eq0.false (map definition c.args.read.now.items) _ _ c.args.text.now _ c.in_ok-next.ensures c.in_ok-push_definition.ensures c.in-None.ensures) (read_with _ _ _ _ c.wanted.ensures.reads)
