@@ -1,3 +1,4 @@
+pub mod Added
 pub mod ConstantValues
 pub mod Ends
 pub mod Gathered
@@ -5,8 +6,10 @@ pub mod Intrinsics
 pub mod Known
 pub mod KnownTrips
 pub mod Marked
+pub mod Nodes
 pub mod Numbers
 pub mod Occurring
+pub mod Passing
 pub mod Picked
 pub mod Placed
 pub mod Program

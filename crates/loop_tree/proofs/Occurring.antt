@@ -1,15 +1,15 @@
 -- What is appended behind the references that were there.
 use Rattle.std.proofs.Common.{◌≡◌, ◌∙◌, ℤ, Bool, inl, inr, ◌+◌, ◌<◌, ◌≤◌, ℕ, List, [], ◌∷◌, ◌++◌, Result, Ok, Err, sym, ap, subst, length, drop, get_or, map, append_assoc, append-nil, rules}
 use Rattle.std.specs.Prelude.{◌⊎◌, IfOk, IsErr, OnOk}
-use Rattle.std.proofs.lemmas.List.{drop_all, drop_more}
 use Rattle.ast.specs.Tree as tree
-use Rattle.ast.specs.Tree.{Term, accessed, terms}
+use Rattle.ast.specs.Tree.{Ref, Term, Terms, accessed, terms}
 use Rattle.ast.specs.View.{access, access_step, ref, term, term_step}
 use Rattle.ast.specs.declared.expression.Access.{Access, fold_out-Access}
 use Rattle.ast.specs.declared.expression.Expr.{Expr}
 use Rattle.ast.specs.declared.expression.Expr.TheVariants.{Constant, Parameter, Truth}
 use Rattle.ast.specs.declared.name.Name.{Name}
-use Rattle.loop_tree.specs.Occurrences.{Occurrence, term_occurrences, terms_occurrences, used_at}
+use Rattle.loop_tree.specs.Occurrences.{Occurrence, term_occurrences, terms_occurrences}
+use Rattle.loop_tree.proofs.Passing.{next, passed}
 use Rattle.loop_tree.proofs.Terms.{constant_of, parameter_of, truth_of}
 
 -- a call that failed says nothing
@@ -50,25 +50,25 @@ one_more before after old some o is more = more ∙ ap (λ (l : List Occurrence)
 tree_of : (a : Access) → access a ≡ record { ref = ref a.reference; subscripts = terms (map term a.subscripts.items) }
 tree_of a = fold_out-Access Term tree.Access term_step access_step a ∙ search rules
 
-pub element_more : (a : Access) (n : ℕ) (old before after : List Occurrence) (es ds : List Expr) → es ≡ a.subscripts.items → ds ≡ a.subscripts.items → before ≡ old ++ terms_occurrences n (terms (map term es))
-    → after ≡ before ++ used_at n (ref a.reference) (terms (map term ds)) ∷ [] → after ≡ old ++ term_occurrences n (accessed (access a))
-element_more a n old before after es ds one other is more =
-    one_more before after old (terms_occurrences n (terms (map term es))) (used_at n (ref a.reference) (terms (map term ds))) is more
-    ∙ ap (λ (l : List Expr). old ++ (terms_occurrences n (terms (map term l)) ++ used_at n (ref a.reference) (terms (map term ds)) ∷ [])) one
-    ∙ ap (λ (l : List Expr). old ++ (terms_occurrences n (terms (map term a.subscripts.items)) ++ used_at n (ref a.reference) (terms (map term l)) ∷ [])) other
-    ∙ ap (λ (x : tree.Access). old ++ term_occurrences n (accessed x)) (sym (tree_of a))
+pub element_more : {X E : Type 0} (r : Result X E) (made : Ref → Terms → Occurrence) (a : Access) (n : ℕ) (old before after : List Occurrence) (es ds : List Expr) → es ≡ a.subscripts.items → ds ≡ a.subscripts.items
+    → before ≡ old ++ terms_occurrences n (terms (map term es)) → OnOk r (after ≡ before ++ made (ref a.reference) (terms (map term ds)) ∷ [])
+    → OnOk r (after ≡ old ++ (terms_occurrences n (access a).subscripts ++ made (access a).ref (access a).subscripts ∷ []))
+element_more r made a n old before after es ds one other is more =
+    both r (after ≡ before ++ made (ref a.reference) (terms (map term ds)) ∷ []) (after ≡ old ++ (terms_occurrences n (access a).subscripts ++ made (access a).ref (access a).subscripts ∷ []))
+    (λ h. one_more before after old (terms_occurrences n (terms (map term es))) (made (ref a.reference) (terms (map term ds))) is h
+    ∙ ap (λ (l : List Expr). old ++ (terms_occurrences n (terms (map term l)) ++ made (ref a.reference) (terms (map term ds)) ∷ [])) one
+    ∙ ap (λ (l : List Expr). old ++ (terms_occurrences n (terms (map term a.subscripts.items)) ++ made (ref a.reference) (terms (map term l)) ∷ [])) other
+    ∙ ap (λ (x : tree.Access). old ++ (terms_occurrences n x.subscripts ++ made x.ref x.subscripts ∷ [])) (sym (tree_of a))) more
 
--- the same of each of a list of expressions
-pub next_occurs : (n : ℕ) (es : List Expr) (i : ℕ) (e : Expr) (before after whole : List Occurrence) → i < length es → e ≡ get_or es i e → after ≡ before ++ term_occurrences n (term e)
-    → before ++ terms_occurrences n (terms (map term (drop i es))) ≡ whole → after ++ terms_occurrences n (terms (map term (drop (i + 1) es))) ≡ whole
-next_occurs n es i e before after whole h is more so_far =
-    let rest = terms_occurrences n (terms (map term (drop (i + 1) es))) in
-    ap (λ (l : List Occurrence). l ++ rest) more
-    ∙ append_assoc before (term_occurrences n (term e)) rest
-    ∙ ap (λ (x : Expr). before ++ (term_occurrences n (term x) ++ rest)) is
-    ∙ sym (ap (λ (l : List Expr). before ++ terms_occurrences n (terms (map term l))) (drop_more es i e h))
-    ∙ so_far
+-- the same of each of a list, of which one is appended behind another
+module _ {X : Type 0} (one : X → List Occurrence) (all : List X → List Occurrence) where
+  pub next_occurs : ((x : X) (xs : List X) → all (x ∷ xs) ≡ one x ++ all xs) → (xs : List X) (i : ℕ) (x : X) (before after whole : List Occurrence) → i < length xs → x ≡ get_or xs i x → after ≡ before ++ one x
+      → before ++ all (drop i xs) ≡ whole → after ++ all (drop (i + 1) xs) ≡ whole
+  next_occurs steps =
+      next (λ (x : X) (s : List Occurrence). s ++ one x) (λ (xs : List X) (s : List Occurrence). s ++ all xs)
+      (λ (x : X) (xs : List X) (s : List Occurrence). ap (λ (l : List Occurrence). s ++ l) (steps x xs) ∙ sym (append_assoc s (one x) (all xs)))
 
-pub all_occurred : (n : ℕ) (es : List Expr) (i : ℕ) (list whole : List Occurrence) → length es ≤ i → list ++ terms_occurrences n (terms (map term (drop i es))) ≡ whole → list ≡ whole
-all_occurred n es i list whole h so_far =
-    sym (append-nil list) ∙ sym (ap (λ (l : List Expr). list ++ terms_occurrences n (terms (map term l))) (drop_all i es h)) ∙ so_far
+  pub all_occurred : all [] ≡ [] → (xs : List X) (i : ℕ) (list whole : List Occurrence) → length xs ≤ i → list ++ all (drop i xs) ≡ whole → list ≡ whole
+  all_occurred none =
+      passed (λ (x : X) (s : List Occurrence). s ++ one x) (λ (xs : List X) (s : List Occurrence). s ++ all xs)
+      (λ (s : List Occurrence). ap (λ (l : List Occurrence). s ++ l) none ∙ append-nil s)

@@ -38,6 +38,14 @@ span_at around i line h b n = record {
   assigned = with_block [] b;
 }
 
+-- with one more statement's line
+abbrev pub with_line : ℕ → Collected → Collected
+with_line line c = record c { lines = c.lines ++ line ∷ [] }
+
+-- with a loop more, whose DO's references are the last ones
+abbrev pub with_info : Option ℕ → ℕ → ℕ → DoHead → Block → Collected → Collected
+with_info around i line h b c = record c { spans = c.spans ++ span_at around i line h b (length c.references) ∷ [] }
+
 -- a loop is begun: its DO is collected
 abbrev pub begun : Option ℕ → ℕ → DoHead → Block → Collected → Collected
 begun around line h b c = record {

@@ -3,7 +3,7 @@
 ghost use Rattle.std.specs.Prelude.{◌≡◌, OnOk, map};
 ghost use Rattle.ast.specs.Tree.{arms as arms_of, terms};
 ghost use Rattle.ast.specs.View.{access as access_of, arm as arm_of, block_view, kind as kind_of, node as node_of, ref, term};
-ghost use Rattle.loop_tree.specs.Loops.{with_arms, with_block, with_kind, with_named, with_node, with_target, with_targets};
+ghost use Rattle.loop_tree.specs.Loops.{with_arms, with_block, with_kind, with_named, with_node, with_scalar, with_target, with_targets};
 ghost use Rattle.loop_tree.specs.ScalarsView.{scalars as scalars_of};
 
 use crate::scalars::Scalars;
@@ -74,16 +74,22 @@ fn add_arms(scalars: &mut Scalars, arms: &[Arm]) -> Result<(), AllocError>
     Ok(())
 }
 
+/// Adds a loop's variable and the scalars of its range.
+#[cycle(assigned)]
+fn add_range(scalars: &mut Scalars, variable: Reference, range: &[Node]) -> Result<(), AllocError>
+    ensures { OnOk result (scalars_of scalars.new ≡ with_block (with_scalar (scalars_of scalars.old) (ref variable)) (block_view range.now)) }
+{
+    scalars.add(variable)?;
+    add_assigned(scalars, range)
+}
+
 #[cycle(assigned)]
 fn add_node(scalars: &mut Scalars, node: &Node) -> Result<(), AllocError>
     ensures { OnOk result (scalars_of scalars.new ≡ with_node (scalars_of scalars.old) (node_of node.now)) }
 {
     match node {
         Node::Plain(statement) => add_kind(scalars, &statement.kind),
-        Node::Loop(_, head, range) => {
-            scalars.add(head.variable)?;
-            add_assigned(scalars, range)
-        }
+        Node::Loop(_, head, range) => add_range(scalars, head.variable, range),
         Node::Choice(arms) => add_arms(scalars, arms),
     }
 }

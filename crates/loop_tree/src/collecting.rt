@@ -74,6 +74,32 @@ fn describe<'p>(
     })
 }
 
+/// Adds what is known of a loop whose DO's references are the last ones.
+fn add_info<'p>(
+    alloc: Global,
+    parts: &mut Collected<'p>,
+    around: Option<usize>,
+    statement: usize,
+    line: Line,
+    head: &'p DoHead,
+    range: &'p [Node],
+) -> Result<(), AllocError>
+    ensures { OnOk result (collected parts.new ≡ spec.with_info around statement line (head_of head.now) (block_view range.now) (collected parts.old)) }
+{
+    let place = parts.references.len();
+    let info = describe(alloc, around, statement, line, head, range, place)?;
+    parts.loops.push(info)?;
+    Ok(())
+}
+
+/// Adds the line of a statement.
+fn add_line(parts: &mut Collected<'_>, line: Line) -> Result<(), AllocError>
+    ensures { OnOk result (collected parts.new ≡ spec.with_line line (collected parts.old)) }
+{
+    parts.lines.push(line)?;
+    Ok(())
+}
+
 /// Begins a loop.
 fn begin<'p>(
     alloc: Global,
@@ -86,12 +112,9 @@ fn begin<'p>(
     ensures { OnOk result (collected parts.new ≡ spec.begun around line (head_of head.now) (block_view range.now) (collected parts.old)) }
 {
     let statement = parts.lines.len();
-    parts.lines.push(line)?;
+    add_line(parts, line)?;
     add_head(&mut parts.references, statement, head)?;
-    let place = parts.references.len();
-    let info = describe(alloc, around, statement, line, head, range, place)?;
-    parts.loops.push(info)?;
-    Ok(())
+    add_info(alloc, parts, around, statement, line, head, range)
 }
 
 /// Ends the loop at a place.
@@ -103,6 +126,14 @@ fn end(loops: &mut Vec<Info<'_>>, place: usize, last: usize)
     }
 }
 
+/// Ends the loop at a place with the references of its range, which are the last ones.
+fn end_range(parts: &mut Collected<'_>, place: usize)
+    ensures { collected parts.new ≡ spec.ended place (collected parts.old) }
+{
+    let last = parts.references.len();
+    end(&mut parts.loops, place, last);
+}
+
 /// Collects a statement that holds no others.
 fn add_plain<'p>(
     parts: &mut Collected<'p>,
@@ -112,7 +143,7 @@ fn add_plain<'p>(
     ensures { OnOk result (collected parts.new ≡ spec.after_node around (plain (statement_of statement.now)) (collected parts.old)) }
 {
     let number = parts.lines.len();
-    parts.lines.push(statement.line)?;
+    add_line(parts, statement.line)?;
     add_kind(&mut parts.references, number, &statement.kind)
 }
 
@@ -140,8 +171,7 @@ fn add_loop<'p>(
     let place = parts.loops.len();
     begin(alloc, parts, around, line, head, range)?;
     add_nodes(alloc, parts, Some(place + 1), range)?;
-    let last = parts.references.len();
-    end(&mut parts.loops, place, last);
+    end_range(parts, place);
     Ok(())
 }
 
@@ -173,7 +203,7 @@ fn add_choice<'p>(
     ensures { OnOk result (collected parts.new ≡ spec.after_node around (choose (arms_of (map arm_of arms.now))) (collected parts.old)) }
 {
     let number = parts.lines.len();
-    parts.lines.push(first_line(arms))?;
+    add_line(parts, first_line(arms))?;
     add_arms(alloc, parts, around, number, arms)
 }
 

@@ -1,6 +1,6 @@
 //! References, with the statements that they belong to.
 
-ghost use Rattle.std.specs.Prelude.{◌≡◌, ◌++◌, OnOk, map};
+ghost use Rattle.std.specs.Prelude.{◌≡◌, ◌∷◌, ◌++◌, [], OnOk, map};
 ghost use Rattle.ast.specs.Tree.{accessed, terms};
 ghost use Rattle.ast.specs.View.{access as access_of, head as head_of, item as item_of, kind as kind_of, optional_term, term};
 ghost use Rattle.loop_tree.specs.Occurrences as spec;
@@ -22,6 +22,14 @@ pub struct Occurrence<'p> {
     /// IF with the conditions of all its arms; what stands in a range or an arm is a statement of its
     /// own, the one of a logical IF too.
     pub statement: usize,
+}
+
+/// Appends a reference.
+fn add_place<'p>(list: &mut Vec<Occurrence<'p>>, place: Occurrence<'p>) -> Result<(), AllocError>
+    ensures { OnOk result (map occurrence list.new.items ≡ map occurrence list.old.items ++ occurrence place.entry ∷ []) }
+{
+    list.push(place)?;
+    Ok(())
 }
 
 /// Appends the references of expressions, in order of evaluation.
@@ -49,13 +57,13 @@ fn add_element<'p>(
     ensures { OnOk result (map occurrence list.new.items ≡ map occurrence list.old.items ++ spec.term_occurrences statement (accessed (access_of access.now))) }
 {
     add_terms(list, statement, &access.subscripts)?;
-    list.push(Occurrence {
+    let place = Occurrence {
         reference: access.reference,
         subscripts: &access.subscripts,
         defines: false,
         statement,
-    })?;
-    Ok(())
+    };
+    add_place(list, place)
 }
 
 /// Appends the references of an expression, in order of evaluation.
@@ -103,13 +111,13 @@ fn add_target<'p>(
     ensures { OnOk result (map occurrence list.new.items ≡ map occurrence list.old.items ++ spec.target_occurrences statement (access_of access.now)) }
 {
     add_terms(list, statement, &access.subscripts)?;
-    list.push(Occurrence {
+    let place = Occurrence {
         reference: access.reference,
         subscripts: &access.subscripts,
         defines: true,
         statement,
-    })?;
-    Ok(())
+    };
+    add_place(list, place)
 }
 
 fn add_targets<'p>(
@@ -151,6 +159,19 @@ fn add_items<'p>(
     Ok(())
 }
 
+/// Appends the references of an assignment: of the value, then of what is assigned.
+fn add_assignment<'p>(
+    list: &mut Vec<Occurrence<'p>>,
+    statement: usize,
+    target: &'p Access,
+    value: &'p Expr,
+) -> Result<(), AllocError>
+    ensures { OnOk result (map occurrence list.new.items ≡ map occurrence list.old.items ++ (spec.term_occurrences statement (term value.now) ++ spec.target_occurrences statement (access_of target.now))) }
+{
+    add_term(list, statement, value)?;
+    add_target(list, statement, target)
+}
+
 /// Appends the references of a statement, in order of evaluation.
 pub fn add_kind<'p>(
     list: &mut Vec<Occurrence<'p>>,
@@ -160,10 +181,7 @@ pub fn add_kind<'p>(
     ensures { OnOk result (map occurrence list.new.items ≡ map occurrence list.old.items ++ spec.kind_occurrences statement (kind_of kind.now)) }
 {
     match kind {
-        Kind::Assign(target, value) => {
-            add_term(list, statement, value)?;
-            add_target(list, statement, target)
-        }
+        Kind::Assign(target, value) => add_assignment(list, statement, target, value),
         Kind::Print(items) => add_items(list, statement, items),
         Kind::Read(elements) => add_targets(list, statement, elements),
         Kind::Program(_)
@@ -182,6 +200,19 @@ pub fn add_kind<'p>(
     }
 }
 
+/// Appends the references of a DO's parameters.
+fn add_parameters<'p>(
+    list: &mut Vec<Occurrence<'p>>,
+    statement: usize,
+    head: &'p DoHead,
+) -> Result<(), AllocError>
+    ensures { OnOk result (map occurrence list.new.items ≡ map occurrence list.old.items ++ spec.term_occurrences statement (head_of head.now).first ++ spec.term_occurrences statement (head_of head.now).last ++ spec.optional_occurrences statement (head_of head.now).step) }
+{
+    add_term(list, statement, &head.first)?;
+    add_term(list, statement, &head.last)?;
+    add_optional(list, statement, &head.step)
+}
+
 /// Appends the references of a DO: of its parameters, then its variable.
 pub fn add_head<'p>(
     list: &mut Vec<Occurrence<'p>>,
@@ -190,14 +221,12 @@ pub fn add_head<'p>(
 ) -> Result<(), AllocError>
     ensures { OnOk result (map occurrence list.new.items ≡ map occurrence list.old.items ++ spec.head_occurrences statement (head_of head.now)) }
 {
-    add_term(list, statement, &head.first)?;
-    add_term(list, statement, &head.last)?;
-    add_optional(list, statement, &head.step)?;
-    list.push(Occurrence {
+    add_parameters(list, statement, head)?;
+    let variable = Occurrence {
         reference: head.variable,
         subscripts: &[],
         defines: true,
         statement,
-    })?;
-    Ok(())
+    };
+    add_place(list, variable)
 }

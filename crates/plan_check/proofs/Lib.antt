@@ -1,4 +1,5 @@
 pub mod Adding
+pub mod Alike
 pub mod Appending
 pub mod Bridge
 pub mod Changes

@@ -13,13 +13,13 @@ use Rattle.plan_check.specs.Flow.{Known, joined}
 use Rattle.plan_check.specs.GoodPlan.{made_bare, made_bare_arms}
 use Rattle.plan_check.specs.Walking.{Seen, behind, known_arms, known_block, seen_arms, seen_block, seen_optional}
 
-line_of : (a : PlanArm) → (arm_view a).line ≡ a.line
+pub line_of : (a : PlanArm) → (arm_view a).line ≡ a.line
 line_of a = ap (λ (b : ArmOf). b.line) (fold_out-PlanArm PlanNode ArmOf node_step arm_step a) ∙ search rules
 
-condition_of : (a : PlanArm) → (arm_view a).condition ≡ optional_term a.condition
+pub condition_of : (a : PlanArm) → (arm_view a).condition ≡ optional_term a.condition
 condition_of a = ap (λ (b : ArmOf). b.condition) (fold_out-PlanArm PlanNode ArmOf node_step arm_step a) ∙ search rules
 
-body_of : (a : PlanArm) → (arm_view a).body ≡ plan_block a.body.items
+pub body_of : (a : PlanArm) → (arm_view a).body ≡ plan_block a.body.items
 body_of a = ap (λ (b : ArmOf). b.body) (fold_out-PlanArm PlanNode ArmOf node_step arm_step a) ∙ search rules
 
 -- an arm is the first of those that are left

@@ -2,7 +2,7 @@
 
 ghost use Rattle.std.specs.Prelude.{◌≡◌, ◌&&◌, List, Option, map};
 ghost use Rattle.std.specs.Bool.{Decides};
-ghost use Rattle.ast.specs.View.{arm as arm_of, block_view, node as node_of};
+ghost use Rattle.ast.specs.View.{arm as arm_of, block_view, head as head_of, node as node_of, optional_term};
 ghost use Rattle.ast.specs.Tree as tree;
 ghost use Rattle.dependence.specs.Plan.{PlanArms, PlanNode, no_nodes, then_node};
 ghost use Rattle.dependence.specs.PlanView.{arm_view, arms as arms_of, last_arm, plan_block, plan_node};
@@ -11,7 +11,7 @@ ghost use Rattle.plan_check.specs.Stripping.{IsNode, stripped_arm};
 
 use crate::expressions::is_same_optional;
 use crate::statements::{is_same_head, is_same_statement};
-use ast::{Arm, Node};
+use ast::{Arm, DoHead, Line, Node};
 use dependence::{PlanArm, PlanStmt};
 
 fn is_event(node: &PlanStmt) -> bool
@@ -77,13 +77,25 @@ pub fn is_bare(nodes: &[PlanStmt]) -> bool
     true
 }
 
+/// Whether an arm's line and condition are these.
+fn is_same_opening(arm: &PlanArm, other: &Arm) -> bool
+    ensures { Decides result ((arm.now.line ≡ other.now.line) × (optional_term arm.now.condition ≡ optional_term other.now.condition)) }
+{
+    arm.line == other.line && is_same_optional(&arm.condition, &other.condition)
+}
+
+/// Whether a DO and its line are these.
+fn is_same_do(line: Line, head: &DoHead, other_line: Line, other_head: &DoHead) -> bool
+    ensures { Decides result ((line ≡ other_line) × (head_of head.now ≡ head_of other_head.now)) }
+{
+    line == other_line && is_same_head(head, other_head)
+}
+
 #[cycle(same)]
 fn is_same_arm(arm: &PlanArm, other: &Arm) -> bool
     ensures { Decides result (stripped_arm arm.now ≡ arm_of other.now) }
 {
-    arm.line == other.line
-        && is_same_optional(&arm.condition, &other.condition)
-        && is_same_range(&arm.body, &other.body)
+    is_same_opening(arm, other) && is_same_range(&arm.body, &other.body)
 }
 
 /// Whether the arms of an IF are these, whatever ELSE was made for it.
@@ -121,8 +133,7 @@ fn is_same_node(node: &PlanStmt, other: &Node) -> bool
         },
         PlanStmt::Loop(line, head, range) => match other {
             Node::Loop(other_line, other_head, other_range) => {
-                *line == *other_line
-                    && is_same_head(head, other_head)
+                is_same_do(*line, head, *other_line, other_head)
                     && is_same_range(range, other_range)
             }
             _ => false,
@@ -144,7 +155,10 @@ pub fn is_same_range(nodes: &[PlanStmt], range: &[Node]) -> bool
         if is_event(node) {
             continue;
         }
-        if place >= range.len() || !is_same_node(node, &range[place]) {
+        if place >= range.len() {
+            return false;
+        }
+        if !is_same_node(node, &range[place]) {
             return false;
         }
         place += 1;

@@ -302,3 +302,7 @@ left_then (Some done) left o next h = ap (λ z. if_some z (λ x. Some (next x)))
 pub left_proper : (l : Loop) (o : Operator) (f g h : Form) (r : Option (Unit {0})) → IsProper f → IsProper g → Left r h (binary_form l o f g) → IfSome r (λ done. IsProper h)
 left_proper l o f g h None p q e = tt
 left_proper l o f g h (Some done) p q e = binary_proper l o f g h p q e
+
+pub negated_proper : (f h : Form) (r : Option (Unit {0})) → IsProper f → Left r h (in_room (total_form true (number_form (pos 0)) f)) → IfSome r (λ done. IsProper h)
+negated_proper f h None p e = tt
+negated_proper f h (Some done) p e = total_proper true (number_form (pos 0)) f h tt p.once e

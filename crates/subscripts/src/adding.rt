@@ -1,6 +1,7 @@
 //! Adding to a form, and subtracting from it, in its place.
 
-ghost use Rattle.std.specs.Prelude.{◌≡◌, IfSome, pos};
+ghost use Rattle.std.specs.Prelude.{◌≡◌, IfSome, option_map, pos};
+ghost use Rattle.ast.specs.declared.expression.Prefix.TheVariants.{Minus};
 ghost use Rattle.loop_tree.specs.TreeView.{seen};
 ghost use Rattle.subscripts.specs.Proper.{IsProper, IsProperLeaf};
 ghost use Rattle.subscripts.specs.Forms as spec;
@@ -34,11 +35,38 @@ fn add_variable(form: &mut Form, minus: bool) -> Option<()>
     Some(())
 }
 
+/// Puts another form in a form's place, if there is one.
+fn replace(form: &mut Form, other: Option<Form>) -> Option<()>
+    requires capacity { form.old.shares.capacity ≡ 8 }
+    requires other { IfSome other (λ f. f.shares.capacity ≡ 8) }
+    ensures left { Left result (form_of form.new) (option_map form_of other) }
+    ensures capacity { form.new.shares.capacity ≡ 8 }
+{
+    match other {
+        Some(other) => {
+            *form = other;
+            Some(())
+        }
+        None => None,
+    }
+}
+
 /// The factor of a scalar that is added or subtracted once.
 fn once(minus: bool) -> i64
     ensures { result ≡ spec.total minus (pos 0) (pos 1) }
 {
     if minus { -1 } else { 1 }
+}
+
+/// Adds the form of another scalar than the loop's variable.
+fn add_other_form(form: &mut Form, view: &LoopView<'_, '_>, minus: bool, cell: usize) -> Option<()>
+    requires capacity { form.old.shares.capacity ≡ 8 }
+    ensures left { Left result (form_of form.new) (spec.total_of (seen view.now) minus (form_of form.old) (spec.other_form cell)) }
+    ensures capacity { form.new.shares.capacity ≡ 8 }
+{
+    let other = other_form(view.allocator(), cell);
+    let sum = total_of(view, minus, form, &other);
+    replace(form, sum)
 }
 
 /// Adds another scalar than the loop's variable.
@@ -49,9 +77,7 @@ fn add_other(form: &mut Form, view: &LoopView<'_, '_>, minus: bool, cell: usize)
     ensures capacity { form.new.shares.capacity ≡ 8 }
 {
     if has_share(form.shares.as_slice(), cell) {
-        let sum = total_of(view, minus, form, &other_form(view.allocator(), cell))?;
-        *form = sum;
-        Some(())
+        add_other_form(form, view, minus, cell)
     } else {
         put(&mut form.shares, cell, once(minus))
     }
@@ -96,9 +122,8 @@ pub fn operate(
     ensures proper { IfSome result (λ done. IsProper (form_of form.new)) }
     ensures capacity { form.new.shares.capacity ≡ 8 }
 {
-    let whole = binary_form(view, operator, form, other)?;
-    *form = whole;
-    Some(())
+    let whole = binary_form(view, operator, form, other);
+    replace(form, whole)
 }
 
 /// Makes a form that of an operation on it and a number or a scalar: a sum and a difference in its
@@ -123,6 +148,25 @@ pub fn operate_leaf(
     }
 }
 
+/// A form with the other sign, where it has room.
+fn negative(view: &LoopView<'_, '_>, form: &Form) -> Option<Form>
+    ensures value { option_map form_of result ≡ spec.prefixed_form (seen view.now) Minus (form_of form.now) }
+    ensures capacity { IfSome result (λ f. f.shares.capacity ≡ 8) }
+{
+    let zero = number_form(view.allocator(), 0);
+    total_form(view.allocator(), true, &zero, form)
+}
+
+/// Subtracts a form from nothing, in its place.
+fn negate(form: &mut Form, view: &LoopView<'_, '_>) -> Option<()>
+    requires capacity { form.old.shares.capacity ≡ 8 }
+    ensures left { Left result (form_of form.new) (spec.prefixed_form (seen view.now) Minus (form_of form.old)) }
+    ensures capacity { form.new.shares.capacity ≡ 8 }
+{
+    let other = negative(view, form);
+    replace(form, other)
+}
+
 /// Makes a form that of what stands behind a sign.
 pub fn put_prefix(form: &mut Form, view: &LoopView<'_, '_>, prefix: Prefix) -> Option<()>
     requires proper { IsProper (form_of form.old) }
@@ -133,12 +177,7 @@ pub fn put_prefix(form: &mut Form, view: &LoopView<'_, '_>, prefix: Prefix) -> O
 {
     match prefix {
         Prefix::Plus => Some(()),
-        Prefix::Minus => {
-            let zero = number_form(view.allocator(), 0);
-            let negative = total_form(view.allocator(), true, &zero, form)?;
-            *form = negative;
-            Some(())
-        }
+        Prefix::Minus => negate(form, view),
         Prefix::Not => None,
     }
 }

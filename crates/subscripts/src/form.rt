@@ -1,12 +1,14 @@
 //! Affine forms.
 
-ghost use Rattle.std.specs.Prelude.{◌≡◌, IfSome, option_map};
+ghost use Rattle.std.specs.Prelude.{◌≡◌, IfSome, [], map, option_map};
 ghost use Rattle.loop_tree.specs.TreeView.{seen};
 ghost use Rattle.subscripts.specs.Forms as spec;
-ghost use Rattle.subscripts.specs.Steps.{times_step, total_step};
+ghost use Rattle.subscripts.specs.Forms.{times_share};
+ghost use Rattle.subscripts.specs.SharesView.{share as share_of};
+ghost use Rattle.subscripts.specs.Steps.{put_each, put_sums, times_step, total_step};
 ghost use Rattle.subscripts.specs.View.{form};
 
-use crate::shares::{Share, product, put_others, put_times, put_totals, share_varying, total};
+use crate::shares::{Share, product, put_sums, put_times, share_varying, total};
 use ast::Operator;
 use loop_tree::LoopView;
 use smallvec::SmallVec;
@@ -79,21 +81,29 @@ pub fn scalar_form(view: &LoopView<'_, '_>, cell: usize) -> Form
     }
 }
 
+/// The shares of a sum or a difference.
+fn total_shares(
+    alloc: Global,
+    minus: bool,
+    first: &[Share],
+    second: &[Share],
+) -> Option<SmallVec<Share, 8>>
+    ensures value { option_map (λ v. map share_of v.items) result ≡ put_sums minus (map share_of first.now) (map share_of second.now) }
+    ensures capacity { IfSome result (λ shares. shares.capacity ≡ 8) }
+{
+    let mut shares = SmallVec::new(alloc);
+    put_sums(&mut shares, minus, first, second)?;
+    Some(shares)
+}
+
 fn total_step(alloc: Global, minus: bool, first: &Form, second: &Form) -> Option<Form>
     ensures value { option_map form result ≡ total_step minus (form first.now) (form second.now) }
     ensures capacity { IfSome result (λ f. f.shares.capacity ≡ 8) }
 {
     let constant = total(minus, first.constant, second.constant)?;
     let coefficient = total(minus, first.coefficient, second.coefficient)?;
-    let mut shares = SmallVec::new(alloc);
-    put_totals(
-        &mut shares,
-        minus,
-        first.shares.as_slice(),
-        second.shares.as_slice(),
-    )?;
-    put_others(
-        &mut shares,
+    let shares = total_shares(
+        alloc,
         minus,
         first.shares.as_slice(),
         second.shares.as_slice(),
@@ -113,14 +123,23 @@ pub fn total_form(alloc: Global, minus: bool, first: &Form, second: &Form) -> Op
     total_step(alloc, minus, first, second)
 }
 
+/// So many times all shares.
+fn times_shares(alloc: Global, number: i64, all: &[Share]) -> Option<SmallVec<Share, 8>>
+    ensures value { option_map (λ v. map share_of v.items) result ≡ put_each [] (map (times_share number) (map share_of all.now)) }
+    ensures capacity { IfSome result (λ shares. shares.capacity ≡ 8) }
+{
+    let mut shares = SmallVec::new(alloc);
+    put_times(&mut shares, number, all)?;
+    Some(shares)
+}
+
 fn times_step(alloc: Global, number: &Form, all: &Form) -> Option<Form>
     ensures value { option_map form result ≡ times_step number.now.constant (form all.now) }
     ensures capacity { IfSome result (λ f. f.shares.capacity ≡ 8) }
 {
     let constant = product(number.constant, all.constant)?;
     let coefficient = product(number.constant, all.coefficient)?;
-    let mut shares = SmallVec::new(alloc);
-    put_times(&mut shares, number.constant, all.shares.as_slice())?;
+    let shares = times_shares(alloc, number.constant, all.shares.as_slice())?;
     Some(Form {
         constant,
         coefficient,

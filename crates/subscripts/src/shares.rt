@@ -1,11 +1,11 @@
 //! How often a form takes each scalar.
 
-ghost use Rattle.std.specs.Prelude.{◌≡◌, map, ◌*ℤ◌};
+ghost use Rattle.std.specs.Prelude.{◌≡◌, [], map, ◌*ℤ◌};
 ghost use Rattle.loop_tree.specs.TreeView.{seen};
 ghost use Rattle.loop_tree.specs.Constants.{if_some};
 ghost use Rattle.subscripts.specs.Forms.{factor_in, has_share, new_share, others, share_varying, times_share, total, total_share};
 ghost use Rattle.subscripts.specs.SharesView.{share as share_of};
-ghost use Rattle.subscripts.specs.Steps.{Left, fitted, put, put_each, put_fitted};
+ghost use Rattle.subscripts.specs.Steps.{Left, fitted, put, put_each, put_fitted, put_new, put_sums};
 
 use loop_tree::LoopView;
 use smallvec::SmallVec;
@@ -130,8 +130,26 @@ fn put_product(shares: &mut SmallVec<Share, 8>, number: i64, share: Share) -> Op
     put_fitted(shares, share.cell, product(number, share.factor))
 }
 
+/// Puts one of the second's shares, unless the first has one of its scalar.
+fn put_other(
+    shares: &mut SmallVec<Share, 8>,
+    minus: bool,
+    first: &[Share],
+    share: Share,
+) -> Option<()>
+    requires { shares.old.capacity ≡ 8 }
+    ensures left { Left result (map share_of shares.new.items) (put_new minus (map share_of first.now) (map share_of shares.old.items) (share_of share)) }
+    ensures capacity { shares.new.capacity ≡ 8 }
+{
+    if has_share(first, share.cell) {
+        Some(())
+    } else {
+        put_fitted(shares, share.cell, total(minus, 0, share.factor))
+    }
+}
+
 /// Puts the sums of the first's shares and the second's of the same scalars.
-pub fn put_totals(
+fn put_totals(
     shares: &mut SmallVec<Share, 8>,
     minus: bool,
     first: &[Share],
@@ -148,7 +166,7 @@ pub fn put_totals(
 }
 
 /// Puts the second's shares of scalars that the first lacks.
-pub fn put_others(
+fn put_others(
     shares: &mut SmallVec<Share, 8>,
     minus: bool,
     first: &[Share],
@@ -159,12 +177,25 @@ pub fn put_others(
     ensures capacity { shares.new.capacity ≡ 8 }
 {
     for share in second {
-        if !has_share(first, share.cell) {
-            let factor = total(minus, 0, share.factor)?;
-            put(shares, share.cell, factor)?;
-        }
+        put_other(shares, minus, first, *share)?;
     }
     Some(())
+}
+
+/// Puts the sums of the first's shares and the second's, of scalars that either has.
+pub fn put_sums(
+    shares: &mut SmallVec<Share, 8>,
+    minus: bool,
+    first: &[Share],
+    second: &[Share],
+) -> Option<()>
+    requires capacity { shares.old.capacity ≡ 8 }
+    requires empty { shares.old.items ≡ [] }
+    ensures left { Left result (map share_of shares.new.items) (put_sums minus (map share_of first.now) (map share_of second.now)) }
+    ensures capacity { shares.new.capacity ≡ 8 }
+{
+    put_totals(shares, minus, first, second)?;
+    put_others(shares, minus, first, second)
 }
 
 /// Puts so many times the shares.

@@ -1,7 +1,7 @@
-use Rattle.std.proofs.Common.{◌∙◌, ap, map, refl}
-use Rattle.std.proofs.lemmas.List.{map-append}
-use Rattle.loop_tree.specs.Occurrences.{term_occurrences}
-use Rattle.loop_tree.specs.View.{occurrence}
+use Rattle.std.proofs.Common.{ap, map, refl}
+use Rattle.ast.specs.Tree.{terms}
+use Rattle.ast.specs.View.{term}
+use Rattle.loop_tree.specs.Occurrences.{term_occurrences, terms_occurrences, used_at}
 use Rattle.loop_tree.proofs.Occurring.{all_occurred, element_more, further, next_occurs, no_answer, no_more, of_tree}
 use Rattle.loop_tree.proofs.Terms.{binary_of, call_of, element_of, parentheses_of, unary_of}
 use Rattle.loop_tree.proofs.occurrence.+occurrences.Goals as goal
@@ -9,12 +9,9 @@ use Rattle.loop_tree.proofs.occurrence.+occurrences.Goals as goal
 pub add_element-returns-in_err-add_terms : goal.add_element-returns-in_err-add_terms
 add_element-returns-in_err-add_terms t c = no_answer _ _ c.from_residual.ensures.0
 
-pub add_element-returns-in_err-push : goal.add_element-returns-in_err-push
-add_element-returns-in_err-push t c = no_answer _ _ c.from_residual-in_err-push.ensures.0
-
 pub add_element-returns : goal.add_element-returns
 add_element-returns t c =
-    element_more c.args.access.now c.args.statement _ _ _ _ _ c.deref.ensures.value c.deref-2.ensures.value c.in_ok-add_terms.ensures (ap (map occurrence) c.in_ok-push.ensures.items ∙ map-append occurrence c.add_terms.new.list.items _)
+    element_more _ (used_at c.args.statement) c.args.access.now c.args.statement _ _ _ _ _ c.deref.ensures.value c.deref-2.ensures.value c.in_ok-add_terms.ensures c.add_place.ensures
 
 pub add_term-returns-in_err-add_term-in-Binary : goal.add_term-returns-in_err-add_term-in-Binary
 add_term-returns-in_err-add_term-in-Binary t c = no_answer _ _ c.from_residual.ensures.0
@@ -54,7 +51,8 @@ add_terms-returns-in_err-add_term t c = no_answer _ _ c.from_residual.ensures.0
 
 pub add_terms-loop-expression-preserved : goal.add_terms-loop-expression-preserved
 add_terms-loop-expression-preserved t c =
-    next_occurs c.args.statement c.args.expressions.now c.loop-expression.expression-index c.expression-item.result _ _ _ c.loop-expression-test.true c.expression-item.is c.in_ok-add_term.ensures c.loop-expression.invariant
+    next_occurs (λ e. term_occurrences c.args.statement (term e)) (λ es. terms_occurrences c.args.statement (terms (map term es))) (λ e es. refl) c.args.expressions.now c.loop-expression.expression-index c.expression-item.result _ _ _ c.loop-expression-test.true c.expression-item.is c.in_ok-add_term.ensures c.loop-expression.invariant
 
 pub add_terms-returns : goal.add_terms-returns
-add_terms-returns t c = all_occurred c.args.statement c.args.expressions.now c.loop-expression.expression-index _ _ c.loop-expression-test.false c.loop-expression.invariant
+add_terms-returns t c =
+    all_occurred (λ e. term_occurrences c.args.statement (term e)) (λ es. terms_occurrences c.args.statement (terms (map term es))) refl c.args.expressions.now c.loop-expression.expression-index _ _ c.loop-expression-test.false c.loop-expression.invariant

@@ -1,11 +1,13 @@
-use Rattle.std.proofs.Common.{◌∙◌, ap, sym}
-use Rattle.std.specs.Prelude.{option_map}
+use Rattle.std.proofs.Common.{sym}
 use Rattle.loop_tree.specs.TreeView.{seen}
 use Rattle.subscripts.specs.View.{form}
-use Rattle.subscripts.proofs.Propers.{binary_proper}
+use Rattle.subscripts.proofs.Propers.{left_proper, left_same}
 use Rattle.subscripts.proofs.adding.operate.Goals as goal
+
+pub returns-clause-left : goal.returns-clause-left
+returns-clause-left c = left_same c.replace.result _ _ _ (sym c.binary_form-whole.ensures.value) c.replace.ensures.left
 
 pub returns-clause-proper : goal.returns-clause-proper
 returns-clause-proper c =
-    binary_proper (seen c.args.view.now) c.args.operator (form c.args.form.now) (form c.args.other.now) (form c.in_ok-whole.whole) c.requires.proper c.requires.other
-    (sym c.binary_form.ensures.value ∙ ap (λ o. option_map form o) c.in_ok-whole.was)
+    left_proper (seen c.args.view.now) c.args.operator (form c.args.form.now) (form c.args.other.now) _ c.replace.result c.requires.proper c.requires.other
+    (left_same c.replace.result _ _ _ (sym c.binary_form-whole.ensures.value) c.replace.ensures.left)
