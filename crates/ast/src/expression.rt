@@ -1,6 +1,10 @@
 //! Expressions.
 
+ghost use Rattle.std.specs.Prelude.{◌≡◌, IfOk, map};
+ghost use Rattle.ast.specs.View.{term};
+
 use crate::name::Name;
+use std::alloc::{AllocError, Global};
 
 /// A reference's number: a program's references are numbered from 0 in order of evaluation.
 #[derive(Clone, Copy, PartialEq, Eq)]
@@ -83,8 +87,8 @@ pub struct Access {
     pub subscripts: Vec<Expr>,
 }
 
-// Written out, so that each place where an expression is dropped has one call in place of an arm for
-// each form.
+// Written out, so that each place where an expression is dropped has one call in place of an arm
+// for each form.
 impl Drop for Expr {
     #[cycle(dropping)]
     fn drop(self) {
@@ -97,6 +101,69 @@ impl Drop for Expr {
             Expr::Parentheses(_) => {}
             Expr::Unary(_, _) => {}
             Expr::Binary(_, _, _) => {}
+        }
+    }
+}
+
+#[cycle(copies)]
+fn copies_of(alloc: Global, expressions: &[Expr]) -> Result<Vec<Expr>, AllocError>
+    ensures { IfOk result (λ copies. map term copies.items ≡ map term expressions.now) }
+{
+    let mut copies = Vec::with_capacity(alloc, expressions.len())?;
+    for expression in expressions {
+        copies.push(expression.try_copy(alloc)?)?;
+    }
+    Ok(copies)
+}
+
+#[cycle(copies)]
+fn boxed_copy(alloc: Global, expression: &Expr) -> Result<Box<Expr>, AllocError>
+    ensures { IfOk result (λ copy. term copy.value ≡ term expression.now) }
+{
+    let copy = expression.try_copy(alloc)?;
+    Ok(Box::new(alloc, copy)?)
+}
+
+impl Access {
+    ghost use Rattle.std.specs.Prelude.{◌≡◌, IfOk};
+    ghost use Rattle.ast.specs.View.{access};
+
+    /// An equal access, or `AllocError` where memory is refused.
+    #[cycle(copies)]
+    pub fn try_copy(&self, alloc: Global) -> Result<Access, AllocError>
+        ensures { IfOk result (λ copy. access copy ≡ access self.now) }
+    {
+        let subscripts = copies_of(alloc, &self.subscripts)?;
+        Ok(Access {
+            reference: self.reference,
+            subscripts,
+        })
+    }
+}
+
+impl Expr {
+    ghost use Rattle.std.specs.Prelude.{◌≡◌, IfOk};
+    ghost use Rattle.ast.specs.View.{term};
+
+    /// An equal expression, or `AllocError` where memory is refused.
+    #[cycle(copies)]
+    pub fn try_copy(&self, alloc: Global) -> Result<Expr, AllocError>
+        ensures { IfOk result (λ copy. term copy ≡ term self.now) }
+    {
+        match self {
+            Expr::Constant(value) => Ok(Expr::Constant(*value)),
+            Expr::Truth(truth) => Ok(Expr::Truth(*truth)),
+            Expr::Parameter(name, value) => Ok(Expr::Parameter(*name, *value)),
+            Expr::Element(access) => Ok(Expr::Element(access.try_copy(alloc)?)),
+            Expr::Call(intrinsic, arguments) => {
+                Ok(Expr::Call(*intrinsic, copies_of(alloc, arguments)?))
+            }
+            Expr::Parentheses(inner) => Ok(Expr::Parentheses(boxed_copy(alloc, inner)?)),
+            Expr::Unary(prefix, operand) => Ok(Expr::Unary(*prefix, boxed_copy(alloc, operand)?)),
+            Expr::Binary(operator, left, right) => {
+                let left = boxed_copy(alloc, left)?;
+                Ok(Expr::Binary(*operator, left, boxed_copy(alloc, right)?))
+            }
         }
     }
 }

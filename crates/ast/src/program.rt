@@ -1,6 +1,6 @@
 //! Programs.
 
-ghost use Rattle.std.specs.Prelude.{◌≡◌, ◌≤◌, int_lt, map, not, true};
+ghost use Rattle.std.specs.Prelude.{◌≡◌, ◌≤◌, IfOk, int_lt, map, not, true};
 ghost use Rattle.ast.specs.Program.{are_placed, are_shallow};
 ghost use Rattle.ast.specs.References.{are_numbered, block_references};
 ghost use Rattle.ast.specs.Regular.{are_fitting, is_regular};
@@ -11,7 +11,8 @@ ghost use Rattle.std.specs.List.{IsDistinct, list_all};
 ghost use Rattle.std.proofs.Props.{props};
 
 use crate::name::Name;
-use crate::tree::Node;
+use crate::tree::{Node, copy_of_body};
+use std::alloc::{AllocError, Global};
 
 /// A dimension of an array: its bounds, the lower one not above the upper.
 #[derive(Clone, Copy, PartialEq, Eq)]
@@ -64,6 +65,56 @@ impl Drop for Program {
     }
 }
 
+impl Symbol {
+    ghost use Rattle.std.specs.Prelude.{◌≡◌, IfOk};
+    ghost use Rattle.ast.specs.View.{symbol};
+
+    /// An equal symbol, or `AllocError` where memory is refused.
+    pub fn try_copy(&self, alloc: Global) -> Result<Symbol, AllocError>
+        ensures { IfOk result (λ copy. symbol copy ≡ symbol self.now) }
+    {
+        let kind = match &self.kind {
+            SymbolKind::Variable(dimensions) => {
+                SymbolKind::Variable(Vec::from_slice(alloc, dimensions)?)
+            }
+            SymbolKind::Constant(value) => SymbolKind::Constant(*value),
+        };
+        Ok(Symbol {
+            name: self.name,
+            kind,
+        })
+    }
+}
+
+fn copies_of_symbols(alloc: Global, symbols: &[Symbol]) -> Result<Vec<Symbol>, AllocError>
+    ensures { IfOk result (λ copies. map symbol copies.items ≡ map symbol symbols.now) }
+{
+    let mut copies = Vec::with_capacity(alloc, symbols.len())?;
+    for symbol in symbols {
+        copies.push(symbol.try_copy(alloc)?)?;
+    }
+    Ok(copies)
+}
+
+impl Program {
+    ghost use Rattle.std.specs.Prelude.{◌≡◌, IfOk};
+    ghost use Rattle.ast.specs.ProgramView.{program};
+
+    /// An equal program, or `AllocError` where memory is refused.
+    pub fn try_copy(&self) -> Result<Program, AllocError>
+        ensures { IfOk result (λ copy. program copy ≡ program self.now) }
+    {
+        let alloc = *self.body.allocator();
+        let symbols = copies_of_symbols(alloc, &self.symbols)?;
+        let body = copy_of_body(alloc, &self.body)?;
+        Ok(Program {
+            symbols,
+            body,
+            statements: self.statements,
+        })
+    }
+}
+
 impl Dimension {
     ghost use Rattle.std.specs.Prelude.{◌≡◌, ◌≤◌, IsTrue, int_lt, false};
     ghost use Rattle.ast.specs.Symbols.{most_elements, width, is_within};
@@ -89,7 +140,8 @@ impl Dimension {
 /// How many elements dimensions make: one where there are none.
 #[tactic(auto, using(crate::proofs::Sizes::fewer, crate::proofs::Sizes::narrow_first))]
 pub fn elements(dimensions: &[Dimension]) -> usize
-    requires open { list_all (λ d. not (int_lt d.upper d.lower)) (map extent dimensions.now) ≡ true }
+    requires open { list_all (λ d. not (int_lt d.upper d.lower)) (map extent dimensions.now)
+        ≡ true }
     requires few { elements (map extent dimensions.now) ≤ most_elements }
     ensures { result ≡ elements (map extent dimensions.now) }
 {

@@ -1,7 +1,12 @@
 //! Statements, as the text has them: one after another, loops and blocks by their heads and ends.
 
+ghost use Rattle.std.specs.Prelude.{◌≡◌, IfOk, map};
+ghost use Rattle.ast.specs.View.{access, bounds, declarator, definition, item, kind, optional_term};
+ghost use Rattle.ast.specs.View.{statement, head};
+
 use crate::expression::{Access, Expr, Reference};
 use crate::name::Name;
+use std::alloc::{AllocError, Global};
 
 /// A line's number in its source, from 1 to 65,535.
 pub type Line = u32;
@@ -32,18 +37,28 @@ impl Drop for Bounds {
 }
 
 /// A name that a statement declares.
-#[derive(Drop)]
 pub struct Declarator {
     pub name: Name,
     /// The bounds of its dimensions, none where the statement gives none.
     pub bounds: Vec<Bounds>,
 }
 
+impl Drop for Declarator {
+    fn drop(self) {
+        let Declarator { name: _, bounds: _ } = self;
+    }
+}
+
 /// A constant that a PARAMETER statement defines.
-#[derive(Drop)]
 pub struct Definition {
     pub name: Name,
     pub value: Expr,
+}
+
+impl Drop for Definition {
+    fn drop(self) {
+        let Definition { name: _, value: _ } = self;
+    }
 }
 
 /// What a DO statement says.
@@ -104,4 +119,206 @@ pub struct Stmt {
     pub line: Line,
     pub label: Option<Label>,
     pub kind: Kind,
+}
+
+pub fn copy_of_optional(alloc: Global, given: &Option<Expr>) -> Result<Option<Expr>, AllocError>
+    ensures { IfOk result (λ copy. optional_term copy ≡ optional_term given.now) }
+{
+    match given {
+        Some(expression) => Ok(Some(expression.try_copy(alloc)?)),
+        None => Ok(None),
+    }
+}
+
+impl Item {
+    ghost use Rattle.std.specs.Prelude.{◌≡◌, IfOk};
+    ghost use Rattle.ast.specs.View.{item};
+
+    /// An equal item, or `AllocError` where memory is refused.
+    pub fn try_copy(&self, alloc: Global) -> Result<Item, AllocError>
+        ensures { IfOk result (λ copy. item copy ≡ item self.now) }
+    {
+        match self {
+            Item::Value(value) => Ok(Item::Value(value.try_copy(alloc)?)),
+            Item::Text(text) => Ok(Item::Text(Vec::from_slice(alloc, text)?)),
+        }
+    }
+}
+
+impl Bounds {
+    ghost use Rattle.std.specs.Prelude.{◌≡◌, IfOk};
+    ghost use Rattle.ast.specs.View.{bounds};
+
+    /// Equal bounds, or `AllocError` where memory is refused.
+    pub fn try_copy(&self, alloc: Global) -> Result<Bounds, AllocError>
+        ensures { IfOk result (λ copy. bounds copy ≡ bounds self.now) }
+    {
+        let lower = copy_of_optional(alloc, &self.lower)?;
+        let upper = self.upper.try_copy(alloc)?;
+        Ok(Bounds { lower, upper })
+    }
+}
+
+impl Declarator {
+    ghost use Rattle.std.specs.Prelude.{◌≡◌, IfOk};
+    ghost use Rattle.ast.specs.View.{declarator};
+
+    /// An equal declarator, or `AllocError` where memory is refused.
+    pub fn try_copy(&self, alloc: Global) -> Result<Declarator, AllocError>
+        ensures { IfOk result (λ copy. declarator copy ≡ declarator self.now) }
+    {
+        let bounds = copies_of_bounds(alloc, &self.bounds)?;
+        Ok(Declarator {
+            name: self.name,
+            bounds,
+        })
+    }
+}
+
+impl Definition {
+    ghost use Rattle.std.specs.Prelude.{◌≡◌, IfOk};
+    ghost use Rattle.ast.specs.View.{definition};
+
+    /// An equal definition, or `AllocError` where memory is refused.
+    pub fn try_copy(&self, alloc: Global) -> Result<Definition, AllocError>
+        ensures { IfOk result (λ copy. definition copy ≡ definition self.now) }
+    {
+        let value = self.value.try_copy(alloc)?;
+        Ok(Definition {
+            name: self.name,
+            value,
+        })
+    }
+}
+
+impl DoHead {
+    ghost use Rattle.std.specs.Prelude.{◌≡◌, IfOk};
+    ghost use Rattle.ast.specs.View.{head};
+
+    /// An equal head, or `AllocError` where memory is refused.
+    pub fn try_copy(&self, alloc: Global) -> Result<DoHead, AllocError>
+        ensures { IfOk result (λ copy. head copy ≡ head self.now) }
+    {
+        let first = self.first.try_copy(alloc)?;
+        let last = self.last.try_copy(alloc)?;
+        let step = copy_of_optional(alloc, &self.step)?;
+        Ok(DoHead {
+            terminal: self.terminal,
+            variable: self.variable,
+            first,
+            last,
+            step,
+        })
+    }
+}
+
+impl Kind {
+    ghost use Rattle.std.specs.Prelude.{◌≡◌, IfOk};
+    ghost use Rattle.ast.specs.View.{kind};
+
+    /// An equal kind, or `AllocError` where memory is refused.
+    pub fn try_copy(&self, alloc: Global) -> Result<Kind, AllocError>
+        ensures { IfOk result (λ copy. kind copy ≡ kind self.now) }
+    {
+        match self {
+            Kind::Program(name) => Ok(Kind::Program(*name)),
+            Kind::Integer(declared) => Ok(Kind::Integer(copies_of_declarators(alloc, declared)?)),
+            Kind::Dimension(declared) => {
+                Ok(Kind::Dimension(copies_of_declarators(alloc, declared)?))
+            }
+            Kind::Parameter(defined) => Ok(Kind::Parameter(copies_of_definitions(alloc, defined)?)),
+            Kind::Assign(target, value) => {
+                let target = target.try_copy(alloc)?;
+                Ok(Kind::Assign(target, value.try_copy(alloc)?))
+            }
+            Kind::Do(head) => Ok(Kind::Do(head.try_copy(alloc)?)),
+            Kind::Continue => Ok(Kind::Continue),
+            Kind::If(condition) => Ok(Kind::If(condition.try_copy(alloc)?)),
+            Kind::ElseIf(condition) => Ok(Kind::ElseIf(condition.try_copy(alloc)?)),
+            Kind::Else => Ok(Kind::Else),
+            Kind::EndIf => Ok(Kind::EndIf),
+            Kind::LogicalIf(condition, inner) => {
+                let copy = inner.try_copy(alloc)?;
+                let inner = Box::new(alloc, copy)?;
+                Ok(Kind::LogicalIf(condition.try_copy(alloc)?, inner))
+            }
+            Kind::Print(items) => Ok(Kind::Print(copies_of_items(alloc, items)?)),
+            Kind::Read(elements) => Ok(Kind::Read(copies_of_elements(alloc, elements)?)),
+            Kind::Stop => Ok(Kind::Stop),
+            Kind::End => Ok(Kind::End),
+        }
+    }
+}
+
+impl Stmt {
+    ghost use Rattle.std.specs.Prelude.{◌≡◌, IfOk};
+    ghost use Rattle.ast.specs.View.{statement};
+
+    /// An equal statement, or `AllocError` where memory is refused.
+    pub fn try_copy(&self, alloc: Global) -> Result<Stmt, AllocError>
+        ensures { IfOk result (λ copy. statement copy ≡ statement self.now) }
+    {
+        let kind = self.kind.try_copy(alloc)?;
+        Ok(Stmt {
+            line: self.line,
+            label: self.label,
+            kind,
+        })
+    }
+}
+
+fn copies_of_items(alloc: Global, items: &[Item]) -> Result<Vec<Item>, AllocError>
+    ensures { IfOk result (λ copies. map item copies.items ≡ map item items.now) }
+{
+    let mut copies = Vec::with_capacity(alloc, items.len())?;
+    for item in items {
+        copies.push(item.try_copy(alloc)?)?;
+    }
+    Ok(copies)
+}
+
+fn copies_of_bounds(alloc: Global, given: &[Bounds]) -> Result<Vec<Bounds>, AllocError>
+    ensures { IfOk result (λ copies. map bounds copies.items ≡ map bounds given.now) }
+{
+    let mut copies = Vec::with_capacity(alloc, given.len())?;
+    for bounds in given {
+        copies.push(bounds.try_copy(alloc)?)?;
+    }
+    Ok(copies)
+}
+
+fn copies_of_declarators(
+    alloc: Global,
+    declared: &[Declarator],
+) -> Result<Vec<Declarator>, AllocError>
+    ensures { IfOk result (λ copies. map declarator copies.items ≡ map declarator declared.now) }
+{
+    let mut copies = Vec::with_capacity(alloc, declared.len())?;
+    for declarator in declared {
+        copies.push(declarator.try_copy(alloc)?)?;
+    }
+    Ok(copies)
+}
+
+fn copies_of_definitions(
+    alloc: Global,
+    defined: &[Definition],
+) -> Result<Vec<Definition>, AllocError>
+    ensures { IfOk result (λ copies. map definition copies.items ≡ map definition defined.now) }
+{
+    let mut copies = Vec::with_capacity(alloc, defined.len())?;
+    for definition in defined {
+        copies.push(definition.try_copy(alloc)?)?;
+    }
+    Ok(copies)
+}
+
+fn copies_of_elements(alloc: Global, elements: &[Access]) -> Result<Vec<Access>, AllocError>
+    ensures { IfOk result (λ copies. map access copies.items ≡ map access elements.now) }
+{
+    let mut copies = Vec::with_capacity(alloc, elements.len())?;
+    for element in elements {
+        copies.push(element.try_copy(alloc)?)?;
+    }
+    Ok(copies)
 }

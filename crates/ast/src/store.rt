@@ -45,7 +45,8 @@ fn part(numbers: &[i64], start: usize, size: usize) -> &[i64]
 }
 
 impl Store {
-    ghost use Rattle.std.specs.Prelude.{◌≡◌, ◌<◌, IfOk, [], get_or, length, map, pos, slice_index_or, true};
+    ghost use Rattle.std.specs.Prelude.{◌≡◌, ◌<◌, IfOk, [], get_or, length, map, pos};
+    ghost use Rattle.std.specs.Prelude.{slice_index_or, true};
     ghost use Rattle.std.specs.List.{list_all};
     ghost use Rattle.std.proofs.Math.ListN.{set};
     ghost use Rattle.ast.specs.Store.{dealt, value_at, values_in, zeros};

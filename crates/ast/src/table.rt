@@ -28,7 +28,8 @@ pub struct Table {
 }
 
 impl Table {
-    ghost use Rattle.std.specs.Prelude.{◌≡◌, ◌<◌, ◌++◌, ◌∷◌, IfOk, OnOk, OnErr, [], get_or, length, map, take, true};
+    ghost use Rattle.std.specs.Prelude.{◌≡◌, ◌<◌, ◌++◌, ◌∷◌, IfOk, OnOk, OnErr, [], get_or, length};
+    ghost use Rattle.std.specs.Prelude.{map, take, true};
     ghost use Rattle.std.specs.List.{list_all};
     ghost use Rattle.ast.specs.Store.{total_of};
     ghost use Rattle.ast.specs.Symbols.{is_sized, shapes_of};
@@ -44,8 +45,8 @@ impl Table {
         }
     }
 
-    /// Adds a name with so many elements behind the others. Where memory is refused, or more elements
-    /// than a `usize` counts, nothing has changed.
+    /// Adds a name with so many elements behind the others. Where memory is refused, or more
+    /// elements than a `usize` counts, nothing has changed.
     #[tactic(auto, using(crate::proofs::Cells::laid_push))]
     pub fn push(&mut self, name: Name, size: usize) -> Result<(), AllocError>
         ensures ok { OnOk result (shapes self.new ≡ shapes self.old ++ (name.letters, size) ∷ []) }
@@ -95,7 +96,8 @@ impl Table {
         self.seats[cell].name
     }
 
-    /// The place of the first element of a name, or how many elements all names have where it is none.
+    /// The place of the first element of a name, or how many elements all names have where it is
+    /// none.
     #[tactic(auto, using(crate::proofs::Cells::start_of, crate::proofs::Cells::start_past))]
     pub fn start(&self, cell: usize) -> usize
         ensures { result ≡ total_of (take cell (shapes self.now)) }

@@ -44,18 +44,18 @@ Ends code = (input : List ℕ) → HasOneStep code input × (w : ℕ) × Solo co
 
 -- the sequential program comes to its end, without a fault or a STOP before it, or one iteration is open at
 -- a time: else iterations behind one that breaks off may go on for as long as they like
-abbrev pub IsWhole : ProgramTree → List ℕ → ℕ → Type 0
-IsWhole program input s = ((seq program input).end ≡ Done) ⊎ (s ≡ 1)
+abbrev pub NoneBehindABreak : ProgramTree → List ℕ → ℕ → Type 0
+NoneBehindABreak program input s = ((seq program input).end ≡ Done) ⊎ (s ≡ 1)
 
 -- No run, ended or not, has more than three times the steps of one alone: an instruction costs at most a
 -- park, a pick and itself.
 abbrev pub Bounded : Code → ProgramTree → Type 0
 Bounded code program =
-    (input : List ℕ) (w : ℕ) → Solo code input w → (p s : ℕ) (qs : List ℕ) (m : Machine) → AreSizes p s → IsWhole program input s → CodeRun code s p (Init code input) qs m
+    (input : List ℕ) (w : ℕ) → Solo code input w → (p s : ℕ) (qs : List ℕ) (m : Machine) → AreSizes p s → NoneBehindABreak program input s → CodeRun code s p (Init code input) qs m
     → length qs ≤ 3 * w
 
 -- Any run can be carried to its end within that number.
 abbrev pub Carried : Code → ProgramTree → Type 0
 Carried code program =
-    (input : List ℕ) (w : ℕ) → Solo code input w → (p s : ℕ) (qs : List ℕ) (m : Machine) → AreSizes p s → IsWhole program input s → CodeRun code s p (Init code input) qs m
+    (input : List ℕ) (w : ℕ) → Solo code input w → (p s : ℕ) (qs : List ℕ) (m : Machine) → AreSizes p s → NoneBehindABreak program input s → CodeRun code s p (Init code input) qs m
     → (rs : List ℕ) × (n : Machine) × (e : End) × CodeRun code s p m rs n × (n.ended ≡ Some e) × (length qs + length rs ≤ 3 * w)

@@ -19,7 +19,8 @@ fn emit_step(
     places: &Places<'_>,
     code: &mut Vec<Instr>,
 ) -> Result<(), AllocError>
-    ensures { OnOk result (code.new.items ≡ code.old.items ++ step_code (places_of places.now) (optional_term step.now)) }
+    ensures { OnOk result (code.new.items ≡ code.old.items
+        ++ step_code (places_of places.now) (optional_term step.now)) }
 {
     match step {
         Some(step) => emit(step, places, code),
@@ -33,7 +34,8 @@ fn set_variable(
     places: &Places<'_>,
     code: &mut Vec<Instr>,
 ) -> Result<(), AllocError>
-    ensures { OnOk result (code.new.items ≡ code.old.items ++ variable_code (places_of places.now) (ref variable.now)) }
+    ensures { OnOk result (code.new.items ≡ code.old.items
+        ++ variable_code (places_of places.now) (ref variable.now)) }
 {
     put(
         code,
@@ -48,7 +50,8 @@ pub fn emit_head(
     places: &Places<'_>,
     code: &mut Vec<Instr>,
 ) -> Result<(), AllocError>
-    ensures { OnOk result (code.new.items ≡ code.old.items ++ begun_code (places_of places.now) (head_of head.now)) }
+    ensures { OnOk result (code.new.items ≡ code.old.items
+        ++ begun_code (places_of places.now) (head_of head.now)) }
 {
     emit(&head.first, places, code)?;
     emit(&head.last, places, code)?;
@@ -64,7 +67,8 @@ pub fn emit_opened(
     places: &Places<'_>,
     code: &mut Vec<Instr>,
 ) -> Result<(), AllocError>
-    ensures { OnOk result (code.new.items ≡ code.old.items ++ opened_code (places_of places.now) (head_of head.now) number) }
+    ensures { OnOk result (code.new.items ≡ code.old.items
+        ++ opened_code (places_of places.now) (head_of head.now) number) }
 {
     emit(&head.first, places, code)?;
     emit(&head.last, places, code)?;
@@ -74,7 +78,8 @@ pub fn emit_opened(
 
 /// A DO variable grows by the step.
 fn grow(variable: &Reference, places: &Places<'_>, code: &mut Vec<Instr>) -> Result<(), AllocError>
-    ensures { OnOk result (code.new.items ≡ code.old.items ++ grown_code (places_of places.now) (ref variable.now)) }
+    ensures { OnOk result (code.new.items ≡ code.old.items
+        ++ grown_code (places_of places.now) (ref variable.now)) }
 {
     put(
         code,
@@ -94,7 +99,8 @@ pub fn end_trip(
     places: &Places<'_>,
     code: &mut Vec<Instr>,
 ) -> Result<(), AllocError>
-    ensures { OnOk result (code.new.items ≡ trip_ended (places_of places.now) (ref variable.now) start code.old.items) }
+    ensures { OnOk result (code.new.items
+        ≡ trip_ended (places_of places.now) (ref variable.now) start code.old.items) }
 {
     grow(variable, places, code)?;
     let trip = short(code.len().saturating_sub(start));

@@ -3,7 +3,8 @@
 ghost use Rattle.std.specs.Prelude.{◌≡◌, ◌++◌, OnOk, length, map};
 ghost use Rattle.ast.specs.Tree.{arms as arms_tree};
 ghost use Rattle.ast.specs.View.{arm as arm_of, block_view, head as head_of, node as node_of, ref};
-ghost use Rattle.codegen.specs.Blocks.{body_left_open, code_of_arms, code_of_block, code_of_node, records_in_arms, records_in_block, records_in_node};
+ghost use Rattle.codegen.specs.Blocks.{body_left_open, code_of_arms, code_of_block, code_of_node};
+ghost use Rattle.codegen.specs.Blocks.{records_in_arms, records_in_block, records_in_node};
 ghost use Rattle.codegen.specs.Emitted.{if_serial, loop_code, serial_code, turns_code};
 ghost use Rattle.codegen.specs.OpenedView.{opens_in};
 ghost use Rattle.codegen.specs.Records.{records_of};
@@ -30,8 +31,12 @@ fn emit_trips(
     records: &mut Vec<Vec<Piece>>,
     code: &mut Vec<Instr>,
 ) -> Result<(), AllocError>
-    ensures code { OnOk result (code.new.items ≡ code.old.items ++ turns_code (record (places_of places.now) { line = line }) (ref variable.now) (code_of_block (opens_in opened.now) (places_of places.now) (length records.old.items) (block_view range.now))) }
-    ensures records { OnOk result (records_of records.new ≡ records_of records.old ++ records_in_block (opens_in opened.now) (places_of places.now) (block_view range.now)) }
+    ensures code { OnOk result (code.new.items ≡ code.old.items
+        ++ turns_code (record (places_of places.now) { line = line }) (ref variable.now)
+        (code_of_block (opens_in opened.now) (places_of places.now) (length records.old.items)
+        (block_view range.now))) }
+    ensures records { OnOk result (records_of records.new ≡ records_of records.old
+        ++ records_in_block (opens_in opened.now) (places_of places.now) (block_view range.now)) }
 {
     let start = code.len();
     put(code, line, Act::CountDown(0))?;
@@ -51,8 +56,12 @@ fn emit_serial(
     records: &mut Vec<Vec<Piece>>,
     code: &mut Vec<Instr>,
 ) -> Result<(), AllocError>
-    ensures code { OnOk result (code.new.items ≡ code.old.items ++ serial_code (record (places_of places.now) { line = line }) (head_of head.now) (code_of_block (opens_in opened.now) (places_of places.now) (length records.old.items) (block_view range.now))) }
-    ensures records { OnOk result (records_of records.new ≡ records_of records.old ++ records_in_block (opens_in opened.now) (places_of places.now) (block_view range.now)) }
+    ensures code { OnOk result (code.new.items ≡ code.old.items
+        ++ serial_code (record (places_of places.now) { line = line }) (head_of head.now)
+        (code_of_block (opens_in opened.now) (places_of places.now) (length records.old.items)
+        (block_view range.now))) }
+    ensures records { OnOk result (records_of records.new ≡ records_of records.old
+        ++ records_in_block (opens_in opened.now) (places_of places.now) (block_view range.now)) }
 {
     emit_head(head, &on(places, line), code)?;
     let variable = &head.variable;
@@ -71,8 +80,15 @@ fn emit_loop(
     records: &mut Vec<Vec<Piece>>,
     code: &mut Vec<Instr>,
 ) -> Result<(), AllocError>
-    ensures code { OnOk result (code.new.items ≡ code.old.items ++ loop_code (opens_in opened.now (head_of head.now).variable.id) (record (places_of places.now) { line = line }) (head_of head.now) (code_of_block (opens_in opened.now) (places_of places.now) (length records.old.items) (block_view range.now))) }
-    ensures records { OnOk result (records_of records.new ≡ records_of records.old ++ if_serial (opens_in opened.now (head_of head.now).variable.id) (records_in_block (opens_in opened.now) (places_of places.now) (block_view range.now))) }
+    ensures code { OnOk result (code.new.items ≡ code.old.items
+        ++ loop_code (opens_in opened.now (head_of head.now).variable.id)
+        (record (places_of places.now) { line = line }) (head_of head.now)
+        (code_of_block (opens_in opened.now) (places_of places.now) (length records.old.items)
+        (block_view range.now))) }
+    ensures records { OnOk result (records_of records.new ≡ records_of records.old
+        ++ if_serial (opens_in opened.now (head_of head.now).variable.id)
+        (records_in_block (opens_in opened.now) (places_of places.now)
+        (block_view range.now))) }
 {
     match opened.number(head.variable.id) {
         Some(number) => emit_opened(head, number, &on(places, line), code),
@@ -91,8 +107,12 @@ fn emit_body(
     records: &mut Vec<Vec<Piece>>,
     code: &mut Vec<Instr>,
 ) -> Result<(), AllocError>
-    ensures code { OnOk result (code.new.items ≡ code.old.items ++ body_left_open line (code_of_block (opens_in opened.now) (places_of places.now) (length records.old.items) (block_view body.now))) }
-    ensures records { OnOk result (records_of records.new ≡ records_of records.old ++ records_in_block (opens_in opened.now) (places_of places.now) (block_view body.now)) }
+    ensures code { OnOk result (code.new.items ≡ code.old.items
+        ++ body_left_open line
+        (code_of_block (opens_in opened.now) (places_of places.now) (length records.old.items)
+        (block_view body.now))) }
+    ensures records { OnOk result (records_of records.new ≡ records_of records.old
+        ++ records_in_block (opens_in opened.now) (places_of places.now) (block_view body.now)) }
 {
     let start = code.len();
     put(code, line, Act::SkipUnless(0))?;
@@ -110,8 +130,12 @@ fn emit_arms(
     records: &mut Vec<Vec<Piece>>,
     code: &mut Vec<Instr>,
 ) -> Result<(), AllocError>
-    ensures code { OnOk result (code.new.items ≡ code.old.items ++ code_of_arms (opens_in opened.now) (places_of places.now) (length records.old.items) (arms_tree (map arm_of arms.now))) }
-    ensures records { OnOk result (records_of records.new ≡ records_of records.old ++ records_in_arms (opens_in opened.now) (places_of places.now) (arms_tree (map arm_of arms.now))) }
+    ensures code { OnOk result (code.new.items ≡ code.old.items
+        ++ code_of_arms (opens_in opened.now) (places_of places.now) (length records.old.items)
+        (arms_tree (map arm_of arms.now))) }
+    ensures records { OnOk result (records_of records.new ≡ records_of records.old
+        ++ records_in_arms (opens_in opened.now) (places_of places.now)
+        (arms_tree (map arm_of arms.now))) }
 {
     let mut pending = Vec::new(alloc);
     for arm in arms {
@@ -141,8 +165,11 @@ fn emit_node(
     records: &mut Vec<Vec<Piece>>,
     code: &mut Vec<Instr>,
 ) -> Result<(), AllocError>
-    ensures code { OnOk result (code.new.items ≡ code.old.items ++ code_of_node (opens_in opened.now) (places_of places.now) (length records.old.items) (node_of node.now)) }
-    ensures records { OnOk result (records_of records.new ≡ records_of records.old ++ records_in_node (opens_in opened.now) (places_of places.now) (node_of node.now)) }
+    ensures code { OnOk result (code.new.items ≡ code.old.items
+        ++ code_of_node (opens_in opened.now) (places_of places.now) (length records.old.items)
+        (node_of node.now)) }
+    ensures records { OnOk result (records_of records.new ≡ records_of records.old
+        ++ records_in_node (opens_in opened.now) (places_of places.now) (node_of node.now)) }
 {
     match node {
         Node::Plain(statement) => {
@@ -167,8 +194,11 @@ pub fn emit_block(
     records: &mut Vec<Vec<Piece>>,
     code: &mut Vec<Instr>,
 ) -> Result<(), AllocError>
-    ensures code { OnOk result (code.new.items ≡ code.old.items ++ code_of_block (opens_in opened.now) (places_of places.now) (length records.old.items) (block_view nodes.now)) }
-    ensures records { OnOk result (records_of records.new ≡ records_of records.old ++ records_in_block (opens_in opened.now) (places_of places.now) (block_view nodes.now)) }
+    ensures code { OnOk result (code.new.items ≡ code.old.items
+        ++ code_of_block (opens_in opened.now) (places_of places.now) (length records.old.items)
+        (block_view nodes.now)) }
+    ensures records { OnOk result (records_of records.new ≡ records_of records.old
+        ++ records_in_block (opens_in opened.now) (places_of places.now) (block_view nodes.now)) }
 {
     for i in 0..nodes.len() {
         if is_last_stop(&nodes[i..]) {

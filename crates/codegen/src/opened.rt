@@ -15,7 +15,8 @@ pub struct Opened {
 
 /// Adds a loop in front of others.
 fn add(opened: &mut Opened, variable: RefId, number: usize) -> Result<(), AllocError>
-    ensures { OnOk result ((id : ℕ) → opens_in opened.new id ≡ (if variable.0 == id then Some number else opens_in opened.old id)) }
+    ensures { OnOk result ((id : ℕ) → opens_in opened.new id
+        ≡ (if variable.0 == id then Some number else opens_in opened.old id)) }
 {
     opened.numbers.insert(variable.0, number)?;
     Ok(())
@@ -27,7 +28,8 @@ impl Opened {
 
     /// The loops with these DO variables, in the order of their numbers, the first of which is 0.
     pub fn new(alloc: Global, variables: &[RefId]) -> Result<Opened, AllocError>
-        ensures { IfOk result (λ opened. (id : ℕ) → opens_in opened id ≡ number_of 0 (map (λ v. v.0) variables.now) id) }
+        ensures { IfOk result (λ opened. (id : ℕ) → opens_in opened id
+            ≡ number_of 0 (map (λ v. v.0) variables.now) id) }
     {
         let mut opened = Opened {
             numbers: BTreeMap::new(alloc),

@@ -3,8 +3,11 @@
 ghost use Rattle.std.specs.Prelude.{◌≡◌, ◌++◌, ◌∷◌, [], OnOk, length};
 ghost use Rattle.ast.specs.View.{head as head_of, ref};
 ghost use Rattle.codegen.specs.Blocks.{body_left_open};
-ghost use Rattle.codegen.specs.Emitted.{arms_awaits, arms_code, arms_records, block_awaits, block_code, block_records, node_awaits, node_code, node_records, serial_code, turns_code};
-ghost use Rattle.codegen.specs.PlanParts.{arms_of, ends_with_stop, is_plan_end, is_plan_stop, made_arms};
+ghost use Rattle.codegen.specs.Emitted.{arms_awaits, arms_code, arms_records, block_awaits};
+ghost use Rattle.codegen.specs.Emitted.{block_code, block_records, node_awaits, node_code};
+ghost use Rattle.codegen.specs.Emitted.{node_records, serial_code, turns_code};
+ghost use Rattle.codegen.specs.PlanParts.{arms_of, ends_with_stop, is_plan_end, is_plan_stop};
+ghost use Rattle.codegen.specs.PlanParts.{made_arms};
 ghost use Rattle.codegen.specs.Program.{none_open};
 ghost use Rattle.codegen.specs.Records.{records_of};
 ghost use Rattle.dependence.specs.PlanView.{plan_block, plan_node};
@@ -63,8 +66,10 @@ fn emit_await(
     awaits: &mut Vec<Await>,
     code: &mut Vec<Instr>,
 ) -> Result<(), AllocError>
-    ensures code { OnOk result (code.new.items ≡ code.old.items ++ instr (places_of places.now).line (acts.Await (short (length awaits.old.items))) ∷ []) }
-    ensures awaits { OnOk result (awaits.new.items ≡ awaits.old.items ++ record { event = short event; distance = distance } ∷ []) }
+    ensures code { OnOk result (code.new.items ≡ code.old.items
+        ++ instr (places_of places.now).line (acts.Await (short (length awaits.old.items))) ∷ []) }
+    ensures awaits { OnOk result (awaits.new.items ≡ awaits.old.items
+        ++ record { event = short event; distance = distance } ∷ []) }
 {
     let number = short(awaits.len());
     awaits.push(Await {
@@ -86,9 +91,14 @@ fn emit_trips(
     awaits: &mut Vec<Await>,
     code: &mut Vec<Instr>,
 ) -> Result<(), AllocError>
-    ensures code { OnOk result (code.new.items ≡ code.old.items ++ turns_code (record (places_of places.now) { line = line }) (ref variable.now) (block_code (places_of places.now) none_open (length records.old.items) (length awaits.old.items) (plan_block range.now))) }
-    ensures records { OnOk result (records_of records.new ≡ records_of records.old ++ block_records (places_of places.now) none_open (plan_block range.now)) }
-    ensures awaits { OnOk result (awaits.new.items ≡ awaits.old.items ++ block_awaits (places_of places.now) none_open (plan_block range.now)) }
+    ensures code { OnOk result (code.new.items ≡ code.old.items
+        ++ turns_code (record (places_of places.now) { line = line }) (ref variable.now)
+        (block_code (places_of places.now) none_open (length records.old.items)
+        (length awaits.old.items) (plan_block range.now))) }
+    ensures records { OnOk result (records_of records.new ≡ records_of records.old
+        ++ block_records (places_of places.now) none_open (plan_block range.now)) }
+    ensures awaits { OnOk result (awaits.new.items ≡ awaits.old.items
+        ++ block_awaits (places_of places.now) none_open (plan_block range.now)) }
 {
     let start = code.len();
     put(code, line, Act::CountDown(0))?;
@@ -108,9 +118,14 @@ fn emit_loop(
     awaits: &mut Vec<Await>,
     code: &mut Vec<Instr>,
 ) -> Result<(), AllocError>
-    ensures code { OnOk result (code.new.items ≡ code.old.items ++ serial_code (record (places_of places.now) { line = line }) (head_of head.now) (block_code (places_of places.now) none_open (length records.old.items) (length awaits.old.items) (plan_block range.now))) }
-    ensures records { OnOk result (records_of records.new ≡ records_of records.old ++ block_records (places_of places.now) none_open (plan_block range.now)) }
-    ensures awaits { OnOk result (awaits.new.items ≡ awaits.old.items ++ block_awaits (places_of places.now) none_open (plan_block range.now)) }
+    ensures code { OnOk result (code.new.items ≡ code.old.items
+        ++ serial_code (record (places_of places.now) { line = line }) (head_of head.now)
+        (block_code (places_of places.now) none_open (length records.old.items)
+        (length awaits.old.items) (plan_block range.now))) }
+    ensures records { OnOk result (records_of records.new ≡ records_of records.old
+        ++ block_records (places_of places.now) none_open (plan_block range.now)) }
+    ensures awaits { OnOk result (awaits.new.items ≡ awaits.old.items
+        ++ block_awaits (places_of places.now) none_open (plan_block range.now)) }
 {
     emit_head(head, &on(places, line), code)?;
     let variable = &head.variable;
@@ -128,9 +143,14 @@ fn emit_body(
     awaits: &mut Vec<Await>,
     code: &mut Vec<Instr>,
 ) -> Result<(), AllocError>
-    ensures code { OnOk result (code.new.items ≡ code.old.items ++ body_left_open line (block_code (places_of places.now) none_open (length records.old.items) (length awaits.old.items) (plan_block body.now))) }
-    ensures records { OnOk result (records_of records.new ≡ records_of records.old ++ block_records (places_of places.now) none_open (plan_block body.now)) }
-    ensures awaits { OnOk result (awaits.new.items ≡ awaits.old.items ++ block_awaits (places_of places.now) none_open (plan_block body.now)) }
+    ensures code { OnOk result (code.new.items ≡ code.old.items
+        ++ body_left_open line
+        (block_code (places_of places.now) none_open (length records.old.items)
+        (length awaits.old.items) (plan_block body.now))) }
+    ensures records { OnOk result (records_of records.new ≡ records_of records.old
+        ++ block_records (places_of places.now) none_open (plan_block body.now)) }
+    ensures awaits { OnOk result (awaits.new.items ≡ awaits.old.items
+        ++ block_awaits (places_of places.now) none_open (plan_block body.now)) }
 {
     let start = code.len();
     put(code, line, Act::SkipUnless(0))?;
@@ -148,9 +168,13 @@ fn emit_made(
     awaits: &mut Vec<Await>,
     code: &mut Vec<Instr>,
 ) -> Result<(), AllocError>
-    ensures code { OnOk result (code.new.items ≡ code.old.items ++ arms_code (places_of places.now) none_open (length records.old.items) (length awaits.old.items) (made_arms made.now)) }
-    ensures records { OnOk result (records_of records.new ≡ records_of records.old ++ arms_records (places_of places.now) none_open (made_arms made.now)) }
-    ensures awaits { OnOk result (awaits.new.items ≡ awaits.old.items ++ arms_awaits (places_of places.now) none_open (made_arms made.now)) }
+    ensures code { OnOk result (code.new.items ≡ code.old.items
+        ++ arms_code (places_of places.now) none_open (length records.old.items)
+        (length awaits.old.items) (made_arms made.now)) }
+    ensures records { OnOk result (records_of records.new ≡ records_of records.old
+        ++ arms_records (places_of places.now) none_open (made_arms made.now)) }
+    ensures awaits { OnOk result (awaits.new.items ≡ awaits.old.items
+        ++ arms_awaits (places_of places.now) none_open (made_arms made.now)) }
 {
     match made {
         Some(body) => emit_plan(alloc, body, places, records, awaits, code),
@@ -169,9 +193,13 @@ fn emit_arms(
     awaits: &mut Vec<Await>,
     code: &mut Vec<Instr>,
 ) -> Result<(), AllocError>
-    ensures code { OnOk result (code.new.items ≡ code.old.items ++ arms_code (places_of places.now) none_open (length records.old.items) (length awaits.old.items) (arms_of arms.now made.now)) }
-    ensures records { OnOk result (records_of records.new ≡ records_of records.old ++ arms_records (places_of places.now) none_open (arms_of arms.now made.now)) }
-    ensures awaits { OnOk result (awaits.new.items ≡ awaits.old.items ++ arms_awaits (places_of places.now) none_open (arms_of arms.now made.now)) }
+    ensures code { OnOk result (code.new.items ≡ code.old.items
+        ++ arms_code (places_of places.now) none_open (length records.old.items)
+        (length awaits.old.items) (arms_of arms.now made.now)) }
+    ensures records { OnOk result (records_of records.new ≡ records_of records.old
+        ++ arms_records (places_of places.now) none_open (arms_of arms.now made.now)) }
+    ensures awaits { OnOk result (awaits.new.items ≡ awaits.old.items
+        ++ arms_awaits (places_of places.now) none_open (arms_of arms.now made.now)) }
 {
     let mut pending = Vec::new(alloc);
     for arm in arms {
@@ -202,9 +230,13 @@ fn emit_statement(
     awaits: &mut Vec<Await>,
     code: &mut Vec<Instr>,
 ) -> Result<(), AllocError>
-    ensures code { OnOk result (code.new.items ≡ code.old.items ++ node_code (places_of places.now) none_open (length records.old.items) (length awaits.old.items) (plan_node statement.now)) }
-    ensures records { OnOk result (records_of records.new ≡ records_of records.old ++ node_records (places_of places.now) none_open (plan_node statement.now)) }
-    ensures awaits { OnOk result (awaits.new.items ≡ awaits.old.items ++ node_awaits (places_of places.now) none_open (plan_node statement.now)) }
+    ensures code { OnOk result (code.new.items ≡ code.old.items
+        ++ node_code (places_of places.now) none_open (length records.old.items)
+        (length awaits.old.items) (plan_node statement.now)) }
+    ensures records { OnOk result (records_of records.new ≡ records_of records.old
+        ++ node_records (places_of places.now) none_open (plan_node statement.now)) }
+    ensures awaits { OnOk result (awaits.new.items ≡ awaits.old.items
+        ++ node_awaits (places_of places.now) none_open (plan_node statement.now)) }
 {
     match statement {
         PlanStmt::Await(event, distance) => emit_await(*event, *distance, places, awaits, code),
@@ -223,8 +255,8 @@ fn emit_statement(
 }
 
 /// Appends the code of a plan's body, the records that it prints, and what it awaits. Awaits and
-/// advances are told to stand in the line of the places. A STOP that END follows has no code: it does
-/// what END does.
+/// advances are told to stand in the line of the places. A STOP that END follows has no code: it
+/// does what END does.
 #[cycle(plans)]
 pub fn emit_plan(
     alloc: Global,
@@ -234,9 +266,13 @@ pub fn emit_plan(
     awaits: &mut Vec<Await>,
     code: &mut Vec<Instr>,
 ) -> Result<(), AllocError>
-    ensures code { OnOk result (code.new.items ≡ code.old.items ++ block_code (places_of places.now) none_open (length records.old.items) (length awaits.old.items) (plan_block body.now)) }
-    ensures records { OnOk result (records_of records.new ≡ records_of records.old ++ block_records (places_of places.now) none_open (plan_block body.now)) }
-    ensures awaits { OnOk result (awaits.new.items ≡ awaits.old.items ++ block_awaits (places_of places.now) none_open (plan_block body.now)) }
+    ensures code { OnOk result (code.new.items ≡ code.old.items
+        ++ block_code (places_of places.now) none_open (length records.old.items)
+        (length awaits.old.items) (plan_block body.now)) }
+    ensures records { OnOk result (records_of records.new ≡ records_of records.old
+        ++ block_records (places_of places.now) none_open (plan_block body.now)) }
+    ensures awaits { OnOk result (awaits.new.items ≡ awaits.old.items
+        ++ block_awaits (places_of places.now) none_open (plan_block body.now)) }
 {
     for i in 0..body.len() {
         if is_last_stop(&body[i..]) {

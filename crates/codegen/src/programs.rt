@@ -45,7 +45,8 @@ const TOO_LONG: Refusal = Refusal::Refused {
 fn variables(alloc: Global, symbols: &[Symbol]) -> Result<Vec<Variable>, AllocError>
     requires sized { list_all is_sized (map symbol symbols.now) ≡ true }
     requires few { length symbols.now ≤ most_symbols }
-    ensures names { IfOk result (λ variables. variables_in variables.items ≡ variables_for (map symbol symbols.now)) }
+    ensures names { IfOk result (λ variables. variables_in variables.items
+        ≡ variables_for (map symbol symbols.now)) }
     ensures laid { IfOk result (λ variables. are_laid 0 variables.items ≡ true) }
 {
     let mut variables = Vec::with_capacity(alloc, symbols.len())?;
@@ -64,7 +65,8 @@ fn variables(alloc: Global, symbols: &[Symbol]) -> Result<Vec<Variable>, AllocEr
 
 /// What main does.
 fn emit_main(alloc: Global, program: &Program, opened: &Opened) -> Result<Made, AllocError>
-    ensures { IfOk result (λ made. made_of made ≡ main_made (program_of program.now) (opens_in opened.now)) }
+    ensures { IfOk result (λ made. made_of made
+        ≡ main_made (program_of program.now) (opens_in opened.now)) }
 {
     let privates = ScalarSet {
         names: Vec::new(alloc),
@@ -102,7 +104,8 @@ fn emit_all(
     reports: &[LoopReport],
 ) -> Result<Made, AllocError>
     requires count { length reports.now ≡ length (loops_seen tree.now) }
-    ensures { IfOk result (λ made. made_of made ≡ all_made (program_of program.now) (planned_in (loops_seen tree.now) reports.now)) }
+    ensures { IfOk result (λ made. made_of made
+        ≡ all_made (program_of program.now) (planned_in (loops_seen tree.now) reports.now)) }
 {
     let variables = variables_of(alloc, tree, reports)?;
     let opened = Opened::new(alloc, &variables)?;
@@ -119,8 +122,11 @@ fn whole(
     reports: &[LoopReport],
 ) -> Result<Code, Refusal>
     requires count { length reports.now ≡ length (loops_seen tree.now) }
-    ensures code { IfOk result (λ code. IsCodeOf (program_of program.now) (planned_in (loops_seen tree.now) reports.now) (code_of code)) }
-    ensures refused { IfErr result (RefusesWith (program_of program.now) (planned_in (loops_seen tree.now) reports.now)) }
+    ensures code { IfOk result (λ code.
+        IsCodeOf (program_of program.now) (planned_in (loops_seen tree.now) reports.now)
+        (code_of code)) }
+    ensures refused { IfErr result
+        (RefusesWith (program_of program.now) (planned_in (loops_seen tree.now) reports.now)) }
 {
     let made = emit_all(alloc, program, tree, reports)?;
     let operands = of_block(&program.body);
@@ -155,14 +161,14 @@ pub struct Compiled {
     pub reports: Vec<LoopReport>,
 }
 
-/// The code of a program, with a report of each of its loops. Those that may be open have plans that
-/// the check accepts, and are opened: their iterations are run at once. Main runs the others alone, one
-/// trip after another.
+/// The code of a program, with a report of each of its loops. Those that may be open have plans
+/// that the check accepts, and are opened: their iterations are run at once. Main runs the others
+/// alone, one trip after another.
 ///
 /// # Errors
 ///
-/// 61 at line 0 where the code would have more than 1,048,576 instructions or want more room than 32
-/// bits count, or the program has more than 4,294,967,296 symbols; and want of memory.
+/// 61 at line 0 where the code would have more than 1,048,576 instructions or want more room than
+/// 32 bits count, or the program has more than 4,294,967,296 symbols; and want of memory.
 pub fn compile(alloc: Global, program: &Program) -> Result<Compiled, Refusal>
     ensures code { IfOk result (λ c. IsCompiled (program_of program.now) (code_of c.code)) }
     ensures opened { IfOk result (λ c. IsOpened (program_of program.now) c) }

@@ -45,7 +45,9 @@ fn number_of(symbols: &[Symbol], name: Name) -> usize
 }
 
 fn numbers_of(alloc: Global, symbols: &[Symbol], names: &[Name]) -> Result<Vec<u32>, AllocError>
-    ensures { IfOk result (λ numbers. numbers.items ≡ map (λ name. short (place_of_name 0 (map symbol symbols.now) name)) (map letters names.now)) }
+    ensures { IfOk result (λ numbers. numbers.items
+        ≡ map (λ name. short (place_of_name 0 (map symbol symbols.now) name))
+        (map letters names.now)) }
 {
     let mut numbers = Vec::with_capacity(alloc, names.len())?;
     for name in names {
@@ -62,7 +64,8 @@ fn entry(
     names: &[Name],
     place: usize,
 ) -> Result<Loop, AllocError>
-    ensures { IfOk result (λ l. loop_of l ≡ entry_of (program_of program.now).symbols place (seen view.now) (map letters names.now)) }
+    ensures { IfOk result (λ l. loop_of l
+        ≡ entry_of (program_of program.now).symbols place (seen view.now) (map letters names.now)) }
 {
     Ok(Loop {
         body: place,
@@ -81,7 +84,10 @@ fn emit_iteration(
     privates: &ScalarSet,
     made: &mut Made,
 ) -> Result<(), AllocError>
-    ensures { OnOk result (made_of made.new ≡ with_range (program_of program.now).symbols (bare_plan (seen view.now) (plan_block body.now) (map letters privates.now.names.items)) (made_of made.old)) }
+    ensures { OnOk result (made_of made.new
+        ≡ with_range (program_of program.now).symbols
+        (bare_plan (seen view.now) (plan_block body.now) (map letters privates.now.names.items))
+        (made_of made.old)) }
 {
     let number = short(made.loops.len());
     let place = made.instructions.len();
@@ -112,7 +118,9 @@ fn emit_range(
     plan: &LoopPlan,
     made: &mut Made,
 ) -> Result<(), AllocError>
-    ensures { OnOk result (made_of made.new ≡ with_ranges (program_of program.now).symbols (planned_by (seen view.now) (plan_of plan.now)) (made_of made.old)) }
+    ensures { OnOk result (made_of made.new
+        ≡ with_ranges (program_of program.now).symbols
+        (planned_by (seen view.now) (plan_of plan.now)) (made_of made.old)) }
 {
     match plan {
         LoopPlan::Serial(_) => Ok(()),
@@ -131,7 +139,9 @@ pub fn emit_ranges(
     made: &mut Made,
 ) -> Result<(), AllocError>
     requires count { length reports.now ≡ length (loops_seen tree.now) }
-    ensures { OnOk result (made_of made.new ≡ with_ranges (program_of program.now).symbols (planned_in (loops_seen tree.now) reports.now) (made_of made.old)) }
+    ensures { OnOk result (made_of made.new
+        ≡ with_ranges (program_of program.now).symbols
+        (planned_in (loops_seen tree.now) reports.now) (made_of made.old)) }
 {
     for place in 0..tree.count() {
         let view = tree.view(place + 1);
@@ -153,7 +163,8 @@ pub fn variables_of(
     reports: &[LoopReport],
 ) -> Result<Vec<RefId>, AllocError>
     requires count { length reports.now ≡ length (loops_seen tree.now) }
-    ensures { IfOk result (λ variables. map (λ v. v.0) variables.items ≡ map (λ x. x.loop.head.variable.id) (planned_in (loops_seen tree.now) reports.now)) }
+    ensures { IfOk result (λ variables. map (λ v. v.0) variables.items
+        ≡ map (λ x. x.loop.head.variable.id) (planned_in (loops_seen tree.now) reports.now)) }
 {
     let mut variables = Vec::new(alloc);
     for place in 0..tree.count() {

@@ -71,7 +71,8 @@ fn kept_lines(
     sources: &[usize],
     kept: &[Kept],
 ) -> Result<Vec<(usize, u128, Line)>, AllocError>
-    ensures { IfOk result (λ found. found.items ≡ map (spec.kept_line lines.now sources.now) kept.now) }
+    ensures { IfOk result (λ found. found.items
+        ≡ map (spec.kept_line lines.now sources.now) kept.now) }
 {
     let mut found = Vec::with_capacity(alloc, kept.len())?;
     for one in kept {
@@ -122,8 +123,8 @@ fn note(noted: &mut Vec<bool>, inside: bool, suits: bool) -> Result<(), AllocErr
     Ok(())
 }
 
-/// What placement gives for a loop, where the check of plans accepts it. One that it refused would leave
-/// the loop serial, for reason 6; it refuses none.
+/// What placement gives for a loop, where the check of plans accepts it. One that it refused would
+/// leave the loop serial, for reason 6; it refuses none.
 fn checked(alloc: Global, view: &LoopView<'_, '_>, placed: Placed) -> Result<Placed, AllocError>
     requires whole { IsWhole (seen view.now) }
     requires placed { IsPlacement (all_seen view.now) (seen view.now) placed.plan }
@@ -143,8 +144,8 @@ fn checked(alloc: Global, view: &LoopView<'_, '_>, placed: Placed) -> Result<Pla
     }
 }
 
-/// The report of the next loop, which a view shows. It is noted whether this loop or one around it may
-/// be open.
+/// The report of the next loop, which a view shows. It is noted whether this loop or one around it
+/// may be open.
 fn next_report(
     alloc: Global,
     lines: &[Line],
@@ -153,7 +154,8 @@ fn next_report(
 ) -> Result<LoopReport, AllocError>
     requires whole { IsWhole (seen view.now) }
     requires nested { AreNested (all_seen view.now) }
-    requires next { loop_numbered (all_seen view.now) (length noted.old.items) ≡ Some (seen view.now) }
+    requires next { loop_numbered (all_seen view.now) (length noted.old.items)
+        ≡ Some (seen view.now) }
     requires noted { AreNoted (all_seen view.now) noted.old.items }
     ensures report { IfOk result (IsPlacedReport (all_seen view.now) lines.now (seen view.now)) }
     ensures noted { OnOk result (AreNoted (all_seen view.now) noted.new.items) }
@@ -170,7 +172,9 @@ fn next_report(
 pub fn reports(alloc: Global, tree: &LoopTree<'_>) -> Result<Vec<LoopReport>, AllocError>
     requires whole { AreWhole (loops_seen tree.now) }
     requires nested { AreNested (loops_seen tree.now) }
-    ensures { IfOk result (λ reports. AreReports (loops_seen tree.now) (lines_seen tree.now) (loops_seen tree.now) reports.items) }
+    ensures { IfOk result (λ reports.
+        AreReports (loops_seen tree.now) (lines_seen tree.now) (loops_seen tree.now)
+        reports.items) }
 {
     let mut noted = vec![in alloc; false]?;
     let mut reports = Vec::with_capacity(alloc, tree.count())?;

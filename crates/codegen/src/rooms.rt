@@ -1,12 +1,16 @@
-//! How much room statements want: for operands, and for serial loops under way. A number that 32 bits
-//! can't hold is 4,294,967,295.
+//! How much room statements want: for operands, and for serial loops under way. A number that 32
+//! bits can't hold is 4,294,967,295.
 
 ghost use Rattle.std.specs.Prelude.{◌≡◌, map, ℕ};
 ghost use Rattle.ast.specs.Tree.{arms as arms_tree, assign};
-ghost use Rattle.ast.specs.View.{access as access_of, arm as arm_of, block_view, head as head_of, item as item_of, kind as kind_of, node as node_of, optional_term, term};
+ghost use Rattle.ast.specs.View.{access as access_of, arm as arm_of, block_view, head as head_of};
+ghost use Rattle.ast.specs.View.{item as item_of, kind as kind_of, node as node_of, optional_term};
+ghost use Rattle.ast.specs.View.{term};
 ghost use Rattle.codegen.specs.Blocks.{arm_loops, arm_room, item_room};
 ghost use Rattle.codegen.specs.Plain.{plain_arms, plain_block, plain_node};
-ghost use Rattle.codegen.specs.Room.{arms_loops, arms_room, block_loops, block_room, elements_room, head_room, items_room, kind_room, node_loops, node_room, step_room};
+ghost use Rattle.codegen.specs.Room.{arms_loops, arms_room, block_loops, block_room, elements_room};
+ghost use Rattle.codegen.specs.Room.{head_room, items_room, kind_room, node_loops, node_room};
+ghost use Rattle.codegen.specs.Room.{step_room};
 ghost use Rattle.expr_code.specs.Emitted.{short};
 
 use ast::{Access, Arm, DoHead, Expr, Item, Kind, Node};

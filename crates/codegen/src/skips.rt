@@ -40,8 +40,8 @@ pub fn close(code: &mut Vec<Instr>, pending: &[Pending])
     }
 }
 
-/// The body of an arm of a line ends, which the skip at a place goes behind; the skip behind the body
-/// is left open.
+/// The body of an arm of a line ends, which the skip at a place goes behind; the skip behind the
+/// body is left open.
 pub fn end_body(code: &mut Vec<Instr>, start: usize, line: Line) -> Result<(), AllocError>
     ensures { OnOk result (code.new.items ≡ body_ended line start code.old.items) }
 {

@@ -2,7 +2,8 @@
 
 ghost use Rattle.std.specs.Prelude.{◌≡◌, ◌++◌, ◌∷◌, [], IfOk, OnOk, length, map};
 ghost use Rattle.ast.specs.View.{access as access_of, item as item_of, kind as kind_of, term};
-ghost use Rattle.codegen.specs.Emitted.{elements_code, items_code, kind_code, kind_records, parts_of, stored_code};
+ghost use Rattle.codegen.specs.Emitted.{elements_code, items_code, kind_code, kind_records};
+ghost use Rattle.codegen.specs.Emitted.{parts_of, stored_code};
 ghost use Rattle.codegen.specs.Records.{pieces_of, records_of};
 ghost use Rattle.expr_code.specs.Emitted.{instr, short, term_code};
 ghost use Rattle.machine.specs.CodeView.{part};
@@ -36,7 +37,8 @@ pub fn on<'p>(places: &Places<'p>, line: Line) -> Places<'p>
 
 /// A variable is given the operand.
 fn store(access: &Access, places: &Places<'_>, code: &mut Vec<Instr>) -> Result<(), AllocError>
-    ensures { OnOk result (code.new.items ≡ code.old.items ++ stored_code (places_of places.now) (access_of access.now)) }
+    ensures { OnOk result (code.new.items ≡ code.old.items
+        ++ stored_code (places_of places.now) (access_of access.now)) }
 {
     emit_place(access, places, code)?;
     put(code, places.line, places.store(&access.reference))
@@ -44,7 +46,8 @@ fn store(access: &Access, places: &Places<'_>, code: &mut Vec<Instr>) -> Result<
 
 /// The values of a PRINT's items.
 fn values(items: &[Item], places: &Places<'_>, code: &mut Vec<Instr>) -> Result<(), AllocError>
-    ensures { OnOk result (code.new.items ≡ code.old.items ++ items_code (places_of places.now) (map item_of items.now)) }
+    ensures { OnOk result (code.new.items ≡ code.old.items
+        ++ items_code (places_of places.now) (map item_of items.now)) }
 {
     for item in items {
         match item {
@@ -81,7 +84,8 @@ fn elements(
     places: &Places<'_>,
     code: &mut Vec<Instr>,
 ) -> Result<(), AllocError>
-    ensures { OnOk result (code.new.items ≡ code.old.items ++ elements_code (places_of places.now) (map access_of targets.now)) }
+    ensures { OnOk result (code.new.items ≡ code.old.items
+        ++ elements_code (places_of places.now) (map access_of targets.now)) }
 {
     for target in targets {
         put(code, places.line, Act::TakeValue)?;
@@ -97,7 +101,9 @@ fn assign(
     places: &Places<'_>,
     code: &mut Vec<Instr>,
 ) -> Result<(), AllocError>
-    ensures { OnOk result (code.new.items ≡ code.old.items ++ (term_code (places_of places.now) (term expression.now) ++ stored_code (places_of places.now) (access_of target.now))) }
+    ensures { OnOk result (code.new.items ≡ code.old.items
+        ++ (term_code (places_of places.now) (term expression.now)
+        ++ stored_code (places_of places.now) (access_of target.now))) }
 {
     emit(expression, places, code)?;
     store(target, places, code)
@@ -111,8 +117,11 @@ fn print(
     records: &mut Vec<Vec<Piece>>,
     code: &mut Vec<Instr>,
 ) -> Result<(), AllocError>
-    ensures code { OnOk result (code.new.items ≡ code.old.items ++ (items_code (places_of places.now) (map item_of items.now) ++ instr (places_of places.now).line (Print (short (length records.old.items))) ∷ [])) }
-    ensures records { OnOk result (records_of records.new ≡ records_of records.old ++ parts_of (map item_of items.now) ∷ []) }
+    ensures code { OnOk result (code.new.items ≡ code.old.items
+        ++ (items_code (places_of places.now) (map item_of items.now)
+        ++ instr (places_of places.now).line (Print (short (length records.old.items))) ∷ [])) }
+    ensures records { OnOk result (records_of records.new ≡ records_of records.old
+        ++ parts_of (map item_of items.now) ∷ []) }
 {
     values(items, places, code)?;
     let number = short(records.len());
@@ -122,7 +131,10 @@ fn print(
 
 /// A READ.
 fn read(targets: &[Access], places: &Places<'_>, code: &mut Vec<Instr>) -> Result<(), AllocError>
-    ensures { OnOk result (code.new.items ≡ code.old.items ++ (instr (places_of places.now).line TakeRecord ∷ (elements_code (places_of places.now) (map access_of targets.now) ++ instr (places_of places.now).line DropRecord ∷ []))) }
+    ensures { OnOk result (code.new.items ≡ code.old.items
+        ++ (instr (places_of places.now).line TakeRecord
+        ∷ (elements_code (places_of places.now) (map access_of targets.now)
+        ++ instr (places_of places.now).line DropRecord ∷ []))) }
 {
     put(code, places.line, Act::TakeRecord)?;
     elements(targets, places, code)?;
@@ -138,8 +150,10 @@ pub fn emit_plain(
     records: &mut Vec<Vec<Piece>>,
     code: &mut Vec<Instr>,
 ) -> Result<(), AllocError>
-    ensures code { OnOk result (code.new.items ≡ code.old.items ++ kind_code (places_of places.now) (length records.old.items) (kind_of kind.now)) }
-    ensures records { OnOk result (records_of records.new ≡ records_of records.old ++ kind_records (kind_of kind.now)) }
+    ensures code { OnOk result (code.new.items ≡ code.old.items
+        ++ kind_code (places_of places.now) (length records.old.items) (kind_of kind.now)) }
+    ensures records { OnOk result (records_of records.new ≡ records_of records.old
+        ++ kind_records (kind_of kind.now)) }
 {
     match kind {
         Kind::Assign(target, expression) => assign(target, expression, places, code),

@@ -24,8 +24,8 @@ pub struct Threaded<'a> {
 pub enum Command<'a> {
     /// `check F`: whether the source of this file is in the profile.
     Check(&'a str),
-    /// `list F [--why]`: the loops of the source of a file, and which of them may be open; and whether it
-    /// is wanted why.
+    /// `list F [--why]`: the loops of the source of a file, and which of them may be open; and
+    /// whether it is wanted why.
     ListLoops {
         source: &'a str,
         why: bool,
@@ -55,8 +55,8 @@ pub enum Command<'a> {
         schedule: &'a str,
         out: &'a str,
     },
-    /// `draw F OUT [--loop N] [--iterations K]`: the picture of a loop of the source of a file, written to
-    /// a file.
+    /// `draw F OUT [--loop N] [--iterations K]`: the picture of a loop of the source of a file,
+    /// written to a file.
     Draw {
         source: &'a str,
         out: &'a str,
@@ -65,8 +65,8 @@ pub enum Command<'a> {
         /// How many iterations are drawn, 1 to 64, and 8 where no number is named.
         iterations: u64,
     },
-    /// `timeline F INPUT SCHEDULE OUT`: the picture of the run that a schedule describes, written to a
-    /// file.
+    /// `timeline F INPUT SCHEDULE OUT`: the picture of the run that a schedule describes, written
+    /// to a file.
     Timeline {
         source: &'a str,
         input: &'a str,

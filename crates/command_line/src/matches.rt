@@ -2,8 +2,11 @@
 
 ghost use Rattle.std.specs.Prelude.{◌≡◌, IfErr, IfOk, codes, option_map, ℕ};
 ghost use Rattle.clap.specs.Words.{first_of, found_of, one_of, rows_of, subcommand_rows_of};
-ghost use Rattle.command_line.specs.CommandLine.{HasNoCount, HasNoSize, HeldIn, HeldInNone, HoldsNone, Holds, IsCountOf, IsFlag, IsNumber, IsReason, IsSizeOf, MadeOf};
-ghost use Rattle.command_line.specs.declared.matches.LineFault.TheVariants.{Memory, NoPortion, NoSize, NoSuchNumber};
+ghost use Rattle.command_line.specs.CommandLine.{HasNoCount, HasNoSize, HeldIn, HeldInNone};
+ghost use Rattle.command_line.specs.CommandLine.{HoldsNone, Holds, IsCountOf, IsFlag, IsNumber};
+ghost use Rattle.command_line.specs.CommandLine.{IsReason, IsSizeOf, MadeOf};
+ghost use Rattle.command_line.specs.declared.matches.LineFault.TheVariants.{Memory, NoPortion};
+ghost use Rattle.command_line.specs.declared.matches.LineFault.TheVariants.{NoSize, NoSuchNumber};
 
 use crate::command::{Command, Threaded};
 use clap::ArgMatches;
@@ -24,7 +27,8 @@ pub enum LineFault {
     /// They hold no command.
     #[error("error: no command was given\n\nUsage: doac <COMMAND>\n\nFor more information, try '--help'.\n")]
     NoCommand,
-    /// They ask to explain a number that is no refusal's and no fault's, or, of a serial loop, no reason's.
+    /// They ask to explain a number that is no refusal's and no fault's, or, of a serial loop, no
+    /// reason's.
     #[error("error: nothing has this number\n\nUsage: doac explain [N]\n       doac explain serial <REASON>\n\nFor more information, try '--help'.\n")]
     NoSuchNumber,
     /// They name no whole number of 64 bits where one is wanted.
@@ -171,7 +175,8 @@ fn running<'a>(given: &ArgMatches<'a>) -> Result<Command<'a>, LineFault>
 /// The number of an option, or another one where the option isn't given.
 fn size(given: Option<&str>, default: u64) -> Result<u64, LineFault>
     ensures found { IfOk result (IsSizeOf (option_map (λ s. s.now) given.entry) default) }
-    ensures refused { IfErr result (λ fault. (fault ≡ NoSize) × HasNoSize (option_map (λ s. s.now) given.entry)) }
+    ensures refused { IfErr result (λ fault. (fault ≡ NoSize)
+        × HasNoSize (option_map (λ s. s.now) given.entry)) }
 {
     let Some(text) = given else {
         return Ok(default);
@@ -318,7 +323,8 @@ fn explaining<'a>(given: &ArgMatches<'a>) -> Result<Command<'a>, LineFault>
 /// The number of a text behind the word `serial`, if it is that of a reason.
 fn serial(word: &str, text: &str) -> Result<u8, LineFault>
     ensures found { IfOk result (λ reason. (word.now ≡ codes "serial") × IsReason reason text.now) }
-    ensures refused { IfErr result (λ fault. (fault ≡ NoSuchNumber) × (word.now ≡ codes "serial" → (n : ℕ) → IsReason n text.now → ⊥)) }
+    ensures refused { IfErr result (λ fault. (fault ≡ NoSuchNumber)
+        × (word.now ≡ codes "serial" → (n : ℕ) → IsReason n text.now → ⊥)) }
 {
     match word {
         "serial" => reason(text),
@@ -329,7 +335,8 @@ fn serial(word: &str, text: &str) -> Result<u8, LineFault>
 /// The number of a text, if it is that of a reason.
 fn reason(text: &str) -> Result<u8, LineFault>
     ensures found { IfOk result (λ reason. IsReason reason text.now) }
-    ensures refused { IfErr result (λ fault. (fault ≡ NoSuchNumber) × ((n : ℕ) → IsReason n text.now → ⊥)) }
+    ensures refused { IfErr result (λ fault. (fault ≡ NoSuchNumber)
+        × ((n : ℕ) → IsReason n text.now → ⊥)) }
 {
     match text.parse::<u8>() {
         Ok(number) if is_reason(number) => Ok(number),
@@ -340,7 +347,8 @@ fn reason(text: &str) -> Result<u8, LineFault>
 /// The number of a text, if it is that of a refusal or a fault.
 fn explained(text: &str) -> Result<u8, LineFault>
     ensures found { IfOk result (λ number. IsNumber number text.now) }
-    ensures refused { IfErr result (λ fault. (fault ≡ NoSuchNumber) × ((n : ℕ) → IsNumber n text.now → ⊥)) }
+    ensures refused { IfErr result (λ fault. (fault ≡ NoSuchNumber)
+        × ((n : ℕ) → IsNumber n text.now → ⊥)) }
 {
     match text.parse::<u8>() {
         Ok(number) if is_explained(number) => Ok(number),

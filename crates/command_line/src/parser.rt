@@ -2,7 +2,13 @@
 
 ghost use Rattle.std.specs.Prelude.{◌≡◌, ◌∷◌, [], IfErr, IfOk, false, map};
 ghost use Rattle.clap.specs.Words.{App, Rule, new_app, rule_of, with_rule, with_subcommand};
-ghost use Rattle.command_line.specs.CommandLine.{IsLine, Names, NamesNone, Reads, check, code, doac, draw, explain, flag, input, iterations, letter, list, loop_number, named_option, needed, number, optional, out, processors, reason, replay, run, schedule, schedule_out, seq, slots, source, store, tally, timeline, upgrade, whole_input, why, with_subcommands};
+ghost use Rattle.command_line.specs.CommandLine.{IsLine, Names, NamesNone, Reads, check, code};
+ghost use Rattle.command_line.specs.CommandLine.{doac, draw, explain, flag, input, iterations};
+ghost use Rattle.command_line.specs.CommandLine.{letter, list, loop_number, named_option, needed};
+ghost use Rattle.command_line.specs.CommandLine.{number, optional, out, processors, reason, replay};
+ghost use Rattle.command_line.specs.CommandLine.{run, schedule, schedule_out, seq, slots, source};
+ghost use Rattle.command_line.specs.CommandLine.{store, tally, timeline, upgrade, whole_input, why};
+ghost use Rattle.command_line.specs.CommandLine.{with_subcommands};
 
 use crate::command::Command;
 use crate::help;

@@ -111,7 +111,8 @@ fn draw_shown<R: Eprint + AllocGlobal, W: Write>(
     tell(rt, source, text, outcome)
 }
 
-/// Says on standard error that a source has no loop of a number, but so many, and gives the exit status.
+/// Says on standard error that a source has no loop of a number, but so many, and gives the exit
+/// status.
 fn refuse_loop<R: Eprint>(rt: &R, name: &str, number: usize, count: usize) -> u8
     ensures { result ≡ 3 }
 {
@@ -129,8 +130,8 @@ fn refuse_loop<R: Eprint>(rt: &R, name: &str, number: usize, count: usize) -> u8
     3
 }
 
-/// Draws the run that the schedule of a file describes to the file `onto`, if that is none of those that
-/// are read.
+/// Draws the run that the schedule of a file describes to the file `onto`, if that is none of those
+/// that are read.
 pub fn timeline_files<R: Eprint + AllocGlobal, F: NamedFiles, W: Write>(
     rt: &R,
     files: &mut F,

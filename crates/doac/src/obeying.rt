@@ -16,9 +16,9 @@ use std::io::Write;
 use std::sync::Wait;
 use std::thread::Threads;
 
-/// Does what a command asks for. Of a sequential run's records `most` bytes may wait to be written. What a
-/// sequential run prints that is made for a message alone, at a fault of `run` or `replay`, goes to
-/// `nowhere`, which is to show nothing.
+/// Does what a command asks for. Of a sequential run's records `most` bytes may wait to be written.
+/// What a sequential run prints that is made for a message alone, at a fault of `run` or `replay`,
+/// goes to `nowhere`, which is to show nothing.
 pub fn obey<R: Print + Eprint + AllocGlobal + Threads + Wait + Sync, F: NamedFiles, W: Write>(
     rt: &R,
     files: &mut F,

@@ -20,9 +20,9 @@ use std::{env, io};
 /// How many bytes of records may wait to be written where standard output is no terminal.
 const MOST_WAITING: usize = 65_536;
 
-/// Does what the words of the command line ask for, and gives the exit status. On a terminal each record
-/// of a sequential run is written at once. Standard output and the writer that shows nothing have one type,
-/// so that the sequential run is compiled once.
+/// Does what the words of the command line ask for, and gives the exit status. On a terminal each
+/// record of a sequential run is written at once. Standard output and the writer that shows nothing
+/// have one type, so that the sequential run is compiled once.
 pub fn run<R: Env + Files + Input + Print + Eprint + AllocGlobal + Threads + Wait + Sync>(
     rt: &R,
     is_terminal: bool,

@@ -13,8 +13,8 @@ use files::{NamedFiles, Names, Unread, read_texts};
 use pages::{EngineFault, Texts};
 use std::io::Write;
 
-/// Replays the schedule of a file. Where the sequential run tells more of its fault that is made behind
-/// it, onto `nowhere`.
+/// Replays the schedule of a file. Where the sequential run tells more of its fault that is made
+/// behind it, onto `nowhere`.
 pub fn replay_files<R: Eprint + AllocGlobal, F: NamedFiles, W: Write>(
     rt: &R,
     files: &mut F,

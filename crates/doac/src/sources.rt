@@ -127,8 +127,8 @@ fn list_source<R: Eprint + AllocGlobal, W: Write>(
     }
 }
 
-/// Runs the source of a file, one statement after another. Of the records that it prints `most` bytes
-/// may wait to be written.
+/// Runs the source of a file, one statement after another. Of the records that it prints `most`
+/// bytes may wait to be written.
 pub fn seq_files<R: Eprint + AllocGlobal, F: NamedFiles, W: Write>(
     rt: &R,
     files: &mut F,
@@ -214,8 +214,8 @@ fn seq_read<R: Eprint + AllocGlobal, W: Write>(
     }
 }
 
-/// Runs the text of a file on an input, which is that of a file if one is given; standard error has its
-/// message, and at a fault of the input its record.
+/// Runs the text of a file on an input, which is that of a file if one is given; standard error has
+/// its message, and at a fault of the input its record.
 fn seq_source<R: Eprint + AllocGlobal, W: Write>(
     rt: &R,
     out: &mut W,

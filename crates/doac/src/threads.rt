@@ -4,7 +4,8 @@ ghost use Rattle.std.specs.Prelude.{◌≡◌, ◌∷◌, option_map};
 ghost use Rattle.files.specs.Deeds.{Compares, got, noted, unput};
 ghost use Rattle.doac.specs.Commands.{RunsFiles};
 ghost use Rattle.doac.specs.Deeds.{AfterCompare, AfterFile, AfterPut, ReadsInput};
-ghost use Rattle.doac.specs.Running.{EndsRun, RunsRead, ShowsRan, Shown, WritesRun, named, schedule_of};
+ghost use Rattle.doac.specs.Running.{EndsRun, RunsRead, ShowsRan, Shown, WritesRun, named};
+ghost use Rattle.doac.specs.Running.{schedule_of};
 
 use crate::told::{refuse_file, refuse_out, refuse_write, tell_known, warn_of_run};
 use command_line::Threaded;

@@ -172,8 +172,8 @@ pub fn tell_run<R: Eprint + AllocGlobal>(
     status
 }
 
-/// The same of a run in threads, or a replay, whose answer is written: where the sequential run tells more
-/// of its fault it is made, with its records onto `nowhere`.
+/// The same of a run in threads, or a replay, whose answer is written: where the sequential run
+/// tells more of its fault it is made, with its records onto `nowhere`.
 pub fn tell_known<R: Eprint + AllocGlobal, W: Write>(
     rt: &R,
     nowhere: &mut W,

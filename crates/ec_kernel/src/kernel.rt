@@ -1,8 +1,11 @@
 //! The kernel.
 
-ghost use Rattle.std.specs.Prelude.{ℕ, ◌≡◌, ◌<◌, ◌≤◌, ◌+◌, ◌-◌, ◌^◌, ◌++◌, ◌∷◌, [], length, drop, IfOk, IfSome, IsTrue, ◌↔◌};
+ghost use Rattle.std.specs.Prelude.{ℕ, ◌≡◌, ◌<◌, ◌≤◌, ◌+◌, ◌-◌, ◌^◌, ◌++◌, ◌∷◌, [], length, drop};
+ghost use Rattle.std.specs.Prelude.{IfOk, IfSome, IsTrue, ◌↔◌};
 ghost use Rattle.ready_list.specs.Lists.{IsLinked, list_at, with_list, places_in};
-ghost use Rattle.ec_kernel.specs.View.{View, IsKernel, NoWaiter, count_at, places, times, new_kernel, parked, wakes, advanced, restarted, first_of, without, StandsNowhere};
+ghost use Rattle.ec_kernel.specs.View.{View, IsKernel, NoWaiter, count_at, places, times};
+ghost use Rattle.ec_kernel.specs.View.{new_kernel, parked, wakes, advanced, restarted, first_of};
+ghost use Rattle.ec_kernel.specs.View.{without, StandsNowhere};
 ghost use Rattle.ec_kernel.specs.Kept.{reached_part, woken, due_of, in_turn};
 
 use ready_list::Links;

@@ -3,8 +3,8 @@
 //! An eventcount counts events: `advance` adds one, `read` gives the count, and who awaits a value
 //! goes on once the count has reached it. A sequencer gives tickets: 0, 1, 2 and so on, each once.
 //! `Kernel` holds eventcounts, a sequencer and the slots of those who wait: by event, by value and
-//! then by arrival. An advance moves the slots that it wakes to a ready list. Slots that nobody uses
-//! stand in a free list.
+//! then by arrival. An advance moves the slots that it wakes to a ready list. Slots that nobody
+//! uses stand in a free list.
 //!
 //! To await a value, ask whether the count has `reached` it and otherwise `park` a slot. Only
 //! `Kernel::new` takes memory. An advance takes time only for the slots that it wakes.

@@ -118,7 +118,8 @@ fn append_variable(
     variables: &[Variable],
     number: usize,
 ) -> Result<(), AllocError>
-    ensures { OnOk result (out.new.items ≡ out.old.items ++ spec.variable_word variables.now number) }
+    ensures { OnOk result (out.new.items ≡ out.old.items
+        ++ spec.variable_word variables.now number) }
 {
     if number < variables.len() {
         out.extend_from_slice(variables[number].name.trimmed())
@@ -129,7 +130,8 @@ fn append_variable(
 
 /// Appends a blank and a variable of the code.
 fn append_named(out: &mut Vec<u8>, code: &Code, number: u32) -> Result<(), AllocError>
-    ensures { OnOk result (out.new.items ≡ out.old.items ++ (32 ∷ spec.variable_word (code_of code.now).variables number)) }
+    ensures { OnOk result (out.new.items ≡ out.old.items
+        ++ (32 ∷ spec.variable_word (code_of code.now).variables number)) }
 {
     out.push(b' ')?;
     append_variable(out, &code.variables, number as usize)
@@ -156,7 +158,9 @@ fn append_private(
     place: usize,
     number: u32,
 ) -> Result<(), AllocError>
-    ensures { OnOk result (out.new.items ≡ out.old.items ++ (32 ∷ spec.private_word (code_of code.now).variables (spec.privates_at [] (code_of code.now).loops place) number)) }
+    ensures { OnOk result (out.new.items ≡ out.old.items
+        ++ (32 ∷ spec.private_word (code_of code.now).variables
+        (spec.privates_at [] (code_of code.now).loops place) number)) }
 {
     let privates = privates_at(&code.loops, place);
     let number = number as usize;
@@ -213,7 +217,8 @@ fn append_parts(out: &mut Vec<u8>, pieces: &[Piece]) -> Result<(), AllocError>
 
 /// Appends the parts of a record.
 fn append_record(out: &mut Vec<u8>, code: &Code, number: u32) -> Result<(), AllocError>
-    ensures { OnOk result (out.new.items ≡ out.old.items ++ spec.record_or (slice_get (code_of code.now).records number) number) }
+    ensures { OnOk result (out.new.items ≡ out.old.items
+        ++ spec.record_or (slice_get (code_of code.now).records number) number) }
 {
     let records = code.records.as_slice();
     let number = number as usize;
@@ -234,7 +239,8 @@ fn upper_bound(axis: Axis) -> i128
 
 /// Appends two bounds.
 fn append_bounds(out: &mut Vec<u8>, lower: i64, upper: i128) -> Result<(), AllocError>
-    ensures { OnOk result (out.new.items ≡ out.old.items ++ signed_decimal lower ++ codes ".." ++ signed_decimal upper) }
+    ensures { OnOk result (out.new.items ≡ out.old.items ++ signed_decimal lower ++ codes ".."
+        ++ signed_decimal upper) }
 {
     append_number(out, lower)?;
     out.extend_from_slice(b"..")?;
@@ -291,7 +297,8 @@ fn append_word(out: &mut Vec<u8>, word: &[u8]) -> Result<(), AllocError>
 
 /// Appends what an instruction at a place works on.
 fn append_operands(out: &mut Vec<u8>, code: &Code, place: usize, act: Act) -> Result<(), AllocError>
-    ensures { OnOk result (out.new.items ≡ out.old.items ++ spec.act_operands (code_of code.now) place act) }
+    ensures { OnOk result (out.new.items ≡ out.old.items
+        ++ spec.act_operands (code_of code.now) place act) }
 {
     match act {
         Act::Constant(n) => {
@@ -328,7 +335,8 @@ fn append_instr(
     place: usize,
     instr: &Instr,
 ) -> Result<(), AllocError>
-    ensures { OnOk result (out.new.items ≡ out.old.items ++ spec.instr_line (code_of code.now) place instr.now) }
+    ensures { OnOk result (out.new.items ≡ out.old.items
+        ++ spec.instr_line (code_of code.now) place instr.now) }
 {
     append_number(out, place)?;
     out.extend_from_slice(sort_word(is_local(instr.act)))?;
@@ -338,7 +346,8 @@ fn append_instr(
 }
 
 fn append_instrs(out: &mut Vec<u8>, code: &Code) -> Result<(), AllocError>
-    ensures { OnOk result (out.new.items ≡ out.old.items ++ spec.instr_lines (code_of code.now) 0 (code_of code.now).instructions) }
+    ensures { OnOk result (out.new.items ≡ out.old.items
+        ++ spec.instr_lines (code_of code.now) 0 (code_of code.now).instructions) }
 {
     for (place, instr) in code.instructions.iter().enumerate() {
         append_instr(out, code, place, instr)?;
@@ -351,7 +360,8 @@ fn append_names(
     variables: &[Variable],
     numbers: &[u32],
 ) -> Result<(), AllocError>
-    ensures { OnOk result (out.new.items ≡ out.old.items ++ spec.names_words variables.now numbers.now) }
+    ensures { OnOk result (out.new.items ≡ out.old.items
+        ++ spec.names_words variables.now numbers.now) }
 {
     for number in numbers {
         out.push(b' ')?;
@@ -366,7 +376,8 @@ fn append_privates(
     variables: &[Variable],
     numbers: &[u32],
 ) -> Result<(), AllocError>
-    ensures { OnOk result (out.new.items ≡ out.old.items ++ spec.private_words variables.now numbers.now) }
+    ensures { OnOk result (out.new.items ≡ out.old.items
+        ++ spec.private_words variables.now numbers.now) }
 {
     if numbers.is_empty() {
         return Ok(());
@@ -392,7 +403,8 @@ fn append_course(
     variable: usize,
     step: i64,
 ) -> Result<(), AllocError>
-    ensures { OnOk result (out.new.items ≡ out.old.items ++ spec.course_words variables.now variable step) }
+    ensures { OnOk result (out.new.items ≡ out.old.items
+        ++ spec.course_words variables.now variable step) }
 {
     out.extend_from_slice(b" VARIABLE ")?;
     append_variable(out, variables, variable)?;
@@ -407,7 +419,8 @@ fn append_loop(
     number: usize,
     opened: &Loop,
 ) -> Result<(), AllocError>
-    ensures { OnOk result (out.new.items ≡ out.old.items ++ spec.loop_line variables.now number (loop_of opened.now)) }
+    ensures { OnOk result (out.new.items ≡ out.old.items
+        ++ spec.loop_line variables.now number (loop_of opened.now)) }
 {
     append_begin(out, number, opened.body)?;
     append_course(out, variables, opened.variable, opened.step)?;
@@ -416,7 +429,8 @@ fn append_loop(
 }
 
 fn append_loops(out: &mut Vec<u8>, variables: &[Variable], loops: &[Loop]) -> Result<(), AllocError>
-    ensures { OnOk result (out.new.items ≡ out.old.items ++ spec.loop_lines variables.now 0 (map loop_of loops.now)) }
+    ensures { OnOk result (out.new.items ≡ out.old.items
+        ++ spec.loop_lines variables.now 0 (map loop_of loops.now)) }
 {
     for (number, opened) in loops.iter().enumerate() {
         append_loop(out, variables, number, opened)?;

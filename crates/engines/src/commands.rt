@@ -5,9 +5,13 @@ ghost use Rattle.std.specs.Prelude.{◌≡◌, ◌⊎◌, IfOk, IfErr};
 ghost use Rattle.pages.specs.Outcomes.{of_input, of_source};
 ghost use Rattle.pages.specs.Reading.{LeavesThree, OfText, OfTexts};
 ghost use Rattle.engines.specs.Coded.{ShowsCode};
-ghost use Rattle.engines.specs.Engines.{AfterRead, Began, Checks, FellShort, IsJudged, Leaves, LeavesOfSource, LeavesSeq, LeavesReader, LeavesReaders, Runs, Streaming, StreamingWith, Tells, Works, WroteAs, WrotePart};
+ghost use Rattle.engines.specs.Engines.{AfterRead, Began, Checks, FellShort, IsJudged, Leaves};
+ghost use Rattle.engines.specs.Engines.{LeavesOfSource, LeavesSeq, LeavesReader, LeavesReaders};
+ghost use Rattle.engines.specs.Engines.{Runs, Streaming, StreamingWith, Tells, Works, WroteAs};
+ghost use Rattle.engines.specs.Engines.{WrotePart};
 ghost use Rattle.engines.specs.Lists.{Lists, TellsAs, TellsLoops, TellsWhy};
-ghost use Rattle.engines.specs.Schedules.{LeavesBoth, Replaying, UpgradeWorks, Upgrading, WroteUpgraded, WroteUpgradedPart};
+ghost use Rattle.engines.specs.Schedules.{LeavesBoth, Replaying, UpgradeWorks, Upgrading};
+ghost use Rattle.engines.specs.Schedules.{WroteUpgraded, WroteUpgradedPart};
 
 use crate::coded::coded;
 use crate::replays::{replayed, upgrade_texts};
@@ -52,7 +56,8 @@ pub fn check_text<W: Write>(
 ///
 /// # Errors
 ///
-/// A fault of the writer, with a beginning of the lines written; or of memory, with nothing written.
+/// A fault of the writer, with a beginning of the lines written; or of memory, with nothing
+/// written.
 pub fn tell_survey<W: Write>(
     alloc: Global,
     survey: &Survey,
@@ -64,8 +69,8 @@ pub fn tell_survey<W: Write>(
     page.write(out)
 }
 
-/// Writes the lines of a survey as [`tell_survey`] does, and where it is wanted behind those of each loop
-/// some that say why. The errors are those of [`tell_survey`].
+/// Writes the lines of a survey as [`tell_survey`] does, and where it is wanted behind those of
+/// each loop some that say why. The errors are those of [`tell_survey`].
 pub fn tell_loops<W: Write>(
     alloc: Global,
     survey: &Survey,
@@ -109,7 +114,8 @@ pub fn list_text<W: Write>(
 ///
 /// # Errors
 ///
-/// A fault of the writer, with a beginning of the lines written; or of memory, with nothing written.
+/// A fault of the writer, with a beginning of the lines written; or of memory, with nothing
+/// written.
 pub fn code_text<W: Write>(
     alloc: Global,
     source: &[u8],
@@ -121,8 +127,8 @@ pub fn code_text<W: Write>(
     page.write(out)
 }
 
-/// Replays a schedule of a text on an input, and writes its records and what follows them: at a fault or
-/// a STOP its line. Where there is nothing to replay the line says why.
+/// Replays a schedule of a text on an input, and writes its records and what follows them: at a
+/// fault or a STOP its line. Where there is nothing to replay the line says why.
 ///
 /// # Errors
 ///
@@ -134,14 +140,15 @@ pub fn replay_texts<W: Write>(
     schedule: &[u8],
     out: &mut W,
 ) -> Result<Outcome, EngineFault>
-    ensures { Works (Replaying source.now input.now schedule.now) (W.contents out.old) (W.contents out.new) result }
+    ensures { Works (Replaying source.now input.now schedule.now) (W.contents out.old)
+        (W.contents out.new) result }
 {
     let page = replayed(alloc, source, input, schedule)?;
     page.write(out)
 }
 
-/// Upgrades a schedule of a text on an input: writes the text of the schedule with its picks named to
-/// `upgraded`, or where there is none the line that says why to `out`.
+/// Upgrades a schedule of a text on an input: writes the text of the schedule with its picks named
+/// to `upgraded`, or where there is none the line that says why to `out`.
 fn upgrade_given<W: Write, V: Write>(
     alloc: Global,
     source: &[u8],
@@ -150,7 +157,8 @@ fn upgrade_given<W: Write, V: Write>(
     out: &mut W,
     upgraded: &mut V,
 ) -> Result<u8, EngineFault>
-    ensures { UpgradeWorks (Upgrading source.now input.now schedule.now) (W.contents out.old) (W.contents out.new) (V.contents upgraded.old) (V.contents upgraded.new) result }
+    ensures { UpgradeWorks (Upgrading source.now input.now schedule.now) (W.contents out.old)
+        (W.contents out.new) (V.contents upgraded.old) (V.contents upgraded.new) result }
 {
     let made = upgrade_texts(alloc, source, input, schedule)?;
     made.write(out, upgraded)
@@ -223,19 +231,21 @@ fn seq_read<I: Read, W: Write>(
     ensures work { AfterRead source of_source (W.contents out.old) (W.contents out.new) result
         (λ text. StreamingWith (I.remaining input.old) store text (W.contents out.old) (W.contents out.new) result) }
     ensures untouched { IfErr source (λ _. I.remaining input.new ≡ I.remaining input.old) }
-    ensures readers { IfOk source (λ _. IfErr result (λ fault. LeavesReader fault (I.remaining input.new))) }
+    ensures readers { IfOk source (λ _.
+        IfErr result (λ fault. LeavesReader fault (I.remaining input.new))) }
 {
     let source = source.map_err(EngineFault::of_source)?;
     let read = read_all(alloc, input);
     seq_given(alloc, &source, read, store, most, out)
 }
 
-/// Checks a source, writes its line and gives the exit status: 0, or 1 for a source that is refused.
+/// Checks a source, writes its line and gives the exit status: 0, or 1 for a source that is
+/// refused.
 ///
 /// # Errors
 ///
-/// A fault of the source's reader, with nothing written; of the writer, with a beginning of the line
-/// written; or of memory, with nothing written.
+/// A fault of the source's reader, with nothing written; of the writer, with a beginning of the
+/// line written; or of memory, with nothing written.
 pub fn check<R: Read, W: Write>(
     alloc: Global,
     source: &mut R,
@@ -252,13 +262,13 @@ pub fn check<R: Read, W: Write>(
     Ok(outcome.status())
 }
 
-/// Writes the lines of a source's loops and gives the exit status: 0, or 1 for a source that is refused,
-/// by its text or for its code.
+/// Writes the lines of a source's loops and gives the exit status: 0, or 1 for a source that is
+/// refused, by its text or for its code.
 ///
 /// # Errors
 ///
-/// A fault of the source's reader, with nothing written; of the writer, with a beginning of the lines
-/// written; or of memory, with nothing written.
+/// A fault of the source's reader, with nothing written; of the writer, with a beginning of the
+/// lines written; or of memory, with nothing written.
 pub fn list<R: Read, W: Write>(
     alloc: Global,
     source: &mut R,
@@ -280,8 +290,8 @@ pub fn list<R: Read, W: Write>(
 ///
 /// # Errors
 ///
-/// A fault of the source's reader, with nothing written; of the writer, with a beginning of the lines
-/// written; or of memory, with nothing written.
+/// A fault of the source's reader, with nothing written; of the writer, with a beginning of the
+/// lines written; or of memory, with nothing written.
 pub fn code<R: Read, W: Write>(
     alloc: Global,
     source: &mut R,
@@ -299,13 +309,15 @@ pub fn code<R: Read, W: Write>(
 }
 
 /// Runs a source on an input, writes its records and what follows them, and gives the exit status:
-/// 0, 1 for a source that is refused, 2 for a fault. The input is read after the source. The records are
-/// written while the program runs, whole records, of which `most` bytes may wait at most.
+/// 0, 1 for a source that is refused, 2 for a fault. The input is read after the source. The
+/// records are written while the program runs, whole records, of which `most` bytes may wait at
+/// most.
 ///
 /// # Errors
 ///
 /// A fault of one of the readers, with nothing written; of the writer, with part of the text or a
-/// beginning of the records written; or of memory, with nothing or a beginning of the records written.
+/// beginning of the records written; or of memory, with nothing or a beginning of the records
+/// written.
 pub fn seq<R: Read, I: Read, W: Write>(
     alloc: Global,
     source: &mut R,
@@ -322,16 +334,18 @@ pub fn seq<R: Read, I: Read, W: Write>(
         ⊎ FellShort text given (W.contents out.old) (W.contents out.new))))
         (OfText (R.remaining source.old) (λ text. OfText (I.remaining input.old) (λ given.
         Began text given (W.contents out.old) (W.contents out.new))))) }
-    ensures readers { IfErr result (λ fault. LeavesReaders fault (R.remaining source.new) (I.remaining input.old) (I.remaining input.new)) }
+    ensures readers { IfErr result (λ fault.
+        LeavesReaders fault (R.remaining source.new) (I.remaining input.old)
+        (I.remaining input.new)) }
 {
     let read = read_all(alloc, source);
     let outcome = seq_read(alloc, read, input, store, most, out)?;
     Ok(outcome.status())
 }
 
-/// Replays a schedule of a source on an input, writes its records and what follows them, and gives the
-/// exit status: 0, 1 for a source that is refused, 2 for a fault, 6 for a schedule that is refused. The
-/// input is read after the source, and the schedule after the input.
+/// Replays a schedule of a source on an input, writes its records and what follows them, and gives
+/// the exit status: 0, 1 for a source that is refused, 2 for a fault, 6 for a schedule that is
+/// refused. The input is read after the source, and the schedule after the input.
 ///
 /// # Errors
 ///
@@ -357,14 +371,15 @@ pub fn replay<R: Read, I: Read, S: Read, W: Write>(
     Ok(outcome.status())
 }
 
-/// Upgrades a schedule of a source on an input: writes the text of a schedule in which each pick is named
-/// to `upgraded`, or where there is none the line that says why to `out`, and gives the exit status: 0, 1
-/// for a source that is refused, 6 for a schedule that is refused. The readers are read as by [`replay`].
+/// Upgrades a schedule of a source on an input: writes the text of a schedule in which each pick is
+/// named to `upgraded`, or where there is none the line that says why to `out`, and gives the exit
+/// status: 0, 1 for a source that is refused, 6 for a schedule that is refused. The readers are
+/// read as by [`replay`].
 ///
 /// # Errors
 ///
-/// A fault of one of the readers, with nothing written; of one of the writers, with a beginning of its
-/// text written and nothing to the other; or of memory, with nothing written.
+/// A fault of one of the readers, with nothing written; of one of the writers, with a beginning of
+/// its text written and nothing to the other; or of memory, with nothing written.
 pub fn upgrade<R: Read, I: Read, S: Read, W: Write, V: Write>(
     alloc: Global,
     source: &mut R,

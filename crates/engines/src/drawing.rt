@@ -98,8 +98,8 @@ fn serial<'a>(
     serial_picture(alloc, lines_of(alloc, source)?, frame, serial)
 }
 
-/// What there is to draw of a loop whose iterations may overlap, by its report, the body of its plan
-/// and its private scalars.
+/// What there is to draw of a loop whose iterations may overlap, by its report, the body of its
+/// plan and its private scalars.
 fn opened<'a>(
     alloc: Global,
     source: &'a [u8],
@@ -212,8 +212,8 @@ pub fn draw_text(alloc: Global, source: &[u8], portion: Portion) -> Result<Drawn
     drawn_survey(alloc, source, &survey, portion)
 }
 
-/// Draws one of a text's loops: writes the picture to `picture`, or where the text is refused the line that
-/// says why to `out`, and gives the exit status.
+/// Draws one of a text's loops: writes the picture to `picture`, or where the text is refused the
+/// line that says why to `out`, and gives the exit status.
 fn draw_given<W: Write, V: Write>(
     alloc: Global,
     source: &[u8],
@@ -245,14 +245,14 @@ fn draw_read<W: Write, V: Write>(
     draw_given(alloc, &source, portion, out, picture)
 }
 
-/// Draws one of a source's loops: writes the picture to `picture`, or where the source is refused the line
-/// that says why to `out`, and gives the exit status: 0, 1 for a source that is refused, by its text or for
-/// its code, 3 where it has no such loop, of which nothing is written.
+/// Draws one of a source's loops: writes the picture to `picture`, or where the source is refused
+/// the line that says why to `out`, and gives the exit status: 0, 1 for a source that is refused,
+/// by its text or for its code, 3 where it has no such loop, of which nothing is written.
 ///
 /// # Errors
 ///
-/// A fault of the source's reader, with nothing written; of one of the writers, with a beginning of its
-/// text written and nothing to the other; or of memory, with nothing written.
+/// A fault of the source's reader, with nothing written; of one of the writers, with a beginning of
+/// its text written and nothing to the other; or of memory, with nothing written.
 pub fn draw<R: Read, W: Write, V: Write>(
     alloc: Global,
     source: &mut R,

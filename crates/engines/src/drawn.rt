@@ -20,8 +20,8 @@ impl Drawn {
     ghost use Rattle.pages.specs.Outcomes.{IsWriting};
     ghost use Rattle.engines.specs.Drawn.{WritesDrawn, WritesPart, drawn_status};
 
-    /// Writes the picture to `picture`, or the page to `out`, and gives the exit status: 0, or that of the
-    /// page, or 3 where there is no such loop, of which nothing is written.
+    /// Writes the picture to `picture`, or the page to `out`, and gives the exit status: 0, or that
+    /// of the page, or 3 where there is no such loop, of which nothing is written.
     ///
     /// # Errors
     ///

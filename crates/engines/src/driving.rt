@@ -7,8 +7,8 @@ use machine::{Code, stands_local};
 use replay::Activities;
 use std::alloc::{AllocError, Global};
 
-/// The activities at the beginning of a run of so many processors with so many open iterations; `None` where
-/// there are no such runs.
+/// The activities at the beginning of a run of so many processors with so many open iterations;
+/// `None` where there are no such runs.
 pub fn begun<'c>(
     alloc: Global,
     code: &'c Code,

@@ -66,8 +66,10 @@ pub fn read_given<R: Read, I: Read>(
     source: &mut R,
     input: &mut I,
 ) -> Result<Given, EngineFault>
-    ensures texts { IfOk result (λ given. Gives (R.remaining source.old) given.source.items × Gives (I.remaining input.old) given.input.items) }
-    ensures ends { OnOk result (IsAtEnd (R.remaining source.new) × IsAtEnd (I.remaining input.new)) }
+    ensures texts { IfOk result (λ given. Gives (R.remaining source.old) given.source.items
+        × Gives (I.remaining input.old) given.input.items) }
+    ensures ends { OnOk result (IsAtEnd (R.remaining source.new)
+        × IsAtEnd (I.remaining input.new)) }
     ensures readers { IfErr result (λ fault. IsReading fault
         × LeavesReaders fault (R.remaining source.new) (I.remaining input.old) (I.remaining input.new)) }
 {

@@ -56,14 +56,16 @@ fn append_open(
 
 /// Appends a blank and a name.
 fn append_name(out: &mut Vec<u8>, name: &Name) -> Result<(), AllocError>
-    ensures { OnOk result (out.new.items ≡ out.old.items ++ spec.name_words (letters name.now ∷ [])) }
+    ensures { OnOk result (out.new.items ≡ out.old.items
+        ++ spec.name_words (letters name.now ∷ [])) }
 {
     out.extend_from_slice(b" ")?;
     out.extend_from_slice(name.trimmed())
 }
 
 fn append_names(out: &mut Vec<u8>, names: &[Name]) -> Result<(), AllocError>
-    ensures { OnOk result (out.new.items ≡ out.old.items ++ spec.name_words (map letters names.now)) }
+    ensures { OnOk result (out.new.items ≡ out.old.items
+        ++ spec.name_words (map letters names.now)) }
 {
     for name in names {
         append_name(out, name)?;
@@ -73,7 +75,8 @@ fn append_names(out: &mut Vec<u8>, names: &[Name]) -> Result<(), AllocError>
 
 /// Appends the line of private names; none where there is no name.
 fn append_private(out: &mut Vec<u8>, names: &[Name]) -> Result<(), AllocError>
-    ensures { OnOk result (out.new.items ≡ out.old.items ++ spec.private_line (map letters names.now)) }
+    ensures { OnOk result (out.new.items ≡ out.old.items
+        ++ spec.private_line (map letters names.now)) }
 {
     if names.is_empty() {
         return Ok(());
@@ -168,7 +171,8 @@ fn append_advances(
     behind: bool,
     advanced: &[(usize, Spot)],
 ) -> Result<(), AllocError>
-    ensures { OnOk result (out.new.items ≡ out.old.items ++ spec.advance_lines event behind advanced.now) }
+    ensures { OnOk result (out.new.items ≡ out.old.items
+        ++ spec.advance_lines event behind advanced.now) }
 {
     for advance in advanced {
         if is_of(event, behind, advance) {
@@ -184,7 +188,9 @@ fn append_advances_of(
     event: usize,
     advanced: &[(usize, Spot)],
 ) -> Result<(), AllocError>
-    ensures { OnOk result (out.new.items ≡ out.old.items ++ (spec.advance_lines event true advanced.now ++ spec.advance_lines event false advanced.now)) }
+    ensures { OnOk result (out.new.items ≡ out.old.items
+        ++ (spec.advance_lines event true advanced.now
+        ++ spec.advance_lines event false advanced.now)) }
 {
     append_advances(out, event, true, advanced)?;
     append_advances(out, event, false, advanced)
@@ -196,7 +202,8 @@ fn append_all_advances(
     sources: &[Line],
     advanced: &[(usize, Spot)],
 ) -> Result<(), AllocError>
-    ensures { OnOk result (out.new.items ≡ out.old.items ++ spec.advances_by_event 1 sources.now advanced.now) }
+    ensures { OnOk result (out.new.items ≡ out.old.items
+        ++ spec.advances_by_event 1 sources.now advanced.now) }
 {
     for place in 0..sources.len() {
         append_advances_of(out, place + 1, advanced)?;
@@ -206,7 +213,8 @@ fn append_all_advances(
 
 /// Names in byte order.
 fn in_order(alloc: Global, names: &[Name]) -> Result<Vec<Name>, AllocError>
-    ensures { IfOk result (λ sorted. InByteOrder (map letters names.now) (map letters sorted.items)) }
+    ensures { IfOk result (λ sorted.
+        InByteOrder (map letters names.now) (map letters sorted.items)) }
 {
     let mut sorted = Vec::from_slice(alloc, names)?;
     sorted.sort_unstable();
@@ -226,7 +234,8 @@ fn advances_in(
     Ok(found)
 }
 
-/// Appends the lines of a loop that may be open, by its private names in byte order and its advances.
+/// Appends the lines of a loop that may be open, by its private names in byte order and its
+/// advances.
 fn append_body(
     out: &mut Vec<u8>,
     number: usize,
@@ -236,7 +245,8 @@ fn append_body(
     kept: &[(usize, u128, Line)],
     advanced: &[(usize, Spot)],
 ) -> Result<(), AllocError>
-    ensures { OnOk result (out.new.items ≡ out.old.items ++ spec.open_lines number line (map letters names.now) sources.now kept.now advanced.now) }
+    ensures { OnOk result (out.new.items ≡ out.old.items
+        ++ spec.open_lines number line (map letters names.now) sources.now kept.now advanced.now) }
 {
     append_open(out, number, line, sources.len())?;
     append_private(out, names)?;

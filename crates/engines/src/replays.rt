@@ -63,7 +63,8 @@ impl Upgraded {
 
 /// The page of a schedule that is refused.
 pub fn unscheduled(alloc: Global, number: u8, line: usize) -> Result<Page, AllocError>
-    ensures { IfOk result (λ page. (page.outcome ≡ outcomes.NoSchedule number line) × (page.text.items ≡ no_schedule number line)) }
+    ensures { IfOk result (λ page. (page.outcome ≡ outcomes.NoSchedule number line)
+        × (page.text.items ≡ no_schedule number line)) }
 {
     let mut text = Vec::new(alloc);
     append_no_schedule(&mut text, number, line)?;
@@ -75,7 +76,8 @@ pub fn unscheduled(alloc: Global, number: u8, line: usize) -> Result<Page, Alloc
 
 /// The page of an answer, without its store.
 fn answered(answer: Answer) -> Result<Page, AllocError>
-    ensures { IfOk result (λ page. (page.outcome ≡ outcome_of answer.end) × Extends (EndShown false [] answer.end) answer.output.items page.text.items) }
+    ensures { IfOk result (λ page. (page.outcome ≡ outcome_of answer.end)
+        × Extends (EndShown false [] answer.end) answer.output.items page.text.items) }
 {
     let mut text = answer.output;
     append_end(&mut text, answer.end, &mut [], false)?;
@@ -96,7 +98,9 @@ fn replayed_schedule(
 ) -> Result<Page, AllocError>
     requires headline { Headline (code_of code.now) (program_of program.now) }
     requires spelled { SchedText schedule.now text.now }
-    ensures { IfOk result (λ page. ShowsReplay (program_of program.now) (code_of code.now) input.now text.now page.outcome page.text.items) }
+    ensures { IfOk result (λ page.
+        ShowsReplay (program_of program.now) (code_of code.now) input.now text.now page.outcome
+        page.text.items) }
 {
     match replay(alloc, code, input, schedule) {
         Ok(answer) => answered(answer),
@@ -114,7 +118,9 @@ fn replayed_code(
     schedule: &[u8],
 ) -> Result<Page, AllocError>
     requires headline { Headline (code_of code.now) (program_of program.now) }
-    ensures { IfOk result (λ page. ShowsReplay (program_of program.now) (code_of code.now) input.now schedule.now page.outcome page.text.items) }
+    ensures { IfOk result (λ page.
+        ShowsReplay (program_of program.now) (code_of code.now) input.now schedule.now page.outcome
+        page.text.items) }
 {
     match Schedule::parse(alloc, schedule) {
         Ok(read) => replayed_schedule(alloc, program, code, input, &read, schedule),
@@ -130,7 +136,8 @@ fn replayed_program(
     input: &[u8],
     schedule: &[u8],
 ) -> Result<Page, AllocError>
-    ensures { IfOk result (λ page. (source : List ℕ) → Reads source (program_of program.now) → Replaying source input.now schedule.now page.outcome page.text.items) }
+    ensures { IfOk result (λ page. (source : List ℕ) → Reads source (program_of program.now)
+        → Replaying source input.now schedule.now page.outcome page.text.items) }
 {
     match compile(alloc, program) {
         Ok(compiled) => replayed_code(alloc, program, &compiled.code, input, schedule),
@@ -146,7 +153,8 @@ pub fn replayed(
     input: &[u8],
     schedule: &[u8],
 ) -> Result<Page, AllocError>
-    ensures { IfOk result (λ page. Replaying source.now input.now schedule.now page.outcome page.text.items) }
+    ensures { IfOk result (λ page.
+        Replaying source.now input.now schedule.now page.outcome page.text.items) }
 {
     match judged(alloc, source)? {
         Verdict::Accepted(program) => replayed_program(alloc, &program, input, schedule),
@@ -199,7 +207,8 @@ fn upgraded_program(
     input: &[u8],
     schedule: &[u8],
 ) -> Result<Upgraded, AllocError>
-    ensures { IfOk result (λ upgraded. (source : List ℕ) → Reads source (program_of program.now) → Upgrading source input.now schedule.now upgraded) }
+    ensures { IfOk result (λ upgraded. (source : List ℕ) → Reads source (program_of program.now)
+        → Upgrading source input.now schedule.now upgraded) }
 {
     match compile(alloc, program) {
         Ok(compiled) => upgraded_code(alloc, &compiled.code, input, schedule),

@@ -30,8 +30,8 @@ pub struct Sequential {
     pub left: Option<usize>,
 }
 
-/// What is shown after the records of a run: at a fault or a STOP its line, and without either, where
-/// it is wanted, the store.
+/// What is shown after the records of a run: at a fault or a STOP its line, and without either,
+/// where it is wanted, the store.
 #[tactic(auto, using(crate::proofs::Pages::extends_first))]
 fn last_page(
     alloc: Global,
@@ -41,7 +41,10 @@ fn last_page(
 ) -> Result<Page, AllocError>
     requires { length (cells ended.now.store) ≡ length program.now.symbols.items }
     ensures outcome { IfOk result (λ page. page.outcome ≡ outcome_of ended.now.end) }
-    ensures shown { IfOk result (λ page. EndShown store (rows_from (cells ended.now.store) 0 (map symbol_of program.now.symbols.items)) ended.now.end page.text.items) }
+    ensures shown { IfOk result (λ page.
+        EndShown store
+        (rows_from (cells ended.now.store) 0 (map symbol_of program.now.symbols.items))
+        ended.now.end page.text.items) }
 {
     let mut text = Vec::new(alloc);
     let mut rows = rows(alloc, &program.symbols, &ended.store)?;
@@ -79,7 +82,8 @@ fn follow<W: Write>(
     out: &mut W,
 ) -> Result<Outcome, EngineFault>
     requires { length (cells ended.now.store) ≡ length program.now.symbols.items }
-    ensures { Works (FollowsRecords store (map symbol_of program.now.symbols.items) ended.now) (W.contents out.old) (W.contents out.new) result }
+    ensures { Works (FollowsRecords store (map symbol_of program.now.symbols.items) ended.now)
+        (W.contents out.old) (W.contents out.new) result }
 {
     let page = last_page(alloc, program, ended, store)?;
     page.write(out)
@@ -95,7 +99,8 @@ fn run_program<W: Write>(
     most: usize,
     out: &mut W,
 ) -> Sequential
-    ensures { (source : List ℕ) → Reads source (program_of program.now) → Streaming store source input.now (W.contents out.old) (W.contents out.new) result.came }
+    ensures { (source : List ℕ) → Reads source (program_of program.now)
+        → Streaming store source input.now (W.contents out.old) (W.contents out.new) result.came }
 {
     match run_onto(alloc, program, input, most, out) {
         Ok(ended) => Sequential {
@@ -118,7 +123,8 @@ fn refuse<W: Write>(
     line: Line,
     out: &mut W,
 ) -> Result<Outcome, EngineFault>
-    ensures { Works (λ outcome text. (outcome ≡ Outcome.Refused number line) × (text ≡ refused number line)) (W.contents out.old) (W.contents out.new) result }
+    ensures { Works (λ outcome text. (outcome ≡ Outcome.Refused number line)
+        × (text ≡ refused number line)) (W.contents out.old) (W.contents out.new) result }
 {
     let page = refused(alloc, number, line)?;
     page.write(out)
@@ -126,9 +132,9 @@ fn refuse<W: Write>(
 
 /// Runs a text on an input, and writes its records and what follows them: at a fault or a STOP its
 /// line, and without either, where `store` says so, the store. The records are written while the
-/// program runs, whole records, of which `most` bytes may wait at most; at 0 each goes at once. It comes
-/// to a fault of the writer, with part of the text or a beginning of the records written, or of memory,
-/// with nothing or a beginning of the records written.
+/// program runs, whole records, of which `most` bytes may wait at most; at 0 each goes at once. It
+/// comes to a fault of the writer, with part of the text or a beginning of the records written, or
+/// of memory, with nothing or a beginning of the records written.
 #[tactic(auto, using(crate::proofs::Pages::streams_refused))]
 pub fn seq_noted<W: Write>(
     alloc: Global,
@@ -138,7 +144,8 @@ pub fn seq_noted<W: Write>(
     most: usize,
     out: &mut W,
 ) -> Sequential
-    ensures { Streaming store source.now input.now (W.contents out.old) (W.contents out.new) result.came }
+    ensures { Streaming store source.now input.now (W.contents out.old) (W.contents out.new)
+        result.came }
 {
     match judged(alloc, source) {
         Ok(Verdict::Accepted(program)) => run_program(alloc, &program, input, store, most, out),
@@ -159,8 +166,8 @@ pub fn seq_noted<W: Write>(
 ///
 /// # Errors
 ///
-/// A fault of the writer, with part of the text or a beginning of the records written; or of memory,
-/// with nothing or a beginning of the records written.
+/// A fault of the writer, with part of the text or a beginning of the records written; or of
+/// memory, with nothing or a beginning of the records written.
 pub fn seq_texts<W: Write>(
     alloc: Global,
     source: &[u8],
@@ -169,7 +176,8 @@ pub fn seq_texts<W: Write>(
     most: usize,
     out: &mut W,
 ) -> Result<Outcome, EngineFault>
-    ensures { Streaming store source.now input.now (W.contents out.old) (W.contents out.new) result }
+    ensures { Streaming store source.now input.now (W.contents out.old) (W.contents out.new)
+        result }
 {
     seq_noted(alloc, source, input, store, most, out).came
 }
@@ -187,11 +195,11 @@ fn wants_run(came: &Result<Outcome, EngineFault>) -> bool
     }
 }
 
-/// What a run in threads, or a replay, of a text on an input came to, with what is known of its fault
-/// beside the line. Of an INDEX and of a fault of the input the sequential run tells it, which comes to
-/// the same one: so it is made, with its records onto `nowhere`, which is to show nothing. That writer has
-/// the type of the one that `seq` has, since the run is compiled for each type of writer, and is slower
-/// where there are two. Where memory is refused nothing is known.
+/// What a run in threads, or a replay, of a text on an input came to, with what is known of its
+/// fault beside the line. Of an INDEX and of a fault of the input the sequential run tells it,
+/// which comes to the same one: so it is made, with its records onto `nowhere`, which is to show
+/// nothing. That writer has the type of the one that `seq` has, since the run is compiled for each
+/// type of writer, and is slower where there are two. Where memory is refused nothing is known.
 pub fn known_of<W: Write>(
     alloc: Global,
     source: &[u8],

@@ -2,7 +2,8 @@
 
 ghost use Rattle.std.specs.Prelude.{◌≡◌, ◌++◌, List, OnOk, Option, map, ℕ};
 ghost use Rattle.dependence.specs.Plan.{PlanArms, PlanNode};
-ghost use Rattle.dependence.specs.PlanView.{arm_view, arms as arms_of, last_arm, plan_block, plan_node};
+ghost use Rattle.dependence.specs.PlanView.{arm_view, arms as arms_of, last_arm, plan_block};
+ghost use Rattle.dependence.specs.PlanView.{plan_node};
 ghost use Rattle.engines.specs.Advanced as spec;
 
 use ast::Line;
@@ -37,7 +38,8 @@ impl Spot {
 
 /// The line of an IF, by its arms, of which there is always one.
 fn first_line(arms: &[PlanArm]) -> Line
-    ensures { (made : Option (List PlanNode)) → result ≡ spec.first_line (arms_of (map arm_view arms.now) (last_arm made)) }
+    ensures { (made : Option (List PlanNode)) → result
+        ≡ spec.first_line (arms_of (map arm_view arms.now) (last_arm made)) }
 {
     match arms {
         [] => 0,
@@ -48,7 +50,9 @@ fn first_line(arms: &[PlanArm]) -> Line
 /// Appends the advances of arms, whatever stands behind them.
 #[cycle(spots)]
 fn add_arms(arms: &[PlanArm], found: &mut Vec<(usize, Spot)>) -> Result<(), AllocError>
-    ensures { OnOk result ((line : ℕ) → (last : PlanArms) → found.old.items ++ spec.arm_spots line (arms_of (map arm_view arms.now) last) ≡ found.new.items ++ spec.arm_spots line last) }
+    ensures { OnOk result ((line : ℕ) → (last : PlanArms) → found.old.items
+        ++ spec.arm_spots line (arms_of (map arm_view arms.now) last) ≡ found.new.items
+        ++ spec.arm_spots line last) }
 {
     for arm in arms {
         add_spots(Spot::Arm(arm.line), &arm.body, found)?;
@@ -56,14 +60,16 @@ fn add_arms(arms: &[PlanArm], found: &mut Vec<(usize, Spot)>) -> Result<(), Allo
     Ok(())
 }
 
-/// Appends the advances of a statement, of which some may stand in it, and moves the spot behind it.
+/// Appends the advances of a statement, of which some may stand in it, and moves the spot behind
+/// it.
 #[cycle(spots)]
 fn add_node(
     here: &mut Spot,
     node: &PlanStmt,
     found: &mut Vec<(usize, Spot)>,
 ) -> Result<(), AllocError>
-    ensures found { OnOk result (found.new.items ≡ found.old.items ++ spec.node_spots here.old (plan_node node.now)) }
+    ensures found { OnOk result (found.new.items ≡ found.old.items
+        ++ spec.node_spots here.old (plan_node node.now)) }
     ensures moved { OnOk result (here.new ≡ spec.moved here.old (plan_node node.now)) }
 {
     match node {
@@ -84,15 +90,16 @@ fn add_node(
     Ok(())
 }
 
-/// Appends the advances of statements, of which the first stands at a spot: each event with its spot, in
-/// source order.
+/// Appends the advances of statements, of which the first stands at a spot: each event with its
+/// spot, in source order.
 #[cycle(spots)]
 pub fn add_spots(
     first: Spot,
     nodes: &[PlanStmt],
     found: &mut Vec<(usize, Spot)>,
 ) -> Result<(), AllocError>
-    ensures { OnOk result (found.new.items ≡ found.old.items ++ spec.spots first (plan_block nodes.now)) }
+    ensures { OnOk result (found.new.items ≡ found.old.items
+        ++ spec.spots first (plan_block nodes.now)) }
 {
     let mut here = first;
     for node in nodes {

@@ -31,7 +31,8 @@ pub enum Survey {
 
 /// The reports of a program's loops.
 fn reported(alloc: Global, program: Program) -> Result<Survey, AllocError>
-    ensures { IfOk result (λ survey. (source : List ℕ) → Reads source (program_of program) → IsSurvey source survey) }
+    ensures { IfOk result (λ survey. (source : List ℕ) → Reads source (program_of program)
+        → IsSurvey source survey) }
 {
     match compile(alloc, &program) {
         Ok(compiled) => {
@@ -56,7 +57,8 @@ pub fn surveyed(alloc: Global, source: &[u8]) -> Result<Survey, AllocError>
 }
 
 fn listed(alloc: Global, reports: &[LoopReport]) -> Result<Page, AllocError>
-    ensures { IfOk result (λ page. (page.outcome ≡ Outcome.Completed) × Listing 1 reports.now page.text.items) }
+    ensures { IfOk result (λ page. (page.outcome ≡ Outcome.Completed)
+        × Listing 1 reports.now page.text.items) }
 {
     Ok(Page {
         text: listing(alloc, reports)?,

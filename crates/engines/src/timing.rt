@@ -160,8 +160,8 @@ pub fn timeline_texts(
     }
 }
 
-/// Draws a run: writes the picture to `picture`, or where there is none the line that says why to `out`,
-/// and gives the exit status.
+/// Draws a run: writes the picture to `picture`, or where there is none the line that says why to
+/// `out`, and gives the exit status.
 fn timeline_given<W: Write, V: Write>(
     alloc: Global,
     source: &[u8],
@@ -177,15 +177,15 @@ fn timeline_given<W: Write, V: Write>(
     drawn.write(out, picture)
 }
 
-/// Draws the run of a source on an input that a schedule describes: writes the picture to `picture`, or
-/// where there is none the line that says why to `out`, and gives the exit status: 0, also of a run that
-/// comes to a fault, 1 for a source that is refused, by its text or for its code, 6 for a schedule that is
-/// refused. The readers are read as by [`replay`](crate::replay).
+/// Draws the run of a source on an input that a schedule describes: writes the picture to
+/// `picture`, or where there is none the line that says why to `out`, and gives the exit status: 0,
+/// also of a run that comes to a fault, 1 for a source that is refused, by its text or for its
+/// code, 6 for a schedule that is refused. The readers are read as by [`replay`](crate::replay).
 ///
 /// # Errors
 ///
-/// A fault of one of the readers, with nothing written; of one of the writers, with a beginning of its
-/// text written and nothing to the other; or of memory, with nothing written.
+/// A fault of one of the readers, with nothing written; of one of the writers, with a beginning of
+/// its text written and nothing to the other; or of memory, with nothing written.
 pub fn timeline<R: Read, I: Read, S: Read, W: Write, V: Write>(
     alloc: Global,
     source: &mut R,

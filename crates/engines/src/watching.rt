@@ -73,7 +73,8 @@ fn seen_before(activities: &Activities<'_>, entry: Entry) -> Before
     }
 }
 
-/// What came of an entry, by what its processor holds after it and how many iterations are open then.
+/// What came of an entry, by what its processor holds after it and how many iterations are open
+/// then.
 fn came(ended: bool, before: Before, after: Option<Held>, open: u128) -> Came {
     match (before.held, after) {
         _ if ended => Came::Ended,

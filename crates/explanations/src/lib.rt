@@ -1,4 +1,5 @@
-//! What the numbers of refusals, faults, schedules and reasons mean, at length, and how they are written.
+//! What the numbers of refusals, faults, schedules and reasons mean, at length, and how they are
+//! written.
 #![tactic(auto)]
 
 pub mod explain;

@@ -93,7 +93,10 @@ impl<'p> Places<'p> {
 
     /// Pops the new value of a variable, and before it the place of an element.
     pub fn store(&self, reference: &Reference) -> Act
-        ensures { result ≡ given_act (dimensions_at (places_of self.now).symbols reference.now.cell) (home (places_of self.now) (dimensions_at (places_of self.now).symbols reference.now.cell) reference.now.name.letters) reference.now.cell }
+        ensures { result ≡ given_act (dimensions_at (places_of self.now).symbols reference.now.cell)
+            (home (places_of self.now)
+            (dimensions_at (places_of self.now).symbols reference.now.cell)
+            reference.now.name.letters) reference.now.cell }
     {
         match self.dimensions(reference.cell) {
             [] => self.store_scalar(reference.name, reference.cell),
@@ -116,8 +119,10 @@ impl<'p> Places<'p> {
 
     /// The dimensions of the symbol at a place of the symbols, none where there is no such symbol.
     pub(crate) fn dimensions(&self, cell: usize) -> &'p [Dimension]
-        ensures dimensions { map extent result.now ≡ dimensions_at (places_of self.now).symbols cell }
-        ensures count { length result.now ≡ length (dimensions_at (places_of self.now).symbols cell) }
+        ensures dimensions { map extent result.now
+            ≡ dimensions_at (places_of self.now).symbols cell }
+        ensures count { length result.now
+            ≡ length (dimensions_at (places_of self.now).symbols cell) }
     {
         dimensions_in(&self.program.symbols, cell)
     }

@@ -3,7 +3,8 @@
 ghost use Rattle.std.specs.Prelude.{◌≡◌, ◌+◌, drop, map, max, ℕ};
 ghost use Rattle.ast.specs.Tree.{call, terms};
 ghost use Rattle.ast.specs.View.{access as access_of, term};
-ghost use Rattle.expr_code.specs.Computes.{operands, operands_chosen, operands_further, operands_kept};
+ghost use Rattle.expr_code.specs.Computes.{operands, operands_chosen, operands_further};
+ghost use Rattle.expr_code.specs.Computes.{operands_kept};
 ghost use Rattle.expr_code.specs.Emitted.{short};
 
 use ast::{Access, Expr, Intrinsic};
@@ -24,8 +25,8 @@ pub fn greater(a: u32, b: u32) -> u32
     if a < b { b } else { a }
 }
 
-/// How many operands the code of an expression has on the stack at most; 4,294,967,295 where 32 bits
-/// can't hold the number.
+/// How many operands the code of an expression has on the stack at most; 4,294,967,295 where 32
+/// bits can't hold the number.
 #[cycle(operands)]
 pub fn operands(expression: &Expr) -> u32
     ensures { result ≡ short (operands (term expression.now)) }

@@ -3,7 +3,8 @@
 ghost use Rattle.std.specs.Prelude.{◌≡◌, ◌==◌, option_map};
 ghost use Rattle.expressions.specs.Levels.{spelling, prefix_spelling, relation};
 ghost use Rattle.expressions.specs.Ranks.{rank};
-ghost use Rattle.expressions.specs.Reading.{operators_of, prefixes_of, first_operator, first_prefix, operator_at, prefix_at};
+ghost use Rattle.expressions.specs.Reading.{operators_of, prefixes_of, first_operator};
+ghost use Rattle.expressions.specs.Reading.{first_prefix, operator_at, prefix_at};
 
 use crate::scan::after;
 use ast::{Operator, Prefix};

@@ -1,13 +1,16 @@
 //! Names and constants.
 
-ghost use Rattle.std.specs.Prelude.{◌≡◌, pos, nat_lt, if◌then◌else◌, Some, None, map, IfErr, option_map};
+ghost use Rattle.std.specs.Prelude.{◌≡◌, pos, nat_lt, if◌then◌else◌, Some, None, map, IfErr};
+ghost use Rattle.std.specs.Prelude.{option_map};
 ghost use Rattle.ast.specs.Answers.{Gives};
 ghost use Rattle.ast.specs.View.{ref, term};
 ghost use Rattle.expressions.specs.Answers.{IsRefused};
 ghost use Rattle.expressions.specs.Characters.{value, constant_limit, begins_with};
 ghost use Rattle.expressions.specs.Grammar.{reference_to};
-ghost use Rattle.expressions.specs.Reading.{name_at, constant_at, truth_at, literal_at, misplaced, wanted_at, end_at};
-ghost use Rattle.expressions.specs.Real.{begins_operator, begins_any, begins_exponent, continues_real, begins_fraction, begins_real};
+ghost use Rattle.expressions.specs.Reading.{name_at, constant_at, truth_at, literal_at, misplaced};
+ghost use Rattle.expressions.specs.Reading.{wanted_at, end_at};
+ghost use Rattle.expressions.specs.Real.{begins_operator, begins_any, begins_exponent};
+ghost use Rattle.expressions.specs.Real.{continues_real, begins_fraction, begins_real};
 ghost use Rattle.ast.specs.declared.refusal.Refusal.TheVariants.{Refused};
 
 use crate::scan::{after, begins_digit, begins_letter, begins_with, digits, letters_and_digits};
@@ -111,7 +114,8 @@ pub fn end(text: &[u8], line: Line) -> Result<&[u8], Refusal>
 
 /// What digits write, where it is below the limit of constants.
 pub fn value(digits: &[u8]) -> Option<i64>
-    ensures { result ≡ (if nat_lt (value digits.now) constant_limit then Some (pos (value digits.now)) else None) }
+    ensures { result ≡ (if nat_lt (value digits.now) constant_limit then Some
+        (pos (value digits.now)) else None) }
 {
     let mut total: u64 = 0;
     for digit in digits {
@@ -166,7 +170,8 @@ fn truth(text: &[u8]) -> Option<(Expr, &[u8])>
 /// The constant or logical constant that the text begins with, and what stands after it, if there
 /// is one. Numbers 22 and 23.
 pub fn literal(text: &[u8], line: Line) -> Result<Option<(Expr, &[u8])>, Refusal>
-    ensures reads { Gives (λ o. option_map (λ x. (term x.0, x.1.now)) o) result (literal_at line text.now) }
+    ensures reads { Gives (λ o.
+        option_map (λ x. (term x.0, x.1.now)) o) result (literal_at line text.now) }
     ensures sure { IfErr result IsRefused }
 {
     if begins_real(text) {

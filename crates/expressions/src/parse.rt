@@ -8,7 +8,10 @@ ghost use Rattle.ast.specs.View.{term, access};
 ghost use Rattle.expressions.specs.Answers.{IsNumber};
 ghost use Rattle.expressions.specs.Grammar.{IsExpression};
 ghost use Rattle.expressions.specs.Ranks.{rank};
-ghost use Rattle.expressions.specs.Reading.{level_at, chain_at, primary_at, operand_at, access_at, subscripts_at, list_at, further_at, front_at, element_at, closed_at, whole_at, expression_at, room, spent};
+ghost use Rattle.expressions.specs.Reading.{level_at, chain_at, primary_at, operand_at, access_at};
+ghost use Rattle.expressions.specs.Reading.{subscripts_at, list_at, further_at, front_at};
+ghost use Rattle.expressions.specs.Reading.{element_at, closed_at, whole_at, expression_at, room};
+ghost use Rattle.expressions.specs.Reading.{spent};
 
 use crate::build::{binary, parentheses, with_further, with_prefix};
 use crate::depth::{DEPTH_LIMIT, is_within};
@@ -31,12 +34,14 @@ struct Reader {
 
 /// The expression that a whole text is.
 ///
-/// Refused are 22 to 25, the first fault from the left; and 26, an expression deeper than 128, where
-/// the text is one otherwise. The line is that of its statement.
+/// Refused are 22 to 25, the first fault from the left; and 26, an expression deeper than 128,
+/// where the text is one otherwise. The line is that of its statement.
 pub fn expr(alloc: Global, text: &[u8], line: Line) -> Result<Expr, Refusal>
     ensures found { IfOk result (λ e. IsExpression text.now (term e)) }
     ensures only { (e : Term) → IsExpression text.now e → Gives term result (Ok e) }
-    ensures refused { IfErr result (Says (λ number at. (at ≡ line) × IsNumber number × ((e : Term) → IsExpression text.now e → ⊥))) }
+    ensures refused { IfErr result
+        (Says (λ number at. (at ≡ line) × IsNumber number
+        × ((e : Term) → IsExpression text.now e → ⊥))) }
     ensures exact { Gives term result (expression_at line text.now) }
 {
     read(alloc, text, line)
@@ -99,7 +104,8 @@ fn spent(line: Line) -> Refusal
 /// some levels a prefix before the first. `room` bounds the depth of the calls.
 #[cycle(parse)]
 fn level(reader: Reader, at: Level, text: &[u8], room: u128) -> Result<(Expr, &[u8]), Refusal>
-    ensures { Gives (λ x. (term x.0, x.1.now)) result (level_at reader.line room (rank at) text.now) }
+    ensures { Gives (λ x. (term x.0, x.1.now)) result
+        (level_at reader.line room (rank at) text.now) }
 {
     if room == 0 {
         return Err(spent(reader.line));
@@ -122,7 +128,8 @@ fn chain(
     text: &[u8],
     room: u128,
 ) -> Result<(Expr, &[u8]), Refusal>
-    ensures { Gives (λ x. (term x.0, x.1.now)) result (chain_at reader.line room (rank at) (term left) text.now) }
+    ensures { Gives (λ x. (term x.0, x.1.now)) result
+        (chain_at reader.line room (rank at) (term left) text.now) }
 {
     if room == 0 {
         return Err(spent(reader.line));
@@ -169,7 +176,9 @@ fn operand<'a>(
     text: &'a [u8],
     room: u128,
 ) -> Result<(Expr, &'a [u8]), Refusal>
-    ensures { Gives (λ x. (term x.0, x.1.now)) result (operand_at reader.line room (option_map (λ x. (term x.0, x.1.now)) found.entry) text.now) }
+    ensures { Gives (λ x. (term x.0, x.1.now)) result
+        (operand_at reader.line room (option_map (λ x. (term x.0, x.1.now)) found.entry)
+        text.now) }
 {
     if room == 0 {
         return Err(spent(reader.line));
@@ -206,7 +215,8 @@ fn element(reader: Reader, text: &[u8], room: u128) -> Result<(Access, &[u8]), R
 /// A list of expressions in parentheses, or none where no parenthesis stands.
 #[cycle(parse)]
 fn subscripts(reader: Reader, text: &[u8], room: u128) -> Result<(Vec<Expr>, &[u8]), Refusal>
-    ensures { Gives (λ x. (map term x.0.items, x.1.now)) result (subscripts_at reader.line room text.now) }
+    ensures { Gives (λ x. (map term x.0.items, x.1.now)) result
+        (subscripts_at reader.line room text.now) }
 {
     if room == 0 {
         return Err(spent(reader.line));
@@ -225,7 +235,8 @@ fn list(
     text: &[u8],
     room: u128,
 ) -> Result<(Vec<Expr>, &[u8]), Refusal>
-    ensures { Gives (λ x. (map term x.0.items, x.1.now)) result (list_at reader.line room (map term read.items) text.now) }
+    ensures { Gives (λ x. (map term x.0.items, x.1.now)) result
+        (list_at reader.line room (map term read.items) text.now) }
 {
     if room == 0 {
         return Err(spent(reader.line));
@@ -243,7 +254,8 @@ fn further(
     text: &[u8],
     room: u128,
 ) -> Result<(Vec<Expr>, &[u8]), Refusal>
-    ensures { Gives (λ x. (map term x.0.items, x.1.now)) result (further_at reader.line room (map term read.items) text.now) }
+    ensures { Gives (λ x. (map term x.0.items, x.1.now)) result
+        (further_at reader.line room (map term read.items) text.now) }
 {
     if room == 0 {
         return Err(spent(reader.line));
@@ -256,7 +268,8 @@ fn further(
 
 /// An expression in parentheses whose closing one is still to come.
 fn closed(reader: Reader, inner: Expr, text: &[u8]) -> Result<(Expr, &[u8]), Refusal>
-    ensures { Gives (λ x. (term x.0, x.1.now)) result (closed_at reader.line (term inner) text.now) }
+    ensures { Gives (λ x. (term x.0, x.1.now)) result
+        (closed_at reader.line (term inner) text.now) }
 {
     let rest = wanted(text, b")", reader.line)?;
     Ok((parentheses(reader.alloc, inner)?, rest))

@@ -1,7 +1,8 @@
 //! The files that the program reads and writes, by their names.
 
 ghost use Rattle.std.specs.Prelude.{◌≡◌, List, Option, None, map};
-ghost use Rattle.files.specs.Deeds.{Compares, Deed, HasRead, Reads, Replaces, got, noted, unread, unput};
+ghost use Rattle.files.specs.Deeds.{Compares, Deed, HasRead, Reads, Replaces, got, noted, unread};
+ghost use Rattle.files.specs.Deeds.{unput};
 
 use crate::fault::FileFault;
 use pages::Texts;

@@ -102,8 +102,8 @@ fn new_file<R: Files>(rt: &R, name: String) -> io::Result<(R::File, String)> {
     Ok((file, name))
 }
 
-/// A new file beside the one of this name, and its name: with `.part` behind it, or, where such a file is
-/// there already, with `.part1`, `.part2` and so on. What is there stays as it is.
+/// A new file beside the one of this name, and its name: with `.part` behind it, or, where such a
+/// file is there already, with `.part1`, `.part2` and so on. What is there stays as it is.
 fn new_beside<R: Files + AllocGlobal>(rt: &R, name: &str) -> io::Result<(R::File, String)> {
     let mut made = new_file(rt, format!(in rt.alloc(); "{name}.part")?);
     for number in 1..MOST_NAMES {
@@ -123,8 +123,8 @@ fn write_down<F: OpenFile + Write + Drop>(mut file: F, bytes: &[u8]) -> io::Resu
 }
 
 /// Gives the file of this name these bytes. A plain file has all of them or what it had: they are
-/// written to a new file beside it, which then takes its place. To anything else, as a device or a pipe,
-/// they are written as they are.
+/// written to a new file beside it, which then takes its place. To anything else, as a device or a
+/// pipe, they are written as they are.
 fn replace_file<R: Files + AllocGlobal>(rt: &R, name: &str, bytes: &[u8]) -> io::Result<()> {
     if !is_plain(rt, name) {
         return fs::write(rt, name, bytes);

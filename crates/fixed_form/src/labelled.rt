@@ -1,7 +1,8 @@
 //! A statement as its lines give it.
 
 ghost use Rattle.std.specs.Prelude.{◌≡◌, ◌≤◌, ◌%◌, true, length};
-ghost use Rattle.fixed_form.specs.Limits.{greatest_line, longest_text, text_width, is_label_or_none};
+ghost use Rattle.fixed_form.specs.Limits.{greatest_line, longest_text, text_width};
+ghost use Rattle.fixed_form.specs.Limits.{is_label_or_none};
 
 use ast::Line;
 

@@ -1,4 +1,5 @@
-//! Source lines in the fixed form of FORTRAN 77: from the bytes of a text to its labelled statements.
+//! Source lines in the fixed form of FORTRAN 77: from the bytes of a text to its labelled
+//! statements.
 #![tactic(auto)]
 
 mod label;

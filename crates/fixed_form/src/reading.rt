@@ -41,7 +41,9 @@ fn begin_statement(
     requires label { is_label_or_none label ≡ true }
     requires from_one { 1 ≤ number }
     requires in_range { number ≤ greatest_line }
-    ensures { Gives (λ ended. (entries list.new.items, ended)) result (begun (entries list.old.items) label number line.now) }
+    ensures { Gives (λ ended.
+        (entries list.new.items, ended)) result
+        (begun (entries list.old.items) label number line.now) }
 {
     let mut text = Vec::with_capacity(alloc, TEXT_WIDTH)?;
     append_part(&mut text, line)?;
@@ -57,7 +59,8 @@ fn begin_statement(
 /// Adds a continuation line to the last statement.
 #[tactic(auto, using(crate::proofs::Facts::one_line_more))]
 fn continue_statement(list: &mut Vec<Labelled>, number: Line, line: &[u8]) -> Result<(), Refusal>
-    ensures { Gives (λ _. entries list.new.items) result (continued (entries list.old.items) number line.now) }
+    ensures { Gives (λ _. entries list.new.items) result
+        (continued (entries list.old.items) number line.now) }
 {
     let Some(statement) = list.last_mut() else {
         return Err(refused(3, number));
@@ -80,7 +83,9 @@ fn add_line(
 ) -> Result<bool, Refusal>
     requires from_one { 1 ≤ number }
     requires in_range { number ≤ greatest_line }
-    ensures { Gives (λ now_ended. (entries list.new.items, now_ended)) result (take_line (entries list.old.items) ended number line.now) }
+    ensures { Gives (λ now_ended.
+        (entries list.new.items, now_ended)) result
+        (take_line (entries list.old.items) ended number line.now) }
 {
     match classify(line) {
         Class::Comment => Ok(ended),
@@ -127,9 +132,11 @@ fn read_all(alloc: Global, text: &[u8]) -> Result<Vec<Labelled>, Refusal>
 pub fn statements(alloc: Global, text: &[u8]) -> Result<Vec<Labelled>, Refusal>
     ensures found { IfOk result (λ v. Lines text.now (entries v.items)) }
     ensures shaped { IfOk result (λ v. AreShaped (entries v.items)) }
-    ensures only { (es : List Entry) → Lines text.now es → Gives (λ v. entries v.items) result (Ok es) }
+    ensures only { (es : List Entry) → Lines text.now es
+        → Gives (λ v. entries v.items) result (Ok es) }
     ensures refused { IfErr result (Says (Broken text.now)) }
-    ensures exactly { (number line : ℕ) → Broken text.now number line → Gives (λ v. entries v.items) result (Err (record { number = number; line = line })) }
+    ensures exactly { (number line : ℕ) → Broken text.now number line
+        → Gives (λ v. entries v.items) result (Err (record { number = number; line = line })) }
 {
     read_all(alloc, text)
 }

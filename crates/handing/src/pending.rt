@@ -22,7 +22,8 @@ pub struct Pending {
 /// The writer's error, with a beginning of the text written, not all of it.
 pub fn write_all<W: Write>(writer: &mut W, text: &[u8]) -> Result<()>
     ensures ok { OnOk result (Appends (W.contents writer.old) (W.contents writer.new) text.now) }
-    ensures err { OnErr result (AppendsPart (W.contents writer.old) (W.contents writer.new) text.now) }
+    ensures err { OnErr result
+        (AppendsPart (W.contents writer.old) (W.contents writer.new) text.now) }
 {
     let mut done = 0;
     while done < text.len() {
@@ -36,8 +37,10 @@ pub fn write_all<W: Write>(writer: &mut W, text: &[u8]) -> Result<()>
 
 /// Hands on what is pending. Nothing is then pending, also where the writer failed.
 pub fn hand_on<W: Write>(pending: &mut Vec<u8>, writer: &mut W) -> Result<()>
-    ensures ok { OnOk result (Appends (W.contents writer.old) (W.contents writer.new) pending.old.items) }
-    ensures err { OnErr result (AppendsPart (W.contents writer.old) (W.contents writer.new) pending.old.items) }
+    ensures ok { OnOk result
+        (Appends (W.contents writer.old) (W.contents writer.new) pending.old.items) }
+    ensures err { OnErr result
+        (AppendsPart (W.contents writer.old) (W.contents writer.new) pending.old.items) }
     ensures empty { pending.new.items ≡ [] }
 {
     let done = write_all(writer, pending);

@@ -47,7 +47,8 @@ fn run_plain<W: Write>(
     input: &[u8],
     writer: &mut W,
 ) -> Result<RunEnd, RunFault>
-    ensures { Streams (program_of program.now) input.now (W.contents writer.old) (W.contents writer.new) result }
+    ensures { Streams (program_of program.now) input.now (W.contents writer.old)
+        (W.contents writer.new) result }
 {
     let answer = run_tree(alloc, program, input)?;
     match write_all(writer, &answer.output) {
@@ -61,15 +62,15 @@ fn run_plain<W: Write>(
 }
 
 /// Runs a program on an input, one statement after another, from a store of zeros, and writes the
-/// records that it prints while it runs: whole records, of which `most` bytes may wait at most before
-/// they are handed on; at 0 each goes on at once.
+/// records that it prints while it runs: whole records, of which `most` bytes may wait at most
+/// before they are handed on; at 0 each goes on at once.
 ///
 /// The ending has the end of the run and the store there, also at a fault or a STOP.
 ///
 /// # Errors
 ///
-/// `RunFault::Memory` where memory is refused, and the writer's error where it fails or takes no byte:
-/// a beginning of the records is written then.
+/// `RunFault::Memory` where memory is refused, and the writer's error where it fails or takes no
+/// byte: a beginning of the records is written then.
 pub fn run_onto<W: Write>(
     alloc: Global,
     program: &Program,
@@ -77,7 +78,8 @@ pub fn run_onto<W: Write>(
     most: usize,
     writer: &mut W,
 ) -> Result<RunEnd, RunFault>
-    ensures { Streams (program_of program.now) input.now (W.contents writer.old) (W.contents writer.new) result }
+    ensures { Streams (program_of program.now) input.now (W.contents writer.old)
+        (W.contents writer.new) result }
 {
     match run_lowered(alloc, program, input, most, writer) {
         Some(came) => came,
@@ -98,9 +100,9 @@ fn run(alloc: Global, program: &Program, input: &[u8]) -> Result<Answer, AllocEr
 
 /// Runs a program on an input, one statement after another, from a store of zeros.
 ///
-/// The answer has the records that it printed, its end, and the store at its end, also at a fault or
-/// a STOP: the values of each name, in the order of the program's symbols, so that `Store::value` of
-/// a name at a place is what the program's meaning leaves there.
+/// The answer has the records that it printed, its end, and the store at its end, also at a fault
+/// or a STOP: the values of each name, in the order of the program's symbols, so that
+/// `Store::value` of a name at a place is what the program's meaning leaves there.
 ///
 /// # Errors
 ///

@@ -1,5 +1,5 @@
-//! Tests over the public calls of the crates of the language, of what no clause says. They stand in a crate
-//! of their own, as each crate with tests is proved once more with them.
+//! Tests over the public calls of the crates of the language, of what no clause says. They stand in
+//! a crate of their own, as each crate with tests is proved once more with them.
 #![tactic(auto)]
 
 #[cfg(test)]

@@ -61,7 +61,8 @@ fn are_right(rt: &(impl Abort + AllocGlobal), rows: &[Row]) -> Result<(), Fail> 
 
 // ---- statements
 
-/// A statement of an initial line and 19 continuation lines, each of these with a comment before it.
+/// A statement of an initial line and 19 continuation lines, each of these with a comment before
+/// it.
 const LONG_TEXT: &[u8] = b"      PRINT *,1
 C
      1+1

@@ -7,7 +7,6 @@ use ast::{
     Access, Bounds, Declarator, Definition, Dimension, DoHead, Expr, Intrinsic, Item, Kind, Line,
     Name, Operator, Prefix, Program, RefId, Reference, Stmt, Store, Symbol, SymbolKind,
 };
-use copies::{copy_of_expression, copy_of_statement};
 use expressions::reference_to;
 use std::alloc::{AllocError, Global};
 use std::process::Abort;
@@ -111,7 +110,7 @@ fn is_comparison(expr: &Expr) -> bool {
 
 /// Whether the copy of a comparison is right.
 fn is_copied(alloc: Global, expr: &Expr) -> Result<bool, AllocError> {
-    let copy = copy_of_expression(alloc, expr)?;
+    let copy = expr.try_copy(alloc)?;
     Ok(is_comparison(&copy))
 }
 
@@ -235,7 +234,7 @@ fn is_statement(stmt: &Stmt) -> bool {
 /// Adds copies of statements.
 fn add_copies(alloc: Global, list: &[Stmt], made: &mut Vec<Stmt>) -> Result<(), AllocError> {
     for stmt in list {
-        made.push(copy_of_statement(alloc, stmt)?)?;
+        made.push(stmt.try_copy(alloc)?)?;
     }
     Ok(())
 }

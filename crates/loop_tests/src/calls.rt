@@ -1,5 +1,5 @@
-//! Calls of the crates of loops. No test rests on what is proved of them, and so these functions say nothing
-//! of it: it would be carried through each test that makes such a call.
+//! Calls of the crates of loops. No test rests on what is proved of them, and so these functions
+//! say nothing of it: it would be carried through each test that makes such a call.
 
 use ast::{Expr, Line, Name, Program, RefId, Refusal};
 use dependence::{LoopPlan, Relation};

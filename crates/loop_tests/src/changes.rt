@@ -307,8 +307,8 @@ fn is_wanted(answer: Result<(), PlanFault>, wanted: Option<u8>) -> bool {
     }
 }
 
-/// Whether a plan is refused by this number, or accepted; where there was no memory the plan is checked again,
-/// and that has to answer so.
+/// Whether a plan is refused by this number, or accepted; where there was no memory the plan is
+/// checked again, and that has to answer so.
 pub fn is_answered(
     alloc: Global,
     view: &LoopView<'_, '_>,

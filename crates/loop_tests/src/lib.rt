@@ -1,5 +1,5 @@
-//! Tests over the public calls of the crates of loops, of what no clause says: subscripts, dependences,
-//! private scalars, plans and their check.
+//! Tests over the public calls of the crates of loops, of what no clause says: subscripts,
+//! dependences, private scalars, plans and their check.
 #![tactic(auto)]
 
 #[cfg(test)]

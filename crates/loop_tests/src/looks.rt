@@ -1,5 +1,5 @@
-//! What is seen of a loop: its lines and numbers, subscripts, pairs of elements, private scalars, and what is
-//! in the way of it.
+//! What is seen of a loop: its lines and numbers, subscripts, pairs of elements, private scalars,
+//! and what is in the way of it.
 
 use crate::calls::{
     affine, first_read, first_shared, first_sources, line_around, private_scalars, references,
@@ -59,8 +59,8 @@ pub fn is_shaped(view: &LoopView<'_, '_>, lines: &[Line], wanted: &Shape<'_>) ->
         && are_on(references(view), lines, wanted.lines)
 }
 
-/// The constant of a subscript's form, the coefficient of the loop's variable and the factors of other
-/// scalars.
+/// The constant of a subscript's form, the coefficient of the loop's variable and the factors of
+/// other scalars.
 pub type Form<'a> = (i64, i64, &'a [i64]);
 
 /// The subscript of the first element of one dimension that a loop's range assigns.
@@ -98,7 +98,8 @@ fn is_form(found: &Affine, wanted: Option<Form<'_>>) -> bool {
     }
 }
 
-/// Whether the subscript of the first element that a loop's range assigns has this form, or has none.
+/// Whether the subscript of the first element that a loop's range assigns has this form, or has
+/// none.
 pub fn is_formed(view: &LoopView<'_, '_>, wanted: Option<Form<'_>>) -> bool {
     match assigned_at(references(view)) {
         Some(subscript) => is_form(&affine(subscript, view), wanted),
@@ -106,8 +107,8 @@ pub fn is_formed(view: &LoopView<'_, '_>, wanted: Option<Form<'_>>) -> bool {
     }
 }
 
-/// The element of an array at a place, from 0, among those of a loop's range in order of evaluation, in which
-/// a right side goes first.
+/// The element of an array at a place, from 0, among those of a loop's range in order of
+/// evaluation, in which a right side goes first.
 pub fn element_at(references: &[Occurrence<'_>], place: usize) -> Option<RefId> {
     let mut before: usize = 0;
     for occurrence in references {

@@ -454,8 +454,8 @@ static CLAIMS: [Relation; 14] = [
 /// The steps that are tried where none is known.
 const ANY_STEP: [i64; 3] = [-2, 1, 3];
 
-/// Whether one of the claims of two references is verified that is refuted by the distances at which they
-/// meet.
+/// Whether one of the claims of two references is verified that is refuted by the distances at
+/// which they meet.
 fn is_misled(view: &LoopView<'_, '_>, first: RefId, second: RefId, met: u32) -> bool {
     for claim in &CLAIMS {
         if refute(met, *claim) && verify(view, first, second, *claim) {
@@ -465,7 +465,8 @@ fn is_misled(view: &LoopView<'_, '_>, first: RefId, second: RefId, met: u32) -> 
     false
 }
 
-/// Whether references of one dimension meet at a distance, whatever the step; far ones aren't tried.
+/// Whether references of one dimension meet at a distance, whatever the step; far ones aren't
+/// tried.
 fn meet_at(pair: &Pair<'_>, steps: &[i64], distance: u128) -> bool {
     if pair.first.len() != 1 || distance >= 100 {
         return true;
@@ -486,7 +487,8 @@ fn agrees(pair: &Pair<'_>, steps: &[i64], met: u32, relation: Relation) -> bool 
     }
 }
 
-/// The relation of a reference and one in a later iteration, if nothing that is said of them is refuted.
+/// The relation of a reference and one in a later iteration, if nothing that is said of them is
+/// refuted.
 fn try_pair(
     view: &LoopView<'_, '_>,
     a: &Occurrence<'_>,
@@ -542,7 +544,8 @@ fn are_right_beside(
     true
 }
 
-/// Whether nothing is refuted that is said of all pairs of the elements of a loop, with these steps.
+/// Whether nothing is refuted that is said of all pairs of the elements of a loop, with these
+/// steps.
 fn are_right_with(view: &LoopView<'_, '_>, steps: &[i64], tally: &mut Tally) -> bool {
     for a in references(view) {
         if is_assigned(a) && !are_right_beside(view, a, steps, tally) {

@@ -1,10 +1,14 @@
 //! Local instructions, on the parts of a frame.
 
-ghost use Rattle.std.specs.Prelude.{◌≡◌, ◌+◌, ◌-◌, ◌<◌, ◌^◌, ℕ, ℤ, List, Option, drop, if◌then◌else◌, slice_get};
+ghost use Rattle.std.specs.Prelude.{◌≡◌, ◌+◌, ◌-◌, ◌<◌, ◌^◌, ℕ, ℤ, List, Option, drop};
+ghost use Rattle.std.specs.Prelude.{if◌then◌else◌, slice_get};
 ghost use Rattle.ast.specs.Exact.{is_true};
 ghost use Rattle.machine.specs.FrameView.{stack_of};
 ghost use Rattle.machine.specs.ScalarView.{scalars_of};
-ghost use Rattle.machine.specs.Local.{counted_down, if_pushed, if_replaced, local_act, loop_set_up, one_of, one_replaced, part_of, private_pushed, private_set, pushed, replaced_at, skipping_unless, step_pushed, three_of, two_replaced};
+ghost use Rattle.machine.specs.Local.{counted_down, if_pushed, if_replaced, local_act, loop_set_up};
+ghost use Rattle.machine.specs.Local.{one_of, one_replaced, part_of, private_pushed, private_set};
+ghost use Rattle.machine.specs.Local.{pushed, replaced_at, skipping_unless, step_pushed, three_of};
+ghost use Rattle.machine.specs.Local.{two_replaced};
 ghost use Rattle.machine.specs.Working.{IsNot, frame_at, made_of_one, made_of_two, went, went_by};
 ghost use Rattle.machine.specs.declared.frame.Counter.{Counter as Loop};
 ghost use Rattle.machine.specs.declared.scalar.Scalar.{Scalar as Own};
@@ -67,7 +71,10 @@ pub fn skip(cursor: Cursor, n: u32) -> Cursor
 #[inline(always)]
 fn push_value(slots: &mut [i64], cursor: Cursor, value: i64) -> Went
     requires { cursor.place < 2 ^ 63 }
-    ensures next { (line : ℕ) (ps : List Own) (cs : List Loop) (number : Option ℕ) (index : ℤ) → went result line cursor slots.new ps cs number index ≡ if_pushed (pushed value (stack_of cursor.top slots.old)) (frame_at cursor slots.old ps cs number index) }
+    ensures next { (line : ℕ) (ps : List Own) (cs : List Loop) (number : Option ℕ) (index : ℤ)
+        → went result line cursor slots.new ps cs number index
+        ≡ if_pushed (pushed value (stack_of cursor.top slots.old))
+        (frame_at cursor slots.old ps cs number index) }
     ensures kept { IsNot result → slots.new ≡ slots.old }
 {
     match push(slots, cursor.top, value) {
@@ -80,7 +87,10 @@ fn push_value(slots: &mut [i64], cursor: Cursor, value: i64) -> Went
 #[tactic(auto, using(crate::proofs::Privates::push_law, crate::proofs::Privates::push_past_law))]
 fn push_private(slots: &mut [i64], privates: &[Scalar], cursor: Cursor, x: u32) -> Went
     requires { cursor.place < 2 ^ 63 }
-    ensures next { (line : ℕ) (cs : List Loop) (number : Option ℕ) (index : ℤ) → went result line cursor slots.new privates.now cs number index ≡ private_pushed (slice_get (scalars_of privates.now) x) (frame_at cursor slots.old privates.now cs number index) }
+    ensures next { (line : ℕ) (cs : List Loop) (number : Option ℕ) (index : ℤ)
+        → went result line cursor slots.new privates.now cs number index
+        ≡ private_pushed (slice_get (scalars_of privates.now) x)
+        (frame_at cursor slots.old privates.now cs number index) }
     ensures kept { IsNot result → slots.new ≡ slots.old }
 {
     let x = x as usize;
@@ -94,7 +104,10 @@ fn push_private(slots: &mut [i64], privates: &[Scalar], cursor: Cursor, x: u32) 
 #[inline(always)]
 fn set_private(slots: &[i64], privates: &mut [Scalar], cursor: Cursor, x: u32) -> Went
     requires { cursor.place < 2 ^ 63 }
-    ensures next { (line : ℕ) (cs : List Loop) (number : Option ℕ) (index : ℤ) → went result line cursor slots.now privates.new cs number index ≡ private_set x (one_of (drop cursor.top slots.now)) (frame_at cursor slots.now privates.old cs number index) }
+    ensures next { (line : ℕ) (cs : List Loop) (number : Option ℕ) (index : ℤ)
+        → went result line cursor slots.now privates.new cs number index
+        ≡ private_set x (one_of (drop cursor.top slots.now))
+        (frame_at cursor slots.now privates.old cs number index) }
     ensures kept { IsNot result → privates.new ≡ privates.old }
 {
     let x = x as usize;
@@ -128,7 +141,10 @@ fn replaced(cursor: Cursor, answer: Option<Result<usize, Fault>>) -> Went
 #[tactic(auto, using(crate::proofs::Actions::replaced_law, crate::proofs::Actions::kept_law))]
 fn make_one(slots: &mut [i64], cursor: Cursor, make: Single) -> Went
     requires { cursor.place < 2 ^ 63 }
-    ensures next { (line : ℕ) (ps : List Own) (cs : List Loop) (number : Option ℕ) (index : ℤ) → went result line cursor slots.new ps cs number index ≡ if_replaced (one_replaced (made_of_one make) (stack_of cursor.top slots.old)) line (frame_at cursor slots.old ps cs number index) }
+    ensures next { (line : ℕ) (ps : List Own) (cs : List Loop) (number : Option ℕ) (index : ℤ)
+        → went result line cursor slots.new ps cs number index
+        ≡ if_replaced (one_replaced (made_of_one make) (stack_of cursor.top slots.old)) line
+        (frame_at cursor slots.old ps cs number index) }
     ensures kept { IsNot result → slots.new ≡ slots.old }
 {
     let answer = replace_one(slots, cursor.top, make);
@@ -139,7 +155,10 @@ fn make_one(slots: &mut [i64], cursor: Cursor, make: Single) -> Went
 #[tactic(auto, using(crate::proofs::Actions::replaced_law, crate::proofs::Actions::kept_law))]
 fn make_two(slots: &mut [i64], cursor: Cursor, make: Pair) -> Went
     requires { cursor.place < 2 ^ 63 }
-    ensures next { (line : ℕ) (ps : List Own) (cs : List Loop) (number : Option ℕ) (index : ℤ) → went result line cursor slots.new ps cs number index ≡ if_replaced (two_replaced (made_of_two make) (stack_of cursor.top slots.old)) line (frame_at cursor slots.old ps cs number index) }
+    ensures next { (line : ℕ) (ps : List Own) (cs : List Loop) (number : Option ℕ) (index : ℤ)
+        → went result line cursor slots.new ps cs number index
+        ≡ if_replaced (two_replaced (made_of_two make) (stack_of cursor.top slots.old)) line
+        (frame_at cursor slots.old ps cs number index) }
     ensures kept { IsNot result → slots.new ≡ slots.old }
 {
     let answer = replace_two(slots, cursor.top, make);
@@ -150,7 +169,10 @@ fn make_two(slots: &mut [i64], cursor: Cursor, make: Pair) -> Went
 #[tactic(auto, using(crate::proofs::Actions::replaced_law, crate::proofs::Actions::kept_law))]
 fn check(slots: &mut [i64], cursor: Cursor, above: u32, axis: Axis) -> Went
     requires { cursor.place < 2 ^ 63 }
-    ensures next { (line : ℕ) (ps : List Own) (cs : List Loop) (number : Option ℕ) (index : ℤ) → went result line cursor slots.new ps cs number index ≡ if_replaced (replaced_at (part_of axis) above (stack_of cursor.top slots.old)) line (frame_at cursor slots.old ps cs number index) }
+    ensures next { (line : ℕ) (ps : List Own) (cs : List Loop) (number : Option ℕ) (index : ℤ)
+        → went result line cursor slots.new ps cs number index
+        ≡ if_replaced (replaced_at (part_of axis) above (stack_of cursor.top slots.old)) line
+        (frame_at cursor slots.old ps cs number index) }
     ensures kept { IsNot result → slots.new ≡ slots.old }
 {
     let answer = replace_at(slots, cursor.top, above, axis);
@@ -168,7 +190,10 @@ fn skipped(value: i64, n: u32) -> u32
 #[inline(always)]
 fn skip_unless(slots: &[i64], cursor: Cursor, n: u32) -> Went
     requires { cursor.place < 2 ^ 63 }
-    ensures { (line : ℕ) (ps : List Own) (cs : List Loop) (number : Option ℕ) (index : ℤ) → went result line cursor slots.now ps cs number index ≡ skipping_unless n (one_of (drop cursor.top slots.now)) (frame_at cursor slots.now ps cs number index) }
+    ensures { (line : ℕ) (ps : List Own) (cs : List Loop) (number : Option ℕ) (index : ℤ)
+        → went result line cursor slots.now ps cs number index
+        ≡ skipping_unless n (one_of (drop cursor.top slots.now))
+        (frame_at cursor slots.now ps cs number index) }
 {
     match one(slots, cursor.top) {
         Some(value) => Went::On(Cursor {
@@ -182,7 +207,10 @@ fn skip_unless(slots: &[i64], cursor: Cursor, n: u32) -> Went
 #[inline(always)]
 fn set_up(slots: &[i64], counters: &mut [Counter], cursor: Cursor) -> Went
     requires { cursor.place < 2 ^ 63 }
-    ensures next { (line : ℕ) (ps : List Own) (number : Option ℕ) (index : ℤ) → went result line cursor slots.now ps counters.new number index ≡ loop_set_up line (three_of (drop cursor.top slots.now)) (frame_at cursor slots.now ps counters.old number index) }
+    ensures next { (line : ℕ) (ps : List Own) (number : Option ℕ) (index : ℤ)
+        → went result line cursor slots.now ps counters.new number index
+        ≡ loop_set_up line (three_of (drop cursor.top slots.now))
+        (frame_at cursor slots.now ps counters.old number index) }
     ensures kept { IsNot result → counters.new ≡ counters.old }
 {
     match three(slots, cursor.top) {
@@ -211,7 +239,10 @@ fn set_up(slots: &[i64], counters: &mut [Counter], cursor: Cursor) -> Went
 #[tactic(auto, using(crate::proofs::Stacks::replace_law))]
 fn count_down(counters: &mut [Counter], cursor: Cursor, n: u32) -> Went
     requires { cursor.place < 2 ^ 63 }
-    ensures next { (line : ℕ) (xs : List ℤ) (ps : List Own) (number : Option ℕ) (index : ℤ) → went result line cursor xs ps counters.new number index ≡ counted_down (one_of (drop cursor.inner counters.old)) n (frame_at cursor xs ps counters.old number index) }
+    ensures next { (line : ℕ) (xs : List ℤ) (ps : List Own) (number : Option ℕ) (index : ℤ)
+        → went result line cursor xs ps counters.new number index
+        ≡ counted_down (one_of (drop cursor.inner counters.old)) n
+        (frame_at cursor xs ps counters.old number index) }
     ensures kept { IsNot result → counters.new ≡ counters.old }
 {
     match one_counter(counters, cursor.inner) {
@@ -236,7 +267,10 @@ fn count_down(counters: &mut [Counter], cursor: Cursor, n: u32) -> Went
 #[inline(always)]
 fn push_step(slots: &mut [i64], counters: &[Counter], cursor: Cursor) -> Went
     requires { cursor.place < 2 ^ 63 }
-    ensures next { (line : ℕ) (ps : List Own) (number : Option ℕ) (index : ℤ) → went result line cursor slots.new ps counters.now number index ≡ step_pushed (one_of (drop cursor.inner counters.now)) (frame_at cursor slots.old ps counters.now number index) }
+    ensures next { (line : ℕ) (ps : List Own) (number : Option ℕ) (index : ℤ)
+        → went result line cursor slots.new ps counters.now number index
+        ≡ step_pushed (one_of (drop cursor.inner counters.now))
+        (frame_at cursor slots.old ps counters.now number index) }
     ensures kept { IsNot result → slots.new ≡ slots.old }
 {
     match one_counter(counters, cursor.inner) {
@@ -267,7 +301,10 @@ pub fn act(
     cursor: Cursor,
 ) -> Went
     requires { cursor.place < 2 ^ 63 }
-    ensures next { (line : ℕ) (number : Option ℕ) → went result line cursor slots.new privates.new counters.new number index.now ≡ local_act act.now line (frame_at cursor slots.old privates.old counters.old number index.now) }
+    ensures next { (line : ℕ) (number : Option ℕ)
+        → went result line cursor slots.new privates.new counters.new number index.now
+        ≡ local_act act.now line
+        (frame_at cursor slots.old privates.old counters.old number index.now) }
     ensures slots { IsNot result → slots.new ≡ slots.old }
     ensures privates { IsNot result → privates.new ≡ privates.old }
     ensures counters { IsNot result → counters.new ≡ counters.old }

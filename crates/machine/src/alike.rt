@@ -165,7 +165,8 @@ fn same_pieces(a: &[Piece], b: &[Piece]) -> bool
 }
 
 fn same_records(a: &[Vec<Piece>], b: &[Vec<Piece>]) -> bool
-    ensures { Decides result (map (λ r. map part r.items) a.now ≡ map (λ r. map part r.items) b.now) }
+    ensures { Decides result (map (λ r. map part r.items) a.now
+        ≡ map (λ r. map part r.items) b.now) }
 {
     if a.len() != b.len() {
         return false;

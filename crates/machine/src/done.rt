@@ -36,7 +36,8 @@ impl<'c> Done<'c> {
         requires few { n ≤ 1024 }
         ensures code { IfOk result (λ done. code_of done.code.now ≡ code_of code.now) }
         ensures from { IfOk result (λ done. frame_of done.from ≡ frame_of from) }
-        ensures works { IfOk result (λ done. Works (code_of code.now).instructions n (frame_of from) done.made (frame_of done.to)) }
+        ensures works { IfOk result (λ done.
+            Works (code_of code.now).instructions n (frame_of from) done.made (frame_of done.to)) }
     {
         let mut to = from.try_copy()?;
         let stop = local(code, &mut to, n);
@@ -72,7 +73,8 @@ impl<'c> Done<'c> {
     /// The number of instructions, from 1 to 1,024.
     pub fn made(&self) -> u32
         ensures number { result ≡ self.now.made }
-        ensures leads { locals (code_of self.now.code.now).instructions result (frame_of self.now.from) ≡ Some (frame_of self.now.to) }
+        ensures leads { locals (code_of self.now.code.now).instructions result
+            (frame_of self.now.from) ≡ Some (frame_of self.now.to) }
     {
         self.made
     }

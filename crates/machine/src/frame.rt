@@ -78,7 +78,8 @@ impl Frame {
         number: Option<u128>,
         index: i64,
     ) -> Result<Frame, AllocError>
-        ensures { IfOk result (λ frame. frame_of frame ≡ entry (code_of code.now) place privates number index) }
+        ensures { IfOk result (λ frame. frame_of frame
+            ≡ entry (code_of code.now) place privates number index) }
     {
         Ok(Frame {
             place,
@@ -100,8 +101,8 @@ impl Frame {
         Frame::at(alloc, code, 0, 0, None, 0)
     }
 
-    /// The frame of iteration `k` of an open loop as it begins; `index` is the value that the loop's
-    /// variable has in it.
+    /// The frame of iteration `k` of an open loop as it begins; `index` is the value that the
+    /// loop's variable has in it.
     pub fn begin(
         alloc: Global,
         code: &Code,
@@ -139,8 +140,8 @@ impl Frame {
         })
     }
 
-    /// Becomes equal to another frame, in the room that it has. It takes memory only where that is too
-    /// little; where memory is refused it is as before.
+    /// Becomes equal to another frame, in the room that it has. It takes memory only where that is
+    /// too little; where memory is refused it is as before.
     pub fn copy_from(&mut self, other: &Frame) -> Result<(), AllocError>
         ensures ok { OnOk result (frame_of self.new ≡ frame_of other.now) }
         ensures err { OnErr result (frame_of self.new ≡ frame_of self.old) }

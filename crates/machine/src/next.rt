@@ -1,6 +1,7 @@
 //! Which step stands next in a frame.
 
-ghost use Rattle.std.specs.Prelude.{◌≡◌, ◌<◌, ◌^◌, ℕ, None, MatchOption, if◌then◌else◌, map, pos, slice_get, true};
+ghost use Rattle.std.specs.Prelude.{◌≡◌, ◌<◌, ◌^◌, ℕ, None, MatchOption, if◌then◌else◌, map, pos};
+ghost use Rattle.std.specs.Prelude.{slice_get, true};
 ghost use Rattle.ast.specs.Input.{next_integer};
 ghost use Rattle.machine.specs.Code.{Code as Plain};
 ghost use Rattle.machine.specs.CodeView.{code_of, part};
@@ -8,7 +9,11 @@ ghost use Rattle.machine.specs.Frame.{has_room};
 ghost use Rattle.machine.specs.FrameView.{frame_of};
 ghost use Rattle.machine.specs.Local.{going_on, local_act, one_of, two_of};
 ghost use Rattle.machine.specs.Next.{Goes, Pushes, Tells, is_own};
-ghost use Rattle.machine.specs.View.{act_view, advancing, awaiting_if, cell_from, doing_if, element_loading, element_storing, frame_with, input_behind, is_event, leaving_if, loading_if, opening_if, printing_if, reading, scalar_loading, scalar_storing, storing_if, stuck, values_wanted, view};
+ghost use Rattle.machine.specs.View.{act_view, advancing, awaiting_if, cell_from, doing_if};
+ghost use Rattle.machine.specs.View.{element_loading, element_storing, frame_with, input_behind};
+ghost use Rattle.machine.specs.View.{is_event, leaving_if, loading_if, opening_if, printing_if};
+ghost use Rattle.machine.specs.View.{reading, scalar_loading, scalar_storing, storing_if, stuck};
+ghost use Rattle.machine.specs.View.{values_wanted, view};
 
 use crate::acting::Cursor;
 use crate::code::{Await, Code, Open, Piece};
@@ -87,7 +92,9 @@ pub enum Next<'c> {
 /// A load of a variable's cell at a place.
 fn load<'c>(code: &'c Code, frame: &Frame, variable: u32, place: i64, popped: usize) -> Next<'c>
     requires pushes { Pushes (frame_of frame.now) popped }
-    ensures { Tells (code_of code.now) (frame_of frame.now) (loading_if (cell_from (slice_get code.now.variables.items variable) place) popped (frame_of frame.now)) result }
+    ensures { Tells (code_of code.now) (frame_of frame.now)
+        (loading_if (cell_from (slice_get code.now.variables.items variable) place) popped
+        (frame_of frame.now)) result }
 {
     match code.cell(variable, place) {
         Some(cell) => Next::Load { cell, popped },
@@ -105,7 +112,9 @@ fn store<'c>(
     popped: usize,
 ) -> Next<'c>
     requires goes { Goes (frame_of frame.now) popped }
-    ensures { Tells (code_of code.now) (frame_of frame.now) (storing_if (cell_from (slice_get code.now.variables.items variable) place) value popped (frame_of frame.now)) result }
+    ensures { Tells (code_of code.now) (frame_of frame.now)
+        (storing_if (cell_from (slice_get code.now.variables.items variable) place) value popped
+        (frame_of frame.now)) result }
 {
     match code.cell(variable, place) {
         Some(cell) => Next::Store {
@@ -119,7 +128,9 @@ fn store<'c>(
 
 fn scalar_load<'c>(code: &'c Code, frame: &Frame, variable: u32) -> Next<'c>
     requires place { (frame_of frame.now).place < 2 ^ 63 }
-    ensures { Tells (code_of code.now) (frame_of frame.now) (scalar_loading (cell_from (slice_get code.now.variables.items variable) (pos 0)) (frame_of frame.now)) result }
+    ensures { Tells (code_of code.now) (frame_of frame.now)
+        (scalar_loading (cell_from (slice_get code.now.variables.items variable) (pos 0))
+        (frame_of frame.now)) result }
 {
     if frame.has_room() {
         load(code, frame, variable, 0, 0)
@@ -130,7 +141,9 @@ fn scalar_load<'c>(code: &'c Code, frame: &Frame, variable: u32) -> Next<'c>
 
 fn element_load<'c>(code: &'c Code, frame: &Frame, variable: u32) -> Next<'c>
     requires place { (frame_of frame.now).place < 2 ^ 63 }
-    ensures { Tells (code_of code.now) (frame_of frame.now) (element_loading (slice_get code.now.variables.items variable) (one_of (frame_of frame.now).operands.items) (frame_of frame.now)) result }
+    ensures { Tells (code_of code.now) (frame_of frame.now)
+        (element_loading (slice_get code.now.variables.items variable)
+        (one_of (frame_of frame.now).operands.items) (frame_of frame.now)) result }
 {
     match one(frame.slots.as_slice(), frame.top) {
         Some(place) => load(code, frame, variable, place, 1),
@@ -140,7 +153,9 @@ fn element_load<'c>(code: &'c Code, frame: &Frame, variable: u32) -> Next<'c>
 
 fn scalar_store<'c>(code: &'c Code, frame: &Frame, variable: u32) -> Next<'c>
     requires place { (frame_of frame.now).place < 2 ^ 63 }
-    ensures { Tells (code_of code.now) (frame_of frame.now) (scalar_storing (slice_get code.now.variables.items variable) (one_of (frame_of frame.now).operands.items) (frame_of frame.now)) result }
+    ensures { Tells (code_of code.now) (frame_of frame.now)
+        (scalar_storing (slice_get code.now.variables.items variable)
+        (one_of (frame_of frame.now).operands.items) (frame_of frame.now)) result }
 {
     match one(frame.slots.as_slice(), frame.top) {
         Some(value) => store(code, frame, variable, 0, value, 1),
@@ -150,7 +165,9 @@ fn scalar_store<'c>(code: &'c Code, frame: &Frame, variable: u32) -> Next<'c>
 
 fn element_store<'c>(code: &'c Code, frame: &Frame, variable: u32) -> Next<'c>
     requires place { (frame_of frame.now).place < 2 ^ 63 }
-    ensures { Tells (code_of code.now) (frame_of frame.now) (element_storing (slice_get code.now.variables.items variable) (two_of (frame_of frame.now).operands.items) (frame_of frame.now)) result }
+    ensures { Tells (code_of code.now) (frame_of frame.now)
+        (element_storing (slice_get code.now.variables.items variable)
+        (two_of (frame_of frame.now).operands.items) (frame_of frame.now)) result }
 {
     match two(frame.slots.as_slice(), frame.top) {
         Some((value, place)) => store(code, frame, variable, place, value, 2),
@@ -174,7 +191,9 @@ fn values_wanted(pieces: &[Piece]) -> usize
 
 fn print<'c>(code: &'c Code, frame: &Frame, number: u32) -> Next<'c>
     requires place { (frame_of frame.now).place < 2 ^ 63 }
-    ensures { Tells (code_of code.now) (frame_of frame.now) (printing_if (slice_get (code_of code.now).records number) (frame_of frame.now)) result }
+    ensures { Tells (code_of code.now) (frame_of frame.now)
+        (printing_if (slice_get (code_of code.now).records number) (frame_of frame.now))
+        result }
 {
     let records = code.records.as_slice();
     let number = number as usize;
@@ -199,7 +218,8 @@ fn is_event(event: u32) -> bool
 
 fn await_at<'c>(code: &'c Code, frame: &Frame, number: u32) -> Next<'c>
     requires place { (frame_of frame.now).place < 2 ^ 63 }
-    ensures { Tells (code_of code.now) (frame_of frame.now) (awaiting_if (slice_get code.now.awaits.items number) (frame_of frame.now)) result }
+    ensures { Tells (code_of code.now) (frame_of frame.now)
+        (awaiting_if (slice_get code.now.awaits.items number) (frame_of frame.now)) result }
 {
     let number = number as usize;
     if number >= code.awaits.len() {
@@ -215,7 +235,10 @@ fn await_at<'c>(code: &'c Code, frame: &Frame, number: u32) -> Next<'c>
 
 fn advance<'c>(frame: &Frame, event: u32) -> Next<'c>
     requires place { frame.now.place < 2 ^ 63 }
-    ensures { (code : Plain) → Tells code (frame_of frame.now) (if is_event event then advancing event (going_on (frame_of frame.now).operands (frame_of frame.now)) else stuck) result }
+    ensures { (code : Plain)
+        → Tells code (frame_of frame.now)
+        (if is_event event then advancing event
+        (going_on (frame_of frame.now).operands (frame_of frame.now)) else stuck) result }
 {
     if is_event(event) {
         Next::Advance { event }
@@ -226,7 +249,12 @@ fn advance<'c>(frame: &Frame, event: u32) -> Next<'c>
 
 fn take_value<'c>(frame: &Frame, line: Line) -> Next<'c>
     requires place { frame.now.place < 2 ^ 63 }
-    ensures { (code : Plain) → Tells code (frame_of frame.now) (if has_room (frame_of frame.now).operands then reading (λ i. input_behind (next_integer i.left i.records) i) (λ i. frame_with (next_integer i.left i.records) line (frame_of frame.now)) else stuck) result }
+    ensures { (code : Plain)
+        → Tells code (frame_of frame.now)
+        (if has_room (frame_of frame.now).operands then reading
+        (λ i. input_behind (next_integer i.left i.records) i)
+        (λ i. frame_with (next_integer i.left i.records) line (frame_of frame.now)) else stuck)
+        result }
 {
     if frame.has_room() {
         Next::TakeValue { line }
@@ -237,7 +265,9 @@ fn take_value<'c>(frame: &Frame, line: Line) -> Next<'c>
 
 fn open<'c>(code: &'c Code, frame: &Frame, number: u32) -> Next<'c>
     requires place { (frame_of frame.now).place < 2 ^ 63 }
-    ensures { Tells (code_of code.now) (frame_of frame.now) (opening_if (slice_get (code_of code.now).loops number) number (frame_of frame.now)) result }
+    ensures { Tells (code_of code.now) (frame_of frame.now)
+        (opening_if (slice_get (code_of code.now).loops number) number (frame_of frame.now))
+        result }
 {
     let loops = code.loops.as_slice();
     let at = number as usize;
@@ -259,7 +289,9 @@ fn open<'c>(code: &'c Code, frame: &Frame, number: u32) -> Next<'c>
 }
 
 fn retire<'c>(code: &'c Code, frame: &Frame, number: u32) -> Next<'c>
-    ensures { Tells (code_of code.now) (frame_of frame.now) (leaving_if (code_of code.now) (slice_get (code_of code.now).loops number) (frame_of frame.now)) result }
+    ensures { Tells (code_of code.now) (frame_of frame.now)
+        (leaving_if (code_of code.now) (slice_get (code_of code.now).loops number)
+        (frame_of frame.now)) result }
 {
     let loops = code.loops.as_slice();
     if (number as usize) < loops.len() {
@@ -272,7 +304,9 @@ fn retire<'c>(code: &'c Code, frame: &Frame, number: u32) -> Next<'c>
 /// A local instruction, where the frame fits it.
 fn local<'c>(frame: &Frame, act: &Act) -> Next<'c>
     requires fault { frame.now.fault ≡ None }
-    ensures { (code : Plain) (line : ℕ) → Tells code (frame_of frame.now) (doing_if (local_act act.now line (frame_of frame.now))) result }
+    ensures { (code : Plain) (line : ℕ)
+        → Tells code (frame_of frame.now) (doing_if (local_act act.now line (frame_of frame.now)))
+        result }
 {
     let cursor = Cursor {
         place: frame.place,
@@ -292,7 +326,9 @@ fn local<'c>(frame: &Frame, act: &Act) -> Next<'c>
 /// The step of an instruction that isn't local.
 fn shared<'c>(code: &'c Code, frame: &Frame, act: &Act, line: Line) -> Option<Next<'c>>
     requires place { frame.now.place < 2 ^ 63 }
-    ensures { MatchOption result (is_own act.now ≡ true) (Tells (code_of code.now) (frame_of frame.now) (act_view (code_of code.now) act.now line (frame_of frame.now))) }
+    ensures { MatchOption result (is_own act.now
+        ≡ true) (Tells (code_of code.now) (frame_of frame.now)
+        (act_view (code_of code.now) act.now line (frame_of frame.now))) }
 {
     match *act {
         Act::Constant(_)
@@ -334,7 +370,8 @@ fn shared<'c>(code: &'c Code, frame: &Frame, act: &Act, line: Line) -> Option<Ne
 fn by_act<'c>(code: &'c Code, frame: &Frame, act: &Act, line: Line) -> Next<'c>
     requires place { frame.now.place < 2 ^ 63 }
     requires fault { frame.now.fault ≡ None }
-    ensures { Tells (code_of code.now) (frame_of frame.now) (act_view (code_of code.now) act.now line (frame_of frame.now)) result }
+    ensures { Tells (code_of code.now) (frame_of frame.now)
+        (act_view (code_of code.now) act.now line (frame_of frame.now)) result }
 {
     match shared(code, frame, act, line) {
         Some(next) => next,
@@ -344,7 +381,8 @@ fn by_act<'c>(code: &'c Code, frame: &Frame, act: &Act, line: Line) -> Next<'c>
 
 /// The step that stands next in a frame of the code.
 pub fn stands_next<'c>(code: &'c Code, frame: &Frame) -> Next<'c>
-    ensures { Tells (code_of code.now) (frame_of frame.now) (view (code_of code.now) (frame_of frame.now)) result }
+    ensures { Tells (code_of code.now) (frame_of frame.now)
+        (view (code_of code.now) (frame_of frame.now)) result }
 {
     if let Some((fault, line)) = frame.fault {
         return Next::Report { fault, line };

@@ -58,7 +58,8 @@ impl Frame {
     pub fn go_on(&mut self, popped: usize)
         requires place { (frame_of self.old).place < 2 ^ 63 }
         requires popped { popped ≤ length (frame_of self.old).operands.items }
-        ensures { frame_of self.new ≡ going_on (without popped (frame_of self.old).operands) (frame_of self.old) }
+        ensures { frame_of self.new
+            ≡ going_on (without popped (frame_of self.old).operands) (frame_of self.old) }
     {
         let slots = self.slots.len();
         if 0 < popped && popped <= slots {
@@ -70,7 +71,11 @@ impl Frame {
     /// Pushes an operand.
     fn push(&mut self, value: i64)
         requires { has_room (frame_of self.old).operands ≡ true }
-        ensures { frame_of self.new ≡ record (frame_of self.old) { operands = with_items (value ∷ (frame_of self.old).operands.items) (frame_of self.old).operands } }
+        ensures { frame_of self.new
+            ≡ record (frame_of self.old) {
+              operands = with_items (value
+                  ∷ (frame_of self.old).operands.items) (frame_of self.old).operands;
+            } }
     {
         if let Some(top) = push(self.slots.as_mut_slice(), self.top, value) {
             self.top = top;

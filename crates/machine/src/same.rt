@@ -84,14 +84,17 @@ fn same_loops(a: &[Counter], top_a: usize, b: &[Counter], top_b: usize) -> bool
 
 /// Whether what frames have beside stacks and private scalars is equal.
 fn same_rest(a: &Frame, b: &Frame) -> bool
-    ensures { Decides result ((a.now.place ≡ b.now.place) × (a.now.index ≡ b.now.index) × (a.now.number ≡ b.now.number) × (a.now.fault ≡ b.now.fault)) }
+    ensures { Decides result ((a.now.place ≡ b.now.place) × (a.now.index ≡ b.now.index)
+        × (a.now.number ≡ b.now.number) × (a.now.fault ≡ b.now.fault)) }
 {
     a.place == b.place && a.index == b.index && a.number == b.number && a.fault == b.fault
 }
 
 /// Whether stacks and private scalars of frames are equal.
 fn same_values(a: &Frame, b: &Frame) -> bool
-    ensures { Decides result (((frame_of a.now).operands ≡ (frame_of b.now).operands) × ((frame_of a.now).privates ≡ (frame_of b.now).privates) × ((frame_of a.now).counters ≡ (frame_of b.now).counters)) }
+    ensures { Decides result (((frame_of a.now).operands ≡ (frame_of b.now).operands)
+        × ((frame_of a.now).privates ≡ (frame_of b.now).privates)
+        × ((frame_of a.now).counters ≡ (frame_of b.now).counters)) }
 {
     same_operands(a.slots.as_slice(), a.top, b.slots.as_slice(), b.top)
         && same_privates(a.privates.as_slice(), b.privates.as_slice())

@@ -1,5 +1,5 @@
-//! Calls of cores, of schedules and of local work. No test rests on what is proved of them, and so these
-//! functions say nothing of it: it would be carried through each test that makes such a call.
+//! Calls of cores, of schedules and of local work. No test rests on what is proved of them, and so
+//! these functions say nothing of it: it would be carried through each test that makes such a call.
 
 use ast::Answer;
 use machine::{Code, Done, Frame, stands_local};

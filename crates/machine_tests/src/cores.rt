@@ -21,7 +21,8 @@ const LOOP: [Does; 6] = [
     Does::Retire(0),
 ];
 
-/// Processor 0 hands in what local work stands next of a frame that it had. A stranger's is not taken.
+/// Processor 0 hands in what local work stands next of a frame that it had. A stranger's is not
+/// taken.
 fn hands_in(core: &mut Core<'_>, done: Option<Done<'_>>) -> Result<(), AllocError> {
     let Some(done) = done else {
         return Ok(());

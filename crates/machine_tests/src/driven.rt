@@ -1,5 +1,5 @@
-//! Cores over the code of worked programs, which several drivers drive to their end: the answer is the
-//! sequential one, whatever they do.
+//! Cores over the code of worked programs, which several drivers drive to their end: the answer is
+//! the sequential one, whatever they do.
 
 use crate::drivers::{Driver, drive};
 use crate::sure::{answer_of, compiled, core_of, replay_of, sequential};
@@ -48,8 +48,8 @@ struct Way {
     burst: u32,
 }
 
-/// Whether a run has ended with this answer, and so does the replay of its schedule, written and read
-/// again.
+/// Whether a run has ended with this answer, and so does the replay of its schedule, written and
+/// read again.
 pub fn is_answered(rt: &(impl Abort + AllocGlobal), core: &Core<'_>, answer: &Answer) -> bool {
     same_answers(core.code(), &answer_of(rt, core), answer)
         && same_answers(core.code(), &replay_of(rt, core), answer)
@@ -65,8 +65,8 @@ fn steps_once(tally: Tally) -> u128 {
     tally.made.wrapping_sub(tally.again)
 }
 
-/// Whether a run has made those steps of the run alone, and with all others no more than three times as
-/// many.
+/// Whether a run has made those steps of the run alone, and with all others no more than three
+/// times as many.
 fn is_bounded(tally: Tally, alone: u128) -> bool {
     steps_once(tally) == alone && tally.made <= alone.wrapping_mul(3)
 }
@@ -88,7 +88,8 @@ fn driven(rt: &(impl Abort + AllocGlobal), case: &Case<'_>, way: Way) -> Option<
     tally_of(rt, &core, case.answer)
 }
 
-/// Whether a run comes to the sequential answer. One that comes to END has those steps of the run alone.
+/// Whether a run comes to the sequential answer. One that comes to END has those steps of the run
+/// alone.
 fn is_as_alone(rt: &(impl Abort + AllocGlobal), case: &Case<'_>, way: Way, alone: u128) -> bool {
     match driven(rt, case, way) {
         Some(tally) => case.row.end != End::Done || is_bounded(tally, alone),

@@ -42,8 +42,8 @@ fn works(core: &mut Core<'_>, q: usize, burst: u32) -> Result<Stepped, HandIn> {
     }
 }
 
-/// A turn of processor `q`: a shared step or, where local instructions stand next, so many at most, 1 to
-/// 1,024.
+/// A turn of processor `q`: a shared step or, where local instructions stand next, so many at most,
+/// 1 to 1,024.
 pub fn turn(core: &mut Core<'_>, q: usize, burst: u32) -> Result<Stepped, HandIn> {
     match step(core, q)? {
         Stepped::Idle => works(core, q, burst),
@@ -71,8 +71,8 @@ fn go(
     None
 }
 
-/// Drives a core until its run has ended. One that hasn't in so many turns, or whose processors can't go
-/// before, has no answer then.
+/// Drives a core until its run has ended. One that hasn't in so many turns, or whose processors
+/// can't go before, has no answer then.
 pub fn drive(rt: &impl Abort, core: &mut Core<'_>, driver: Driver, burst: u32) {
     let mut last = 0;
     for _ in 0..TURNS {

@@ -1,5 +1,5 @@
-//! Runs in threads that end though iterations past the first fault or STOP turn without end, and runs
-//! of code made by hand that come to no end.
+//! Runs in threads that end though iterations past the first fault or STOP turn without end, and
+//! runs of code made by hand that come to no end.
 
 use crate::sure::sequential;
 use crate::threads::{are_refused, ran, source_runs};
@@ -13,8 +13,8 @@ use std::sync::Wait;
 use std::test::Fail;
 use std::thread::Threads;
 
-/// From the fourth iteration on each turns for ages in an inner loop, without a load or a store; the
-/// third faults.
+/// From the fourth iteration on each turns for ages in an inner loop, without a load or a store;
+/// the third faults.
 const TURNS: &[u8] = b"      INTEGER A(0:9)
       DO 20 I=1,9
       A(I)=A(I-1)+1
@@ -196,8 +196,8 @@ fn no_step_is_left(rt: HostRuntime) -> Result<(), Fail> {
 /// The records of the source whose second iteration faults.
 const RECORDS: &[u8] = b" 1\n 2\n";
 
-/// Whether a run found no memory, and as much of the records had gone out as it says, or couldn't start a
-/// thread.
+/// Whether a run found no memory, and as much of the records had gone out as it says, or couldn't
+/// start a thread.
 fn is_given_up(refusal: &RunRefusal) -> bool {
     match refusal {
         RunRefusal::Memory { output } => {

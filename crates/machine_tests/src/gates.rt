@@ -24,7 +24,8 @@ struct Meeting {
     gave_up: AtomicU64,
     /// How many times a gate was called.
     calls: AtomicU64,
-    /// One more than the processor of iteration 0, of iteration 1, and so on; 0 where none has come.
+    /// One more than the processor of iteration 0, of iteration 1, and so on; 0 where none has
+    /// come.
     seen: [AtomicU64; 10],
 }
 
@@ -96,7 +97,8 @@ fn share(rt: &impl Abort, core: &mut Core<'_>, q: usize, act: Act) -> Stepped {
     }
 }
 
-/// What an entry says, of a core, that can go on so. The iteration whose ticket was taken, if one was.
+/// What an entry says, of a core, that can go on so. The iteration whose ticket was taken, if one
+/// was.
 fn follow(rt: &impl Abort, core: &mut Core<'_>, entry: Entry) -> Option<u128> {
     match share(rt, core, usize::from(entry.processor), entry.act) {
         Stepped::Went(begun) => begun,
@@ -132,7 +134,8 @@ fn tickets(
     (taken, seen)
 }
 
-/// Whether the gates saw the ten tickets that a core takes which is driven by the schedule, and no others.
+/// Whether the gates saw the ten tickets that a core takes which is driven by the schedule, and no
+/// others.
 fn are_seen(
     rt: &(impl Abort + AllocGlobal),
     meeting: &Meeting,

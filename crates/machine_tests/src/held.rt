@@ -100,8 +100,8 @@ fn first_goes(rt: &impl Abort, core: &mut Core<'_>) {
     }
 }
 
-/// Whether a run comes to where iterations 2 and 3 have printed and wait to retire. Iteration 1 moves
-/// only where no other activity can.
+/// Whether a run comes to where iterations 2 and 3 have printed and wait to retire. Iteration 1
+/// moves only where no other activity can.
 fn comes_to_hold(rt: &impl Abort, core: &mut Core<'_>) -> bool {
     let mut printed = [false; 4];
     for _ in 0..ROUNDS {

@@ -486,8 +486,8 @@ fn holding<'c>(rt: &(impl Abort + AllocGlobal), code: &'c Code) -> Core<'c> {
     core
 }
 
-/// Whether work of the first iteration is taken once, of its own processor, and not of the second's or of
-/// one that isn't there; and work of the second not behind the end.
+/// Whether work of the first iteration is taken once, of its own processor, and not of the second's
+/// or of one that isn't there; and work of the second not behind the end.
 fn is_handed_in_once(rt: &impl Abort, core: &mut Core<'_>) -> bool {
     is_strange(rt, core, 1)
         && is_strange(rt, core, 2)
@@ -501,7 +501,8 @@ fn work_is_handed_in_once(rt: HostRuntime) {
     assert!(rt; is_handed_in_once(&rt, &mut holding(&rt, &code)));
 }
 
-/// Whether work of what a processor of another core holds isn't taken of processor 0, whose own then is.
+/// Whether work of what a processor of another core holds isn't taken of processor 0, whose own
+/// then is.
 fn is_of_another(rt: &impl Abort, core: &mut Core<'_>, other: &Core<'_>, processor: usize) -> bool {
     let strange = work_of(rt, other, processor, 8);
     is_left(core, 0, strange, HandIn::Stranger) && is_taken(rt, core)

@@ -7,11 +7,19 @@ use ec_kernel::Kernel;
 use std::alloc::AllocError;
 use std::test::Fail;
 
-/// Three slots of a new kernel of four are taken, and wait for the second event, which wakes them by
-/// value and then arrival.
+/// Three slots of a new kernel of four are taken, and wait for the second event, which wakes them
+/// by value and then arrival.
 fn wakes_in_order(kernel: &mut Kernel) -> bool
     requires { kernel.old ≡ new_kernel 4 2 }
-    ensures { kernel.new ≡ record { slots = 4; counts = 1 ∷ 2 ∷ []; ticket = 0; waiters = [] ∷ [] ∷ []; ready = 1 ∷ 0 ∷ 2 ∷ []; free = 3 ∷ [] } }
+    ensures { kernel.new ≡ record {
+      slots = 4;
+      counts = 1 ∷ 2 ∷ [];
+      ticket = 0;
+      waiters = [] ∷ []
+          ∷ [];
+      ready = 1 ∷ 0 ∷ 2 ∷ [];
+      free = 3 ∷ [];
+    } }
 {
     let taken = [kernel.take_slot(), kernel.take_slot(), kernel.take_slot()];
     kernel.park(1, 2, 0);
@@ -30,7 +38,15 @@ fn wakes_in_order(kernel: &mut Kernel) -> bool
 /// Slots that have woken stay ready where the counts begin anew, and one that is given back is free
 /// behind the others.
 fn begins_anew(kernel: &mut Kernel) -> bool
-    requires { kernel.old ≡ record { slots = 4; counts = 1 ∷ 2 ∷ []; ticket = 0; waiters = [] ∷ [] ∷ []; ready = 1 ∷ 0 ∷ 2 ∷ []; free = 3 ∷ [] } }
+    requires { kernel.old ≡ record {
+      slots = 4;
+      counts = 1 ∷ 2 ∷ [];
+      ticket = 0;
+      waiters = [] ∷ []
+          ∷ [];
+      ready = 1 ∷ 0 ∷ 2 ∷ [];
+      free = 3 ∷ [];
+    } }
 {
     let first = kernel.next_ready();
     kernel.free_slot(1);

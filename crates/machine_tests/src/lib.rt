@@ -1,5 +1,5 @@
-//! Tests over the public calls of the kernel, the machine, its runs and the compiler, of what no clause says:
-//! worked programs under drivers on one thread, and in threads.
+//! Tests over the public calls of the kernel, the machine, its runs and the compiler, of what no
+//! clause says: worked programs under drivers on one thread, and in threads.
 #![tactic(auto)]
 
 #[cfg(test)]

@@ -1,4 +1,5 @@
-//! The calls that end a test which finds no memory, or to which no answer comes where there has to be one.
+//! The calls that end a test which finds no memory, or to which no answer comes where there has to
+//! be one.
 
 use crate::{calls, drivers, worked};
 use ast::Answer;

@@ -147,8 +147,8 @@ const SHORT: &[u8] = b"      INTEGER A(200)
       END
 ";
 
-/// Sources, and the sizes by which they run: many processors with one iteration at a time, and few and many
-/// of them with short iterations.
+/// Sources, and the sizes by which they run: many processors with one iteration at a time, and few
+/// and many of them with short iterations.
 static FURTHER: [(&[u8], &[(u64, u64)]); 2] = [
     (TWO_APART, &[(64, 1)]),
     (SHORT, &[(1, 4), (2, 4), (4, 4), (64, 4)]),

@@ -527,7 +527,8 @@ fn same_stores(code: &Code, one: &Answer, other: &Answer) -> bool {
     true
 }
 
-/// Whether two runs came to the same: the same records and end, and where that is END the same store.
+/// Whether two runs came to the same: the same records and end, and where that is END the same
+/// store.
 pub fn same_answers(code: &Code, one: &Answer, other: &Answer) -> bool {
     one.output == other.output
         && one.end == other.end

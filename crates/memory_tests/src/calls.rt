@@ -1,5 +1,5 @@
-//! The calls whose allocations are refused. No test rests on what is proved of them, and so these functions
-//! say nothing of it: it would be carried through each test that makes such a call.
+//! The calls whose allocations are refused. No test rests on what is proved of them, and so these
+//! functions say nothing of it: it would be carried through each test that makes such a call.
 
 use ast::{Answer, Expr, Program, Refusal, Stmt};
 use codegen::{Compiled, compile};

@@ -82,13 +82,15 @@ fn worked<'c>(rt: &impl Abort, code: &'c Code, from: Frame) -> Option<Done<'c>> 
     }
 }
 
-/// Processor `q` hands in the local work that leads from its frame again, for which there was no memory.
+/// Processor `q` hands in the local work that leads from its frame again, for which there was no
+/// memory.
 fn hands_in_again(rt: &impl Abort, core: &mut Core<'_>, q: usize, from: Frame) {
     let anew = worked(rt, core.code(), from).expect(rt, "the work stands next");
     calls::hand_in(core, q, anew).expect(rt, AGAIN);
 }
 
-/// Whether a core takes local work of processor `q`; where it finds no memory for it nothing has changed.
+/// Whether a core takes local work of processor `q`; where it finds no memory for it nothing has
+/// changed.
 fn takes_in(rt: &impl Abort, core: &mut Core<'_>, q: usize, done: Done<'_>) -> bool {
     let before = seen(core, q);
     match calls::hand_in(core, q, done) {
@@ -290,7 +292,8 @@ fn is_letter(byte: u8) -> bool {
     matches!(byte, b'M' | b'T' | b'I')
 }
 
-/// What stands in place of a byte of a schedule in the first version: nothing behind a pick's letter.
+/// What stands in place of a byte of a schedule in the first version: nothing behind a pick's
+/// letter.
 fn unnamed(byte: u8, is_named: bool) -> Option<u8> {
     if is_letter(byte) {
         Some(b'0')

@@ -69,8 +69,8 @@ fn want_of_memory_in_formulas(rt: HostRuntime) {
     }
 }
 
-/// The code of what the first four rows assign first in their first loops: I*I, A(I-2)+1, A(I-1)+1 and
-/// 1+MOD(I*I,3).
+/// The code of what the first four rows assign first in their first loops: I*I, A(I-2)+1, A(I-1)+1
+/// and 1+MOD(I*I,3).
 static CODE: [&[Does]; 4] = [
     &[Does::Index, Does::Index, Does::Binary(Operator::Multiply)],
     &[

@@ -1,5 +1,6 @@
-//! Tests over the public calls with an allocation refused, up to the engines. Over worked programs each call
-//! that finds no memory says so, leaves what it was given as it was, and is right when it is made again.
+//! Tests over the public calls with an allocation refused, up to the engines. Over worked programs
+//! each call that finds no memory says so, leaves what it was given as it was, and is right when it
+//! is made again.
 #![tactic(auto)]
 
 #[cfg(test)]

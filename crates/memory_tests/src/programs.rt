@@ -136,9 +136,17 @@ pub fn is_answer(answer: &Answer, row: &Row) -> bool {
     answer.output.as_slice() == row.output && answer.end == row.end
 }
 
-/// Whether a row's program has the row's answer.
+fn copy_of(rt: &impl Abort, program: &Program) -> Program {
+    match program.try_copy() {
+        Ok(copy) => copy,
+        Err(_) => program.try_copy().expect(rt, AGAIN),
+    }
+}
+
+/// Whether the copy of a row's program has the row's answer.
 fn has_answer(rt: &(impl Abort + AllocGlobal), program: &Program, row: &Row) -> bool {
-    program.statements == row.statements && is_answer(&answer_of(rt, program, row), row)
+    program.statements == row.statements
+        && is_answer(&answer_of(rt, &copy_of(rt, program), row), row)
 }
 
 #[test]

@@ -10,8 +10,8 @@ use std::process::Abort;
 use std::sync::Wait;
 use std::thread::Threads;
 
-/// Whether a run found no memory, and a beginning of the row's records had gone out, or couldn't start a
-/// thread.
+/// Whether a run found no memory, and a beginning of the row's records had gone out, or couldn't
+/// start a thread.
 fn is_given_up(refusal: &RunRefusal, row: &Row) -> bool {
     match refusal {
         RunRefusal::Memory { output } => {

@@ -38,8 +38,8 @@ fn wanted_status(row: &Row, asked: Asked<'_>) -> u8 {
     }
 }
 
-/// Whether as much as this may have been written where an engine found no memory. Only `seq` writes before
-/// its end.
+/// Whether as much as this may have been written where an engine found no memory. Only `seq` writes
+/// before its end.
 fn may_be_begun(out: &[u8], row: &Row, asked: Asked<'_>) -> bool {
     match asked {
         Asked::Seq => row.output.starts_with(out),

@@ -3,8 +3,8 @@
 use processors::Effort;
 use threaded::Figures;
 
-/// Says on standard error what each processor did, how far iterations overlapped, and how many steps
-/// there were beside three times those of the program alone.
+/// Says on standard error what each processor did, how far iterations overlapped, and how many
+/// steps there were beside three times those of the program alone.
 pub fn say_figures<R: Eprint>(rt: &R, figures: &Figures) {
     for (q, effort) in figures.efforts.iter().enumerate() {
         let Effort { steps, waits } = effort;

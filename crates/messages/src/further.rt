@@ -114,8 +114,8 @@ fn is_simple_in(alloc: Global, source: &[u8], line: Line) -> Result<bool, AllocE
     Ok(is_simple(&statement.text))
 }
 
-/// A source without the statement that was refused by a number, or without its label where that stands
-/// twice.
+/// A source without the statement that was refused by a number, or without its label where that
+/// stands twice.
 fn struck(alloc: Global, source: &[u8], number: u8, line: Line) -> Result<Vec<u8>, AllocError> {
     if number == LABEL_TWICE {
         unlabelled(alloc, source, line)

@@ -1,5 +1,5 @@
-//! What standard error says of refusals, faults and runs, over what the engines found. No clause says what
-//! that is, and no answer rests on it.
+//! What standard error says of refusals, faults and runs, over what the engines found. No clause
+//! says what that is, and no answer rests on it.
 #![tactic(auto)]
 
 mod figures;

@@ -12,8 +12,8 @@ use remarks::{
 use std::alloc::Global;
 use std::fmt::{Display, Formatter, Result as FmtResult, Write};
 
-/// The message of a refusal or a fault: the file and the line, what is wrong, the line itself, a hint
-/// where there is one, and where more is said.
+/// The message of a refusal or a fault: the file and the line, what is wrong, the line itself, a
+/// hint where there is one, and where more is said.
 #[derive(Drop)]
 pub struct Message<'a> {
     file: &'a str,
@@ -29,8 +29,8 @@ pub struct Message<'a> {
 }
 
 impl<'a> Message<'a> {
-    /// The message of an outcome, if it has one; the file is the source's, or the schedule's where that is
-    /// refused. It has no hint where memory is refused.
+    /// The message of an outcome, if it has one; the file is the source's, or the schedule's where
+    /// that is refused. It has no hint where memory is refused.
     pub fn of(alloc: Global, file: &'a str, source: &'a [u8], outcome: Outcome) -> Option<Self> {
         let (explanation, line) = match outcome {
             Outcome::Completed => return None,

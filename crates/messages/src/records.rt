@@ -18,8 +18,8 @@ pub struct LastRecord<'a> {
 }
 
 impl<'a> LastRecord<'a> {
-    /// The record that a run took last of the input of a file, which it left so many records of; none where
-    /// the run came to no fault of its input, or it isn't known how many were left.
+    /// The record that a run took last of the input of a file, which it left so many records of;
+    /// none where the run came to no fault of its input, or it isn't known how many were left.
     pub fn of(
         file: Option<&'a str>,
         input: &'a [u8],

@@ -87,8 +87,8 @@ impl EngineFault {
         }
     }
 
-    /// The exit status: 4 for a reader or a writer, 5 for memory and threads, 3 for numbers that are out
-    /// of range.
+    /// The exit status: 4 for a reader or a writer, 5 for memory and threads, 3 for numbers that
+    /// are out of range.
     pub fn status(&self) -> u8
         ensures { result ≡ fault_status self.now }
     {

@@ -46,15 +46,16 @@ pub fn outcome(end: End) -> Outcome
     }
 }
 
-/// Appends what follows the records of a run that ended so: at a fault or a STOP its line, and without
-/// either, where it is wanted, the store.
+/// Appends what follows the records of a run that ended so: at a fault or a STOP its line, and
+/// without either, where it is wanted, the store.
 pub fn append_end(
     text: &mut Vec<u8>,
     end: End,
     rows: &mut [Row<'_>],
     store: bool,
 ) -> Result<(), AllocError>
-    ensures { OnOk result (Extends (EndShown store (map row_view rows.old) end) text.old.items text.new.items) }
+    ensures { OnOk result (Extends (EndShown store (map row_view rows.old) end) text.old.items
+        text.new.items) }
 {
     match end {
         End::Fault(fault, line) => append_fault(text, fault, line),
@@ -64,7 +65,8 @@ pub fn append_end(
 }
 
 fn append_wanted(text: &mut Vec<u8>, rows: &mut [Row<'_>], store: bool) -> Result<(), AllocError>
-    ensures { OnOk result (Extends (EndShown store (map row_view rows.old) End.Done) text.old.items text.new.items) }
+    ensures { OnOk result (Extends (EndShown store (map row_view rows.old) End.Done) text.old.items
+        text.new.items) }
 {
     if store {
         append_store(text, rows)

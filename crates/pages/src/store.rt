@@ -1,11 +1,13 @@
 //! The lines of a store.
 
-ghost use Rattle.std.specs.Prelude.{◌≡◌, ◌++◌, ◌<◌, ◌≤◌, ◌+ℤ◌, ◌%◌, pos, int_lt, false, true, not, map, OnOk};
+ghost use Rattle.std.specs.Prelude.{◌≡◌, ◌++◌, ◌<◌, ◌≤◌, ◌+ℤ◌, ◌%◌, pos, int_lt, false, true, not};
+ghost use Rattle.std.specs.Prelude.{map, OnOk};
 ghost use Rattle.std.specs.Fmt.{signed_decimal};
 ghost use Rattle.std.specs.List.{list_all};
 ghost use Rattle.ast.specs.Symbols.{elements, most_elements, width};
 ghost use Rattle.ast.specs.View.{extent};
-ghost use Rattle.pages.specs.Shown.{Extends, StoreShown, element_line, further, in_parentheses, lines_from, row_lines, rows_lines, subscripts_at};
+ghost use Rattle.pages.specs.Shown.{Extends, StoreShown, element_line, further, in_parentheses};
+ghost use Rattle.pages.specs.Shown.{lines_from, row_lines, rows_lines, subscripts_at};
 ghost use Rattle.pages.specs.View.{row_view};
 
 use crate::row::Row;
@@ -32,7 +34,8 @@ fn append_subscript(
 ) -> Result<(), AllocError>
     requires open { int_lt dimension.now.upper dimension.now.lower ≡ false }
     requires few { width (extent dimension.now) ≤ most_elements }
-    ensures { OnOk result (out.new.items ≡ out.old.items ++ signed_decimal (dimension.now.lower +ℤ pos (place % width (extent dimension.now)))) }
+    ensures { OnOk result (out.new.items ≡ out.old.items
+        ++ signed_decimal (dimension.now.lower +ℤ pos (place % width (extent dimension.now)))) }
 {
     let distance = place % dimension.width();
     append_number(out, subscript(dimension.lower, dimension.upper, distance))
@@ -45,9 +48,11 @@ fn append_further(
     dimensions: &[Dimension],
     place: usize,
 ) -> Result<(), AllocError>
-    requires open { list_all (λ d. not (int_lt d.upper d.lower)) (map extent dimensions.now) ≡ true }
+    requires open { list_all (λ d. not (int_lt d.upper d.lower)) (map extent dimensions.now)
+        ≡ true }
     requires few { elements (map extent dimensions.now) ≤ most_elements }
-    ensures { OnOk result (out.new.items ≡ out.old.items ++ further (subscripts_at (map extent dimensions.now) place)) }
+    ensures { OnOk result (out.new.items ≡ out.old.items
+        ++ further (subscripts_at (map extent dimensions.now) place)) }
 {
     match dimensions {
         [] => Ok(out.push(b')')?),
@@ -66,9 +71,11 @@ fn append_subscripts(
     dimensions: &[Dimension],
     place: usize,
 ) -> Result<(), AllocError>
-    requires open { list_all (λ d. not (int_lt d.upper d.lower)) (map extent dimensions.now) ≡ true }
+    requires open { list_all (λ d. not (int_lt d.upper d.lower)) (map extent dimensions.now)
+        ≡ true }
     requires few { elements (map extent dimensions.now) ≤ most_elements }
-    ensures { OnOk result (out.new.items ≡ out.old.items ++ in_parentheses (subscripts_at (map extent dimensions.now) place)) }
+    ensures { OnOk result (out.new.items ≡ out.old.items
+        ++ in_parentheses (subscripts_at (map extent dimensions.now) place)) }
 {
     match dimensions {
         [] => Ok(()),
@@ -87,9 +94,11 @@ fn append_element(
     place: usize,
     value: i64,
 ) -> Result<(), AllocError>
-    requires open { list_all (λ d. not (int_lt d.upper d.lower)) (map extent dimensions.now) ≡ true }
+    requires open { list_all (λ d. not (int_lt d.upper d.lower)) (map extent dimensions.now)
+        ≡ true }
     requires few { elements (map extent dimensions.now) ≤ most_elements }
-    ensures { OnOk result (out.new.items ≡ out.old.items ++ element_line name.now.letters (subscripts_at (map extent dimensions.now) place) value) }
+    ensures { OnOk result (out.new.items ≡ out.old.items
+        ++ element_line name.now.letters (subscripts_at (map extent dimensions.now) place) value) }
 {
     out.extend_from_slice(name.trimmed())?;
     append_subscripts(out, dimensions, place)?;
@@ -104,9 +113,11 @@ fn append_elements(
     dimensions: &[Dimension],
     values: &[i64],
 ) -> Result<(), AllocError>
-    requires open { list_all (λ d. not (int_lt d.upper d.lower)) (map extent dimensions.now) ≡ true }
+    requires open { list_all (λ d. not (int_lt d.upper d.lower)) (map extent dimensions.now)
+        ≡ true }
     requires few { elements (map extent dimensions.now) ≤ most_elements }
-    ensures { OnOk result (out.new.items ≡ out.old.items ++ lines_from name.now.letters (map extent dimensions.now) 0 values.now) }
+    ensures { OnOk result (out.new.items ≡ out.old.items
+        ++ lines_from name.now.letters (map extent dimensions.now) 0 values.now) }
 {
     for (place, value) in values.iter().enumerate() {
         append_element(out, name, dimensions, place, *value)?;
@@ -134,10 +145,11 @@ fn append_rows(out: &mut Vec<u8>, rows: &[Row<'_>]) -> Result<(), AllocError>
     Ok(())
 }
 
-/// Appends a line for each element of each variable, names in byte order, elements in storage order,
-/// and leaves the rows in that order.
+/// Appends a line for each element of each variable, names in byte order, elements in storage
+/// order, and leaves the rows in that order.
 pub fn append_store(out: &mut Vec<u8>, rows: &mut [Row<'_>]) -> Result<(), AllocError>
-    ensures { OnOk result (Extends (StoreShown (map row_view rows.old)) out.old.items out.new.items) }
+    ensures { OnOk result (Extends (StoreShown (map row_view rows.old)) out.old.items
+        out.new.items) }
 {
     sort_by_name(rows);
     append_rows(out, rows)

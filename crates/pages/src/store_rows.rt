@@ -20,7 +20,8 @@ pub fn rows<'a>(
 ) -> Result<Vec<Row<'a>>, AllocError>
     requires sized { list_all is_sized (map symbol_of symbols.now) ≡ true }
     requires whole { length (cells store.now) ≡ length symbols.now }
-    ensures { IfOk result (λ rows. map row_view rows.items ≡ rows_from (cells store.now) 0 (map symbol_of symbols.now)) }
+    ensures { IfOk result (λ rows. map row_view rows.items
+        ≡ rows_from (cells store.now) 0 (map symbol_of symbols.now)) }
 {
     let mut rows = Vec::with_capacity(alloc, symbols.len())?;
     for (place, symbol) in symbols.iter().enumerate() {

@@ -15,8 +15,10 @@ const CHUNK: usize = 4096;
 fn read_some<R: Read>(reader: &mut R, bytes: &mut Vec<u8>) -> Result<bool, ReadFault>
     ensures given { IfOk result (λ gave. (given : List ℕ) × (bytes.new.items ≡ bytes.old.items ++ given)
         × Consumes (R.remaining reader.old) (R.remaining reader.new) given) }
-    ensures some { IfOk result (λ gave. gave ≡ true → length bytes.old.items < length bytes.new.items) }
-    ensures none { IfOk result (λ gave. gave ≡ false → (bytes.new.items ≡ bytes.old.items) × IsAtEnd (R.remaining reader.new)) }
+    ensures some { IfOk result (λ gave. gave ≡ true → length bytes.old.items
+        < length bytes.new.items) }
+    ensures none { IfOk result (λ gave. gave ≡ false → (bytes.new.items ≡ bytes.old.items)
+        × IsAtEnd (R.remaining reader.new)) }
 {
     let mut chunk = [0; CHUNK];
     match reader.read(&mut chunk) {

@@ -3,7 +3,8 @@
 ghost use Rattle.std.specs.Prelude.{◌≡◌, IfOk, IfErr, IsOkAnd, OnOk};
 ghost use Rattle.std.specs.Io.KnownBytes.{IsAtEnd};
 ghost use Rattle.pages.specs.Outcomes.{of_input, of_schedule, of_source};
-ghost use Rattle.pages.specs.Reading.{AfterInput, AfterSource, AfterText, AreGiven, IsReading, LeavesThree};
+ghost use Rattle.pages.specs.Reading.{AfterInput, AfterSource, AfterText, AreGiven, IsReading};
+ghost use Rattle.pages.specs.Reading.{LeavesThree};
 
 use crate::fault::{EngineFault, ReadFault};
 use crate::streams::read_all;
@@ -60,14 +61,16 @@ fn source_read<I: Read, S: Read>(
 ) -> Result<Texts, EngineFault>
     ensures texts { AfterText source of_source result (λ text.
         AfterSource text (I.remaining input.old) (I.remaining input.new) (S.remaining schedule.old) (S.remaining schedule.new) result) }
-    ensures untouched { IfErr source (λ _. (I.remaining input.new ≡ I.remaining input.old) × (S.remaining schedule.new ≡ S.remaining schedule.old)) }
+    ensures untouched { IfErr source (λ _. (I.remaining input.new ≡ I.remaining input.old)
+        × (S.remaining schedule.new ≡ S.remaining schedule.old)) }
 {
     let source = source.map_err(EngineFault::of_source)?;
     let read = read_all(alloc, input);
     input_read(alloc, source, read, schedule)
 }
 
-/// The texts of a source, an input and a schedule, read in this order, each to its end before the next.
+/// The texts of a source, an input and a schedule, read in this order, each to its end before the
+/// next.
 ///
 /// # Errors
 ///
@@ -78,8 +81,10 @@ pub fn read_three<R: Read, I: Read, S: Read>(
     input: &mut I,
     schedule: &mut S,
 ) -> Result<Texts, EngineFault>
-    ensures texts { IfOk result (AreGiven (R.remaining source.old) (I.remaining input.old) (S.remaining schedule.old)) }
-    ensures ends { OnOk result (IsAtEnd (R.remaining source.new) × IsAtEnd (I.remaining input.new) × IsAtEnd (S.remaining schedule.new)) }
+    ensures texts { IfOk result
+        (AreGiven (R.remaining source.old) (I.remaining input.old) (S.remaining schedule.old)) }
+    ensures ends { OnOk result (IsAtEnd (R.remaining source.new) × IsAtEnd (I.remaining input.new)
+        × IsAtEnd (S.remaining schedule.new)) }
     ensures readers { IfErr result (λ fault. IsReading fault
         × LeavesThree fault (R.remaining source.new) (I.remaining input.old) (I.remaining input.new) (S.remaining schedule.old) (S.remaining schedule.new)) }
 {

@@ -339,7 +339,8 @@ fn front(alloc: Global, picture: &LoopPicture<'_>) -> Result<Vec<Mark>, AllocErr
     Ok(marks)
 }
 
-/// What stands in a picture over its arrows: what iterations await and advance, and what is said below.
+/// What stands in a picture over its arrows: what iterations await and advance, and what is said
+/// below.
 fn back(alloc: Global, picture: &LoopPicture<'_>) -> Result<Vec<Mark>, AllocError> {
     let mut marks = Vec::new(alloc);
     let sinks = sinks(alloc, picture)?;

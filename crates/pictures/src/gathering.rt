@@ -119,8 +119,8 @@ pub struct Gathered {
     pub awaits: u64,
 }
 
-/// How many columns so many entries have, which so many processors made: one for each entry, as far as
-/// there are not too many.
+/// How many columns so many entries have, which so many processors made: one for each entry, as far
+/// as there are not too many.
 fn columns(entries: u64, busy: u64) -> u64 {
     let room = CELLS.checked_div(busy).unwrap_or(CELLS);
     entries.min(MOST).min(room).max(1)

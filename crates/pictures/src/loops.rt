@@ -32,7 +32,8 @@ pub struct SerialLoop<'r> {
     pub range: &'r [Node],
     /// What keeps it serial, as a sentence.
     pub reason: &'r [u8],
-    /// The line of the statement that does, if one does: of its range, its own DO, or one around it.
+    /// The line of the statement that does, if one does: of its range, its own DO, or one around
+    /// it.
     pub hindered: Option<Line>,
     /// The line of the DO around it that does, if one does.
     pub around: Option<Line>,

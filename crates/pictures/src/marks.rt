@@ -24,7 +24,8 @@ fn offset(before: u128) -> Point {
     }
 }
 
-/// Where the mark behind so many others of a box stands whose first one is at a point of its left edge.
+/// Where the mark behind so many others of a box stands whose first one is at a point of its left
+/// edge.
 fn from_left(edge: Point, before: u128) -> Point {
     let Point { x, y } = offset(before);
     Point {
@@ -42,7 +43,8 @@ fn from_right(edge: Point, before: u128) -> Point {
     }
 }
 
-/// Adds a disc behind so many others of its box; for those that have no room there are two full stops.
+/// Adds a disc behind so many others of its box; for those that have no room there are two full
+/// stops.
 fn add_disc(
     alloc: Global,
     marks: &mut Vec<Mark>,
@@ -98,7 +100,8 @@ fn add_awaited(
     add_disc(alloc, marks, at, disc, before)
 }
 
-/// Adds what is awaited in an iteration, by the rows of the sinks; what one sink awaits stands together.
+/// Adds what is awaited in an iteration, by the rows of the sinks; what one sink awaits stands
+/// together.
 pub fn add_awaits(
     alloc: Global,
     marks: &mut Vec<Mark>,

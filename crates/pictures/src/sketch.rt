@@ -127,7 +127,8 @@ impl<'a> Sketch<'a> {
         Ok(())
     }
 
-    /// Adds an advance behind what stands in the last row, or behind the loop or IF that ended last.
+    /// Adds an advance behind what stands in the last row, or behind the loop or IF that ended
+    /// last.
     fn add_advance(&mut self, event: usize) -> Result<(), AllocError> {
         self.add_end()?;
         let row = self.rows.len().saturating_sub(1);

@@ -77,7 +77,9 @@ pub struct Earlier<'s> {
 
 /// What was found, if these are its forms.
 fn like(earlier: &Option<Earlier<'_>>, forms: &[Affine]) -> Option<Relation>
-    ensures { (l : Loop) (a b : Occurring) → IfSome earlier.now (Relates l a) → map form_in forms.now ≡ forms_of l b.subscripts → IfSome result (λ r. r ≡ relation_of l a b) }
+    ensures { (l : Loop) (a b : Occurring) → IfSome earlier.now (Relates l a)
+        → map form_in forms.now ≡ forms_of l b.subscripts
+        → IfSome result (λ r. r ≡ relation_of l a b) }
 {
     match earlier {
         Some(earlier) if have_same_forms(earlier.forms, forms) => Some(earlier.relation),
@@ -87,7 +89,8 @@ fn like(earlier: &Option<Earlier<'_>>, forms: &[Affine]) -> Option<Relation>
 
 /// What was found of the same forms, if it is among the newest.
 fn found_like(recent: &Recent<Earlier<'_>>, forms: &[Affine]) -> Option<Relation>
-    ensures { (l : Loop) (a b : Occurring) → AllRelate l a recent.now → map form_in forms.now ≡ forms_of l b.subscripts → IfSome result (λ r. r ≡ relation_of l a b) }
+    ensures { (l : Loop) (a b : Occurring) → AllRelate l a recent.now → map form_in forms.now
+        ≡ forms_of l b.subscripts → IfSome result (λ r. r ≡ relation_of l a b) }
 {
     match like(&recent.newest, forms) {
         Some(relation) => Some(relation),
@@ -95,7 +98,8 @@ fn found_like(recent: &Recent<Earlier<'_>>, forms: &[Affine]) -> Option<Relation
     }
 }
 
-/// The relation of a reference to another, which is found anew only where its forms are none of the newest.
+/// The relation of a reference to another, which is found anew only where its forms are none of the
+/// newest.
 pub fn related<'s>(
     view: &LoopView<'_, '_>,
     first: &Shared<'_>,
@@ -106,7 +110,8 @@ pub fn related<'s>(
     requires second { HasForms (seen view.now) second.now }
     requires recent { AllRelate (seen view.now) (occurrence_in first.now) recent.old }
     ensures recent { AllRelate (seen view.now) (occurrence_in first.now) recent.new }
-    ensures relation { result ≡ relation_of (seen view.now) (occurrence_in first.now) (occurrence_in second.now) }
+    ensures relation { result
+        ≡ relation_of (seen view.now) (occurrence_in first.now) (occurrence_in second.now) }
 {
     if let Some(relation) = found_like(recent, &second.forms) {
         return relation;
@@ -125,7 +130,9 @@ fn look_at(
     analysis: &mut Analysis,
 ) -> Result<(), AllocError>
     ensures sources { analysis.new.sources ≡ analysis.old.sources }
-    ensures found { OnOk result (found_in analysis.new ≡ spec.with_relation (occurrence_in first.now) (occurrence_in second.now) relation (found_in analysis.old)) }
+    ensures found { OnOk result (found_in analysis.new
+        ≡ spec.with_relation (occurrence_in first.now) (occurrence_in second.now) relation
+        (found_in analysis.old)) }
 {
     let id = first.occurrence.reference.id;
     let other = second.occurrence.reference.id;
@@ -154,7 +161,9 @@ fn look_at_place<'s>(
     requires recent { AllRelate (seen view.now) (occurrence_in first.now) recent.old }
     ensures recent { AllRelate (seen view.now) (occurrence_in first.now) recent.new }
     ensures sources { analysis.new.sources ≡ analysis.old.sources }
-    ensures found { OnOk result (found_in analysis.new ≡ spec.after_some (seen view.now) (occurrence_in first.now) (slice_get (map occurrence_in shared.now) place) (found_in analysis.old)) }
+    ensures found { OnOk result (found_in analysis.new
+        ≡ spec.after_some (seen view.now) (occurrence_in first.now)
+        (slice_get (map occurrence_in shared.now) place) (found_in analysis.old)) }
 {
     match shared.get(place) {
         Some(second) => {
@@ -176,7 +185,9 @@ fn look_at_all(
     requires first { HasForms (seen view.now) first.now }
     requires all { All (HasForms (seen view.now)) shared.now }
     ensures sources { OnOk result (analysis.new.sources ≡ analysis.old.sources) }
-    ensures found { OnOk result (found_in analysis.new ≡ spec.after_places (seen view.now) (map occurrence_in shared.now) (occurrence_in first.now) places.now (found_in analysis.old)) }
+    ensures found { OnOk result (found_in analysis.new
+        ≡ spec.after_places (seen view.now) (map occurrence_in shared.now) (occurrence_in first.now)
+        places.now (found_in analysis.old)) }
 {
     let mut recent = Recent::none();
     for place in places {
@@ -195,7 +206,9 @@ fn look(
     requires first { HasForms (seen view.now) first.now }
     requires all { All (HasForms (seen view.now)) pairs.now.shared.items }
     requires ascending { is_ascending analysis.old.sources.items ≡ true }
-    ensures found { OnOk result (found_in analysis.new ≡ spec.after_first (seen view.now) pairs.now (occurrence_in first.now) (found_in analysis.old)) }
+    ensures found { OnOk result (found_in analysis.new
+        ≡ spec.after_first (seen view.now) pairs.now (occurrence_in first.now)
+        (found_in analysis.old)) }
     ensures ascending { OnOk result (is_ascending analysis.new.sources.items ≡ true) }
 {
     let before = analysis.kept.len();
@@ -207,14 +220,16 @@ fn look(
     Ok(())
 }
 
-/// Looks at each reference with its partners; `None` as soon as more than 64 statements are sources.
+/// Looks at each reference with its partners; `None` as soon as more than 64 statements are
+/// sources.
 fn look_at_each(
     alloc: Global,
     view: &LoopView<'_, '_>,
     pairs: &Pairs<'_>,
 ) -> Result<Option<Analysis>, AllocError>
     requires { All (HasForms (seen view.now)) pairs.now.shared.items }
-    ensures { IfOk result (λ found. spec.IsAllFound (spec.all_found (seen view.now) pairs.now) found) }
+    ensures { IfOk result (λ found.
+        spec.IsAllFound (spec.all_found (seen view.now) pairs.now) found) }
 {
     let mut analysis = Analysis {
         sources: Vec::new(alloc),
@@ -233,20 +248,22 @@ fn look_at_each(
 /// Puts what is kept in order, each once.
 fn put_in_order(kept: &mut Vec<Kept>)
     ensures sorted { are_sorted (map triple kept.new.items) ≡ true }
-    ensures same { (k : Triple) → Contains (map triple kept.new.items) k ↔ Contains (map triple kept.old.items) k }
+    ensures same { (k : Triple)
+        → Contains (map triple kept.new.items) k ↔ Contains (map triple kept.old.items) k }
 {
     kept.sort_unstable();
     kept.dedup();
 }
 
-/// What is kept of the dependences of a loop of which each iteration has private scalars of its own;
-/// `None` where more than 64 statements are sources.
+/// What is kept of the dependences of a loop of which each iteration has private scalars of its
+/// own; `None` where more than 64 statements are sources.
 pub fn analyse(
     alloc: Global,
     view: &LoopView<'_, '_>,
     privates: &[Name],
 ) -> Result<Option<Analysis>, AllocError>
-    ensures { IfOk result (λ found. ArePrivate (seen view.now) (map letters privates.now) → IsFound (seen view.now) (map letters privates.now) found) }
+    ensures { IfOk result (λ found. ArePrivate (seen view.now) (map letters privates.now)
+        → IsFound (seen view.now) (map letters privates.now) found) }
 {
     let pairs = Pairs::new(alloc, view, privates)?;
     match look_at_each(alloc, view, &pairs)? {

@@ -97,7 +97,8 @@ fn unless_among(names: &[Name], name: Name, line: Line) -> Option<(Name, Line)>
 
 #[cycle(variables)]
 fn shared_in_arms(names: &[Name], arms: &[Arm]) -> Option<(Name, Line)>
-    ensures { spec.shown result ≡ spec.arms_shared (map letters names.now) (arms_of (map arm_of arms.now)) }
+    ensures { spec.shown result
+        ≡ spec.arms_shared (map letters names.now) (arms_of (map arm_of arms.now)) }
 {
     for arm in arms {
         let found = shared_in(names, &arm.body);
@@ -177,8 +178,8 @@ fn lines_of(alloc: Global, lines: &[Line], statements: &[usize]) -> Result<Vec<L
     Ok(found)
 }
 
-/// The lines of the first sources of a loop, one more than there may be events, or as many as there are;
-/// by the lines of the program's statements.
+/// The lines of the first sources of a loop, one more than there may be events, or as many as there
+/// are; by the lines of the program's statements.
 #[tactic(auto, using(crate::proofs::Hindered::are_first))]
 pub fn first_sources(
     alloc: Global,

@@ -14,7 +14,8 @@ pub fn outermost()
     ensures { IsOutermost }
 {}
 
-/// The awaits of a plan that is placed are order awaits, one of each advance, and those of what is kept.
+/// The awaits of a plan that is placed are order awaits, one of each advance, and those of what is
+/// kept.
 pub fn kept()
     ensures { AreKept }
 {}

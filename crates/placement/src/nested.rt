@@ -38,7 +38,8 @@ pub fn push_at<T: Drop>(
     number: usize,
     value: T,
 ) -> Result<(), AllocError>
-    ensures { OnOk result ((n : ℕ) → list_at lists.new.items n ≡ list_at lists.old.items n ++ (if number == n then value ∷ [] else [])) }
+    ensures { OnOk result ((n : ℕ) → list_at lists.new.items n ≡ list_at lists.old.items n
+        ++ (if number == n then value ∷ [] else [])) }
 {
     lengthen(alloc, lists, number)?;
     lists[number].push(value)?;

@@ -16,8 +16,8 @@ use dependence::Recent;
 use loop_tree::LoopView;
 use std::alloc::{AllocError, Global};
 
-/// Whether something is kept of a reference in one iteration and the one at a place, if there is one, in
-/// a later one.
+/// Whether something is kept of a reference in one iteration and the one at a place, if there is
+/// one, in a later one.
 fn keeps_at<'s>(
     view: &LoopView<'_, '_>,
     shared: &'s [Shared<'_>],
@@ -39,7 +39,8 @@ fn keeps_at<'s>(
     }
 }
 
-/// Whether something is kept of a reference in one iteration and one of those at places in a later one.
+/// Whether something is kept of a reference in one iteration and one of those at places in a later
+/// one.
 fn keeps(
     view: &LoopView<'_, '_>,
     shared: &[Shared<'_>],
@@ -98,8 +99,8 @@ fn sources_among(
     Ok(sources)
 }
 
-/// The statements of a loop that are sources of what is kept, in order, where each iteration has private
-/// scalars of its own. There may be more of them than events.
+/// The statements of a loop that are sources of what is kept, in order, where each iteration has
+/// private scalars of its own. There may be more of them than events.
 pub fn sources(
     alloc: Global,
     view: &LoopView<'_, '_>,

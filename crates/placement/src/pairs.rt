@@ -46,7 +46,8 @@ fn add_defining(
     occurrence: &Occurrence<'_>,
     place: usize,
 ) -> Result<(), AllocError>
-    ensures { OnOk result ((n : ℕ) → list_at defining.new.items n ≡ list_at defining.old.items n ++ (if spec.is_definition_of n (occurrence_of occurrence.now) then place ∷ [] else [])) }
+    ensures { OnOk result ((n : ℕ) → list_at defining.new.items n ≡ list_at defining.old.items n
+        ++ (if spec.is_definition_of n (occurrence_of occurrence.now) then place ∷ [] else [])) }
 {
     if occurrence.defines {
         push_at(alloc, defining, occurrence.reference.cell, place)?;
@@ -57,7 +58,8 @@ fn add_defining(
 /// Adds a shared reference.
 fn add<'p>(alloc: Global, pairs: &mut Pairs<'p>, shared: Shared<'p>) -> Result<(), AllocError>
     requires { spec.AreGrouped pairs.old }
-    ensures shared { OnOk result (pairs.new.shared.items ≡ pairs.old.shared.items ++ shared.entry ∷ []) }
+    ensures shared { OnOk result (pairs.new.shared.items ≡ pairs.old.shared.items ++ shared.entry
+        ∷ []) }
     ensures grouped { OnOk result (spec.AreGrouped pairs.new) }
 {
     let place = pairs.shared.len();
@@ -78,7 +80,9 @@ fn add_if_shared<'p>(
 ) -> Result<(), AllocError>
     requires forms { All (spec.HasForms (seen view.now)) pairs.old.shared.items }
     requires grouped { spec.AreGrouped pairs.old }
-    ensures shared { OnOk result (spec.HasOneMore (seen view.now) (map letters privates.now) (occurrence_of occurrence.now) pairs.old pairs.new) }
+    ensures shared { OnOk result
+        (spec.HasOneMore (seen view.now) (map letters privates.now)
+        (occurrence_of occurrence.now) pairs.old pairs.new) }
     ensures forms { OnOk result (All (spec.HasForms (seen view.now)) pairs.new.shared.items) }
     ensures grouped { OnOk result (spec.AreGrouped pairs.new) }
 {
@@ -97,7 +101,8 @@ impl<'p> Pairs<'p> {
         view: &LoopView<'_, 'p>,
         privates: &[Name],
     ) -> Result<Pairs<'p>, AllocError>
-        ensures { IfOk result (λ pairs. spec.ArePairs (seen view.now) (map letters privates.now) pairs) }
+        ensures { IfOk result (λ pairs.
+            spec.ArePairs (seen view.now) (map letters privates.now) pairs) }
     {
         let mut pairs = Pairs {
             shared: Vec::new(alloc),

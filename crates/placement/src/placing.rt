@@ -5,13 +5,14 @@ ghost use Rattle.ast.specs.Tree as tree;
 ghost use Rattle.ast.specs.Tree.{arms as arms_of};
 ghost use Rattle.ast.specs.View.{arm as arm_of, block_view, head as head_of, node as node_of};
 ghost use Rattle.dependence.specs.Plan.{choose, loop};
-ghost use Rattle.dependence.specs.PlanView.{arm_view, arms as plan_arms, last_arm, nodes_of, plan_block, plan_node};
+ghost use Rattle.dependence.specs.PlanView.{arm_view, arms as plan_arms, last_arm, nodes_of};
+ghost use Rattle.dependence.specs.PlanView.{plan_block, plan_node};
 ghost use Rattle.placement.specs.Listed as spec;
 ghost use Rattle.placement.specs.Placing.{inner_node, placed_block, placed_node};
 
 use crate::counting::{add, arms_size, block_size, node_size};
+use ast::statement::copy_of_optional;
 use ast::{Arm, DoHead, Line, Node};
-use copies::{copy_of_head, copy_of_optional, copy_of_statement};
 use dependence::{PlanArm, PlanStmt};
 use std::alloc::{AllocError, Global};
 
@@ -26,7 +27,8 @@ pub struct Spots {
 
 /// Appends awaits.
 fn push_awaits(list: &mut Vec<PlanStmt>, awaits: &[(usize, u128)]) -> Result<(), AllocError>
-    ensures { OnOk result (map plan_node list.new.items ≡ map plan_node list.old.items ++ spec.await_nodes awaits.now) }
+    ensures { OnOk result (map plan_node list.new.items ≡ map plan_node list.old.items
+        ++ spec.await_nodes awaits.now) }
 {
     for await_at in awaits {
         list.push(PlanStmt::Await(await_at.0, await_at.1))?;
@@ -51,14 +53,16 @@ fn push_awaits_before(
     spots: &Spots,
     statement: usize,
 ) -> Result<(), AllocError>
-    ensures { OnOk result (map plan_node list.new.items ≡ map plan_node list.old.items ++ spec.await_nodes (spec.awaited spots.now statement)) }
+    ensures { OnOk result (map plan_node list.new.items ≡ map plan_node list.old.items
+        ++ spec.await_nodes (spec.awaited spots.now statement)) }
 {
     push_awaits(list, awaited(spots, statement))
 }
 
 /// Appends the advance of an event with the order await that stands before it.
 fn push_advance(list: &mut Vec<PlanStmt>, event: usize) -> Result<(), AllocError>
-    ensures { OnOk result (map plan_node list.new.items ≡ map plan_node list.old.items ++ spec.advance_nodes_of event) }
+    ensures { OnOk result (map plan_node list.new.items ≡ map plan_node list.old.items
+        ++ spec.advance_nodes_of event) }
 {
     list.push(PlanStmt::Await(event, 1))?;
     list.push(PlanStmt::Advance(event))?;
@@ -72,7 +76,8 @@ fn push_advances(
     first: usize,
     behind: usize,
 ) -> Result<(), AllocError>
-    ensures { OnOk result (map plan_node list.new.items ≡ map plan_node list.old.items ++ spec.advance_nodes 1 sources.now first behind) }
+    ensures { OnOk result (map plan_node list.new.items ≡ map plan_node list.old.items
+        ++ spec.advance_nodes 1 sources.now first behind) }
 {
     let mut event = 1;
     for source in sources {
@@ -105,7 +110,9 @@ fn made_else(
     first: usize,
     behind: usize,
 ) -> Result<Option<Vec<PlanStmt>>, AllocError>
-    ensures { IfOk result (λ made. nodes_of (λ v. map plan_node v.items) made ≡ spec.listed_else spots.now.sources.items (spec.has_else (arms_of (map arm_of arms.now))) first behind) }
+    ensures { IfOk result (λ made. nodes_of (λ v. map plan_node v.items) made
+        ≡ spec.listed_else spots.now.sources.items (spec.has_else (arms_of (map arm_of arms.now)))
+        first behind) }
 {
     if has_else(arms) {
         return Ok(None);
@@ -125,7 +132,8 @@ fn push_anchored(
     statement: usize,
     node: &Node,
 ) -> Result<(), AllocError>
-    ensures { OnOk result (map plan_node list.new.items ≡ map plan_node list.old.items ++ spec.anchors sources.now statement (node_of node.now)) }
+    ensures { OnOk result (map plan_node list.new.items ≡ map plan_node list.old.items
+        ++ spec.anchors sources.now statement (node_of node.now)) }
 {
     let behind = match node {
         Node::Plain(_) | Node::Choice(_) => add(statement, 1)?,
@@ -143,7 +151,8 @@ fn push_opening(
     statement: usize,
     nodes: &[Node],
 ) -> Result<(), AllocError>
-    ensures { OnOk result (map plan_node list.new.items ≡ map plan_node list.old.items ++ spec.opening sources.now first behind statement (block_view nodes.now)) }
+    ensures { OnOk result (map plan_node list.new.items ≡ map plan_node list.old.items
+        ++ spec.opening sources.now first behind statement (block_view nodes.now)) }
 {
     push_advances(list, sources, first, statement)?;
     let end = add(statement, block_size(nodes)?)?;
@@ -157,7 +166,9 @@ fn made_loop(line: Line, head: DoHead, range: Vec<PlanStmt>) -> PlanStmt
 }
 
 fn made_choice(arms: Vec<PlanArm>, made: Option<Vec<PlanStmt>>) -> PlanStmt
-    ensures { plan_node result ≡ choose (plan_arms (map arm_view arms.items) (last_arm (nodes_of (λ v. map plan_node v.items) made))) }
+    ensures { plan_node result
+        ≡ choose (plan_arms (map arm_view arms.items)
+        (last_arm (nodes_of (λ v. map plan_node v.items) made))) }
 {
     PlanStmt::Choice(arms, made)
 }
@@ -172,10 +183,12 @@ fn inner_loop(
     head: &DoHead,
     range: &[Node],
 ) -> Result<PlanStmt, AllocError>
-    ensures { IfOk result (λ placed. plan_node placed ≡ inner_node spots.now.sources.items (spec.awaited spots.now) statement (tree.loop line (head_of head.now) (block_view range.now))) }
+    ensures { IfOk result (λ placed. plan_node placed
+        ≡ inner_node spots.now.sources.items (spec.awaited spots.now) statement
+        (tree.loop line (head_of head.now) (block_view range.now))) }
 {
     let first = add(statement, 1)?;
-    let copy = copy_of_head(alloc, head)?;
+    let copy = head.try_copy(alloc)?;
     let placed = inner_range(alloc, spots, first, range)?;
     Ok(made_loop(line, copy, placed))
 }
@@ -188,7 +201,9 @@ fn inner_choice(
     statement: usize,
     arms: &[Arm],
 ) -> Result<PlanStmt, AllocError>
-    ensures { IfOk result (λ placed. plan_node placed ≡ inner_node spots.now.sources.items (spec.awaited spots.now) statement (tree.choose (arms_of (map arm_of arms.now)))) }
+    ensures { IfOk result (λ placed. plan_node placed
+        ≡ inner_node spots.now.sources.items (spec.awaited spots.now) statement
+        (tree.choose (arms_of (map arm_of arms.now)))) }
 {
     let first = add(statement, 1)?;
     let placed = inner_arms(alloc, spots, first, arms)?;
@@ -203,10 +218,12 @@ fn inner(
     statement: usize,
     node: &Node,
 ) -> Result<PlanStmt, AllocError>
-    ensures { IfOk result (λ placed. plan_node placed ≡ inner_node spots.now.sources.items (spec.awaited spots.now) statement (node_of node.now)) }
+    ensures { IfOk result (λ placed. plan_node placed
+        ≡ inner_node spots.now.sources.items (spec.awaited spots.now) statement
+        (node_of node.now)) }
 {
     match node {
-        Node::Plain(plain) => Ok(PlanStmt::Plain(copy_of_statement(alloc, plain)?)),
+        Node::Plain(plain) => Ok(PlanStmt::Plain(plain.try_copy(alloc)?)),
         Node::Loop(line, head, range) => inner_loop(alloc, spots, statement, *line, head, range),
         Node::Choice(arms) => inner_choice(alloc, spots, statement, arms),
     }
@@ -220,7 +237,9 @@ fn inner_range(
     from: usize,
     nodes: &[Node],
 ) -> Result<Vec<PlanStmt>, AllocError>
-    ensures { IfOk result (λ placed. map plan_node placed.items ≡ spec.inner_nodes spots.now.sources.items (spec.awaited spots.now) from (block_view nodes.now)) }
+    ensures { IfOk result (λ placed. map plan_node placed.items
+        ≡ spec.inner_nodes spots.now.sources.items (spec.awaited spots.now) from
+        (block_view nodes.now)) }
 {
     let mut list = Vec::new(alloc);
     let mut statement = from;
@@ -234,7 +253,9 @@ fn inner_range(
 
 #[cycle(inner)]
 fn inner_arm(alloc: Global, spots: &Spots, from: usize, arm: &Arm) -> Result<PlanArm, AllocError>
-    ensures { IfOk result (λ placed. arm_view placed ≡ spec.inner_arm spots.now.sources.items (spec.awaited spots.now) from (arm_of arm.now).line (arm_of arm.now).condition (arm_of arm.now).body) }
+    ensures { IfOk result (λ placed. arm_view placed
+        ≡ spec.inner_arm spots.now.sources.items (spec.awaited spots.now) from (arm_of arm.now).line
+        (arm_of arm.now).condition (arm_of arm.now).body) }
 {
     let condition = copy_of_optional(alloc, &arm.condition)?;
     let body = inner_range(alloc, spots, from, &arm.body)?;
@@ -252,7 +273,9 @@ fn inner_arms(
     from: usize,
     arms: &[Arm],
 ) -> Result<Vec<PlanArm>, AllocError>
-    ensures { IfOk result (λ placed. map arm_view placed.items ≡ spec.inner_listed_arms spots.now.sources.items (spec.awaited spots.now) from (arms_of (map arm_of arms.now))) }
+    ensures { IfOk result (λ placed. map arm_view placed.items
+        ≡ spec.inner_listed_arms spots.now.sources.items (spec.awaited spots.now) from
+        (arms_of (map arm_of arms.now))) }
 {
     let mut placed = Vec::new(alloc);
     let mut statement = from;
@@ -271,7 +294,9 @@ fn placed_choice(
     statement: usize,
     arms: &[Arm],
 ) -> Result<PlanStmt, AllocError>
-    ensures { IfOk result (λ placed. plan_node placed ≡ placed_node spots.now.sources.items (spec.awaited spots.now) statement (tree.choose (arms_of (map arm_of arms.now)))) }
+    ensures { IfOk result (λ placed. plan_node placed
+        ≡ placed_node spots.now.sources.items (spec.awaited spots.now) statement
+        (tree.choose (arms_of (map arm_of arms.now)))) }
 {
     let first = add(statement, 1)?;
     let size = arms_size(arms)?;
@@ -289,10 +314,12 @@ fn placed(
     statement: usize,
     node: &Node,
 ) -> Result<PlanStmt, AllocError>
-    ensures { IfOk result (λ placed. plan_node placed ≡ placed_node spots.now.sources.items (spec.awaited spots.now) statement (node_of node.now)) }
+    ensures { IfOk result (λ placed. plan_node placed
+        ≡ placed_node spots.now.sources.items (spec.awaited spots.now) statement
+        (node_of node.now)) }
 {
     match node {
-        Node::Plain(plain) => Ok(PlanStmt::Plain(copy_of_statement(alloc, plain)?)),
+        Node::Plain(plain) => Ok(PlanStmt::Plain(plain.try_copy(alloc)?)),
         Node::Loop(line, head, range) => inner_loop(alloc, spots, statement, *line, head, range),
         Node::Choice(arms) => placed_choice(alloc, spots, statement, arms),
     }
@@ -309,7 +336,10 @@ fn open_range(
     from: usize,
     nodes: &[Node],
 ) -> Result<Vec<PlanStmt>, AllocError>
-    ensures { IfOk result (λ placed. map plan_node placed.items ≡ spec.opening spots.now.sources.items first behind from (block_view nodes.now) ++ spec.placed_nodes spots.now.sources.items (spec.awaited spots.now) from (block_view nodes.now)) }
+    ensures { IfOk result (λ placed. map plan_node placed.items
+        ≡ spec.opening spots.now.sources.items first behind from (block_view nodes.now)
+        ++ spec.placed_nodes spots.now.sources.items (spec.awaited spots.now) from
+        (block_view nodes.now)) }
 {
     let mut list = Vec::new(alloc);
     push_opening(&mut list, &spots.sources, first, behind, from, nodes)?;
@@ -334,7 +364,9 @@ fn placed_arm(
     from: usize,
     arm: &Arm,
 ) -> Result<PlanArm, AllocError>
-    ensures { IfOk result (λ placed. arm_view placed ≡ spec.listed_arm spots.now.sources.items (spec.awaited spots.now) is_open first behind from (arm_of arm.now).line (arm_of arm.now).condition (arm_of arm.now).body) }
+    ensures { IfOk result (λ placed. arm_view placed
+        ≡ spec.listed_arm spots.now.sources.items (spec.awaited spots.now) is_open first behind from
+        (arm_of arm.now).line (arm_of arm.now).condition (arm_of arm.now).body) }
 {
     if !is_open {
         return inner_arm(alloc, spots, from, arm);
@@ -367,7 +399,9 @@ fn placed_arms(
     behind: usize,
     arms: &[Arm],
 ) -> Result<Vec<PlanArm>, AllocError>
-    ensures { IfOk result (λ placed. map arm_view placed.items ≡ spec.listed_arms spots.now.sources.items (spec.awaited spots.now) true first behind first (arms_of (map arm_of arms.now))) }
+    ensures { IfOk result (λ placed. map arm_view placed.items
+        ≡ spec.listed_arms spots.now.sources.items (spec.awaited spots.now) true first behind first
+        (arms_of (map arm_of arms.now))) }
 {
     let mut placed = Vec::new(alloc);
     let mut statement = first;
@@ -387,7 +421,9 @@ fn placed_list(
     from: usize,
     nodes: &[Node],
 ) -> Result<Vec<PlanStmt>, AllocError>
-    ensures { IfOk result (λ placed. map plan_node placed.items ≡ spec.placed_nodes spots.now.sources.items (spec.awaited spots.now) from (block_view nodes.now)) }
+    ensures { IfOk result (λ placed. map plan_node placed.items
+        ≡ spec.placed_nodes spots.now.sources.items (spec.awaited spots.now) from
+        (block_view nodes.now)) }
 {
     let mut list = Vec::new(alloc);
     let mut statement = from;
@@ -407,7 +443,9 @@ pub fn placed_range(
     from: usize,
     nodes: &[Node],
 ) -> Result<Vec<PlanStmt>, AllocError>
-    ensures { IfOk result (λ placed. plan_block placed.items ≡ placed_block spots.now.sources.items (spec.awaited spots.now) from (block_view nodes.now)) }
+    ensures { IfOk result (λ placed. plan_block placed.items
+        ≡ placed_block spots.now.sources.items (spec.awaited spots.now) from
+        (block_view nodes.now)) }
 {
     let list = placed_list(alloc, spots, from, nodes)?;
     Ok(list)

@@ -51,8 +51,8 @@ pub struct Placed {
     pub plan: LoopPlan,
     /// Whether its iterations might overlap if no loop around it were open.
     pub suits: bool,
-    /// Of a plan with a body, the statements that are sources, in order: their events have the numbers
-    /// from 1 on.
+    /// Of a plan with a body, the statements that are sources, in order: their events have the
+    /// numbers from 1 on.
     pub sources: Vec<usize>,
     /// Of a plan with a body, what is kept, in order, each once.
     pub kept: Vec<Kept>,
@@ -95,7 +95,9 @@ fn opened(
     privates: ScalarSet,
     analysis: Analysis,
 ) -> Result<Placed, AllocError>
-    ensures { IfOk result (λ placed. (placed.suits ≡ true) × (IsJudged (seen view.now) (judged.Suits privates analysis) → IsOpened (seen view.now) placed)) }
+    ensures { IfOk result (λ placed. (placed.suits ≡ true)
+        × (IsJudged (seen view.now) (judged.Suits privates analysis)
+        → IsOpened (seen view.now) placed)) }
 {
     let spots = spots_of(alloc, analysis.sources, &analysis.kept)?;
     let first = add(view.statement(), 1)?;
@@ -127,7 +129,8 @@ fn serial(alloc: Global, reason: u8, suits: bool) -> Placed
 /// The plan of a loop of which the caller knows whether it stands in one that is open, as [`plan`]
 /// gives it.
 pub fn place(alloc: Global, view: &LoopView<'_, '_>, inside: bool) -> Result<Placed, AllocError>
-    ensures { IfOk result (λ placed. IsWhole (seen view.now) → IsPlaced (seen view.now) inside placed) }
+    ensures { IfOk result (λ placed. IsWhole (seen view.now)
+        → IsPlaced (seen view.now) inside placed) }
 {
     match judge(alloc, view)? {
         Judged::Serial(reason) => Ok(serial(alloc, reason, false)),
@@ -146,7 +149,8 @@ fn suits(alloc: Global, view: &LoopView<'_, '_>) -> Result<bool, AllocError>
 
 /// Whether one of the loops around this one may be open; `most` of them are looked at.
 fn is_inside(alloc: Global, view: &LoopView<'_, '_>, most: usize) -> Result<bool, AllocError>
-    ensures { IfOk result (λ inside. AreWhole (all_seen view.now) → IsInside (around_in most (all_seen view.now) (seen view.now)) inside) }
+    ensures { IfOk result (λ inside. AreWhole (all_seen view.now)
+        → IsInside (around_in most (all_seen view.now) (seen view.now)) inside) }
 {
     if most == 0 {
         return Ok(false);
@@ -157,12 +161,13 @@ fn is_inside(alloc: Global, view: &LoopView<'_, '_>, most: usize) -> Result<bool
     }
 }
 
-/// The plan of a loop: where its iterations wait and tell, or for which reason, from 1 to 5, it stays
-/// serial. The lowest that holds is given: its step is no constant other than 0; it has a READ; the
-/// variable of a loop inside isn't private; more than 64 statements are sources; a loop around it may
-/// be open.
+/// The plan of a loop: where its iterations wait and tell, or for which reason, from 1 to 5, it
+/// stays serial. The lowest that holds is given: its step is no constant other than 0; it has a
+/// READ; the variable of a loop inside isn't private; more than 64 statements are sources; a loop
+/// around it may be open.
 pub fn plan(alloc: Global, view: &LoopView<'_, '_>) -> Result<LoopPlan, AllocError>
-    ensures { IfOk result (λ plan. AreWhole (all_seen view.now) → IsWhole (seen view.now) → IsPlacement (all_seen view.now) (seen view.now) plan) }
+    ensures { IfOk result (λ plan. AreWhole (all_seen view.now) → IsWhole (seen view.now)
+        → IsPlacement (all_seen view.now) (seen view.now) plan) }
 {
     let inside = is_inside(alloc, view, view.count())?;
     Ok(place(alloc, view, inside)?.plan)

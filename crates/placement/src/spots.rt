@@ -28,7 +28,8 @@ fn awaits_of(
     sources: &[usize],
     kept: &[Kept],
 ) -> Result<Vec<Vec<(usize, u128)>>, AllocError>
-    ensures { IfOk result (λ awaits. is_ascending sources.now ≡ true → (t : ℕ) → list_at awaits.items t ≡ spec.awaits_of sources.now t (map triple kept.now)) }
+    ensures { IfOk result (λ awaits. is_ascending sources.now ≡ true → (t : ℕ)
+        → list_at awaits.items t ≡ spec.awaits_of sources.now t (map triple kept.now)) }
 {
     let mut awaits = Vec::new(alloc);
     for one in kept {
@@ -41,7 +42,9 @@ fn awaits_of(
 /// The spots of sources in order, and of what is kept in order.
 pub fn spots_of(alloc: Global, sources: Vec<usize>, kept: &[Kept]) -> Result<Spots, AllocError>
     ensures sources { IfOk result (λ spots. spots.sources.items ≡ sources.items) }
-    ensures awaits { IfOk result (λ spots. (l : Loop) → AreSources l sources.items → AreTriples l (map triple kept.now) → (t : ℕ) → AreAwaits l sources.items t (awaited spots t)) }
+    ensures awaits { IfOk result (λ spots. (l : Loop) → AreSources l sources.items
+        → AreTriples l (map triple kept.now) → (t : ℕ)
+        → AreAwaits l sources.items t (awaited spots t)) }
 {
     let awaits = awaits_of(alloc, &sources, kept)?;
     Ok(Spots { sources, awaits })

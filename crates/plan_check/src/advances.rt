@@ -11,7 +11,8 @@ use dependence::{PlanArm, PlanStmt};
 
 #[cycle(no_advance)]
 fn no_advance_in_arms(arms: &[PlanArm]) -> bool
-    ensures { (last : PlanArms) → spec.no_advance_arms (arms_of (map arm_view arms.now) last) ≡ (result && spec.no_advance_arms last) }
+    ensures { (last : PlanArms) → spec.no_advance_arms (arms_of (map arm_view arms.now) last)
+        ≡ (result && spec.no_advance_arms last) }
 {
     for arm in arms {
         if !no_advance(&arm.body) {
@@ -54,7 +55,8 @@ fn no_advance(nodes: &[PlanStmt]) -> bool
 
 #[cycle(outside)]
 fn outside_in_arms(arms: &[PlanArm]) -> bool
-    ensures { (last : PlanArms) → spec.outside_arms (arms_of (map arm_view arms.now) last) ≡ (result && spec.outside_arms last) }
+    ensures { (last : PlanArms) → spec.outside_arms (arms_of (map arm_view arms.now) last)
+        ≡ (result && spec.outside_arms last) }
 {
     for arm in arms {
         if !outside(&arm.body) {

@@ -2,11 +2,14 @@
 
 ghost use Rattle.std.specs.Prelude.{◌≡◌, ◌&&◌, List, Option, map};
 ghost use Rattle.std.specs.Bool.{Decides};
-ghost use Rattle.ast.specs.View.{arm as arm_of, block_view, head as head_of, node as node_of, optional_term};
+ghost use Rattle.ast.specs.View.{arm as arm_of, block_view, head as head_of, node as node_of};
+ghost use Rattle.ast.specs.View.{optional_term};
 ghost use Rattle.ast.specs.Tree as tree;
 ghost use Rattle.dependence.specs.Plan.{PlanArms, PlanNode, no_nodes, then_node};
-ghost use Rattle.dependence.specs.PlanView.{arm_view, arms as arms_of, last_arm, plan_block, plan_node};
-ghost use Rattle.plan_check.specs.GoodPlan.{made_bare, made_bare_arms, only_events as holds_events, stripped, stripped_arms};
+ghost use Rattle.dependence.specs.PlanView.{arm_view, arms as arms_of, last_arm, plan_block};
+ghost use Rattle.dependence.specs.PlanView.{plan_node};
+ghost use Rattle.plan_check.specs.GoodPlan.{made_bare, made_bare_arms, only_events as holds_events};
+ghost use Rattle.plan_check.specs.GoodPlan.{stripped, stripped_arms};
 ghost use Rattle.plan_check.specs.Stripping.{IsNode, stripped_arm};
 
 use crate::expressions::is_same_optional;
@@ -37,7 +40,8 @@ fn only_events(nodes: &[PlanStmt]) -> bool
 
 #[cycle(bare)]
 fn are_bare_arms(arms: &[PlanArm]) -> bool
-    ensures { (last : PlanArms) → made_bare_arms (arms_of (map arm_view arms.now) last) ≡ (result && made_bare_arms last) }
+    ensures { (last : PlanArms) → made_bare_arms (arms_of (map arm_view arms.now) last)
+        ≡ (result && made_bare_arms last) }
 {
     for arm in arms {
         if !is_bare(&arm.body) {
@@ -79,7 +83,8 @@ pub fn is_bare(nodes: &[PlanStmt]) -> bool
 
 /// Whether an arm's line and condition are these.
 fn is_same_opening(arm: &PlanArm, other: &Arm) -> bool
-    ensures { Decides result ((arm.now.line ≡ other.now.line) × (optional_term arm.now.condition ≡ optional_term other.now.condition)) }
+    ensures { Decides result ((arm.now.line ≡ other.now.line)
+        × (optional_term arm.now.condition ≡ optional_term other.now.condition)) }
 {
     arm.line == other.line && is_same_optional(&arm.condition, &other.condition)
 }
@@ -101,7 +106,9 @@ fn is_same_arm(arm: &PlanArm, other: &Arm) -> bool
 /// Whether the arms of an IF are these, whatever ELSE was made for it.
 #[cycle(same)]
 fn are_same_arms(arms: &[PlanArm], others: &[Arm]) -> bool
-    ensures { (made : Option (List PlanNode)) → Decides result (stripped_arms (arms_of (map arm_view arms.now) (last_arm made)) ≡ tree.arms (map arm_of others.now)) }
+    ensures { (made : Option (List PlanNode))
+        → Decides result (stripped_arms (arms_of (map arm_view arms.now) (last_arm made))
+        ≡ tree.arms (map arm_of others.now)) }
 {
     are_same_one_by_one(arms, others)
 }

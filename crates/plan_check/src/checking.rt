@@ -4,7 +4,8 @@ ghost use Rattle.std.specs.Prelude.{◌≡◌, ◌&&◌, IfErr, IfOk, Some, not,
 ghost use Rattle.std.specs.Bool.{Decides};
 ghost use Rattle.dependence.specs.PlanView.{plan_of};
 ghost use Rattle.loop_tree.specs.TreeView.{seen};
-ghost use Rattle.plan_check.specs.Checking.{IsChecked, cells_of, fits as is_fit, in_order, reference_tokens, tokens_of};
+ghost use Rattle.plan_check.specs.Checking.{IsChecked, cells_of, fits as is_fit, in_order};
+ghost use Rattle.plan_check.specs.Checking.{reference_tokens, tokens_of};
 ghost use Rattle.plan_check.specs.Checks.{Accepted, HasBody, IsGood};
 ghost use Rattle.plan_check.specs.EntryView.{verdict as verdict_of};
 ghost use Rattle.plan_check.specs.GivenView.{given};
@@ -49,7 +50,8 @@ fn walk(alloc: Global, view: &LoopView<'_, '_>, plan: &Given<'_>) -> Result<Walk
 /// Whether the references that the walk has noted are those that the loop shows.
 fn shows(view: &LoopView<'_, '_>, plan: &Given<'_>, walked: &Walked) -> bool
     requires { Answers view.now plan.now walked.now }
-    ensures { Decides result (tokens_of (seen view.now).references ≡ reference_tokens (points_of (seen view.now) (given plan.now))) }
+    ensures { Decides result (tokens_of (seen view.now).references
+        ≡ reference_tokens (points_of (seen view.now) (given plan.now))) }
 {
     are_shown(view.references(), &walked.seen.notes)
 }
@@ -89,7 +91,8 @@ fn judge_all(
 ) -> Result<Verdict, AllocError>
     requires named { events.now ≡ named (given plan.now).body }
     requires walked { Answers view.now plan.now walked.now }
-    ensures { IfOk result (λ verdict. IsJudged (seen view.now) (given plan.now) (verdict_of verdict)) }
+    ensures { IfOk result (λ verdict.
+        IsJudged (seen view.now) (given plan.now) (verdict_of verdict)) }
 {
     let named = distinct(alloc, events)?;
     let claims = claims_of(plan.relations);

@@ -1,6 +1,7 @@
 //! What a plan claims of pairs of references.
 
-ghost use Rattle.std.specs.Prelude.{◌≡◌, ◌==◌, ◌&&◌, ◌+◌, ◌*◌, ◌++◌, IfSome, List, Some, if◌then◌else◌, true, ℕ};
+ghost use Rattle.std.specs.Prelude.{◌≡◌, ◌==◌, ◌&&◌, ◌+◌, ◌*◌, ◌++◌, IfSome, List, Some};
+ghost use Rattle.std.specs.Prelude.{if◌then◌else◌, true, ℕ};
 ghost use Rattle.dependence.specs.Related.{relations as relations_of};
 ghost use Rattle.dependence.specs.Runs.{relation_at, run as run_of, runs as runs_of};
 ghost use Rattle.dependence.specs.declared.relation.Relation.{Relation};
@@ -61,7 +62,8 @@ fn ascend(runs: &[Run]) -> bool
 
 /// Whether the pair at a place of a run is this one.
 fn is_at(run: &Run, place: u32, first: usize, second: usize) -> bool
-    ensures { result ≡ ((run.now.first == first) && (run.now.second + run.now.step * place == second)) }
+    ensures { result ≡ ((run.now.first == first)
+        && (run.now.second + run.now.step * place == second)) }
 {
     let pair = run.pair(place);
     pair.0.0 == first && pair.1.0 == second
@@ -69,7 +71,10 @@ fn is_at(run: &Run, place: u32, first: usize, second: usize) -> bool
 
 /// Whether a run has a pair.
 fn has(run: &Run, first: usize, second: usize) -> bool
-    ensures { (different : List Relation) (rest : List (ℕ × ℕ × Relation)) → claimed (run_of different run.now ++ rest) first second ≡ (if result then Some (relation_at different run.now.relation) else claimed rest first second) }
+    ensures { (different : List Relation) (rest : List (ℕ × ℕ × Relation))
+        → claimed (run_of different run.now ++ rest) first second
+        ≡ (if result then Some (relation_at different run.now.relation) else claimed rest first
+        second) }
 {
     if run.first as usize != first {
         return false;
@@ -106,7 +111,8 @@ fn at(
     second: usize,
 ) -> Option<Relation>
     requires { spec.ascend 0 0 runs.now ≡ true }
-    ensures { IfSome result (λ r. claimed (runs_of relations.now.different.items runs.now) first second ≡ Some r) }
+    ensures { IfSome result (λ r.
+        claimed (runs_of relations.now.different.items runs.now) first second ≡ Some r) }
 {
     if run >= runs.len() {
         return None;
@@ -149,8 +155,8 @@ impl Claims<'_> {
     ghost use Rattle.std.specs.Prelude.{◌≡◌};
     ghost use Rattle.plan_check.specs.ClaimsView.{IsOrdered, claim_in};
 
-    /// What is claimed of a reference in an iteration and one in a later iteration: by the claim that
-    /// the cursor is at, behind which it is then, where that is one of the pair.
+    /// What is claimed of a reference in an iteration and one in a later iteration: by the claim
+    /// that the cursor is at, behind which it is then, where that is one of the pair.
     pub fn find(&self, cursor: &mut Cursor, first: RefId, second: RefId) -> Option<Relation>
         requires { IsOrdered self.now }
         ensures { result ≡ claim_in self.now first.0 second.0 }

@@ -20,7 +20,8 @@ fn has_event(events: &[usize], event: usize) -> bool
 /// Adds an event, unless it is among them.
 #[tactic(auto, using(crate::proofs::EachOnce::any_more, crate::proofs::EachOnce::any_same))]
 fn add_event(events: &mut Vec<usize>, event: usize) -> Result<(), AllocError>
-    ensures { OnOk result ((test : ℕ → Bool) → list_any test events.new.items ≡ (list_any test events.old.items || test event)) }
+    ensures { OnOk result ((test : ℕ → Bool) → list_any test events.new.items
+        ≡ (list_any test events.old.items || test event)) }
 {
     if has_event(events, event) {
         return Ok(());
@@ -31,7 +32,8 @@ fn add_event(events: &mut Vec<usize>, event: usize) -> Result<(), AllocError>
 
 /// The events that are named, each once.
 pub fn distinct(alloc: Global, named: &[(usize, u128)]) -> Result<Vec<usize>, AllocError>
-    ensures { IfOk result (λ events. (test : ℕ → Bool) → list_any test events.items ≡ list_any (λ n. test n.0) named.now) }
+    ensures { IfOk result (λ events. (test : ℕ → Bool) → list_any test events.items
+        ≡ list_any (λ n. test n.0) named.now) }
 {
     let mut events = Vec::new(alloc);
     for (event, _) in named {

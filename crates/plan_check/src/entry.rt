@@ -33,7 +33,8 @@ fn entry_of<'a, 'p>(
     occurrence: &'a Occurrence<'p>,
     note: &'a Note,
 ) -> Result<Entry<'a, 'p>, AllocError>
-    ensures { IfOk result (λ made. entry_of made ≡ entry_by (seen view.now) (occurrence_of occurrence.now) (note_of note.now)) }
+    ensures { IfOk result (λ made. entry_of made
+        ≡ entry_by (seen view.now) (occurrence_of occurrence.now) (note_of note.now)) }
 {
     Ok(Entry {
         occurrence,
@@ -49,7 +50,8 @@ pub fn entries_of<'a, 'p>(
     references: &'a [Occurrence<'p>],
     notes: &'a [Note],
 ) -> Result<Vec<Entry<'a, 'p>>, AllocError>
-    ensures { IfOk result (λ made. map entry_of made.items ≡ entries_by (seen view.now) (map occurrence_of references.now) (map note_of notes.now)) }
+    ensures { IfOk result (λ made. map entry_of made.items
+        ≡ entries_by (seen view.now) (map occurrence_of references.now) (map note_of notes.now)) }
 {
     let mut entries = Vec::new(alloc);
     let count = shorter(references.len(), notes.len());

@@ -11,7 +11,9 @@ use std::alloc::{AllocError, Global};
 
 #[cycle(events)]
 fn add_arms(list: &mut Vec<(usize, u128)>, arms: &[PlanArm]) -> Result<(), AllocError>
-    ensures { OnOk result ((last : PlanArms) → with_arms (arms_of (map arm_view arms.now) last) list.old.items ≡ with_arms last list.new.items) }
+    ensures { OnOk result ((last : PlanArms)
+        → with_arms (arms_of (map arm_view arms.now) last) list.old.items
+        ≡ with_arms last list.new.items) }
 {
     for arm in arms {
         add_block(list, &arm.body)?;

@@ -39,7 +39,8 @@ fn is_assigned(scalars: &[Reference], name: Name) -> bool
 
 /// Whether names are all those of scalars.
 fn are_assigned(scalars: &[Reference], names: &[Name]) -> bool
-    ensures { result ≡ list_all (λ n. spec.has_named (map ref scalars.now) n) (map letters names.now) }
+    ensures { result ≡ list_all (λ n.
+        spec.has_named (map ref scalars.now) n) (map letters names.now) }
 {
     for name in names {
         if !is_assigned(scalars, *name) {
@@ -73,8 +74,8 @@ fn is_fit(step: bool, read: bool, hidden: bool, assigned: bool, proper: bool) ->
 }
 
 /// Whether the step is a constant other than 0, there is no READ, inner DO variables are private,
-/// private names are those of scalars that the range gives values, and the events that the plan names
-/// are from 1 to 64, at distances of at least 1.
+/// private names are those of scalars that the range gives values, and the events that the plan
+/// names are from 1 to 64, at distances of at least 1.
 pub fn fits(view: &LoopView<'_, '_>, plan: &Given<'_>, events: &[(usize, u128)]) -> bool
     requires { events.now ≡ named (given plan.now).body }
     ensures { result ≡ spec.fits (seen view.now) (given plan.now) }

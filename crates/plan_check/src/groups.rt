@@ -1,6 +1,7 @@
 //! References by their variables.
 
-ghost use Rattle.std.specs.Prelude.{◌≡◌, ◌<◌, ◌==◌, ◌&&◌, ◌||◌, IfOk, OnOk, false, length, map, true, ℕ};
+ghost use Rattle.std.specs.Prelude.{◌≡◌, ◌<◌, ◌==◌, ◌&&◌, ◌||◌, IfOk, OnOk, false, length, map};
+ghost use Rattle.std.specs.Prelude.{true, ℕ};
 ghost use Rattle.loop_tree.specs.View.{occurrence as occurrence_of};
 ghost use Rattle.plan_check.specs.EntryView.{entry as entry_of};
 ghost use Rattle.plan_check.specs.Grouping.{at_cell, chosen, row_at, with_place};
@@ -18,7 +19,8 @@ struct Groups {
 
 /// Has a row for each cell up to one.
 fn lengthen(alloc: Global, groups: &mut Groups, cell: usize) -> Result<(), AllocError>
-    ensures same { OnOk result ((c : ℕ) → row_at (rows_of groups.new) c ≡ row_at (rows_of groups.old) c) }
+    ensures same { OnOk result ((c : ℕ) → row_at (rows_of groups.new) c
+        ≡ row_at (rows_of groups.old) c) }
     ensures long { OnOk result (cell < length groups.new.rows.items) }
 {
     while groups.rows.len() <= cell {
@@ -30,7 +32,8 @@ fn lengthen(alloc: Global, groups: &mut Groups, cell: usize) -> Result<(), Alloc
 /// Adds a place to a row.
 fn add(groups: &mut Groups, cell: usize, place: usize) -> Result<(), AllocError>
     requires { cell < length groups.old.rows.items }
-    ensures { OnOk result ((c : ℕ) → row_at (rows_of groups.new) c ≡ with_place (c == cell) place (row_at (rows_of groups.old) c)) }
+    ensures { OnOk result ((c : ℕ) → row_at (rows_of groups.new) c
+        ≡ with_place (c == cell) place (row_at (rows_of groups.old) c)) }
 {
     groups.rows[cell].push(place)?;
     Ok(())
@@ -44,7 +47,8 @@ fn join(
     cell: usize,
     place: usize,
 ) -> Result<(), AllocError>
-    ensures { OnOk result ((c : ℕ) → row_at (rows_of groups.new) c ≡ with_place (wanted && (c == cell)) place (row_at (rows_of groups.old) c)) }
+    ensures { OnOk result ((c : ℕ) → row_at (rows_of groups.new) c
+        ≡ with_place (wanted && (c == cell)) place (row_at (rows_of groups.old) c)) }
 {
     if !wanted {
         return Ok(());
@@ -62,7 +66,9 @@ fn is_wanted(all: bool, occurrence: &Occurrence<'_>) -> bool
 
 /// The groups of all references, or of those that give their variables values.
 fn groups_of(alloc: Global, entries: &[Entry<'_, '_>], all: bool) -> Result<Groups, AllocError>
-    ensures { IfOk result (λ groups. (c : ℕ) → chosen (map entry_of entries.now) (row_at (rows_of groups) c) ≡ at_cell all c (map entry_of entries.now)) }
+    ensures { IfOk result (λ groups. (c : ℕ)
+        → chosen (map entry_of entries.now) (row_at (rows_of groups) c)
+        ≡ at_cell all c (map entry_of entries.now)) }
 {
     let mut groups = Groups {
         rows: Vec::new(alloc),
@@ -90,8 +96,12 @@ pub struct Partners {
 
 /// The partners of references.
 pub fn partners_of(alloc: Global, entries: &[Entry<'_, '_>]) -> Result<Partners, AllocError>
-    ensures all { IfOk result (λ p. (c : ℕ) → chosen (map entry_of entries.now) (row_at (rows_of p.all) c) ≡ at_cell true c (map entry_of entries.now)) }
-    ensures defining { IfOk result (λ p. (c : ℕ) → chosen (map entry_of entries.now) (row_at (rows_of p.defining) c) ≡ at_cell false c (map entry_of entries.now)) }
+    ensures all { IfOk result (λ p. (c : ℕ)
+        → chosen (map entry_of entries.now) (row_at (rows_of p.all) c)
+        ≡ at_cell true c (map entry_of entries.now)) }
+    ensures defining { IfOk result (λ p. (c : ℕ)
+        → chosen (map entry_of entries.now) (row_at (rows_of p.defining) c)
+        ≡ at_cell false c (map entry_of entries.now)) }
 {
     Ok(Partners {
         all: groups_of(alloc, entries, true)?,
@@ -105,9 +115,11 @@ impl Partners {
     ghost use Rattle.plan_check.specs.Grouping.{row_for};
     ghost use Rattle.plan_check.specs.GroupsView.{groups as rows_of};
 
-    /// The places of those that a reference is judged with: two that only use a variable are no pair.
+    /// The places of those that a reference is judged with: two that only use a variable are no
+    /// pair.
     pub fn of(&self, first: &Occurrence<'_>) -> &[usize]
-        ensures { result.now ≡ row_for (rows_of self.now.all) (rows_of self.now.defining) (occurrence_of first.now) }
+        ensures { result.now ≡ row_for (rows_of self.now.all) (rows_of self.now.defining)
+            (occurrence_of first.now) }
     {
         if first.defines {
             self.all.row(first.reference.cell)

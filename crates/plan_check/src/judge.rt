@@ -7,7 +7,8 @@ ghost use Rattle.loop_tree.specs.TreeView.{seen};
 ghost use Rattle.loop_tree.specs.View.{occurrence as occurrence_of};
 ghost use Rattle.plan_check.specs.Checking.{distance_of as distance_in};
 ghost use Rattle.plan_check.specs.ClaimsView.{IsOrdered, claim_in};
-ghost use Rattle.plan_check.specs.EntryView.{AllTell, Tells, entry as entry_of, verdict as verdict_of};
+ghost use Rattle.plan_check.specs.EntryView.{AllTell, Tells, entry as entry_of};
+ghost use Rattle.plan_check.specs.EntryView.{verdict as verdict_of};
 ghost use Rattle.plan_check.specs.Grouping.{with_groups, with_optional, with_places, with_row};
 ghost use Rattle.plan_check.specs.GroupsView.{groups as groups_of};
 ghost use Rattle.plan_check.specs.Judging as spec;
@@ -72,7 +73,8 @@ fn is_true(
     second: &Entry<'_, '_>,
     claim: Option<Relation>,
 ) -> bool
-    ensures { result ≡ spec.is_given (seen view.now) (entry_of first.now) (entry_of second.now) claim }
+    ensures { result ≡ spec.is_given (seen view.now) (entry_of first.now) (entry_of second.now)
+        claim }
 {
     match claim {
         None => false,
@@ -103,7 +105,8 @@ fn is_same_claim(one: Option<Relation>, other: Option<Relation>) -> bool
 
 /// Whether a claim is true, if that was found of the same claim and the same forms.
 fn like(earlier: &Option<Earlier<'_>>, claim: Option<Relation>, forms: &[Affine]) -> Option<bool>
-    ensures { (l : Loop) (x y : spec.Entry) → IfSome earlier.now (Tells l x) → map form_in forms.now ≡ y.forms → IfSome result (λ t. t ≡ spec.is_given l x y claim) }
+    ensures { (l : Loop) (x y : spec.Entry) → IfSome earlier.now (Tells l x) → map form_in forms.now
+        ≡ y.forms → IfSome result (λ t. t ≡ spec.is_given l x y claim) }
 {
     match earlier {
         Some(earlier)
@@ -120,7 +123,8 @@ fn found_like(
     claim: Option<Relation>,
     forms: &[Affine],
 ) -> Option<bool>
-    ensures { (l : Loop) (x y : spec.Entry) → AllTell l x recent.now → map form_in forms.now ≡ y.forms → IfSome result (λ t. t ≡ spec.is_given l x y claim) }
+    ensures { (l : Loop) (x y : spec.Entry) → AllTell l x recent.now → map form_in forms.now
+        ≡ y.forms → IfSome result (λ t. t ≡ spec.is_given l x y claim) }
 {
     match like(&recent.newest, claim, forms) {
         Some(is_true) => Some(is_true),
@@ -138,7 +142,8 @@ fn judged<'e>(
 ) -> bool
     requires { AllTell (seen view.now) (entry_of first.now) recent.old }
     ensures tells { AllTell (seen view.now) (entry_of first.now) recent.new }
-    ensures given { result ≡ spec.is_given (seen view.now) (entry_of first.now) (entry_of second.now) claim }
+    ensures given { result ≡ spec.is_given (seen view.now) (entry_of first.now)
+        (entry_of second.now) claim }
 {
     if let Some(is_true) = found_like(recent, claim, &second.forms) {
         return is_true;
@@ -165,7 +170,9 @@ fn judge_claim<'e>(
 )
     requires { AllTell (seen view.now) (entry_of first.now) recent.old }
     ensures tells { AllTell (seen view.now) (entry_of first.now) recent.new }
-    ensures verdict { verdict_of verdict.new ≡ spec.by_claim (seen view.now) events.now (λ _ _. claim) (entry_of first.now) (entry_of second.now) claim (verdict_of verdict.old) }
+    ensures verdict { verdict_of verdict.new
+        ≡ spec.by_claim (seen view.now) events.now (λ _ _. claim) (entry_of first.now)
+        (entry_of second.now) claim (verdict_of verdict.old) }
 {
     match distance_of(claim) {
         None => {}
@@ -199,7 +206,9 @@ fn judge_pair<'e>(
     requires ordered { IsOrdered claims.now }
     requires tells { AllTell (seen view.now) (entry_of first.now) recent.old }
     ensures tells { AllTell (seen view.now) (entry_of first.now) recent.new }
-    ensures verdict { verdict_of verdict.new ≡ spec.with_pair (seen view.now) events.now (claim_in claims.now) (entry_of first.now) (entry_of second.now) (verdict_of verdict.old) }
+    ensures verdict { verdict_of verdict.new
+        ≡ spec.with_pair (seen view.now) events.now (claim_in claims.now) (entry_of first.now)
+        (entry_of second.now) (verdict_of verdict.old) }
 {
     if !is_pair(first.occurrence, second.occurrence) {
         return;
@@ -227,7 +236,9 @@ fn judge_at<'e>(
     requires ordered { IsOrdered claims.now }
     requires tells { AllTell (seen view.now) (entry_of first.now) recent.old }
     ensures tells { AllTell (seen view.now) (entry_of first.now) recent.new }
-    ensures verdict { verdict_of verdict.new ≡ with_optional (seen view.now) events.now (claim_in claims.now) (entry_of first.now) (slice_get (map entry_of entries.now) place) (verdict_of verdict.old) }
+    ensures verdict { verdict_of verdict.new
+        ≡ with_optional (seen view.now) events.now (claim_in claims.now) (entry_of first.now)
+        (slice_get (map entry_of entries.now) place) (verdict_of verdict.old) }
 {
     if place < entries.len() {
         let second = &entries[place];
@@ -247,7 +258,9 @@ fn judge_partners(
     places: &[usize],
 )
     requires { IsOrdered claims.now }
-    ensures { verdict_of verdict.new ≡ with_places (seen view.now) events.now (claim_in claims.now) (entry_of first.now) (map entry_of entries.now) places.now (verdict_of verdict.old) }
+    ensures { verdict_of verdict.new
+        ≡ with_places (seen view.now) events.now (claim_in claims.now) (entry_of first.now)
+        (map entry_of entries.now) places.now (verdict_of verdict.old) }
 {
     let mut recent = Recent::none();
     for place in places {
@@ -267,7 +280,8 @@ fn judge_partners(
 
 /// Whether a variable is the loop's, or each iteration has one of its own.
 fn is_own(view: &LoopView<'_, '_>, privates: &[Name], occurrence: &Occurrence<'_>) -> bool
-    ensures { result ≡ spec.is_own (seen view.now) (map letters privates.now) (occurrence_of occurrence.now) }
+    ensures { result ≡ spec.is_own (seen view.now) (map letters privates.now)
+        (occurrence_of occurrence.now) }
 {
     occurrence.reference.name == view.head().variable.name
         || has_name(privates, occurrence.reference.name)
@@ -285,7 +299,9 @@ fn judge_entry(
     places: &[usize],
 )
     requires { IsOrdered claims.now }
-    ensures { verdict_of verdict.new ≡ with_row (seen view.now) events.now (claim_in claims.now) (map letters privates.now) (entry_of first.now) (map entry_of entries.now) places.now (verdict_of verdict.old) }
+    ensures { verdict_of verdict.new
+        ≡ with_row (seen view.now) events.now (claim_in claims.now) (map letters privates.now)
+        (entry_of first.now) (map entry_of entries.now) places.now (verdict_of verdict.old) }
 {
     if !is_own(view, privates, first.occurrence) {
         judge_partners(
@@ -304,7 +320,10 @@ pub fn judge(
     partners: &Partners,
 ) -> Verdict
     requires { IsOrdered claims.now }
-    ensures { verdict_of result ≡ with_groups (seen view.now) events.now (claim_in claims.now) (map letters privates.now) (groups_of partners.now.all) (groups_of partners.now.defining) (map entry_of entries.now) (map entry_of entries.now) spec.best }
+    ensures { verdict_of result
+        ≡ with_groups (seen view.now) events.now (claim_in claims.now) (map letters privates.now)
+        (groups_of partners.now.all) (groups_of partners.now.defining)
+        (map entry_of entries.now) (map entry_of entries.now) spec.best }
 {
     let mut verdict = Verdict {
         ahead: true,

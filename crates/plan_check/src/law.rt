@@ -9,5 +9,6 @@ ghost use Rattle.plan_check.specs.GoodPlan.{GoodPlan};
 
 /// A plan that meets the conditions is a good plan.
 pub fn checked_is_good()
-    ensures { (l : Loop) (p : PlanTree) → are_in_turn (references l.references) ≡ true → are_told (known l) ≡ true → IsChecked l p → GoodPlan l p }
+    ensures { (l : Loop) (p : PlanTree) → are_in_turn (references l.references) ≡ true
+        → are_told (known l) ≡ true → IsChecked l p → GoodPlan l p }
 {}

@@ -52,7 +52,8 @@ fn push_note(
     defines: bool,
     known: &Known,
 ) -> Result<(), AllocError>
-    ensures { OnOk result (seen_of seen.new ≡ spec.noted (ref reference.now) defines (known_of known.now) (seen_of seen.old)) }
+    ensures { OnOk result (seen_of seen.new
+        ≡ spec.noted (ref reference.now) defines (known_of known.now) (seen_of seen.old)) }
 {
     let made = Note {
         reference: *reference,
@@ -72,7 +73,9 @@ pub fn note_use(
     reference: &Reference,
     known: &Known,
 ) -> Result<(), AllocError>
-    ensures { OnOk result (seen_of seen.new ≡ spec.used (map letters privates.now) (ref reference.now) (known_of known.now) (seen_of seen.old)) }
+    ensures { OnOk result (seen_of seen.new
+        ≡ spec.used (map letters privates.now) (ref reference.now) (known_of known.now)
+        (seen_of seen.old)) }
 {
     if has_name(privates, reference.name) && !flag_at(&known.defined, reference.cell) {
         seen.early = true;
@@ -88,14 +91,17 @@ pub fn note_definition(
     reference: &Reference,
     known: &Known,
 ) -> Result<(), AllocError>
-    ensures { OnOk result (seen_of seen.new ≡ spec.given (map letters privates.now) (ref reference.now) (known_of known.now) (seen_of seen.old)) }
+    ensures { OnOk result (seen_of seen.new
+        ≡ spec.given (map letters privates.now) (ref reference.now) (known_of known.now)
+        (seen_of seen.old)) }
 {
     push_note(alloc, seen, reference, true, known)
 }
 
 /// An event is advanced.
 pub fn note_advance(seen: &mut Seen, privates: &[Name], event: usize, known: &Known)
-    ensures { seen_of seen.new ≡ spec.moved_on (map letters privates.now) event (known_of known.now) (seen_of seen.old) }
+    ensures { seen_of seen.new
+        ≡ spec.moved_on (map letters privates.now) event (known_of known.now) (seen_of seen.old) }
 {
     if !(flag_at(&known.free, event) && has_awaited(&known.near, event, 1)) {
         seen.disorder = true;

@@ -19,7 +19,8 @@ fn is_shown(shown: &Occurrence<'_>, note: &Note) -> bool
 
 /// Whether references are those of the notes, one by one.
 pub fn are_shown(references: &[Occurrence<'_>], notes: &[Note]) -> bool
-    ensures { Decides result (map (λ o. token_of (occurrence o)) references.now ≡ map (λ n. token_noted (note_of n)) notes.now) }
+    ensures { Decides result (map (λ o. token_of (occurrence o)) references.now
+        ≡ map (λ n. token_noted (note_of n)) notes.now) }
 {
     if references.len() != notes.len() {
         return false;

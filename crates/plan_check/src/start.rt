@@ -24,8 +24,8 @@ pub struct Walked {
     pub seen: Seen,
 }
 
-/// A number of cells that holds one more. One that no `usize` holds is want of memory: so many cells
-/// have no place.
+/// A number of cells that holds one more. One that no `usize` holds is want of memory: so many
+/// cells have no place.
 fn beyond(cells: usize, cell: usize) -> Result<usize, AllocError>
     ensures { IfOk result (λ count. count ≡ max cells (cell + 1)) }
 {
@@ -60,7 +60,8 @@ pub fn walk_over(
     view: &LoopView<'_, '_>,
     plan: &Given<'_>,
 ) -> Result<Walked, AllocError>
-    ensures known { IfOk result (λ w. known_of w.known ≡ known_over (shown view.now) (given plan.now)) }
+    ensures known { IfOk result (λ w. known_of w.known
+        ≡ known_over (shown view.now) (given plan.now)) }
     ensures seen { IfOk result (λ w. seen_of w.seen ≡ seen_over (shown view.now) (given plan.now)) }
 {
     let mut known = begin(alloc, view)?;

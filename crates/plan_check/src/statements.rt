@@ -3,7 +3,8 @@
 ghost use Rattle.std.specs.Prelude.{◌≡◌, map};
 ghost use Rattle.std.specs.Bool.{Decides};
 ghost use Rattle.ast.specs.Tree as tree;
-ghost use Rattle.ast.specs.View.{access, bounds, declarator, definition, head as head_of, item as item_of, kind as kind_of, statement as statement_of, term};
+ghost use Rattle.ast.specs.View.{access, bounds, declarator, definition, head as head_of};
+ghost use Rattle.ast.specs.View.{item as item_of, kind as kind_of, statement as statement_of, term};
 
 use crate::expressions::{
     is_same_access, is_same_expression, is_same_name, is_same_optional, is_same_reference,

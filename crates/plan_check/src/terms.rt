@@ -2,7 +2,8 @@
 
 ghost use Rattle.std.specs.Prelude.{◌≡◌, OnOk, map};
 ghost use Rattle.ast.specs.Tree.{accessed, terms};
-ghost use Rattle.ast.specs.View.{access as access_of, head as head_of, item as item_of, kind as kind_of, letters, optional_term, term};
+ghost use Rattle.ast.specs.View.{access as access_of, head as head_of, item as item_of};
+ghost use Rattle.ast.specs.View.{kind as kind_of, letters, optional_term, term};
 ghost use Rattle.plan_check.specs.KnownView.{known as known_of};
 ghost use Rattle.plan_check.specs.SeenView.{seen as seen_of};
 ghost use Rattle.plan_check.specs.Walking as spec;
@@ -20,7 +21,9 @@ fn pass_terms(
     expressions: &[Expr],
     known: &Known,
 ) -> Result<(), AllocError>
-    ensures { OnOk result (seen_of seen.new ≡ spec.seen_terms (map letters privates.now) (terms (map term expressions.now)) (known_of known.now) (seen_of seen.old)) }
+    ensures { OnOk result (seen_of seen.new
+        ≡ spec.seen_terms (map letters privates.now) (terms (map term expressions.now))
+        (known_of known.now) (seen_of seen.old)) }
 {
     for expression in expressions {
         pass_term(alloc, seen, privates, expression, known)?;
@@ -36,7 +39,9 @@ fn pass_element(
     access: &Access,
     known: &Known,
 ) -> Result<(), AllocError>
-    ensures { OnOk result (seen_of seen.new ≡ spec.seen_term (map letters privates.now) (accessed (access_of access.now)) (known_of known.now) (seen_of seen.old)) }
+    ensures { OnOk result (seen_of seen.new
+        ≡ spec.seen_term (map letters privates.now) (accessed (access_of access.now))
+        (known_of known.now) (seen_of seen.old)) }
 {
     pass_terms(alloc, seen, privates, &access.subscripts, known)?;
     note_use(alloc, seen, privates, &access.reference, known)
@@ -50,7 +55,9 @@ pub fn pass_term(
     expression: &Expr,
     known: &Known,
 ) -> Result<(), AllocError>
-    ensures { OnOk result (seen_of seen.new ≡ spec.seen_term (map letters privates.now) (term expression.now) (known_of known.now) (seen_of seen.old)) }
+    ensures { OnOk result (seen_of seen.new
+        ≡ spec.seen_term (map letters privates.now) (term expression.now) (known_of known.now)
+        (seen_of seen.old)) }
 {
     match expression {
         Expr::Constant(_) | Expr::Truth(_) | Expr::Parameter(_, _) => Ok(()),
@@ -72,7 +79,9 @@ pub fn pass_optional(
     expression: &Option<Expr>,
     known: &Known,
 ) -> Result<(), AllocError>
-    ensures { OnOk result (seen_of seen.new ≡ spec.seen_optional (map letters privates.now) (optional_term expression.now) (known_of known.now) (seen_of seen.old)) }
+    ensures { OnOk result (seen_of seen.new
+        ≡ spec.seen_optional (map letters privates.now) (optional_term expression.now)
+        (known_of known.now) (seen_of seen.old)) }
 {
     match expression {
         Some(expression) => pass_term(alloc, seen, privates, expression, known),
@@ -87,7 +96,9 @@ fn pass_items(
     items: &[Item],
     known: &Known,
 ) -> Result<(), AllocError>
-    ensures { OnOk result (seen_of seen.new ≡ spec.seen_items (map letters privates.now) (map item_of items.now) (known_of known.now) (seen_of seen.old)) }
+    ensures { OnOk result (seen_of seen.new
+        ≡ spec.seen_items (map letters privates.now) (map item_of items.now) (known_of known.now)
+        (seen_of seen.old)) }
 {
     for item in items {
         match item {
@@ -105,7 +116,9 @@ fn pass_target(
     target: &Access,
     known: &Known,
 ) -> Result<(), AllocError>
-    ensures { OnOk result (seen_of seen.new ≡ spec.seen_target (map letters privates.now) (access_of target.now) (known_of known.now) (seen_of seen.old)) }
+    ensures { OnOk result (seen_of seen.new
+        ≡ spec.seen_target (map letters privates.now) (access_of target.now) (known_of known.now)
+        (seen_of seen.old)) }
 {
     pass_terms(alloc, seen, privates, &target.subscripts, known)?;
     note_definition(alloc, seen, privates, &target.reference, known)
@@ -118,8 +131,11 @@ pub fn pass_kind(
     privates: &[Name],
     kind: &Kind,
 ) -> Result<(), AllocError>
-    ensures seen { OnOk result (seen_of seen.new ≡ spec.seen_kind (map letters privates.now) (kind_of kind.now) (known_of known.old) (seen_of seen.old)) }
-    ensures known { OnOk result (known_of known.new ≡ spec.known_kind (map letters privates.now) (kind_of kind.now) (known_of known.old)) }
+    ensures seen { OnOk result (seen_of seen.new
+        ≡ spec.seen_kind (map letters privates.now) (kind_of kind.now) (known_of known.old)
+        (seen_of seen.old)) }
+    ensures known { OnOk result (known_of known.new
+        ≡ spec.known_kind (map letters privates.now) (kind_of kind.now) (known_of known.old)) }
 {
     match kind {
         Kind::Assign(target, value) => {
@@ -156,8 +172,11 @@ pub fn pass_head(
     privates: &[Name],
     head: &DoHead,
 ) -> Result<(), AllocError>
-    ensures seen { OnOk result (seen_of seen.new ≡ spec.seen_head (map letters privates.now) (head_of head.now) (known_of known.old) (seen_of seen.old)) }
-    ensures known { OnOk result (known_of known.new ≡ spec.known_head (map letters privates.now) (head_of head.now) (known_of known.old)) }
+    ensures seen { OnOk result (seen_of seen.new
+        ≡ spec.seen_head (map letters privates.now) (head_of head.now) (known_of known.old)
+        (seen_of seen.old)) }
+    ensures known { OnOk result (known_of known.new
+        ≡ spec.known_head (map letters privates.now) (head_of head.now) (known_of known.old)) }
 {
     pass_term(alloc, seen, privates, &head.first, known)?;
     pass_term(alloc, seen, privates, &head.last, known)?;

@@ -25,8 +25,13 @@ fn pass_loop(
     head: &DoHead,
     range: &[PlanStmt],
 ) -> Result<(), AllocError>
-    ensures seen { OnOk result (seen_of seen.new ≡ spec.seen_node (map letters privates.now) (loop 0 (head_of head.now) (plan_block range.now)) (known_of known.old) (seen_of seen.old)) }
-    ensures known { OnOk result (known_of known.new ≡ spec.known_node (map letters privates.now) (loop 0 (head_of head.now) (plan_block range.now)) (known_of known.old)) }
+    ensures seen { OnOk result (seen_of seen.new
+        ≡ spec.seen_node (map letters privates.now)
+        (loop 0 (head_of head.now) (plan_block range.now)) (known_of known.old)
+        (seen_of seen.old)) }
+    ensures known { OnOk result (known_of known.new
+        ≡ spec.known_node (map letters privates.now)
+        (loop 0 (head_of head.now) (plan_block range.now)) (known_of known.old)) }
 {
     pass_head(alloc, known, seen, privates, head)?;
     let mut inner = known.try_copy(alloc)?;
@@ -35,7 +40,9 @@ fn pass_loop(
 
 /// Behind an ELSE there is no path.
 fn behind(known: &mut Known, privates: &[Name], condition: &Option<Expr>)
-    ensures { known_of known.new ≡ spec.behind (map letters privates.now) (optional_term condition.now) (known_of known.old) }
+    ensures { known_of known.new
+        ≡ spec.behind (map letters privates.now) (optional_term condition.now)
+        (known_of known.old) }
 {
     match condition {
         Some(_) => {}
@@ -53,8 +60,15 @@ fn pass_arms(
     privates: &[Name],
     arms: &[PlanArm],
 ) -> Result<(), AllocError>
-    ensures seen { OnOk result ((last : PlanArms) → spec.seen_arms (map letters privates.now) (arms_of (map arm_view arms.now) last) (known_of known.old) (seen_of seen.old) ≡ spec.seen_arms (map letters privates.now) last (known_of known.new) (seen_of seen.new)) }
-    ensures known { OnOk result ((last : PlanArms) → spec.known_arms (map letters privates.now) (arms_of (map arm_view arms.now) last) (known_of ended.old) (known_of known.old) ≡ spec.known_arms (map letters privates.now) last (known_of ended.new) (known_of known.new)) }
+    ensures seen { OnOk result ((last : PlanArms)
+        → spec.seen_arms (map letters privates.now) (arms_of (map arm_view arms.now) last)
+        (known_of known.old) (seen_of seen.old)
+        ≡ spec.seen_arms (map letters privates.now) last (known_of known.new) (seen_of seen.new)) }
+    ensures known { OnOk result ((last : PlanArms)
+        → spec.known_arms (map letters privates.now) (arms_of (map arm_view arms.now) last)
+        (known_of ended.old) (known_of known.old)
+        ≡ spec.known_arms (map letters privates.now) last (known_of ended.new)
+        (known_of known.new)) }
 {
     for arm in arms {
         pass_optional(alloc, seen, privates, &arm.condition, known)?;
@@ -74,8 +88,11 @@ fn pass_node(
     privates: &[Name],
     node: &PlanStmt,
 ) -> Result<(), AllocError>
-    ensures seen { OnOk result (seen_of seen.new ≡ spec.seen_node (map letters privates.now) (plan_node node.now) (known_of known.old) (seen_of seen.old)) }
-    ensures known { OnOk result (known_of known.new ≡ spec.known_node (map letters privates.now) (plan_node node.now) (known_of known.old)) }
+    ensures seen { OnOk result (seen_of seen.new
+        ≡ spec.seen_node (map letters privates.now) (plan_node node.now) (known_of known.old)
+        (seen_of seen.old)) }
+    ensures known { OnOk result (known_of known.new
+        ≡ spec.known_node (map letters privates.now) (plan_node node.now) (known_of known.old)) }
 {
     match node {
         PlanStmt::Await(event, distance) => {
@@ -111,8 +128,11 @@ pub fn pass_block(
     privates: &[Name],
     nodes: &[PlanStmt],
 ) -> Result<(), AllocError>
-    ensures seen { OnOk result (seen_of seen.new ≡ spec.seen_block (map letters privates.now) (plan_block nodes.now) (known_of known.old) (seen_of seen.old)) }
-    ensures known { OnOk result (known_of known.new ≡ spec.known_block (map letters privates.now) (plan_block nodes.now) (known_of known.old)) }
+    ensures seen { OnOk result (seen_of seen.new
+        ≡ spec.seen_block (map letters privates.now) (plan_block nodes.now) (known_of known.old)
+        (seen_of seen.old)) }
+    ensures known { OnOk result (known_of known.new
+        ≡ spec.known_block (map letters privates.now) (plan_block nodes.now) (known_of known.old)) }
 {
     for node in nodes {
         pass_node(alloc, known, seen, privates, node)?;

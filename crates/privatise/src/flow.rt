@@ -2,7 +2,8 @@
 
 ghost use Rattle.std.specs.Prelude.{◌≡◌, IfOk, OnOk, map, replicate};
 ghost use Rattle.ast.specs.Tree.{arms as arms_of, choose, loop};
-ghost use Rattle.ast.specs.View.{arm as arm_of, block_view, head as head_of, letters, node as node_of, ref};
+ghost use Rattle.ast.specs.View.{arm as arm_of, block_view, head as head_of, letters};
+ghost use Rattle.ast.specs.View.{node as node_of, ref};
 ghost use Rattle.loop_tree.specs.TreeView.{seen};
 ghost use Rattle.privatise.specs.Flow as spec;
 ghost use Rattle.privatise.specs.Privates.{ArePrivate, private_names};
@@ -23,7 +24,8 @@ fn pass_loop(
     head: &DoHead,
     range: &[Node],
 ) -> Result<(), AllocError>
-    ensures { OnOk result (walks.new ≡ spec.after_node (loop 0 (head_of head.now) (block_view range.now)) walks.old) }
+    ensures { OnOk result (walks.new
+        ≡ spec.after_node (loop 0 (head_of head.now) (block_view range.now)) walks.old) }
 {
     pass_head(walks, head);
     let before = Vec::from_slice(alloc, walks)?;
@@ -35,7 +37,8 @@ fn pass_loop(
 /// The arms of an IF: by one of them, or by none where there is no ELSE.
 #[cycle(flow)]
 fn pass_arms(alloc: Global, walks: &mut [Walk], arms: &[Arm]) -> Result<(), AllocError>
-    ensures { OnOk result (walks.new ≡ spec.after_node (choose (arms_of (map arm_of arms.now))) walks.old) }
+    ensures { OnOk result (walks.new
+        ≡ spec.after_node (choose (arms_of (map arm_of arms.now))) walks.old) }
 {
     let mut ended = vec![in alloc; Walk::Defined; walks.len()]?;
     for arm in arms {
@@ -84,7 +87,8 @@ fn pass_block(alloc: Global, walks: &mut [Walk], nodes: &[Node]) -> Result<(), A
 
 /// What the paths through statements do with the scalars of the first cells.
 fn walks_of(alloc: Global, nodes: &[Node], cells: usize) -> Result<Vec<Walk>, AllocError>
-    ensures { IfOk result (λ walks. walks.items ≡ spec.after_block (block_view nodes.now) (replicate cells Missed)) }
+    ensures { IfOk result (λ walks. walks.items
+        ≡ spec.after_block (block_view nodes.now) (replicate cells Missed)) }
 {
     let mut walks = vec![in alloc; Walk::Missed; cells]?;
     pass_block(alloc, &mut walks, nodes)?;
@@ -106,7 +110,8 @@ fn private_names(
     walks: &[Walk],
     assigned: &[Reference],
 ) -> Result<Vec<Name>, AllocError>
-    ensures { IfOk result (λ names. map letters names.items ≡ private_names walks.now (map ref assigned.now)) }
+    ensures { IfOk result (λ names. map letters names.items
+        ≡ private_names walks.now (map ref assigned.now)) }
 {
     let mut names = Vec::new(alloc);
     for scalar in assigned {
@@ -117,8 +122,8 @@ fn private_names(
     Ok(names)
 }
 
-/// The scalars that a loop's range gives values and that on no path through it are used before their
-/// definition, by their first definitions.
+/// The scalars that a loop's range gives values and that on no path through it are used before
+/// their definition, by their first definitions.
 pub fn private_scalars(alloc: Global, view: &LoopView<'_, '_>) -> Result<ScalarSet, AllocError>
     ensures { IfOk result (λ set. ArePrivate (seen view.now) (map letters set.names.items)) }
 {

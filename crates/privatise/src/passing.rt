@@ -2,7 +2,8 @@
 
 ghost use Rattle.std.specs.Prelude.{◌≡◌, map};
 ghost use Rattle.ast.specs.Tree.{accessed, terms};
-ghost use Rattle.ast.specs.View.{access as access_of, head as head_of, item as item_of, kind as kind_of, optional_term, term};
+ghost use Rattle.ast.specs.View.{access as access_of, head as head_of, item as item_of};
+ghost use Rattle.ast.specs.View.{kind as kind_of, optional_term, term};
 ghost use Rattle.privatise.specs.Flow as spec;
 
 use crate::cells::{go_on, stop};

@@ -16,16 +16,17 @@ const MOST_STEPS: u32 = 32;
 /// So many iterations are begun before it is asked how long they are.
 const FIRST_FEW: u64 = 64;
 
-/// Of how many iterations, at most, it is counted how long they are: behind these each counts for half
-/// as much, so that the loops of before are forgotten little by little.
+/// Of how many iterations, at most, it is counted how long they are: behind these each counts for
+/// half as much, so that the loops of before are forgotten little by little.
 const MOST_COUNTED: u64 = 1024;
 
 /// Iterations are long where they do so many local instructions each. A processor that sleeps is
-/// woken for another iteration only where they are: to wake one takes longer than a shorter iteration.
+/// woken for another iteration only where they are: to wake one takes longer than a shorter
+/// iteration.
 const LONG: u64 = 4096;
 
-/// Iterations are short where they do fewer local instructions each. Of several processors one alone
-/// begins them, and the others sleep: to hand the lock from one to another takes longer.
+/// Iterations are short where they do fewer local instructions each. Of several processors one
+/// alone begins them, and the others sleep: to hand the lock from one to another takes longer.
 const SHORT: u64 = 512;
 
 /// How a run stands.
@@ -51,8 +52,8 @@ pub enum Next {
     Again,
     /// It goes through the gate, with the iteration of that number, and takes its next turn.
     Begin(u128),
-    /// It does the local work that was loaded; where it has taken the ticket of an iteration, it goes
-    /// through the gate first.
+    /// It does the local work that was loaded; where it has taken the ticket of an iteration, it
+    /// goes through the gate first.
     Work(Option<u128>),
 }
 
@@ -107,7 +108,8 @@ impl<'c, C: Call> Board<'c, C> {
         })
     }
 
-    /// The run is given up for this reason. That a thread couldn't be started counts before all else.
+    /// The run is given up for this reason. That a thread couldn't be started counts before all
+    /// else.
     pub fn give_up(&mut self, standing: Standing) {
         if self.standing == Standing::Going || standing == Standing::NotStarted {
             self.standing = standing;
@@ -155,8 +157,9 @@ impl<'c, C: Call> Board<'c, C> {
         self.asleep.saturating_add(1) >= self.core.processors()
     }
 
-    /// Whether a processor that holds nothing takes up nothing: there is nothing, or only an iteration
-    /// that may begin, which it leaves to another one that is awake where iterations are short.
+    /// Whether a processor that holds nothing takes up nothing: there is nothing, or only an
+    /// iteration that may begin, which it leaves to another one that is awake where iterations are
+    /// short.
     fn takes_nothing(&self) -> bool {
         if self.core.has_ready() || self.core.has_ended() {
             return false;
@@ -267,8 +270,8 @@ impl<'c, C: Call> Board<'c, C> {
         next
     }
 
-    /// A turn of processor `q`: it hands in its local work, if it has done any, and makes shared steps.
-    /// Work that the core doesn't take is forgotten.
+    /// A turn of processor `q`: it hands in its local work, if it has done any, and makes shared
+    /// steps. Work that the core doesn't take is forgotten.
     pub fn turn(&mut self, q: usize, own: &mut Own<'c, C>) -> Next {
         if self.standing != Standing::Going {
             return Next::Leave;
@@ -315,7 +318,8 @@ impl<'c, C: Call> Board<'c, C> {
 
     /// What has come of a run that nobody gave up, or that can't go on.
     pub fn report(self) -> Result<Report, RunRefusal>
-        ensures ok { IfOk result (λ r. IsRunOf C.code C.input C.processors C.slots r.answer r.schedule) }
+        ensures ok { IfOk result (λ r.
+            IsRunOf C.code C.input C.processors C.slots r.answer r.schedule) }
         ensures err { IfErr result (IsGivenUp C.code C.input C.processors C.slots) }
     {
         match self.core.answer() {

@@ -2,8 +2,8 @@
 
 use std::marker::Brand;
 
-/// A call of `run`: its code and input, its number of processors, and how many iterations may be open.
-/// Each call has a type of its own, so that what threads share can't be another call's.
+/// A call of `run`: its code and input, its number of processors, and how many iterations may be
+/// open. Each call has a type of its own, so that what threads share can't be another call's.
 pub trait Call {
     ghost use Rattle.std.specs.Prelude.{ℕ, List};
     ghost use Rattle.machine.specs.Code.{Code};

@@ -21,9 +21,9 @@ impl<'c, C: Call> Desk<'c, C> {
         }
     }
 
-    /// A turn of processor `q`, which hands in its local work. It sleeps until there is something to
-    /// do. Who leaves the desk wakes another where that one could do something, and all when the run
-    /// is over.
+    /// A turn of processor `q`, which hands in its local work. It sleeps until there is something
+    /// to do. Who leaves the desk wakes another where that one could do something, and all when the
+    /// run is over.
     pub fn turn<R: Wait>(&self, rt: &R, q: usize, own: &mut Own<'c, C>) -> Next {
         let mut board = self.board.lock(rt);
         let mut next = board.turn(q, own);

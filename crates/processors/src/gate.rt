@@ -1,7 +1,8 @@
 //! What is told of iterations as they begin.
 
 /// What a processor calls each time it has taken a ticket, before the first instruction of that
-/// iteration. The lock isn't held then, so that a gate may keep the processor as long as it wants to.
+/// iteration. The lock isn't held then, so that a gate may keep the processor as long as it wants
+/// to.
 pub trait Gate {
     /// Processor `processor`, from 0 on, has taken the ticket of iteration `iteration`.
     fn before(&self, processor: usize, iteration: u128);

@@ -4,10 +4,10 @@
 //! let report = run(&rt, rt.alloc(), &code, &input, 4, 8, &NoGate)?;
 //! ```
 //!
-//! What is proved: where `run` answers, the schedule that it gives, of that code, input and numbers,
-//! leads to a state that has ended, and the answer is that state's; where it finds no memory, the
-//! output is that of a state to which such a schedule leads. What is not: that it returns, that two
-//! threads work at once, and how fast they are.
+//! What is proved: where `run` answers, the schedule that it gives, of that code, input and
+//! numbers, leads to a state that has ended, and the answer is that state's; where it finds no
+//! memory, the output is that of a state to which such a schedule leads. What is not: that it
+//! returns, that two threads work at once, and how fast they are.
 #![tactic(auto)]
 
 mod board;

@@ -84,7 +84,8 @@ fn run_all<'c, C: Call + Send + Sync, G: Gate + Sync, R: Threads + Wait + Sync>(
 
 /// There was no memory to begin with.
 fn nothing(alloc: Global) -> RunRefusal
-    ensures { (code : PlainCode) (input : List ℕ) (p s : ℕ) → AreSizes p s → IsGivenUp code input p s result }
+    ensures { (code : PlainCode) (input : List ℕ) (p s : ℕ) → AreSizes p s
+        → IsGivenUp code input p s result }
 {
     RunRefusal::Memory {
         output: Vec::new(alloc),
@@ -93,7 +94,8 @@ fn nothing(alloc: Global) -> RunRefusal
 
 /// What has come of a run when all threads have left.
 fn reported<'c, C: Call>(board: Board<'c, C>) -> Result<Report, RunRefusal>
-    ensures ok { IfOk result (λ r. IsRunOf C.code C.input C.processors C.slots r.answer r.schedule) }
+    ensures ok { IfOk result (λ r.
+        IsRunOf C.code C.input C.processors C.slots r.answer r.schedule) }
     ensures err { IfErr result (IsGivenUp C.code C.input C.processors C.slots) }
 {
     match board.standing() {
@@ -113,7 +115,8 @@ fn run_call<'c, C: Call + Send + Sync, G: Gate + Sync, R: Threads + Wait + Sync>
 ) -> Result<Report, RunRefusal>
     requires of { IsCoreOf C.code C.input C.processors C.slots core }
     requires code { code_of code.now ≡ C.code }
-    ensures ok { IfOk result (λ r. IsRunOf C.code C.input C.processors C.slots r.answer r.schedule) }
+    ensures ok { IfOk result (λ r.
+        IsRunOf C.code C.input C.processors C.slots r.answer r.schedule) }
     ensures err { IfErr result (IsGivenUp C.code C.input C.processors C.slots) }
 {
     let processors = core.processors();
@@ -127,17 +130,17 @@ fn run_call<'c, C: Call + Send + Sync, G: Gate + Sync, R: Threads + Wait + Sync>
     reported(desk.into_board())
 }
 
-/// Runs code on an input by `p` processors, 1 to 64, each a thread of which the caller's is the first,
-/// with at most `s` iterations open, 1 to 256. It returns when all threads have left. Iterations
-/// overlap where they are long enough, and which processor does what is another matter at each call;
-/// the schedule tells it.
+/// Runs code on an input by `p` processors, 1 to 64, each a thread of which the caller's is the
+/// first, with at most `s` iterations open, 1 to 256. It returns when all threads have left.
+/// Iterations overlap where they are long enough, and which processor does what is another matter
+/// at each call; the schedule tells it.
 ///
 /// # Errors
 ///
-/// 57 where p or s is out of its range; 58 where a thread couldn't be started, whatever else was met;
-/// 59 where code, made by hand, has come to a state in which a processor holds an activity that has no
-/// step, or from which no step leads; and want of memory, with the output of the state in which it
-/// was met.
+/// 57 where p or s is out of its range; 58 where a thread couldn't be started, whatever else was
+/// met; 59 where code, made by hand, has come to a state in which a processor holds an activity
+/// that has no step, or from which no step leads; and want of memory, with the output of the state
+/// in which it was met.
 pub fn run<G: Gate + Sync, R: Threads + Wait + Sync>(
     rt: &R,
     alloc: Global,

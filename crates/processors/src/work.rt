@@ -9,8 +9,8 @@ use machine::{Code, Work};
 use std::alloc::{AllocError, Global};
 use std::marker::PhantomData;
 
-/// How many local instructions are done in a turn, at most. Too few would be done sooner than the lock
-/// is had, and with too many a processor would be long in finding that the run is over.
+/// How many local instructions are done in a turn, at most. Too few would be done sooner than the
+/// lock is had, and with too many a processor would be long in finding that the run is over.
 const MOST_WORK: u32 = 32 * 1024;
 
 /// The code of a call.

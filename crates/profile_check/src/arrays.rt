@@ -1,6 +1,7 @@
 //! The dimensions of arrays.
 
-ghost use Rattle.std.specs.Prelude.{◌≡◌, ◌+◌, ◌*◌, ◌<◌, ◌≤◌, ◌^◌, IfOk, OnOk, Option, filter, is_none, length, map, option_map, unsigned_abs};
+ghost use Rattle.std.specs.Prelude.{◌≡◌, ◌+◌, ◌*◌, ◌<◌, ◌≤◌, ◌^◌, IfOk, OnOk, Option, filter};
+ghost use Rattle.std.specs.Prelude.{is_none, length, map, option_map, unsigned_abs};
 ghost use Rattle.std.specs.List.{list_any};
 ghost use Rattle.indexmap.specs.IndexMap.{insert_entry};
 ghost use Rattle.ast.specs.Store.{same_name};
@@ -37,7 +38,8 @@ fn bound_value(constants: &Constants, bound: &Expr) -> Option<i64>
 
 /// The value of a lower bound, 1 where it is absent.
 fn lower_value(constants: &Constants, lower: &Option<Expr>) -> Option<i64>
-    ensures { result ≡ spec.lower_value (constants_of constants.now.entries) (view.optional_term lower.now) }
+    ensures { result ≡ spec.lower_value (constants_of constants.now.entries)
+        (view.optional_term lower.now) }
 {
     match lower {
         Some(expression) => bound_value(constants, expression),
@@ -47,7 +49,8 @@ fn lower_value(constants: &Constants, lower: &Option<Expr>) -> Option<i64>
 
 /// A dimension by its bounds, if both have values.
 fn dimension_of(constants: &Constants, bounds: &Bounds) -> Option<Dimension>
-    ensures { option_map view.extent result ≡ spec.extent_of (constants_of constants.now.entries) (view.bounds bounds.now) }
+    ensures { option_map view.extent result
+        ≡ spec.extent_of (constants_of constants.now.entries) (view.bounds bounds.now) }
 {
     let lower = lower_value(constants, &bounds.lower)?;
     let upper = bound_value(constants, &bounds.upper)?;
@@ -56,7 +59,8 @@ fn dimension_of(constants: &Constants, bounds: &Bounds) -> Option<Dimension>
 
 /// Whether a dimension's upper bound is below the lower.
 fn is_crossed(constants: &Constants, bounds: &Bounds) -> bool
-    ensures { result ≡ rules.is_crossed (spec.extent_of (constants_of constants.now.entries) (view.bounds bounds.now)) }
+    ensures { result ≡ rules.is_crossed
+        (spec.extent_of (constants_of constants.now.entries) (view.bounds bounds.now)) }
 {
     match dimension_of(constants, bounds) {
         Some(dimension) => dimension.upper < dimension.lower,
@@ -65,7 +69,9 @@ fn is_crossed(constants: &Constants, bounds: &Bounds) -> bool
 }
 
 fn are_crossed(constants: &Constants, bounds: &[Bounds]) -> bool
-    ensures { result ≡ list_any (λ b. rules.is_crossed (spec.extent_of (constants_of constants.now.entries) b)) (map view.bounds bounds.now) }
+    ensures { result ≡ list_any (λ b.
+        rules.is_crossed (spec.extent_of (constants_of constants.now.entries) b))
+        (map view.bounds bounds.now) }
 {
     for dimension in bounds {
         if is_crossed(constants, dimension) {
@@ -77,7 +83,9 @@ fn are_crossed(constants: &Constants, bounds: &[Bounds]) -> bool
 
 /// Whether a lower bound is a constant expression without a value.
 fn lacks_lower(constants: &Constants, lower: &Option<Expr>) -> bool
-    ensures { result ≡ rules.is_some_and (λ e. is_none (spec.constant_value (constants_of constants.now.entries) e)) (view.optional_term lower.now) }
+    ensures { result ≡ rules.is_some_and (λ e.
+        is_none (spec.constant_value (constants_of constants.now.entries) e))
+        (view.optional_term lower.now) }
 {
     match lower {
         Some(expression) => constant_value(constants, expression).is_none(),
@@ -87,13 +95,15 @@ fn lacks_lower(constants: &Constants, lower: &Option<Expr>) -> bool
 
 /// Whether one of two bounds is a constant expression without a value.
 fn lacks_either(constants: &Constants, bounds: &Bounds) -> bool
-    ensures { result ≡ rules.lacks_either (constants_of constants.now.entries) (view.bounds bounds.now) }
+    ensures { result ≡ rules.lacks_either (constants_of constants.now.entries)
+        (view.bounds bounds.now) }
 {
     lacks_lower(constants, &bounds.lower) || constant_value(constants, &bounds.upper).is_none()
 }
 
 fn lacks_bound(constants: &Constants, bounds: &[Bounds]) -> bool
-    ensures { result ≡ list_any (rules.lacks_either (constants_of constants.now.entries)) (map view.bounds bounds.now) }
+    ensures { result ≡ list_any (rules.lacks_either (constants_of constants.now.entries))
+        (map view.bounds bounds.now) }
 {
     for dimension in bounds {
         if lacks_either(constants, dimension) {
@@ -105,7 +115,8 @@ fn lacks_bound(constants: &Constants, bounds: &[Bounds]) -> bool
 
 #[tactic(auto, using(crate::proofs::Entries::bounds_length))]
 fn is_ill_bounded(constants: &Constants, declarator: &Declarator) -> bool
-    ensures { result ≡ rules.is_ill_bounded (constants_of constants.now.entries) (view.declarator declarator.now) }
+    ensures { result ≡ rules.is_ill_bounded (constants_of constants.now.entries)
+        (view.declarator declarator.now) }
 {
     declarator.bounds.len() > MOST_DIMENSIONS || are_crossed(constants, &declarator.bounds)
 }
@@ -120,7 +131,8 @@ pub fn has_bounds(declarator: &Declarator) -> bool
 
 /// Whether an array has more than seven dimensions or crossed bounds.
 pub fn crosses_bounds(constants: &Constants, declared: &[Declarator]) -> bool
-    ensures { result ≡ list_any (rules.is_ill_bounded (constants_of constants.now.entries)) (filter has_bounds (map view.declarator declared.now)) }
+    ensures { result ≡ list_any (rules.is_ill_bounded (constants_of constants.now.entries))
+        (filter has_bounds (map view.declarator declared.now)) }
 {
     for declarator in declared {
         if has_bounds(declarator) && is_ill_bounded(constants, declarator) {
@@ -132,7 +144,8 @@ pub fn crosses_bounds(constants: &Constants, declared: &[Declarator]) -> bool
 
 /// Whether a bound of an array has no value.
 pub fn lacks_bounds(constants: &Constants, declared: &[Declarator]) -> bool
-    ensures { result ≡ list_any (rules.lacks_bound (constants_of constants.now.entries)) (filter has_bounds (map view.declarator declared.now)) }
+    ensures { result ≡ list_any (rules.lacks_bound (constants_of constants.now.entries))
+        (filter has_bounds (map view.declarator declared.now)) }
 {
     for declarator in declared {
         if has_bounds(declarator) && lacks_bound(constants, &declarator.bounds) {
@@ -203,7 +216,9 @@ fn dimensions_of(
     constants: &Constants,
     bounds: &[Bounds],
 ) -> Result<Vec<Dimension>, AllocError>
-    ensures { IfOk result (λ ds. map view.extent ds.items ≡ spec.or_no_extents (spec.extents_of (constants_of constants.now.entries) (map view.bounds bounds.now))) }
+    ensures { IfOk result (λ ds. map view.extent ds.items
+        ≡ spec.or_no_extents
+        (spec.extents_of (constants_of constants.now.entries) (map view.bounds bounds.now))) }
 {
     let mut dimensions = Vec::new(alloc);
     for given in bounds {
@@ -217,7 +232,8 @@ fn dimensions_of(
 
 /// How many elements an array has, counted so; none where a bound has no value.
 fn array_elements(dimensions: &[Dimension]) -> u128
-    ensures elements { result ≡ counting.few_or_more (spec.array_elements (map view.extent dimensions.now)) }
+    ensures elements { result
+        ≡ counting.few_or_more (spec.array_elements (map view.extent dimensions.now)) }
     ensures few { result < 2 ^ 32 }
 {
     match dimensions {
@@ -229,7 +245,8 @@ fn array_elements(dimensions: &[Dimension]) -> u128
 #[tactic(auto, using(crate::proofs::Sums::sum_law))]
 fn with_elements(total: u128, dimensions: &[Dimension]) -> u128
     requires { total < 2 ^ 32 }
-    ensures sum { result ≡ counting.few_or_more (total + spec.array_elements (map view.extent dimensions.now)) }
+    ensures sum { result ≡ counting.few_or_more
+        (total + spec.array_elements (map view.extent dimensions.now)) }
     ensures few { result < 2 ^ 32 }
 {
     few_or_more(total + array_elements(dimensions))
@@ -245,8 +262,17 @@ fn add_array(
     declarator: &Declarator,
 ) -> Result<u128, AllocError>
     requires { before < 2 ^ 32 }
-    ensures arrays { OnOk result (arrays_of arrays.new.entries ≡ insert_entry same_name (arrays_of arrays.old.entries) declarator.now.name.letters (spec.or_no_extents (spec.extents_of (constants_of constants.now.entries) (map view.bounds declarator.now.bounds.items)))) }
-    ensures elements { IfOk result (λ total. total ≡ counting.few_or_more (before + spec.array_elements (spec.or_no_extents (spec.extents_of (constants_of constants.now.entries) (map view.bounds declarator.now.bounds.items))))) }
+    ensures arrays { OnOk result (arrays_of arrays.new.entries
+        ≡ insert_entry same_name (arrays_of arrays.old.entries) declarator.now.name.letters
+        (spec.or_no_extents
+        (spec.extents_of (constants_of constants.now.entries)
+        (map view.bounds declarator.now.bounds.items)))) }
+    ensures elements { IfOk result (λ total. total
+        ≡ counting.few_or_more
+        (before + spec.array_elements
+        (spec.or_no_extents
+        (spec.extents_of (constants_of constants.now.entries)
+        (map view.bounds declarator.now.bounds.items))))) }
     ensures few { IfOk result (λ total. total < 2 ^ 32) }
 {
     let dimensions = dimensions_of(alloc, constants, &declarator.bounds)?;
@@ -264,8 +290,14 @@ pub fn add_arrays(
     declared: &[Declarator],
 ) -> Result<u128, AllocError>
     requires { before < 2 ^ 32 }
-    ensures arrays { OnOk result (arrays_of arrays.new.entries ≡ spec.with_arrays (arrays_of arrays.old.entries) (spec.arrays_by (constants_of constants.now.entries) (filter has_bounds (map view.declarator declared.now)))) }
-    ensures elements { IfOk result (λ total. total ≡ counting.counted before (spec.arrays_by (constants_of constants.now.entries) (filter has_bounds (map view.declarator declared.now)))) }
+    ensures arrays { OnOk result (arrays_of arrays.new.entries
+        ≡ spec.with_arrays (arrays_of arrays.old.entries)
+        (spec.arrays_by (constants_of constants.now.entries)
+        (filter has_bounds (map view.declarator declared.now)))) }
+    ensures elements { IfOk result (λ total. total
+        ≡ counting.counted before
+        (spec.arrays_by (constants_of constants.now.entries)
+        (filter has_bounds (map view.declarator declared.now)))) }
     ensures few { IfOk result (λ total. total < 2 ^ 32) }
 {
     let mut total = before;

@@ -9,7 +9,8 @@ ghost use Rattle.profile_check.specs.Checking as spec;
 ghost use Rattle.profile_check.specs.CheckingView.{before};
 ghost use Rattle.profile_check.specs.Declarations.{declared_in};
 ghost use Rattle.profile_check.specs.DeclarationsView.{declared};
-ghost use Rattle.profile_check.specs.Rules.{BreaksFirst, InProfile, lower, typed_at_top, typed_in_whole};
+ghost use Rattle.profile_check.specs.Rules.{BreaksFirst, InProfile, lower, typed_at_top};
+ghost use Rattle.profile_check.specs.Rules.{typed_in_whole};
 
 use crate::declarations::Declarations;
 use crate::names::{add_all, typed_at_top};
@@ -49,8 +50,11 @@ fn rule_broken(
     stmt: &Stmt,
 ) -> Result<Option<u8>, AllocError>
     requires { seen.old.count < 2 ^ 63 }
-    ensures rule { IfOk result (λ rule. rule ≡ spec.rule_by (map view.letters typed.now.keys) (before seen.old) (view.statement stmt.now)) }
-    ensures kept { IfOk result (λ rule. rule ≡ None → before seen.new ≡ spec.and_one (before seen.old) (view.statement stmt.now)) }
+    ensures rule { IfOk result (λ rule. rule
+        ≡ spec.rule_by (map view.letters typed.now.keys) (before seen.old)
+        (view.statement stmt.now)) }
+    ensures kept { IfOk result (λ rule. rule ≡ None → before seen.new
+        ≡ spec.and_one (before seen.old) (view.statement stmt.now)) }
 {
     let mut used = Vec::new(alloc);
     add_uses(&mut used, &stmt.kind)?;
@@ -64,7 +68,9 @@ fn rule_broken(
 
 /// Takes in the names that a statement gives a type for the whole program.
 fn add_typed(alloc: Global, typed: &mut IndexSet<Name>, kind: &Kind) -> Result<(), AllocError>
-    ensures { OnOk result (map view.letters typed.new.keys ≡ insert_all same_name (map view.letters typed.old.keys) (typed_at_top (view.kind kind.now))) }
+    ensures { OnOk result (map view.letters typed.new.keys
+        ≡ insert_all same_name (map view.letters typed.old.keys)
+        (typed_at_top (view.kind kind.now))) }
 {
     let names = typed_at_top(alloc, kind)?;
     add_all(typed, &names)
@@ -72,7 +78,8 @@ fn add_typed(alloc: Global, typed: &mut IndexSet<Name>, kind: &Kind) -> Result<(
 
 /// The names that INTEGER statements give a type, wherever these stand.
 fn typed_anywhere(alloc: Global, stmts: &[Stmt]) -> Result<IndexSet<Name>, AllocError>
-    ensures { IfOk result (λ typed. map view.letters typed.keys ≡ spec.table_of (typed_in_whole (map view.statement stmts.now))) }
+    ensures { IfOk result (λ typed. map view.letters typed.keys
+        ≡ spec.table_of (typed_in_whole (map view.statement stmts.now))) }
 {
     let mut typed = IndexSet::new(alloc);
     for stmt in stmts {
@@ -89,8 +96,11 @@ fn check_statement(
     stmt: &Stmt,
 ) -> Result<(), Refusal>
     requires { seen.old.count < 2 ^ 63 }
-    ensures seen { OnOk result (before seen.new ≡ spec.and_one (before seen.old) (view.statement stmt.now)) }
-    ensures rule { spec.Breaks result (view.statement stmt.now) (spec.rule_by (map view.letters typed.now.keys) (before seen.old) (view.statement stmt.now)) }
+    ensures seen { OnOk result (before seen.new
+        ≡ spec.and_one (before seen.old) (view.statement stmt.now)) }
+    ensures rule { spec.Breaks result (view.statement stmt.now)
+        (spec.rule_by (map view.letters typed.now.keys) (before seen.old)
+        (view.statement stmt.now)) }
 {
     match rule_broken(alloc, typed, seen, stmt)? {
         Some(number) => Err(Refusal::Refused {
@@ -109,7 +119,9 @@ fn check_all(
     stmts: &[Stmt],
 ) -> Result<Declarations, Refusal>
     requires { seen.count ≡ 0 }
-    ensures { Gives declared result (spec.checked (map view.letters typed.now.keys) (before seen) (map view.statement stmts.now)) }
+    ensures { Gives declared result
+        (spec.checked (map view.letters typed.now.keys) (before seen)
+        (map view.statement stmts.now)) }
 {
     for stmt in stmts {
         check_statement(alloc, typed, &mut seen, stmt)?;
@@ -117,8 +129,8 @@ fn check_all(
     Ok(seen.declarations)
 }
 
-/// What a program's statements declare. Refuses the first statement that breaks a rule, by the lowest
-/// rule that it breaks.
+/// What a program's statements declare. Refuses the first statement that breaks a rule, by the
+/// lowest rule that it breaks.
 pub fn check(alloc: Global, stmts: &[Stmt]) -> Result<Declarations, Refusal>
     ensures kept { IfOk result (λ d. InProfile (map view.statement stmts.now)) }
     ensures declared { IfOk result (λ d. declared d ≡ declared_in (map view.statement stmts.now)) }

@@ -51,7 +51,8 @@ fn intrinsic_name(function: Intrinsic) -> Name
 /// The value of a name in a constant expression: it may have no list.
 #[tactic(auto, using(crate::proofs::ConstantValues::name_law, crate::proofs::ConstantValues::list_law))]
 fn name_value(constants: &Constants, name: Name, list: &[Expr]) -> Option<i64>
-    ensures { result ≡ spec.constant_value (constants_of constants.now.entries) (element (ref_to name.letters) (terms (map view.term list.now))) }
+    ensures { result ≡ spec.constant_value (constants_of constants.now.entries)
+        (element (ref_to name.letters) (terms (map view.term list.now))) }
 {
     match list {
         [] => constant_named(constants, name),
@@ -59,11 +60,12 @@ fn name_value(constants: &Constants, name: Name, list: &[Expr]) -> Option<i64>
     }
 }
 
-/// The value of a constant expression as its text has it, if it has one. In the tree of a text a call
-/// is an element still; the clause speaks of every tree, so one with a call is answered too.
+/// The value of a constant expression as its text has it, if it has one. In the tree of a text a
+/// call is an element still; the clause speaks of every tree, so one with a call is answered too.
 #[tactic(auto, using(crate::proofs::ConstantValues::name_law, crate::proofs::ConstantValues::prefixed_law, crate::proofs::ConstantValues::binary_law))]
 pub fn constant_value(constants: &Constants, expression: &Expr) -> Option<i64>
-    ensures { result ≡ spec.constant_value (constants_of constants.now.entries) (view.term expression.now) }
+    ensures { result ≡ spec.constant_value (constants_of constants.now.entries)
+        (view.term expression.now) }
 {
     match expression {
         Expr::Constant(number) => Some(*number),
@@ -89,7 +91,8 @@ pub fn constant_value(constants: &Constants, expression: &Expr) -> Option<i64>
 /// Takes a constant in, if it has a value.
 #[tactic(auto, using(crate::proofs::Entries::constant_added))]
 fn add_constant(constants: &mut Constants, name: Name, value: Option<i64>) -> Result<(), AllocError>
-    ensures { OnOk result (constants_of constants.new.entries ≡ spec.with_constant (constants_of constants.old.entries) name.letters value) }
+    ensures { OnOk result (constants_of constants.new.entries
+        ≡ spec.with_constant (constants_of constants.old.entries) name.letters value) }
 {
     if let Some(number) = value {
         constants.insert(name, number)?;
@@ -99,8 +102,11 @@ fn add_constant(constants: &mut Constants, name: Name, value: Option<i64>) -> Re
 
 /// Takes in the constants that a statement defines: whether one of them has no value.
 pub fn define(constants: &mut Constants, defined: &[Definition]) -> Result<bool, AllocError>
-    ensures lacks { IfOk result (λ lacks. lacks ≡ lacks_constant (constants_of constants.old.entries) (map view.definition defined.now)) }
-    ensures defined { OnOk result (constants_of constants.new.entries ≡ spec.with_constants (constants_of constants.old.entries) (map view.definition defined.now)) }
+    ensures lacks { IfOk result (λ lacks. lacks
+        ≡ lacks_constant (constants_of constants.old.entries) (map view.definition defined.now)) }
+    ensures defined { OnOk result (constants_of constants.new.entries
+        ≡ spec.with_constants (constants_of constants.old.entries)
+        (map view.definition defined.now)) }
 {
     let mut lacks = false;
     for definition in defined {

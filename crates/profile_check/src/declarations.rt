@@ -84,9 +84,15 @@ fn declares_again(
     names: &[Name],
 ) -> Result<bool, AllocError>
     requires { map view.letters names.now ≡ names_mentioned (view.kind kind.now) }
-    ensures again { IfOk result (λ again. again ≡ spec.declares_again (option_map view.letters program) (map view.letters typed.old.keys) (map view.letters objects.old.keys) (view.kind kind.now)) }
-    ensures typed { IfOk result (λ again. again ≡ false → map view.letters typed.new.keys ≡ insert_all same_name (map view.letters typed.old.keys) (declarator_names (typed_by (view.kind kind.now)))) }
-    ensures objects { IfOk result (λ again. again ≡ false → map view.letters objects.new.keys ≡ insert_all same_name (map view.letters objects.old.keys) (objects_by (view.kind kind.now))) }
+    ensures again { IfOk result (λ again. again
+        ≡ spec.declares_again (option_map view.letters program) (map view.letters typed.old.keys)
+        (map view.letters objects.old.keys) (view.kind kind.now)) }
+    ensures typed { IfOk result (λ again. again ≡ false → map view.letters typed.new.keys
+        ≡ insert_all same_name (map view.letters typed.old.keys)
+        (declarator_names (typed_by (view.kind kind.now)))) }
+    ensures objects { IfOk result (λ again. again ≡ false → map view.letters objects.new.keys
+        ≡ insert_all same_name (map view.letters objects.old.keys)
+        (objects_by (view.kind kind.now))) }
 {
     if add_new(typed, &typed_names(alloc, kind)?)? {
         return Ok(true);
@@ -106,7 +112,8 @@ fn is_larger(
     names: &IndexSet<Name>,
     elements: u128,
 ) -> bool
-    ensures { result ≡ spec.is_larger statements (standing structure.now).opened (view.kind kind.now) (map view.letters names.now.keys) elements }
+    ensures { result ≡ spec.is_larger statements (standing structure.now).opened
+        (view.kind kind.now) (map view.letters names.now.keys) elements }
 {
     statements >= MOST_STATEMENTS
         || opens(kind) && structure.nesting() >= MOST_NESTED
@@ -116,8 +123,10 @@ fn is_larger(
 
 /// Whether a bound or a constant of a statement has no value; takes the constants in.
 fn lacks_value(constants: &mut Constants, kind: &Kind) -> Result<bool, AllocError>
-    ensures lacks { IfOk result (λ lacks. lacks ≡ spec.lacks_value (constants_of constants.old.entries) (view.kind kind.now)) }
-    ensures defined { OnOk result (constants_of constants.new.entries ≡ with_constants (constants_of constants.old.entries) (defined_by (view.kind kind.now))) }
+    ensures lacks { IfOk result (λ lacks. lacks
+        ≡ spec.lacks_value (constants_of constants.old.entries) (view.kind kind.now)) }
+    ensures defined { OnOk result (constants_of constants.new.entries
+        ≡ with_constants (constants_of constants.old.entries) (defined_by (view.kind kind.now))) }
 {
     let lacks_bound = lacks_bounds(constants, declarators_of(kind));
     let lacks_constant = define(constants, defined_by(kind))?;
@@ -152,8 +161,8 @@ impl Declarations {
         }
     }
 
-    /// The lowest rule of the profile that the next statement breaks. Where it breaks none it is one
-    /// of those before from now on.
+    /// The lowest rule of the profile that the next statement breaks. Where it breaks none it is
+    /// one of those before from now on.
     pub fn rule_broken(
         &mut self,
         alloc: Global,
@@ -164,9 +173,15 @@ impl Declarations {
         used: &[Use],
     ) -> Result<Option<u8>, AllocError>
         requires { map use_of used.now ≡ uses (view.kind stmt.now.kind) }
-        ensures rule { IfOk result (λ rule. rule ≡ spec.lowest_of spec.rules (context typed.now structure.now statements self.old) (view.statement stmt.now)) }
-        ensures kept { IfOk result (λ rule. rule ≡ None → declared self.new ≡ and_then_declared (declared self.old) (view.statement stmt.now)) }
-        ensures elements { IfOk result (λ rule. rule ≡ None → self.new.elements ≡ counted self.old.elements (arrays_by (constants_of self.old.constants.entries) (bounded_by (view.kind stmt.now.kind)))) }
+        ensures rule { IfOk result (λ rule. rule
+            ≡ spec.lowest_of spec.rules (context typed.now structure.now statements self.old)
+            (view.statement stmt.now)) }
+        ensures kept { IfOk result (λ rule. rule ≡ None → declared self.new
+            ≡ and_then_declared (declared self.old) (view.statement stmt.now)) }
+        ensures elements { IfOk result (λ rule. rule ≡ None → self.new.elements
+            ≡ counted self.old.elements
+            (arrays_by (constants_of self.old.constants.entries)
+            (bounded_by (view.kind stmt.now.kind)))) }
     {
         let kind = &stmt.kind;
         if names_real(typed, kind, used) {

@@ -150,7 +150,8 @@ fn bounds_are_integral(bounds: &[Bounds]) -> bool
 }
 
 fn declarators_are_integral(declared: &[Declarator]) -> bool
-    ensures { result ≡ list_all (λ d. list_all rules.bounds_are_integral d.bounds) (map view.declarator declared.now) }
+    ensures { result ≡ list_all (λ d.
+        list_all rules.bounds_are_integral d.bounds) (map view.declarator declared.now) }
 {
     for declarator in declared {
         if !bounds_are_integral(&declarator.bounds) {
@@ -161,7 +162,8 @@ fn declarators_are_integral(declared: &[Declarator]) -> bool
 }
 
 fn definitions_are_integral(defined: &[Definition]) -> bool
-    ensures { result ≡ list_all (λ d. spec.is_of spec.integral d.value) (map view.definition defined.now) }
+    ensures { result ≡ list_all (λ d.
+        spec.is_of spec.integral d.value) (map view.definition defined.now) }
 {
     for definition in defined {
         if !is_integral(&definition.value) {
@@ -192,7 +194,8 @@ fn items_are_integral(items: &[Item]) -> bool
 }
 
 fn elements_are_integral(elements: &[Access]) -> bool
-    ensures { result ≡ list_all (λ a. spec.are_integral a.subscripts) (map view.access elements.now) }
+    ensures { result ≡ list_all (λ a.
+        spec.are_integral a.subscripts) (map view.access elements.now) }
 {
     for element in elements {
         if !are_integral(&element.subscripts) {

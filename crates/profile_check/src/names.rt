@@ -158,7 +158,8 @@ pub fn program_named_by(kind: &Kind) -> Option<Name>
 /// Takes names into a table.
 #[tactic(auto, using(crate::proofs::Entries::table_laws))]
 pub fn add_all(table: &mut IndexSet<Name>, names: &[Name]) -> Result<(), AllocError>
-    ensures { OnOk result (map view.letters table.new.keys ≡ insert_all same_name (map view.letters table.old.keys) (map view.letters names.now)) }
+    ensures { OnOk result (map view.letters table.new.keys
+        ≡ insert_all same_name (map view.letters table.old.keys) (map view.letters names.now)) }
 {
     for name in names {
         table.insert(*name)?;
@@ -169,8 +170,10 @@ pub fn add_all(table: &mut IndexSet<Name>, names: &[Name]) -> Result<(), AllocEr
 /// Takes names into a table, unless one of them was there: whether one was.
 #[tactic(auto, using(crate::proofs::Entries::table_laws))]
 pub fn add_new(table: &mut IndexSet<Name>, names: &[Name]) -> Result<bool, AllocError>
-    ensures again { IfOk result (λ again. again ≡ taken_before (map view.letters table.old.keys) (map view.letters names.now)) }
-    ensures added { IfOk result (λ again. again ≡ false → map view.letters table.new.keys ≡ insert_all same_name (map view.letters table.old.keys) (map view.letters names.now)) }
+    ensures again { IfOk result (λ again. again
+        ≡ taken_before (map view.letters table.old.keys) (map view.letters names.now)) }
+    ensures added { IfOk result (λ again. again ≡ false → map view.letters table.new.keys
+        ≡ insert_all same_name (map view.letters table.old.keys) (map view.letters names.now)) }
 {
     for name in names {
         if !table.insert(*name)? {
@@ -181,7 +184,8 @@ pub fn add_new(table: &mut IndexSet<Name>, names: &[Name]) -> Result<bool, Alloc
 }
 
 fn add_declarators(names: &mut Vec<Name>, declared: &[Declarator]) -> Result<(), AllocError>
-    ensures { OnOk result (map view.letters names.new.items ≡ map view.letters names.old.items ++ spec.declarator_names (map view.declarator declared.now)) }
+    ensures { OnOk result (map view.letters names.new.items ≡ map view.letters names.old.items
+        ++ spec.declarator_names (map view.declarator declared.now)) }
 {
     for declarator in declared {
         names.push(declarator.name)?;
@@ -190,7 +194,8 @@ fn add_declarators(names: &mut Vec<Name>, declared: &[Declarator]) -> Result<(),
 }
 
 fn add_arrays(names: &mut Vec<Name>, declared: &[Declarator]) -> Result<(), AllocError>
-    ensures { OnOk result (map view.letters names.new.items ≡ map view.letters names.old.items ++ spec.declarator_names (filter spec.has_bounds (map view.declarator declared.now))) }
+    ensures { OnOk result (map view.letters names.new.items ≡ map view.letters names.old.items
+        ++ spec.declarator_names (filter spec.has_bounds (map view.declarator declared.now))) }
 {
     for declarator in declared {
         if !has_bounds(declarator) {
@@ -202,7 +207,8 @@ fn add_arrays(names: &mut Vec<Name>, declared: &[Declarator]) -> Result<(), Allo
 }
 
 fn add_definitions(names: &mut Vec<Name>, defined: &[Definition]) -> Result<(), AllocError>
-    ensures { OnOk result (map view.letters names.new.items ≡ map view.letters names.old.items ++ spec.definition_names (map view.definition defined.now)) }
+    ensures { OnOk result (map view.letters names.new.items ≡ map view.letters names.old.items
+        ++ spec.definition_names (map view.definition defined.now)) }
 {
     for definition in defined {
         names.push(definition.name)?;
@@ -211,7 +217,8 @@ fn add_definitions(names: &mut Vec<Name>, defined: &[Definition]) -> Result<(), 
 }
 
 fn add_used(names: &mut Vec<Name>, used: &[Use]) -> Result<(), AllocError>
-    ensures { OnOk result (map view.letters names.new.items ≡ map view.letters names.old.items ++ map (λ u. u.name) (filter spec.is_name (map use_of used.now))) }
+    ensures { OnOk result (map view.letters names.new.items ≡ map view.letters names.old.items
+        ++ map (λ u. u.name) (filter spec.is_name (map use_of used.now))) }
 {
     for one in used {
         if is_call(one) {
@@ -224,7 +231,8 @@ fn add_used(names: &mut Vec<Name>, used: &[Use]) -> Result<(), AllocError>
 
 /// The names that a statement gives a type.
 pub fn typed_names(alloc: Global, kind: &Kind) -> Result<Vec<Name>, AllocError>
-    ensures { IfOk result (λ names. map view.letters names.items ≡ spec.declarator_names (spec.typed_by (view.kind kind.now))) }
+    ensures { IfOk result (λ names. map view.letters names.items
+        ≡ spec.declarator_names (spec.typed_by (view.kind kind.now))) }
 {
     let mut names = Vec::new(alloc);
     add_declarators(&mut names, typed_by(kind))?;
@@ -233,7 +241,8 @@ pub fn typed_names(alloc: Global, kind: &Kind) -> Result<Vec<Name>, AllocError>
 
 /// The names that a statement gives a type for the whole program; one in a logical IF gives none.
 pub fn typed_at_top(alloc: Global, kind: &Kind) -> Result<Vec<Name>, AllocError>
-    ensures { IfOk result (λ names. map view.letters names.items ≡ typed_at_top (view.kind kind.now)) }
+    ensures { IfOk result (λ names. map view.letters names.items
+        ≡ typed_at_top (view.kind kind.now)) }
 {
     let mut names = Vec::new(alloc);
     match kind {
@@ -259,7 +268,8 @@ pub fn typed_at_top(alloc: Global, kind: &Kind) -> Result<Vec<Name>, AllocError>
 
 /// The names of the arrays and constants that a statement declares.
 pub fn objects_of(alloc: Global, kind: &Kind) -> Result<Vec<Name>, AllocError>
-    ensures { IfOk result (λ names. map view.letters names.items ≡ objects_by (view.kind kind.now)) }
+    ensures { IfOk result (λ names. map view.letters names.items
+        ≡ objects_by (view.kind kind.now)) }
 {
     let mut names = Vec::new(alloc);
     add_arrays(&mut names, declarators_of(kind))?;
@@ -271,7 +281,8 @@ pub fn objects_of(alloc: Global, kind: &Kind) -> Result<Vec<Name>, AllocError>
 #[tactic(auto, using(crate::proofs::Entries::appended))]
 pub fn mentioned(alloc: Global, kind: &Kind, used: &[Use]) -> Result<Vec<Name>, AllocError>
     requires { map use_of used.now ≡ spec.uses (view.kind kind.now) }
-    ensures { IfOk result (λ names. map view.letters names.items ≡ spec.names_mentioned (view.kind kind.now)) }
+    ensures { IfOk result (λ names. map view.letters names.items
+        ≡ spec.names_mentioned (view.kind kind.now)) }
 {
     let mut names = Vec::new(alloc);
     add_declarators(&mut names, typed_by(kind))?;

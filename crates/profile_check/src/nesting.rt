@@ -80,7 +80,9 @@ fn next_arm(
     line: Line,
     condition: Option<Expr>,
 ) -> Result<Nest, AllocError>
-    ensures { IfOk result (λ n. nest_of n ≡ spec.next_arm line (optional_term condition) (map frame nest.frames.items) (map node nest.nodes.items)) }
+    ensures { IfOk result (λ n. nest_of n
+        ≡ spec.next_arm line (optional_term condition) (map frame nest.frames.items)
+        (map node nest.nodes.items)) }
 {
     let Nest { mut frames, nodes } = nest;
     if !is_block(&frames) {
@@ -97,7 +99,8 @@ fn next_arm(
 
 /// The end of the innermost block.
 fn end_block(nest: Nest) -> Result<Nest, AllocError>
-    ensures { IfOk result (λ n. nest_of n ≡ spec.end_block (map frame nest.frames.items) (map node nest.nodes.items)) }
+    ensures { IfOk result (λ n. nest_of n
+        ≡ spec.end_block (map frame nest.frames.items) (map node nest.nodes.items)) }
 {
     let Nest { mut frames, nodes } = nest;
     if !is_block(&frames) {
@@ -129,7 +132,8 @@ fn is_range_of(frames: &[Frame], label: Label) -> bool
 
 /// The end of the innermost ranges of a label.
 fn end_ranges(nest: Nest, label: Label) -> Result<Nest, AllocError>
-    ensures { IfOk result (λ n. nest_of n ≡ spec.end_ranges label (map frame nest.frames.items) (map node nest.nodes.items)) }
+    ensures { IfOk result (λ n. nest_of n
+        ≡ spec.end_ranges label (map frame nest.frames.items) (map node nest.nodes.items)) }
 {
     let Nest { mut frames, nodes } = nest;
     if !is_range_of(&frames, label) {
@@ -164,7 +168,9 @@ fn logical_if(alloc: Global, line: Line, condition: Expr, inner: Kind) -> Result
 
 /// One more node, and what its label ends.
 fn with_labelled(nest: Nest, label: Option<Label>, one: Node) -> Result<Nest, AllocError>
-    ensures { IfOk result (λ n. nest_of n ≡ spec.ended label (map frame nest.frames.items) (map node nest.nodes.items ++ node one ∷ [])) }
+    ensures { IfOk result (λ n. nest_of n
+        ≡ spec.ended label (map frame nest.frames.items) (map node nest.nodes.items ++ node one
+        ∷ [])) }
 {
     let Nest { frames, nodes } = nest;
     let nodes = with_node(nodes, one)?;
@@ -192,7 +198,8 @@ impl Nest {
 
     /// With one more statement.
     pub fn with_statement(self, alloc: Global, stmt: Stmt) -> Result<Nest, AllocError>
-        ensures { IfOk result (λ n. nest_of n ≡ spec.with_statement (nest_of self) (statement stmt)) }
+        ensures { IfOk result (λ n. nest_of n
+            ≡ spec.with_statement (nest_of self) (statement stmt)) }
     {
         let Stmt { line, label, kind } = stmt;
         match kind {

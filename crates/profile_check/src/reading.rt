@@ -17,8 +17,12 @@ use syntax::statement;
 
 /// The statement of a text. Numbers 20 to 27.
 fn parse_one(alloc: Global, labelled: &Labelled) -> Result<Stmt, Refusal>
-    ensures found { IfOk result (λ stmt. IsStatement labelled.now.line labelled.now.label labelled.now.text.items (statement_tree stmt)) }
-    ensures only { (s : Statement) → IsStatement labelled.now.line labelled.now.label labelled.now.text.items s → Gives statement_tree result (Ok s) }
+    ensures found { IfOk result (λ stmt.
+        IsStatement labelled.now.line labelled.now.label labelled.now.text.items
+        (statement_tree stmt)) }
+    ensures only { (s : Statement)
+        → IsStatement labelled.now.line labelled.now.label labelled.now.text.items s
+        → Gives statement_tree result (Ok s) }
     ensures refused { IfErr result (Says (IsNoStatement (entry labelled.now))) }
 {
     statement(alloc, labelled)
@@ -27,7 +31,8 @@ fn parse_one(alloc: Global, labelled: &Labelled) -> Result<Stmt, Refusal>
 /// The statements of the texts, up to the first that has none.
 pub fn parse(alloc: Global, labelled: &[Labelled]) -> Result<Vec<Stmt>, Refusal>
     ensures found { IfOk result (λ stmts. Spelled (entries labelled.now) (statements_of stmts)) }
-    ensures only { (ss : List Statement) → Spelled (entries labelled.now) ss → Gives statements_of result (Ok ss) }
+    ensures only { (ss : List Statement) → Spelled (entries labelled.now) ss
+        → Gives statements_of result (Ok ss) }
     ensures refused { IfErr result (Says (UnspelledAt (entries labelled.now))) }
 {
     let mut stmts = Vec::with_capacity(alloc, labelled.len())?;

@@ -2,12 +2,17 @@
 
 ghost use Rattle.std.specs.Prelude.{◌≡◌, ◌+◌, ◌<◌, ◌≤◌, ◌^◌, length, map, []};
 ghost use Rattle.ast.specs.Tree.{terms};
-ghost use Rattle.ast.specs.View.{access as access_of, head as head_of, item as item_of, kind as kind_of, letters, optional_term, ref, term};
+ghost use Rattle.ast.specs.View.{access as access_of, head as head_of, item as item_of};
+ghost use Rattle.ast.specs.View.{kind as kind_of, letters, optional_term, ref, term};
 ghost use Rattle.profile_check.specs.Resolving as spec;
 ghost use Rattle.profile_check.specs.Declarations.{constant_named};
-ghost use Rattle.profile_check.specs.ResolvingView.{all_at, alone_at, count_in, count_items, count_listed, count_named, count_targets, count_terms_in};
-ghost use Rattle.profile_check.specs.ResolvingView.{head_at, item_at, items_at, kind_at, named, named_at, optional_at, resolved_at};
-ghost use Rattle.profile_check.specs.ResolvingView.{table_of, target_at, targets_at, terms_at, written_at};
+ghost use Rattle.profile_check.specs.ResolvingView.{all_at, alone_at, count_in, count_items};
+ghost use Rattle.profile_check.specs.ResolvingView.{count_listed, count_named, count_targets};
+ghost use Rattle.profile_check.specs.ResolvingView.{count_terms_in};
+ghost use Rattle.profile_check.specs.ResolvingView.{head_at, item_at, items_at, kind_at, named};
+ghost use Rattle.profile_check.specs.ResolvingView.{named_at, optional_at, resolved_at};
+ghost use Rattle.profile_check.specs.ResolvingView.{table_of, target_at, targets_at, terms_at};
+ghost use Rattle.profile_check.specs.ResolvingView.{written_at};
 
 use crate::declarations::Declarations;
 use ast::{Access, DoHead, Expr, Intrinsic, Item, Kind, Name, RefId, Reference};
@@ -38,7 +43,8 @@ fn intrinsic_named(name: &Name) -> Option<Intrinsic>
 
 /// Numbers a reference.
 fn number(reference: &mut Reference, declarations: &Declarations, next: usize)
-    ensures { ref reference.new ≡ spec.numbered (table_of declarations.now) next (ref reference.old) }
+    ensures { ref reference.new
+        ≡ spec.numbered (table_of declarations.now) next (ref reference.old) }
 {
     reference.id = RefId(next);
     reference.cell = declarations
@@ -307,7 +313,8 @@ fn resolve_printed(items: &mut Vec<Item>, declarations: &Declarations, next: usi
 #[tactic(auto, using(crate::proofs::Turns::written_back))]
 fn resolve_read(targets: &mut Vec<Access>, declarations: &Declarations, next: usize) -> usize
     requires { next + count_targets targets.old.items < 2 ^ 64 }
-    ensures tree { map access_of targets.new.items ≡ targets_at declarations.now next targets.old.items }
+    ensures tree { map access_of targets.new.items
+        ≡ targets_at declarations.now next targets.old.items }
     ensures after { result ≡ next + count_targets targets.new.items }
     ensures bound { result ≤ next + count_targets targets.old.items }
 {

@@ -33,7 +33,8 @@ fn is_integer(typed: &IndexSet<Name>, name: &Name) -> bool
 }
 
 fn declares_real(typed: &IndexSet<Name>, declared: &[Declarator]) -> bool
-    ensures { result ≡ spec.are_real (map view.letters typed.now.keys) (uses.declarator_names (map view.declarator declared.now)) }
+    ensures { result ≡ spec.are_real (map view.letters typed.now.keys)
+        (uses.declarator_names (map view.declarator declared.now)) }
 {
     for declarator in declared {
         if !is_integer(typed, &declarator.name) {
@@ -44,7 +45,8 @@ fn declares_real(typed: &IndexSet<Name>, declared: &[Declarator]) -> bool
 }
 
 fn defines_real(typed: &IndexSet<Name>, defined: &[Definition]) -> bool
-    ensures { result ≡ spec.are_real (map view.letters typed.now.keys) (uses.definition_names (map view.definition defined.now)) }
+    ensures { result ≡ spec.are_real (map view.letters typed.now.keys)
+        (uses.definition_names (map view.definition defined.now)) }
 {
     for definition in defined {
         if !is_integer(typed, &definition.name) {
@@ -55,7 +57,8 @@ fn defines_real(typed: &IndexSet<Name>, defined: &[Definition]) -> bool
 }
 
 fn uses_real(typed: &IndexSet<Name>, used: &[Use]) -> bool
-    ensures { result ≡ spec.are_real (map view.letters typed.now.keys) (map (λ u. u.name) (filter uses.is_name (map use_of used.now))) }
+    ensures { result ≡ spec.are_real (map view.letters typed.now.keys)
+        (map (λ u. u.name) (filter uses.is_name (map use_of used.now))) }
 {
     for one in used {
         if !is_call(one) && !is_integer(typed, &one.name) {
@@ -106,7 +109,8 @@ fn is_miscounted(arrays: &Arrays, one: &Use) -> bool
 
 /// Whether a name of a statement has subscripts or arguments in another number.
 pub fn miscounts(arrays: &Arrays, used: &[Use]) -> bool
-    ensures { result ≡ list_any (spec.is_miscounted (arrays_of arrays.now.entries)) (map use_of used.now) }
+    ensures { result ≡ list_any (spec.is_miscounted (arrays_of arrays.now.entries))
+        (map use_of used.now) }
 {
     for one in used {
         if is_miscounted(arrays, one) {
@@ -128,7 +132,8 @@ pub fn names_real(typed: &IndexSet<Name>, kind: &Kind, used: &[Use]) -> bool
 
 /// Whether a statement gives an active DO variable a value.
 pub fn changes_active(structure: &Structure, used: &[Use]) -> bool
-    ensures { result ≡ list_any (λ u. u.is_given && is_active (standing structure.now).opened u.name) (map use_of used.now) }
+    ensures { result ≡ list_any (λ u. u.is_given
+        && is_active (standing structure.now).opened u.name) (map use_of used.now) }
 {
     for one in used {
         if one.is_given && structure.is_active(one.name) {
@@ -140,7 +145,8 @@ pub fn changes_active(structure: &Structure, used: &[Use]) -> bool
 
 /// Whether a statement gives a constant a value.
 pub fn changes_constant(constants: &Constants, used: &[Use]) -> bool
-    ensures { result ≡ list_any (λ u. u.is_given && spec.is_constant (constants_of constants.now.entries) u.name) (map use_of used.now) }
+    ensures { result ≡ list_any (λ u. u.is_given
+        && spec.is_constant (constants_of constants.now.entries) u.name) (map use_of used.now) }
 {
     for one in used {
         if one.is_given && is_constant(constants, one.name) {
@@ -188,7 +194,8 @@ fn is_other(program: Option<Name>, name: &Name) -> bool
 
 /// Whether one of the names is that of an intrinsic function or of the program.
 pub fn has_other(program: Option<Name>, names: &[Name]) -> bool
-    ensures { result ≡ list_any (spec.is_other (option_map view.letters program)) (map view.letters names.now) }
+    ensures { result ≡ list_any (spec.is_other (option_map view.letters program))
+        (map view.letters names.now) }
 {
     for name in names {
         if is_other(program, name) {
@@ -200,7 +207,8 @@ pub fn has_other(program: Option<Name>, names: &[Name]) -> bool
 
 /// Whether a program is named like an intrinsic function or another program.
 pub fn is_misnamed(program: Option<Name>, kind: &Kind) -> bool
-    ensures { result ≡ spec.is_some_and (spec.is_other (option_map view.letters program)) (uses.program_named_by (view.kind kind.now)) }
+    ensures { result ≡ spec.is_some_and (spec.is_other (option_map view.letters program))
+        (uses.program_named_by (view.kind kind.now)) }
 {
     match program_named_by(kind) {
         Some(name) => is_other(program, &name),

@@ -16,7 +16,8 @@ use std::alloc::{AllocError, Global};
 /// The dimensions of a name: none where it is no array.
 #[tactic(auto, using(crate::proofs::Entries::array_found))]
 fn dimensions_of(alloc: Global, arrays: &Arrays, name: &Name) -> Result<Vec<Dimension>, AllocError>
-    ensures { IfOk result (λ ds. map view.extent ds.items ≡ spec.dimensions_named (arrays_of arrays.now.entries) name.now.letters) }
+    ensures { IfOk result (λ ds. map view.extent ds.items
+        ≡ spec.dimensions_named (arrays_of arrays.now.entries) name.now.letters) }
 {
     match arrays.get(name) {
         Some(dimensions) => Vec::from_slice(alloc, dimensions),
@@ -31,7 +32,8 @@ fn kind_of(
     declarations: &Declarations,
     name: &Name,
 ) -> Result<SymbolKind, AllocError>
-    ensures found { IfOk result (λ kind. view.sort kind ≡ spec.sort_of (declared declarations.now) name.now.letters) }
+    ensures found { IfOk result (λ kind. view.sort kind
+        ≡ spec.sort_of (declared declarations.now) name.now.letters) }
     ensures fitting { IfOk result (λ kind. sort_fits (view.sort kind) ≡ true) }
 {
     match declarations.constants.get(name) {
@@ -44,7 +46,8 @@ fn kind_of(
 }
 
 fn symbol_of(alloc: Global, declarations: &Declarations, name: Name) -> Result<Symbol, AllocError>
-    ensures found { IfOk result (λ s. view.symbol s ≡ spec.symbol_of (declared declarations.now) name.letters) }
+    ensures found { IfOk result (λ s. view.symbol s
+        ≡ spec.symbol_of (declared declarations.now) name.letters) }
     ensures fitting { IfOk result (λ s. symbol_fits (view.symbol s) ≡ true) }
 {
     let kind = kind_of(alloc, declarations, &name)?;
@@ -53,8 +56,10 @@ fn symbol_of(alloc: Global, declarations: &Declarations, name: Name) -> Result<S
 
 /// A symbol for each name that is declared, in their order.
 pub fn symbols_of(alloc: Global, declarations: &Declarations) -> Result<Vec<Symbol>, AllocError>
-    ensures found { IfOk result (λ symbols. map view.symbol symbols.items ≡ spec.symbols_of (declared declarations.now)) }
-    ensures fitting { IfOk result (λ symbols. list_all symbol_fits (map view.symbol symbols.items) ≡ true) }
+    ensures found { IfOk result (λ symbols. map view.symbol symbols.items
+        ≡ spec.symbols_of (declared declarations.now)) }
+    ensures fitting { IfOk result (λ symbols. list_all symbol_fits (map view.symbol symbols.items)
+        ≡ true) }
 {
     let names = declarations.names.as_slice();
     let mut symbols = Vec::with_capacity(alloc, names.len())?;

@@ -12,10 +12,12 @@ use crate::resolving::resolve_kind;
 use ast::{Node, Stmt};
 use std::alloc::{AllocError, Global};
 
-/// Resolves the names of a statement, its references numbered from `next` on; the number after them.
+/// Resolves the names of a statement, its references numbered from `next` on; the number after
+/// them.
 fn resolve_statement(stmt: &mut Stmt, declarations: &Declarations, next: usize) -> usize
     requires { next + spec.statement_count (statement stmt.old) < 2 ^ 64 }
-    ensures tree { statement stmt.new ≡ spec.statement_resolved (table_of declarations.now) next (statement stmt.old) }
+    ensures tree { statement stmt.new
+        ≡ spec.statement_resolved (table_of declarations.now) next (statement stmt.old) }
     ensures after { result ≡ next + spec.statement_count (statement stmt.new) }
     ensures bound { result ≤ next + spec.statement_count (statement stmt.old) }
 {
@@ -29,7 +31,9 @@ pub fn tree(
     declarations: &Declarations,
 ) -> Result<Vec<Node>, AllocError>
     requires { spec.references_in (map statement stmts.items) < 2 ^ 64 }
-    ensures { IfOk result (λ nodes. map node nodes.items ≡ (nested (spec.statements_resolved (table_of declarations.now) 0 (map statement stmts.items))).nodes) }
+    ensures { IfOk result (λ nodes. map node nodes.items
+        ≡ (nested (spec.statements_resolved (table_of declarations.now) 0
+        (map statement stmts.items))).nodes) }
 {
     let mut nest = Nest::new(alloc);
     let mut next = 0;

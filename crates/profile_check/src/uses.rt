@@ -22,7 +22,8 @@ pub struct Use {
 /// Appends the names of expressions.
 #[cycle(uses)]
 fn add_all(uses: &mut Vec<Use>, expressions: &[Expr]) -> Result<(), AllocError>
-    ensures { OnOk result (map use_of uses.new.items ≡ map use_of uses.old.items ++ spec.terms_uses (tree.terms (map view.term expressions.now))) }
+    ensures { OnOk result (map use_of uses.new.items ≡ map use_of uses.old.items
+        ++ spec.terms_uses (tree.terms (map view.term expressions.now))) }
 {
     for expression in expressions {
         add_term(uses, expression)?;
@@ -41,7 +42,8 @@ fn count(expressions: &[Expr]) -> usize
 /// Appends the names of an element.
 #[cycle(uses)]
 fn add_access(uses: &mut Vec<Use>, access: &Access, is_given: bool) -> Result<(), AllocError>
-    ensures { OnOk result (map use_of uses.new.items ≡ map use_of uses.old.items ++ spec.access_uses is_given (view.access access.now)) }
+    ensures { OnOk result (map use_of uses.new.items ≡ map use_of uses.old.items
+        ++ spec.access_uses is_given (view.access access.now)) }
 {
     add_all(uses, &access.subscripts)?;
     uses.push(Use {
@@ -55,7 +57,8 @@ fn add_access(uses: &mut Vec<Use>, access: &Access, is_given: bool) -> Result<()
 /// Appends the names of an expression.
 #[cycle(uses)]
 fn add_term(uses: &mut Vec<Use>, expression: &Expr) -> Result<(), AllocError>
-    ensures { OnOk result (map use_of uses.new.items ≡ map use_of uses.old.items ++ spec.term_uses (view.term expression.now)) }
+    ensures { OnOk result (map use_of uses.new.items ≡ map use_of uses.old.items
+        ++ spec.term_uses (view.term expression.now)) }
 {
     match expression {
         Expr::Constant(_) => Ok(()),
@@ -73,7 +76,8 @@ fn add_term(uses: &mut Vec<Use>, expression: &Expr) -> Result<(), AllocError>
 }
 
 fn add_optional(uses: &mut Vec<Use>, expression: &Option<Expr>) -> Result<(), AllocError>
-    ensures { OnOk result (map use_of uses.new.items ≡ map use_of uses.old.items ++ spec.optional_uses (view.optional_term expression.now)) }
+    ensures { OnOk result (map use_of uses.new.items ≡ map use_of uses.old.items
+        ++ spec.optional_uses (view.optional_term expression.now)) }
 {
     match expression {
         Some(expression) => add_term(uses, expression),
@@ -82,7 +86,8 @@ fn add_optional(uses: &mut Vec<Use>, expression: &Option<Expr>) -> Result<(), Al
 }
 
 fn add_bounds(uses: &mut Vec<Use>, bounds: &[Bounds]) -> Result<(), AllocError>
-    ensures { OnOk result (map use_of uses.new.items ≡ map use_of uses.old.items ++ spec.all_uses spec.bounds_uses (map view.bounds bounds.now)) }
+    ensures { OnOk result (map use_of uses.new.items ≡ map use_of uses.old.items
+        ++ spec.all_uses spec.bounds_uses (map view.bounds bounds.now)) }
 {
     for dimension in bounds {
         add_optional(uses, &dimension.lower)?;
@@ -92,7 +97,8 @@ fn add_bounds(uses: &mut Vec<Use>, bounds: &[Bounds]) -> Result<(), AllocError>
 }
 
 fn add_declarators(uses: &mut Vec<Use>, declared: &[Declarator]) -> Result<(), AllocError>
-    ensures { OnOk result (map use_of uses.new.items ≡ map use_of uses.old.items ++ spec.all_uses spec.declarator_uses (map view.declarator declared.now)) }
+    ensures { OnOk result (map use_of uses.new.items ≡ map use_of uses.old.items
+        ++ spec.all_uses spec.declarator_uses (map view.declarator declared.now)) }
 {
     for declarator in declared {
         add_bounds(uses, &declarator.bounds)?;
@@ -101,7 +107,8 @@ fn add_declarators(uses: &mut Vec<Use>, declared: &[Declarator]) -> Result<(), A
 }
 
 fn add_definitions(uses: &mut Vec<Use>, defined: &[Definition]) -> Result<(), AllocError>
-    ensures { OnOk result (map use_of uses.new.items ≡ map use_of uses.old.items ++ spec.all_uses spec.definition_uses (map view.definition defined.now)) }
+    ensures { OnOk result (map use_of uses.new.items ≡ map use_of uses.old.items
+        ++ spec.all_uses spec.definition_uses (map view.definition defined.now)) }
 {
     for definition in defined {
         add_term(uses, &definition.value)?;
@@ -110,7 +117,8 @@ fn add_definitions(uses: &mut Vec<Use>, defined: &[Definition]) -> Result<(), Al
 }
 
 fn add_items(uses: &mut Vec<Use>, items: &[Item]) -> Result<(), AllocError>
-    ensures { OnOk result (map use_of uses.new.items ≡ map use_of uses.old.items ++ spec.all_uses spec.item_uses (map view.item items.now)) }
+    ensures { OnOk result (map use_of uses.new.items ≡ map use_of uses.old.items
+        ++ spec.all_uses spec.item_uses (map view.item items.now)) }
 {
     for item in items {
         if let Item::Value(value) = item {
@@ -121,7 +129,8 @@ fn add_items(uses: &mut Vec<Use>, items: &[Item]) -> Result<(), AllocError>
 }
 
 fn add_elements(uses: &mut Vec<Use>, elements: &[Access]) -> Result<(), AllocError>
-    ensures { OnOk result (map use_of uses.new.items ≡ map use_of uses.old.items ++ spec.all_uses spec.given_uses (map view.access elements.now)) }
+    ensures { OnOk result (map use_of uses.new.items ≡ map use_of uses.old.items
+        ++ spec.all_uses spec.given_uses (map view.access elements.now)) }
 {
     for element in elements {
         add_access(uses, element, true)?;
@@ -130,7 +139,8 @@ fn add_elements(uses: &mut Vec<Use>, elements: &[Access]) -> Result<(), AllocErr
 }
 
 fn add_head(uses: &mut Vec<Use>, head: &DoHead) -> Result<(), AllocError>
-    ensures { OnOk result (map use_of uses.new.items ≡ map use_of uses.old.items ++ spec.head_uses (view.head head.now)) }
+    ensures { OnOk result (map use_of uses.new.items ≡ map use_of uses.old.items
+        ++ spec.head_uses (view.head head.now)) }
 {
     add_term(uses, &head.first)?;
     add_term(uses, &head.last)?;
@@ -145,7 +155,8 @@ fn add_head(uses: &mut Vec<Use>, head: &DoHead) -> Result<(), AllocError>
 
 /// Appends the names that a statement uses.
 pub fn add_uses(uses: &mut Vec<Use>, kind: &Kind) -> Result<(), AllocError>
-    ensures { OnOk result (map use_of uses.new.items ≡ map use_of uses.old.items ++ spec.uses (view.kind kind.now)) }
+    ensures { OnOk result (map use_of uses.new.items ≡ map use_of uses.old.items
+        ++ spec.uses (view.kind kind.now)) }
 {
     match kind {
         Kind::Integer(declared) | Kind::Dimension(declared) => add_declarators(uses, declared),

@@ -1,7 +1,9 @@
 //! The lists.
 
-ghost use Rattle.std.specs.Prelude.{◌≡◌, ◌<◌, ◌++◌, ◌∷◌, [], length, drop, map, replicate, option_map, IfOk, MatchOption, IsTrue, ◌↔◌};
-ghost use Rattle.ready_list.specs.Lists.{Lists, IsLinked, list_at, with_list, times_in, places_in, inserted, without, front_of};
+ghost use Rattle.std.specs.Prelude.{◌≡◌, ◌<◌, ◌++◌, ◌∷◌, [], length, drop, map, replicate};
+ghost use Rattle.std.specs.Prelude.{option_map, IfOk, MatchOption, IsTrue, ◌↔◌};
+ghost use Rattle.ready_list.specs.Lists.{Lists, IsLinked, list_at, with_list, times_in, places_in};
+ghost use Rattle.ready_list.specs.Lists.{inserted, without, front_of};
 
 use crate::table::{Node, add_heads, free_slots, place_for, put_between, take_from_between};
 use std::alloc::{AllocError, Global};
@@ -34,7 +36,8 @@ impl Links {
     /// So many slots, each in no list, and so many lists without slots. An error where memory is
     /// refused; no other call takes memory.
     pub fn new(alloc: Global, slots: usize, lists: usize) -> Result<Links, AllocError>
-        ensures lists { IfOk result (λ links. links ≡ record { slots = slots; lists = replicate lists [] }) }
+        ensures lists { IfOk result (λ links. links
+            ≡ record { slots = slots; lists = replicate lists [] }) }
         ensures linked { IfOk result IsLinked }
     {
         let mut table = free_slots(alloc, slots, lists)?;
@@ -47,7 +50,8 @@ impl Links {
         requires list_in_range { list < length self.old.lists }
         requires slot_in_range { slot < self.old.slots }
         requires in_no_list { places_in slot self.old.lists ≡ 0 }
-        ensures lists { self.new ≡ with_list self.old list (list_at self.old list ++ (slot, LAST) ∷ []) }
+        ensures lists { self.new
+            ≡ with_list self.old list (list_at self.old list ++ (slot, LAST) ∷ []) }
         ensures linked { IsLinked self.new }
     {
         let head = self.slots + list;
@@ -60,7 +64,8 @@ impl Links {
         requires list_in_range { list < length self.old.lists }
         requires slot_in_range { slot < self.old.slots }
         requires in_no_list { places_in slot self.old.lists ≡ 0 }
-        ensures lists { self.new ≡ with_list self.old list (inserted (slot, value) (list_at self.old list)) }
+        ensures lists { self.new
+            ≡ with_list self.old list (inserted (slot, value) (list_at self.old list)) }
         ensures linked { IsLinked self.new }
     {
         let place = place_for(&self.table, self.slots, list, value);

@@ -65,7 +65,8 @@ pub(crate) fn put_between(
     requires before_in_range { before < length table.old }
     requires after_in_range { after < length table.old }
     requires slot_in_range { slot < length table.old }
-    ensures { table.new ≡ joined table.old before after slot (record { next = after; previous = before; owner = Some list; value = value }) }
+    ensures { table.new ≡ joined table.old before after slot
+        (record { next = after; previous = before; owner = Some list; value = value }) }
 {
     table[slot] = Node {
         next: after,

@@ -1,4 +1,5 @@
-//! Why a loop stays serial or its iterations wait, and why an entry of a schedule can't be made, in words.
+//! Why a loop stays serial or its iterations wait, and why an entry of a schedule can't be made, in
+//! words.
 #![tactic(auto)]
 
 mod making;

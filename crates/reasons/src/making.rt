@@ -8,8 +8,8 @@ use replay::{Choice, Core, CoreRefusal, HandIn, Stepped};
 use schedules::{Act, Entry};
 use std::alloc::{AllocError, Global};
 
-/// A core at the beginning of a run of so many processors with so many open iterations; `None` where no
-/// core has so many.
+/// A core at the beginning of a run of so many processors with so many open iterations; `None`
+/// where no core has so many.
 pub fn new_core<'c>(
     alloc: Global,
     code: &'c Code,
@@ -24,7 +24,8 @@ pub fn new_core<'c>(
     }
 }
 
-/// Processor `q` does local instructions that stand next in what it holds, at most so many, in this room.
+/// Processor `q` does local instructions that stand next in what it holds, at most so many, in this
+/// room.
 fn work_in(
     core: &mut Core<'_>,
     q: usize,

@@ -70,8 +70,8 @@ pub struct Met {
 }
 
 impl Met {
-    /// Why the entry in a line of a schedule's text can't be made, if it is an entry of a run of the
-    /// source on the input.
+    /// Why the entry in a line of a schedule's text can't be made, if it is an entry of a run of
+    /// the source on the input.
     pub fn of(
         alloc: Global,
         source: &[u8],

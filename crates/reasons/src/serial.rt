@@ -20,8 +20,8 @@ pub enum Hindrance {
     Read(Line),
     /// The variable of the DO in this line isn't private.
     Variable { name: Name, line: Line },
-    /// More statements are sources than there may be events: the lines of the first ones, one more than
-    /// there may be events.
+    /// More statements are sources than there may be events: the lines of the first ones, one more
+    /// than there may be events.
     Sources(Vec<Line>),
     /// The loop whose DO is in this line may be open.
     Outer(Line),
@@ -30,8 +30,8 @@ pub enum Hindrance {
 }
 
 impl Hindrance {
-    /// The line of the statement that is in the way, if one is: in the range of the loop; its own DO, which
-    /// stands in this line; or the DO of a loop around it.
+    /// The line of the statement that is in the way, if one is: in the range of the loop; its own
+    /// DO, which stands in this line; or the DO of a loop around it.
     pub fn line(&self, own: Line) -> Option<Line> {
         match self {
             Hindrance::ZeroStep | Hindrance::NoConstant => Some(own),
@@ -115,7 +115,8 @@ fn outer_of(view: &LoopView<'_, '_>, reports: &[LoopReport]) -> Option<Hindrance
     None
 }
 
-/// What keeps the loop of a view serial, for the reason of a number, by the lines of the program's statements.
+/// What keeps the loop of a view serial, for the reason of a number, by the lines of the program's
+/// statements.
 fn hindrance_in(
     alloc: Global,
     reason: u8,
@@ -137,7 +138,8 @@ fn hindrance_in(
     })
 }
 
-/// What keeps the loop of a number serial, for a reason; the reports are those of the program's loops.
+/// What keeps the loop of a number serial, for a reason; the reports are those of the program's
+/// loops.
 pub fn hindrance_of(
     alloc: Global,
     tree: &LoopTree<'_>,
@@ -169,8 +171,8 @@ fn say<R: Eprint + AllocGlobal>(
     }
 }
 
-/// Says of each loop that stays serial, in a line of standard error, what is in the way. The reports are
-/// those of the program's loops.
+/// Says of each loop that stays serial, in a line of standard error, what is in the way. The
+/// reports are those of the program's loops.
 pub fn say_why_serial<R: Eprint + AllocGlobal>(
     rt: &R,
     file: &str,

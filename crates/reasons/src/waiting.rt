@@ -232,8 +232,8 @@ fn append_serial(
     out.extend_from_slice(told.as_bytes())
 }
 
-/// Appends the lines that say why iterations of the loop of a number wait for one another, or needn't, or
-/// why it stays serial.
+/// Appends the lines that say why iterations of the loop of a number wait for one another, or
+/// needn't, or why it stays serial.
 fn append_why_of(
     alloc: Global,
     out: &mut Vec<u8>,

@@ -31,8 +31,8 @@ struct Look<'a> {
 }
 
 impl Beyond {
-    /// The first subscript in a line that is beyond its bounds in the store of a run which met an INDEX
-    /// there, as far as that can be told: a READ of several variables may have changed it.
+    /// The first subscript in a line that is beyond its bounds in the store of a run which met an
+    /// INDEX there, as far as that can be told: a READ of several variables may have changed it.
     pub fn of(alloc: Global, program: &Program, store: &Store, line: Line) -> Option<Self> {
         let look = Look {
             alloc,

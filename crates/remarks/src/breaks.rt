@@ -1,4 +1,5 @@
-//! Where the text of a statement stops being one, as far as the order of operands and operators tells.
+//! Where the text of a statement stops being one, as far as the order of operands and operators
+//! tells.
 
 use crate::squeezed::{Squeezed, has_outer};
 

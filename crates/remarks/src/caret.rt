@@ -22,8 +22,9 @@ struct Counter {
 }
 
 impl<'a> Caret<'a> {
-    /// Where the character of this number, from 0, of the statement that begins in a line stands, blanks
-    /// outside of texts left out; behind the last character where there is none of that number.
+    /// Where the character of this number, from 0, of the statement that begins in a line stands,
+    /// blanks outside of texts left out; behind the last character where there is none of that
+    /// number.
     pub fn of(source: &'a [u8], line: Line, number: usize) -> Option<Self> {
         let mut counter = Counter {
             left: number,

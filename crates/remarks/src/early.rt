@@ -107,8 +107,8 @@ fn follow_head(trail: &mut Trail, line: Line, head: &DoHead) {
     }
 }
 
-/// Follows arms, of which each begins behind the conditions of those before it and its own; behind them
-/// all have given the scalar a value where each has, and there is an ELSE.
+/// Follows arms, of which each begins behind the conditions of those before it and its own; behind
+/// them all have given the scalar a value where each has, and there is an ELSE.
 #[cycle(follow)]
 fn follow_arms(trail: &mut Trail, arms: &[Arm]) {
     let before = trail.defined;

@@ -1,6 +1,6 @@
-//! Remarks on sources, for standard error: which name is meant, where a statement stops being one, what may
-//! have been wanted in its place, and what is warned of. No clause says what they are, and no answer rests
-//! on them.
+//! Remarks on sources, for standard error: which name is meant, where a statement stops being one,
+//! what may have been wanted in its place, and what is warned of. No clause says what they are, and
+//! no answer rests on them.
 #![tactic(auto)]
 
 mod beyond;

@@ -11,8 +11,8 @@ use bstr::ByteSlice;
 /// How many lines are warned of for one thing.
 const MOST: u32 = 20;
 
-/// Warns of what stands past the last column that is read, of comments that look like statements, of
-/// names that have no value or no use, and of labels that no DO names.
+/// Warns of what stands past the last column that is read, of comments that look like statements,
+/// of names that have no value or no use, and of labels that no DO names.
 pub fn warn<R: Eprint + AllocGlobal>(rt: &R, file: &str, source: &[u8], program: &Program) {
     warn_of_columns(rt, file, source);
     warn_of_comments(rt, file, source);

@@ -1,6 +1,7 @@
 //! Numbers in shortest decimal.
 
-ghost use Rattle.std.specs.Prelude.{◌≡◌, ◌≤◌, ◌^◌, nat_lt, if◌then◌else◌, Some, None, option_map, length};
+ghost use Rattle.std.specs.Prelude.{◌≡◌, ◌≤◌, ◌^◌, nat_lt, if◌then◌else◌, Some, None, option_map};
+ghost use Rattle.std.specs.Prelude.{length};
 ghost use Rattle.std.specs.List.{prefix_len};
 ghost use Rattle.schedules.specs.Reading.{number_at, value};
 ghost use Rattle.schedules.specs.Refusals.{is_digit, is_shortest};
@@ -36,7 +37,8 @@ fn is_shortest(digits: &[u8]) -> bool
 
 /// The number that digits write, where it has at most 128 bits.
 fn value(digits: &[u8]) -> Option<u128>
-    ensures { result ≡ (if nat_lt (value digits.now) (2 ^ 128) then Some (value digits.now) else None) }
+    ensures { result ≡ (if nat_lt (value digits.now) (2 ^ 128) then Some (value digits.now) else
+        None) }
 {
     let mut total: u128 = 0;
     for digit in digits {
@@ -52,8 +54,8 @@ fn value(digits: &[u8]) -> Option<u128>
     Some(total)
 }
 
-/// The number in shortest decimal that a text begins with, if there is one, and what stands after it.
-/// The number is None where it has more than 128 bits.
+/// The number in shortest decimal that a text begins with, if there is one, and what stands after
+/// it. The number is None where it has more than 128 bits.
 pub fn number(text: &[u8]) -> Option<(Option<u128>, &[u8])>
     ensures { option_map (λ x. (x.0, x.1.now)) result ≡ number_at text.now }
 {

@@ -2,7 +2,9 @@
 
 ghost use Rattle.std.specs.Prelude.{◌≡◌, ◌≤◌, ℕ, List, Option, Some, codes, option_map};
 ghost use Rattle.machine.specs.State.{most_processors, most_slots};
-ghost use Rattle.schedules.specs.Reading.{act_at, after, bounded, counted_at, entry_at, header_at, if_some, iteration_at, line_at, picked_at, size_at, sizes_at};
+ghost use Rattle.schedules.specs.Reading.{act_at, after, bounded, counted_at, entry_at, header_at};
+ghost use Rattle.schedules.specs.Reading.{if_some, iteration_at, line_at, picked_at, size_at};
+ghost use Rattle.schedules.specs.Reading.{sizes_at};
 ghost use Rattle.schedules.specs.Schedules.{Act as ActOf};
 ghost use Rattle.schedules.specs.View.{act as act_of, entry as entry_of, read_as};
 
@@ -66,10 +68,12 @@ fn size(text: &[u8], most: u16) -> Option<(u16, &[u8])>
     Some((bounded(number?, most)?, rest))
 }
 
-/// The number of slots, which stands behind that of processors and ends the second line, with that of
-/// processors before it, and what stands after that line.
+/// The number of slots, which stands behind that of processors and ends the second line, with that
+/// of processors before it, and what stands after that line.
 fn slots_behind(processors: u16, text: &[u8]) -> Option<(u16, u16, &[u8])>
-    ensures { option_map {U = ℕ × ℕ × List ℕ} (λ x. (x.0, x.1, x.2.now)) result ≡ if_some (size_at most_slots text.now) (λ y. if_some (after (codes "\n") y.1) (λ w. Some (processors, y.0, w))) }
+    ensures { option_map {U = ℕ × ℕ × List ℕ} (λ x. (x.0, x.1, x.2.now)) result
+        ≡ if_some (size_at most_slots text.now)
+        (λ y. if_some (after (codes "\n") y.1) (λ w. Some (processors, y.0, w))) }
 {
     let (slots, rest) = size(text, MOST_SLOTS)?;
     Some((processors, slots, after(rest, b"\n")?))
@@ -83,7 +87,8 @@ pub fn sizes(text: &[u8]) -> Option<(u16, u16, &[u8])>
     slots_behind(processors, after(rest, b" ")?)
 }
 
-/// So many local instructions, or a shared step, as a text begins with it, and what stands after it.
+/// So many local instructions, or a shared step, as a text begins with it, and what stands after
+/// it.
 fn counted(text: &[u8]) -> Option<(Act, &[u8])>
     ensures { option_map (λ x. (act_of x.0, x.1.now)) result ≡ counted_at text.now }
 {
@@ -127,21 +132,23 @@ fn act(version: Version, text: &[u8]) -> Option<(Act, &[u8])>
     counted(text)
 }
 
-/// What a processor does, which stands behind its number and ends the line of an entry, with that number
-/// before it, and what stands after the line.
+/// What a processor does, which stands behind its number and ends the line of an entry, with that
+/// number before it, and what stands after the line.
 fn act_behind(
     processor: Option<u128>,
     version: Version,
     text: &[u8],
 ) -> Option<(Option<u128>, Act, &[u8])>
-    ensures { option_map {U = Option ℕ × ActOf × List ℕ} (λ x. (x.0, act_of x.1, x.2.now)) result ≡ if_some (act_at version text.now) (λ y. if_some (after (codes "\n") y.1) (λ w. Some (processor, y.0, w))) }
+    ensures { option_map {U = Option ℕ × ActOf × List ℕ} (λ x. (x.0, act_of x.1, x.2.now)) result
+        ≡ if_some (act_at version text.now)
+        (λ y. if_some (after (codes "\n") y.1) (λ w. Some (processor, y.0, w))) }
 {
     let (act, rest) = act(version, text)?;
     Some((processor, act, after(rest, b"\n")?))
 }
 
-/// The line that a text begins with, where it has the form of an entry: the processor's number, what
-/// it does, and what stands after the line.
+/// The line that a text begins with, where it has the form of an entry: the processor's number,
+/// what it does, and what stands after the line.
 fn line(version: Version, text: &[u8]) -> Option<(Option<u128>, Act, &[u8])>
     ensures { option_map (λ x. (x.0, act_of x.1, x.2.now)) result ≡ line_at version text.now }
 {

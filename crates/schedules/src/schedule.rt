@@ -4,7 +4,9 @@ ghost use Rattle.std.specs.Prelude.{◌≡◌, ◌≢◌, ◌<◌, ◌^◌, ◌+
 ghost use Rattle.machine.specs.State.{AreSizes};
 ghost use Rattle.schedules.specs.Kept.{entries_of, entry_of, short_bursts, taken};
 ghost use Rattle.schedules.specs.Refusals.{Explains, IsHeaded, Refuses, WantsMemory, number_of};
-ghost use Rattle.schedules.specs.Schedules.{Entry as EntryOf, IsAct, IsSchedule, SchedText, Schedule as ScheduleOf, bursts, text_before, text_of, picks, with_entries, with_entry};
+ghost use Rattle.schedules.specs.Schedules.{Entry as EntryOf, IsAct, IsSchedule, SchedText};
+ghost use Rattle.schedules.specs.Schedules.{Schedule as ScheduleOf, bursts, text_before, text_of};
+ghost use Rattle.schedules.specs.Schedules.{picks, with_entries, with_entry};
 ghost use Rattle.schedules.specs.View.{act as act_view, entry as entry_view};
 
 use crate::entry::{Act, Entry, Version};
@@ -84,10 +86,12 @@ fn append_bursts(shorts: &mut Vec<Short>, processor: u8, made: u32) -> Result<()
 }
 
 impl Schedule {
-    /// The schedule of a run that has not begun, of so many processors, 1 to 64, and slots, 1 to 256.
+    /// The schedule of a run that has not begun, of so many processors, 1 to 64, and slots, 1 to
+    /// 256.
     pub fn new(alloc: Global, version: Version, processors: u16, slots: u16) -> Schedule
         requires sizes { AreSizes processors slots }
-        ensures new { result ≡ record { version = version; processors = processors; slots = slots; entries = [] } }
+        ensures new { result ≡ record
+            { version = version; processors = processors; slots = slots; entries = [] } }
         ensures kept { IsSchedule result }
     {
         Schedule {
@@ -216,7 +220,8 @@ impl Schedule {
     fn push_pick(&mut self, processor: u8, iteration: u128) -> Result<(), AllocError>
         requires below { processor < self.old.processors }
         requires allowed { IsAct self.old.version (picks iteration) }
-        ensures ok { OnOk result (self.new ≡ with_entry self.old (record { processor = processor; act = picks iteration })) }
+        ensures ok { OnOk result (self.new
+            ≡ with_entry self.old (record { processor = processor; act = picks iteration })) }
         ensures kept { IsSchedule self.new }
         ensures err { OnErr result (self.new ≡ self.old) }
     {
@@ -233,8 +238,10 @@ impl Schedule {
     /// Reads the entry that a text begins with, adds it, and gives what stands after its line.
     fn read_entry<'a>(&mut self, text: &'a [u8]) -> Result<&'a [u8], ReplayRefusal>
         requires some { text.now ≢ [] }
-        ensures ok { IfOk result (λ rest. (length rest.now < length text.now) × (text_before self.new rest.now ≡ text_before self.old text.now)) }
-        ensures err { IfErr result (λ fault. Explains fault (λ number line. Refuses (text_before self.old text.now) number line)) }
+        ensures ok { IfOk result (λ rest. (length rest.now < length text.now)
+            × (text_before self.new rest.now ≡ text_before self.old text.now)) }
+        ensures err { IfErr result (λ fault.
+            Explains fault (λ number line. Refuses (text_before self.old text.now) number line)) }
         ensures kept { IsSchedule self.new }
     {
         match entry(self.version, self.processors, text) {
@@ -253,7 +260,8 @@ impl Schedule {
     fn read(&mut self, text: &[u8]) -> Result<(), ReplayRefusal>
         requires kept { IsSchedule self.old }
         ensures ok { OnOk result (text_of self.new ≡ text_before self.old text.now) }
-        ensures err { IfErr result (λ fault. Explains fault (λ number line. Refuses (text_before self.old text.now) number line)) }
+        ensures err { IfErr result (λ fault.
+            Explains fault (λ number line. Refuses (text_before self.old text.now) number line)) }
         ensures kept { IsSchedule self.new }
     {
         let mut rest = text;
@@ -267,12 +275,14 @@ impl Schedule {
     ///
     /// # Errors
     ///
-    /// 51 where line 1 or 2 is absent or not of its form or range, 52 at a line that is no entry, 53 at
-    /// an entry of a processor that isn't there; and want of memory, which only entries take.
+    /// 51 where line 1 or 2 is absent or not of its form or range, 52 at a line that is no entry,
+    /// 53 at an entry of a processor that isn't there; and want of memory, which only entries take.
     pub fn parse(alloc: Global, bytes: &[u8]) -> Result<Schedule, ReplayRefusal>
         ensures found { IfOk result (λ x. SchedText x bytes.now) }
-        ensures refused { IfErr result (λ fault. Explains fault (λ number line. Refuses bytes.now number line)) }
-        ensures only { IfErr result (λ fault. Explains fault (λ number line. (x : ScheduleOf) → SchedText x bytes.now → ⊥)) }
+        ensures refused { IfErr result (λ fault.
+            Explains fault (λ number line. Refuses bytes.now number line)) }
+        ensures only { IfErr result (λ fault.
+            Explains fault (λ number line. (x : ScheduleOf) → SchedText x bytes.now → ⊥)) }
         ensures memory { IfErr result (λ fault. WantsMemory fault (IsHeaded bytes.now)) }
         ensures one { (x y : ScheduleOf) → SchedText x bytes.now → SchedText y bytes.now → x ≡ y }
     {

@@ -66,8 +66,10 @@ impl<'a> Entries<'a> {
 
     /// The next entry.
     pub fn next(&mut self) -> Option<Entry>
-        ensures some { IfSome result (λ e. entries_of self.old.shorts.now self.old.picked.now ≡ entry_view e ∷ entries_of self.new.shorts.now self.new.picked.now) }
-        ensures fewer { IfSome result (λ _. length self.new.shorts.now < length self.old.shorts.now) }
+        ensures some { IfSome result (λ e. entries_of self.old.shorts.now self.old.picked.now
+            ≡ entry_view e ∷ entries_of self.new.shorts.now self.new.picked.now) }
+        ensures fewer { IfSome result (λ _. length self.new.shorts.now
+            < length self.old.shorts.now) }
         ensures none { result ≡ None → entries_of self.old.shorts.now self.old.picked.now ≡ [] }
     {
         let [short, rest @ ..] = self.shorts else {

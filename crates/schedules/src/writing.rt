@@ -2,7 +2,8 @@
 
 ghost use Rattle.std.specs.Prelude.{◌≡◌, ◌++◌, [], OnOk};
 ghost use Rattle.schedules.specs.Kept.{entries_of};
-ghost use Rattle.schedules.specs.Schedules.{act_text, entries_before, entry_text, header, line_before, sizes_text};
+ghost use Rattle.schedules.specs.Schedules.{act_text, entries_before, entry_text, header};
+ghost use Rattle.schedules.specs.Schedules.{line_before, sizes_text};
 ghost use Rattle.schedules.specs.View.{act as act_view, entry as entry_view};
 
 use crate::entry::{Act, Entry, Version};
@@ -30,7 +31,8 @@ pub fn append_header(out: &mut Vec<u8>, version: Version) -> Result<(), AllocErr
 
 /// Appends the second line, of the numbers of processors and slots.
 pub fn append_sizes(out: &mut Vec<u8>, processors: u16, slots: u16) -> Result<(), AllocError>
-    ensures { OnOk result (out.new.items ≡ out.old.items ++ line_before (sizes_text processors slots) []) }
+    ensures { OnOk result (out.new.items ≡ out.old.items
+        ++ line_before (sizes_text processors slots) []) }
 {
     append_number(out, processors)?;
     out.extend_from_slice(b" ")?;
@@ -56,7 +58,8 @@ fn append_act(out: &mut Vec<u8>, act: Act) -> Result<(), AllocError>
 
 /// Appends the line of an entry.
 fn append_entry(out: &mut Vec<u8>, entry: Entry) -> Result<(), AllocError>
-    ensures { OnOk result (out.new.items ≡ out.old.items ++ line_before (entry_text (entry_view entry)) []) }
+    ensures { OnOk result (out.new.items ≡ out.old.items
+        ++ line_before (entry_text (entry_view entry)) []) }
 {
     append_number(out, entry.processor)?;
     out.extend_from_slice(b" ")?;
@@ -66,7 +69,8 @@ fn append_entry(out: &mut Vec<u8>, entry: Entry) -> Result<(), AllocError>
 
 /// Appends the lines of entries.
 pub fn append_entries(out: &mut Vec<u8>, entries: Entries<'_>) -> Result<(), AllocError>
-    ensures { OnOk result (out.new.items ≡ out.old.items ++ entries_before (entries_of entries.entry.shorts.now entries.entry.picked.now) []) }
+    ensures { OnOk result (out.new.items ≡ out.old.items
+        ++ entries_before (entries_of entries.entry.shorts.now entries.entry.picked.now) []) }
 {
     let mut left = entries;
     while let Some(entry) = left.next() {

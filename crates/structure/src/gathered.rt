@@ -1,4 +1,5 @@
-//! What is gathered of statements from the last to the first: where structures end, and their spans.
+//! What is gathered of statements from the last to the first: where structures end, and their
+//! spans.
 
 ghost use Rattle.std.specs.Prelude.{◌≡◌, ◌++◌, ℕ, OnOk, Some, cond, get_or, nat_eq, reverse};
 ghost use Rattle.std.specs.Option.{unwrap_or};
@@ -76,7 +77,8 @@ fn note_label(
     label: Option<Label>,
     place: usize,
 ) -> Result<(), AllocError>
-    ensures { OnOk result ((l : ℕ) → get nat_eq labels.new l ≡ cond (is_some_and (λ own. nat_eq own l) label) (Some place) (get nat_eq labels.old l)) }
+    ensures { OnOk result ((l : ℕ) → get nat_eq labels.new l
+        ≡ cond (is_some_and (λ own. nat_eq own l) label) (Some place) (get nat_eq labels.old l)) }
 {
     if let Some(own) = label {
         labels.insert(own, place)?;
@@ -86,7 +88,8 @@ fn note_label(
 
 /// Notes the place of an END IF, or that an IF matches the innermost.
 fn note_end(ends: &mut Vec<usize>, one: Part, place: usize) -> Result<(), AllocError>
-    ensures { OnOk result (reverse ends.new.items ≡ with_end place (part one) (reverse ends.old.items)) }
+    ensures { OnOk result (reverse ends.new.items
+        ≡ with_end place (part one) (reverse ends.old.items)) }
 {
     match one {
         Part::EndIf => ends.push(place)?,
@@ -100,7 +103,8 @@ fn note_end(ends: &mut Vec<usize>, one: Part, place: usize) -> Result<(), AllocE
 
 /// Adds the span of what is opened at a place, if its last place is given.
 fn add_span(spans: &mut Vec<Span>, first: usize, last: Option<usize>) -> Result<(), AllocError>
-    ensures { OnOk result (spans_kept spans.new.items ≡ span_to first last ++ spans_kept spans.old.items) }
+    ensures { OnOk result (spans_kept spans.new.items ≡ span_to first last
+        ++ spans_kept spans.old.items) }
 {
     if let Some(last) = last {
         spans.push(Span { first, last })?;
@@ -129,12 +133,18 @@ impl Gathered {
         }
     }
 
-    /// Takes in the statement before those so far, which stands at the place; `total` is the number of
-    /// all statements.
+    /// Takes in the statement before those so far, which stands at the place; `total` is the number
+    /// of all statements.
     pub fn note(&mut self, place: usize, total: usize, stmt: &Stmt) -> Result<(), AllocError>
-        ensures labels { OnOk result ((l : ℕ) → get nat_eq self.new.labels l ≡ cond (is_some_and (λ own. nat_eq own l) stmt.now.label) (Some place) (get nat_eq self.old.labels l)) }
-        ensures ends { OnOk result (reverse self.new.ends.items ≡ with_end place (part_of (kind_of stmt.now.kind)) (reverse self.old.ends.items)) }
-        ensures spans { OnOk result (spans_kept self.new.spans.items ≡ span_to place (last_place (get nat_eq self.old.labels) (reverse self.old.ends.items) total (part_of (kind_of stmt.now.kind))) ++ spans_kept self.old.spans.items) }
+        ensures labels { OnOk result ((l : ℕ) → get nat_eq self.new.labels l
+            ≡ cond (is_some_and (λ own. nat_eq own l) stmt.now.label) (Some place)
+            (get nat_eq self.old.labels l)) }
+        ensures ends { OnOk result (reverse self.new.ends.items
+            ≡ with_end place (part_of (kind_of stmt.now.kind)) (reverse self.old.ends.items)) }
+        ensures spans { OnOk result (spans_kept self.new.spans.items
+            ≡ span_to place
+            (last_place (get nat_eq self.old.labels) (reverse self.old.ends.items) total
+            (part_of (kind_of stmt.now.kind))) ++ spans_kept self.old.spans.items) }
     {
         let part = part_of(&stmt.kind);
         let last = last_place(&self.labels, &self.ends, total, part);

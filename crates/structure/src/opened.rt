@@ -5,7 +5,8 @@ ghost use Rattle.std.specs.List.{list_any};
 ghost use Rattle.ast.specs.View.{kind as kind_of};
 ghost use Rattle.structure.specs.Open as spec;
 ghost use Rattle.structure.specs.Parts.{begun_by};
-ghost use Rattle.structure.specs.Rules.{begins_with, is_any_range, is_around, is_block, is_misplaced_arm, is_other_range, is_range_of, may_go_on};
+ghost use Rattle.structure.specs.Rules.{begins_with, is_any_range, is_around, is_block};
+ghost use Rattle.structure.specs.Rules.{is_misplaced_arm, is_other_range, is_range_of, may_go_on};
 ghost use Rattle.structure.specs.View.{opened, part};
 
 use crate::kinds::Part;
@@ -167,7 +168,8 @@ pub fn is_misplaced_arm(kind: &Kind, structures: &[Open]) -> bool
 
 /// Ends the innermost ranges of a label.
 pub fn end_ranges(structures: &mut Vec<Open>, label: Label)
-    ensures { map opened structures.new.items ≡ spec.ended_by label (map opened structures.old.items) }
+    ensures { map opened structures.new.items
+        ≡ spec.ended_by label (map opened structures.old.items) }
 {
     while !structures.is_empty() && is_range_of(&structures[0], label) {
         structures.remove(0);
@@ -185,7 +187,8 @@ fn mark_else(structures: &mut Vec<Open>)
 
 /// Ends the innermost block.
 fn end_block(structures: &mut Vec<Open>)
-    ensures { map opened structures.new.items ≡ spec.without_block (map opened structures.old.items) }
+    ensures { map opened structures.new.items
+        ≡ spec.without_block (map opened structures.old.items) }
 {
     if !structures.is_empty() && is_block(&structures[0]) {
         structures.remove(0);
@@ -194,7 +197,8 @@ fn end_block(structures: &mut Vec<Open>)
 
 /// Opens a structure inside those that are open.
 fn add_inside(structures: &mut Vec<Open>, one: Open) -> Result<(), AllocError>
-    ensures { OnOk result (map opened structures.new.items ≡ opened one ∷ map opened structures.old.items) }
+    ensures { OnOk result (map opened structures.new.items ≡ opened one
+        ∷ map opened structures.old.items) }
 {
     structures.insert(0, one)?;
     Ok(())
@@ -202,7 +206,8 @@ fn add_inside(structures: &mut Vec<Open>, one: Open) -> Result<(), AllocError>
 
 /// What a statement opens and ends, its label aside.
 pub fn begin(structures: &mut Vec<Open>, one: Part) -> Result<(), AllocError>
-    ensures { OnOk result (map opened structures.new.items ≡ begun_by (part one) (map opened structures.old.items)) }
+    ensures { OnOk result (map opened structures.new.items
+        ≡ begun_by (part one) (map opened structures.old.items)) }
 {
     match one {
         Part::Do(terminal, variable) => add_inside(structures, Open::Range(terminal, variable)),

@@ -1,7 +1,7 @@
 //! Where structures stand.
 
-/// Where a DO range or an IF block stands: the places of its first and its last statement, statements
-/// numbered from 0.
+/// Where a DO range or an IF block stands: the places of its first and its last statement,
+/// statements numbered from 0.
 #[derive(Clone, Copy, PartialEq, Eq)]
 pub struct Span {
     pub first: usize,

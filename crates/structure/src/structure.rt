@@ -5,7 +5,8 @@ ghost use Rattle.std.specs.List.{list_any};
 ghost use Rattle.indexmap.specs.IndexSet.{insert_all};
 ghost use Rattle.ast.specs.View.{statement};
 ghost use Rattle.structure.specs.Open as spec;
-ghost use Rattle.structure.specs.Rules.{breaks_blocks, by_label, crosses, ends_wrongly, is_some_and};
+ghost use Rattle.structure.specs.Rules.{breaks_blocks, by_label, crosses, ends_wrongly};
+ghost use Rattle.structure.specs.Rules.{is_some_and};
 ghost use Rattle.structure.specs.View.{opened};
 ghost use Rattle.std.specs.Prelude.{map, OnOk};
 
@@ -42,7 +43,9 @@ impl Drop for Structure {
 
 /// The label that ends a range, if the statement has one; END ends none.
 fn terminal_label(stmt: &Stmt) -> Option<Label>
-    ensures { (test : ℕ → List spec.Open → Bool) (around : List spec.Open) → is_some_and (λ label. test label around) result ≡ by_label test around (statement stmt.now) }
+    ensures { (test : ℕ → List spec.Open → Bool) (around : List spec.Open)
+        → is_some_and (λ label. test label around) result
+        ≡ by_label test around (statement stmt.now) }
 {
     if is_end(&stmt.kind) { None } else { stmt.label }
 }
@@ -81,8 +84,10 @@ fn breaks_blocks(structures: &[Open], stmt: &Stmt) -> bool
 
 /// Takes a label into the labels, unless it was there: whether it was.
 fn add_label(labels: &mut IndexSet<Label>, label: Option<Label>) -> Result<bool, AllocError>
-    ensures again { IfOk result (λ again. again ≡ is_some_and (λ l. list_any (nat_eq l) labels.old.keys) label) }
-    ensures added { IfOk result (λ again. again ≡ false → labels.new.keys ≡ insert_all nat_eq labels.old.keys (option_to_list label)) }
+    ensures again { IfOk result (λ again. again
+        ≡ is_some_and (λ l. list_any (nat_eq l) labels.old.keys) label) }
+    ensures added { IfOk result (λ again. again ≡ false → labels.new.keys
+        ≡ insert_all nat_eq labels.old.keys (option_to_list label)) }
 {
     match label {
         Some(label) => Ok(!labels.insert(label)?),
@@ -93,7 +98,8 @@ fn add_label(labels: &mut IndexSet<Label>, label: Option<Label>) -> Result<bool,
 /// What a statement ends and opens, its label first.
 #[tactic(auto, using(crate::proofs::Parts::begun_is))]
 fn go_on(structures: &mut Vec<Open>, stmt: &Stmt) -> Result<(), AllocError>
-    ensures { OnOk result (map opened structures.new.items ≡ spec.after (map opened structures.old.items) (statement stmt.now)) }
+    ensures { OnOk result (map opened structures.new.items
+        ≡ spec.after (map opened structures.old.items) (statement stmt.now)) }
 {
     if let Some(label) = stmt.label {
         end_ranges(structures, label);
@@ -106,7 +112,8 @@ impl Structure {
     ghost use Rattle.structure.specs.Rules.{is_declaration, is_program};
     ghost use Rattle.structure.specs.Open.{is_active};
     ghost use Rattle.ast.specs.View.{statement};
-    ghost use Rattle.structure.specs.Standing.{next, rule_by, rule_of_label, standing, standing_after};
+    ghost use Rattle.structure.specs.Standing.{next, rule_by, rule_of_label, standing};
+    ghost use Rattle.structure.specs.Standing.{standing_after};
 
     /// Nothing yet.
     pub fn new(alloc: Global) -> Self
@@ -137,15 +144,18 @@ impl Structure {
 
     /// Whether a statement is PROGRAM and not the first, or a declaration behind an executable one.
     fn is_out_of_order(&self, stmt: &Stmt) -> bool
-        ensures { result ≡ (is_program (statement stmt.now).kind && self.now.begun) || (is_declaration (statement stmt.now).kind && self.now.executable) }
+        ensures { result ≡ (is_program (statement stmt.now).kind && self.now.begun)
+            || (is_declaration (statement stmt.now).kind && self.now.executable) }
     {
         is_program(&stmt.kind) && self.begun || is_declaration(&stmt.kind) && self.executable
     }
 
     /// Takes in a statement, unless it breaks rule 41: its label was there.
     fn take_in(&mut self, stmt: &Stmt) -> Result<Option<u8>, AllocError>
-        ensures rule { IfOk result (λ rule. rule ≡ rule_of_label (standing self.old) (statement stmt.now)) }
-        ensures kept { IfOk result (λ rule. rule ≡ None → standing self.new ≡ next (standing self.old) (statement stmt.now)) }
+        ensures rule { IfOk result (λ rule. rule
+            ≡ rule_of_label (standing self.old) (statement stmt.now)) }
+        ensures kept { IfOk result (λ rule. rule ≡ None → standing self.new
+            ≡ next (standing self.old) (statement stmt.now)) }
     {
         if add_label(&mut self.labels, stmt.label)? {
             return Ok(Some(41));
@@ -156,11 +166,13 @@ impl Structure {
         Ok(None)
     }
 
-    /// The lowest rule of 30, 34 to 36 and 41 that the next statement breaks. Where it breaks none it
-    /// is one of those before from now on.
+    /// The lowest rule of 30, 34 to 36 and 41 that the next statement breaks. Where it breaks none
+    /// it is one of those before from now on.
     pub fn rule_broken(&mut self, stmt: &Stmt) -> Result<Option<u8>, AllocError>
-        ensures rule { IfOk result (λ rule. rule ≡ rule_by (standing self.old) (statement stmt.now)) }
-        ensures kept { IfOk result (λ rule. rule ≡ None → standing self.new ≡ next (standing self.old) (statement stmt.now)) }
+        ensures rule { IfOk result (λ rule. rule
+            ≡ rule_by (standing self.old) (statement stmt.now)) }
+        ensures kept { IfOk result (λ rule. rule ≡ None → standing self.new
+            ≡ next (standing self.old) (statement stmt.now)) }
     {
         if self.is_out_of_order(stmt) {
             return Ok(Some(30));

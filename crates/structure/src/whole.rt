@@ -14,7 +14,8 @@ use ast::{Refusal, Stmt};
 use fixed_form::Labelled;
 use std::alloc::{AllocError, Global};
 
-/// Whether the statements keep the rules: the first one that doesn't, with the lowest rule it breaks.
+/// Whether the statements keep the rules: the first one that doesn't, with the lowest rule it
+/// breaks.
 fn keep_rules(alloc: Global, statements: &[Stmt]) -> Result<(), Refusal>
     ensures kept { OnOk result (Keep rules (map statement statements.now)) }
     ensures refused { IfErr result (Says (BreakFirst rules (map statement statements.now))) }
@@ -33,7 +34,8 @@ fn keep_rules(alloc: Global, statements: &[Stmt]) -> Result<(), Refusal>
 
 /// The spans of all that the statements open.
 fn spans(alloc: Global, statements: &[Stmt]) -> Result<Vec<Span>, AllocError>
-    ensures { IfOk result (λ spans. map span_of spans.items ≡ spans_of (map statement statements.now)) }
+    ensures { IfOk result (λ spans. map span_of spans.items
+        ≡ spans_of (map statement statements.now)) }
 {
     let mut gathered = Gathered::new(alloc);
     let total = statements.len();
@@ -45,15 +47,18 @@ fn spans(alloc: Global, statements: &[Stmt]) -> Result<Vec<Span>, AllocError>
     Ok(gathered.into_spans())
 }
 
-/// The DO ranges and IF blocks of statements, given with what their lines say; END is the last of them
-/// and stands nowhere else. Or the first statement that breaks a rule of order, labels, ranges or
-/// blocks, by its line and the lowest such rule: 30, 34 to 36 or 41.
+/// The DO ranges and IF blocks of statements, given with what their lines say; END is the last of
+/// them and stands nowhere else. Or the first statement that breaks a rule of order, labels, ranges
+/// or blocks, by its line and the lowest such rule: 30, 34 to 36 or 41.
 pub fn blocks(alloc: Global, _labelled: &[Labelled], statements: &[Stmt]) -> Result<Blocks, Refusal>
     ensures found { IfOk result (λ b. spans_in b ≡ spans_of (map statement statements.now)) }
     ensures kept { IfOk result (λ b. Keep rules (map statement statements.now)) }
-    ensures only { Keep rules (map statement statements.now) → Gives spans_in result (Ok (spans_of (map statement statements.now))) }
+    ensures only { Keep rules (map statement statements.now)
+        → Gives spans_in result (Ok (spans_of (map statement statements.now))) }
     ensures refused { IfErr result (Says (BreakFirst rules (map statement statements.now))) }
-    ensures exactly { (number line : ℕ) → BreakFirst rules (map statement statements.now) number line → Gives spans_in result (Err (record { number = number; line = line })) }
+    ensures exactly { (number line : ℕ)
+        → BreakFirst rules (map statement statements.now) number line
+        → Gives spans_in result (Err (record { number = number; line = line })) }
 {
     keep_rules(alloc, statements)?;
     let spans = spans(alloc, statements)?;

@@ -1,7 +1,11 @@
 //! The class of a statement.
 
 ghost use Rattle.std.specs.Prelude.{◌≡◌, option_map, map};
-ghost use Rattle.syntax.specs.Classes.{stands_at_level_zero, enclosed, is_word, is_digits, after_label, are_labels, if_class, without_comma, is_do_value, is_do_variable, is_do, first_keyword, class_by_keyword, simple_class, other_class, class_behind_if, class_of};
+ghost use Rattle.syntax.specs.Classes.{stands_at_level_zero, enclosed, is_word, is_digits};
+ghost use Rattle.syntax.specs.Classes.{after_label, are_labels, if_class, without_comma};
+ghost use Rattle.syntax.specs.Classes.{is_do_value, is_do_variable, is_do, first_keyword};
+ghost use Rattle.syntax.specs.Classes.{class_by_keyword, simple_class, other_class};
+ghost use Rattle.syntax.specs.Classes.{class_behind_if, class_of};
 ghost use Rattle.syntax.specs.Views.{class};
 
 use expressions::{after, begins_digit, begins_letter, begins_with, digits, letters_and_digits};

@@ -1,8 +1,11 @@
 //! How deep a statement's expressions are.
 
 ghost use Rattle.std.specs.Prelude.{◌≡◌, nat_le, map};
-ghost use Rattle.ast.specs.View.{access, bounds, declarator, definition, head, item, kind, optional_term};
-ghost use Rattle.syntax.specs.Depths.{greatest, depth_of_optional, depth_of_access, depth_of_bounds, depth_of_declarator, depth_of_definition, depth_of_item, depth_of_head, depth_of_kind};
+ghost use Rattle.ast.specs.View.{access, bounds, declarator, definition, head, item, kind};
+ghost use Rattle.ast.specs.View.{optional_term};
+ghost use Rattle.syntax.specs.Depths.{greatest, depth_of_optional, depth_of_access};
+ghost use Rattle.syntax.specs.Depths.{depth_of_bounds, depth_of_declarator, depth_of_definition};
+ghost use Rattle.syntax.specs.Depths.{depth_of_item, depth_of_head, depth_of_kind};
 
 use ast::{Access, Bounds, Declarator, Definition, DoHead, Expr, Item, Kind};
 use expressions::{is_access_within, is_within};

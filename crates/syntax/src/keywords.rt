@@ -6,7 +6,10 @@ ghost use Rattle.ast.specs.View.{access, declarator, definition, item, kind, let
 ghost use Rattle.ast.specs.declared.refusal.Refusal.TheVariants.{Refused};
 ghost use Rattle.expressions.specs.Answers.{IsRefused};
 ghost use Rattle.expressions.specs.Reading.{element_at, ended};
-ghost use Rattle.syntax.specs.ReadingStatements.{items_at, listed, list_behind_unit, list_behind_star, open_list, part_at, definitions_at, enclosed_definitions_at, arm_at, else_if_at, whole_name_at, alone, worded_at};
+ghost use Rattle.syntax.specs.ReadingStatements.{items_at, listed, list_behind_unit};
+ghost use Rattle.syntax.specs.ReadingStatements.{list_behind_star, open_list, part_at};
+ghost use Rattle.syntax.specs.ReadingStatements.{definitions_at, enclosed_definitions_at, arm_at};
+ghost use Rattle.syntax.specs.ReadingStatements.{else_if_at, whole_name_at, alone, worded_at};
 ghost use Rattle.syntax.specs.Squeezing.{texts_left};
 ghost use Rattle.syntax.specs.Statements.{is_short_number, has_text, is_stop_text};
 
@@ -49,14 +52,16 @@ fn declarator_list(
     text: &[u8],
     line: Line,
 ) -> Result<Vec<Declarator>, Refusal>
-    ensures { Gives (λ v. map declarator v.items) result (open_list line (part_at bounded line) text.now) }
+    ensures { Gives (λ v. map declarator v.items) result
+        (open_list line (part_at bounded line) text.now) }
 {
     let mut list = Vec::new(alloc);
     declarators(alloc, bounded, &mut list, text, line, room(text))?;
     Ok(list)
 }
 
-/// The definitions of a PARAMETER, behind whose opening parenthesis the text stands. Numbers 22 to 25.
+/// The definitions of a PARAMETER, behind whose opening parenthesis the text stands. Numbers 22 to
+/// 25.
 fn enclosed_definitions(alloc: Global, text: &[u8], line: Line) -> Result<Vec<Definition>, Refusal>
     ensures { Gives (λ v. map definition v.items) result (enclosed_definitions_at line text.now) }
 {
@@ -103,7 +108,9 @@ fn item_list(
     constants: &mut IntoIter<Vec<u8>>,
     line: Line,
 ) -> Result<Vec<Item>, Refusal>
-    ensures { Gives (λ v. map item v.items) result (listed (items_at line (texts_left constants.old)) (option_map (λ u. u.now) list.entry)) }
+    ensures { Gives (λ v. map item v.items) result
+        (listed (items_at line (texts_left constants.old))
+        (option_map (λ u. u.now) list.entry)) }
 {
     let mut read = Vec::new(alloc);
     if let Some(text) = list {
@@ -113,7 +120,8 @@ fn item_list(
 }
 
 fn element_list(alloc: Global, list: Option<&[u8]>, line: Line) -> Result<Vec<Access>, Refusal>
-    ensures { Gives (λ v. map access v.items) result (listed (open_list line (element_at line)) (option_map (λ u. u.now) list.entry)) }
+    ensures { Gives (λ v. map access v.items) result
+        (listed (open_list line (element_at line)) (option_map (λ u. u.now) list.entry)) }
 {
     let mut read = Vec::new(alloc);
     if let Some(text) = list {
@@ -181,7 +189,8 @@ fn is_stop_text(text: &[u8], constants: &mut IntoIter<Vec<u8>>) -> bool
 }
 
 fn stop(text: &[u8], constants: &mut IntoIter<Vec<u8>>, line: Line) -> Result<Kind, Refusal>
-    ensures reads { Gives kind result (worded_at line Keyword.Stop text.now (texts_left constants.old)) }
+    ensures reads { Gives kind result
+        (worded_at line Keyword.Stop text.now (texts_left constants.old)) }
     ensures sure { IfErr result IsRefused }
 {
     if is_stop_text(text, constants) {

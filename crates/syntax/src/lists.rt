@@ -6,7 +6,9 @@ ghost use Rattle.ast.specs.View.{access, bounds, declarator, definition, item, t
 ghost use Rattle.ast.specs.declared.refusal.Refusal.TheVariants.{Refused};
 ghost use Rattle.expressions.specs.Answers.{IsRefused};
 ghost use Rattle.expressions.specs.Reading.{element_at, end_at, wanted_at, spent};
-ghost use Rattle.syntax.specs.ReadingStatements.{parts_at, upper_at, bounds_at, array_of, declared_at, part_at, definition_at, next_constant, item_at, items_from};
+ghost use Rattle.syntax.specs.ReadingStatements.{parts_at, upper_at, bounds_at, array_of};
+ghost use Rattle.syntax.specs.ReadingStatements.{declared_at, part_at, definition_at};
+ghost use Rattle.syntax.specs.ReadingStatements.{next_constant, item_at, items_from};
 ghost use Rattle.syntax.specs.Squeezing.{texts_left};
 
 use ast::{Access, Bounds, Declarator, Definition, Expr, Item, Line, Name, Refusal};
@@ -65,7 +67,8 @@ fn bounds(alloc: Global, text: &[u8], line: Line) -> Result<(Bounds, &[u8]), Ref
 }
 
 fn push_bounds(read: &mut Vec<Bounds>, next: Bounds) -> Result<(), AllocError>
-    ensures { OnOk result (map bounds read.new.items ≡ map bounds read.old.items ++ bounds next ∷ []) }
+    ensures { OnOk result (map bounds read.new.items ≡ map bounds read.old.items ++ bounds next
+        ∷ []) }
 {
     read.push(next)?;
     Ok(())
@@ -80,7 +83,9 @@ fn bounds_list<'a>(
     line: Line,
     room: u128,
 ) -> Result<&'a [u8], Refusal>
-    ensures { Gives (λ x. (map bounds read.new.items, x.now)) result (parts_at line (bounds_at line) (wanted_at line (codes ")")) room (map bounds read.old.items) text.now) }
+    ensures { Gives (λ x. (map bounds read.new.items, x.now)) result
+        (parts_at line (bounds_at line) (wanted_at line (codes ")")) room
+        (map bounds read.old.items) text.now) }
 {
     if room == 0 {
         return Err(spent(line));
@@ -111,7 +116,8 @@ fn declared(
     text: &[u8],
     line: Line,
 ) -> Result<(Declarator, &[u8]), Refusal>
-    ensures { Gives (λ x. (declarator x.0, x.1.now)) result (declared_at line name.letters text.now) }
+    ensures { Gives (λ x. (declarator x.0, x.1.now)) result
+        (declared_at line name.letters text.now) }
 {
     match after(text, b"(") {
         Some(inside) => array(alloc, name, inside, line),
@@ -140,14 +146,15 @@ fn declarator(
 }
 
 fn push_declarator(read: &mut Vec<Declarator>, next: Declarator) -> Result<(), AllocError>
-    ensures { OnOk result (map declarator read.new.items ≡ map declarator read.old.items ++ declarator next ∷ []) }
+    ensures { OnOk result (map declarator read.new.items ≡ map declarator read.old.items
+        ++ declarator next ∷ []) }
 {
     read.push(next)?;
     Ok(())
 }
 
-/// Reads declarators after those that were read, the first right here, to the end of the text, which
-/// is given. `room` bounds their number. Numbers 22 to 25.
+/// Reads declarators after those that were read, the first right here, to the end of the text,
+/// which is given. `room` bounds their number. Numbers 22 to 25.
 pub fn declarators<'a>(
     alloc: Global,
     bounded: bool,
@@ -156,7 +163,9 @@ pub fn declarators<'a>(
     line: Line,
     room: u128,
 ) -> Result<&'a [u8], Refusal>
-    ensures { Gives (λ x. (map declarator read.new.items, x.now)) result (parts_at line (part_at bounded line) (end_at line) room (map declarator read.old.items) text.now) }
+    ensures { Gives (λ x. (map declarator read.new.items, x.now)) result
+        (parts_at line (part_at bounded line) (end_at line) room (map declarator read.old.items)
+        text.now) }
 {
     if room == 0 {
         return Err(spent(line));
@@ -182,7 +191,8 @@ fn definition(alloc: Global, text: &[u8], line: Line) -> Result<(Definition, &[u
 }
 
 fn push_definition(read: &mut Vec<Definition>, next: Definition) -> Result<(), AllocError>
-    ensures { OnOk result (map definition read.new.items ≡ map definition read.old.items ++ definition next ∷ []) }
+    ensures { OnOk result (map definition read.new.items ≡ map definition read.old.items
+        ++ definition next ∷ []) }
 {
     read.push(next)?;
     Ok(())
@@ -197,7 +207,9 @@ pub fn definitions<'a>(
     line: Line,
     room: u128,
 ) -> Result<&'a [u8], Refusal>
-    ensures { Gives (λ x. (map definition read.new.items, x.now)) result (parts_at line (definition_at line) (wanted_at line (codes ")")) room (map definition read.old.items) text.now) }
+    ensures { Gives (λ x. (map definition read.new.items, x.now)) result
+        (parts_at line (definition_at line) (wanted_at line (codes ")")) room
+        (map definition read.old.items) text.now) }
 {
     if room == 0 {
         return Err(spent(line));
@@ -213,14 +225,15 @@ pub fn definitions<'a>(
 // ---- variables and elements
 
 fn push_element(read: &mut Vec<Access>, next: Access) -> Result<(), AllocError>
-    ensures { OnOk result (map access read.new.items ≡ map access read.old.items ++ access next ∷ []) }
+    ensures { OnOk result (map access read.new.items ≡ map access read.old.items ++ access next
+        ∷ []) }
 {
     read.push(next)?;
     Ok(())
 }
 
-/// Reads elements after those that were read, the first right here, to the end of the text, which is
-/// given. `room` bounds their number. Numbers 22 to 25.
+/// Reads elements after those that were read, the first right here, to the end of the text, which
+/// is given. `room` bounds their number. Numbers 22 to 25.
 pub fn elements<'a>(
     alloc: Global,
     read: &mut Vec<Access>,
@@ -228,7 +241,9 @@ pub fn elements<'a>(
     line: Line,
     room: u128,
 ) -> Result<&'a [u8], Refusal>
-    ensures { Gives (λ x. (map access read.new.items, x.now)) result (parts_at line (element_at line) (end_at line) room (map access read.old.items) text.now) }
+    ensures { Gives (λ x. (map access read.new.items, x.now)) result
+        (parts_at line (element_at line) (end_at line) room (map access read.old.items)
+        text.now) }
 {
     if room == 0 {
         return Err(spent(line));
@@ -245,7 +260,8 @@ pub fn elements<'a>(
 
 /// The next character constant as an item. Number 25.
 fn constant_text(constants: &mut IntoIter<Vec<u8>>, line: Line) -> Result<Item, Refusal>
-    ensures reads { Gives (λ x. (item x, texts_left constants.new)) result (next_constant line (texts_left constants.old)) }
+    ensures reads { Gives (λ x.
+        (item x, texts_left constants.new)) result (next_constant line (texts_left constants.old)) }
     ensures sure { IfErr result IsRefused }
 {
     match constants.next() {
@@ -261,7 +277,8 @@ fn item<'a>(
     constants: &mut IntoIter<Vec<u8>>,
     line: Line,
 ) -> Result<(Item, &'a [u8]), Refusal>
-    ensures { Gives (λ x. (item x.0, x.1.now, texts_left constants.new)) result (item_at line text.now (texts_left constants.old)) }
+    ensures { Gives (λ x. (item x.0, x.1.now, texts_left constants.new)) result
+        (item_at line text.now (texts_left constants.old)) }
 {
     match after(text, b"'") {
         Some(behind) => Ok((constant_text(constants, line)?, behind)),
@@ -289,7 +306,8 @@ pub fn items<'a>(
     line: Line,
     room: u128,
 ) -> Result<&'a [u8], Refusal>
-    ensures { Gives (λ x. map item read.new.items) result (items_from line room (map item read.old.items) text.now (texts_left constants.old)) }
+    ensures { Gives (λ x. map item read.new.items) result
+        (items_from line room (map item read.old.items) text.now (texts_left constants.old)) }
 {
     if room == 0 {
         return Err(spent(line));

@@ -40,7 +40,8 @@ struct Squeezing {
 
 /// The marks and the character constants of a text. Number 21.
 pub fn squeeze(alloc: Global, text: &[u8], line: Line) -> Result<Squeezed, Refusal>
-    ensures { Gives (λ s. (s.marks.items, map (λ v. v.items) s.constants.items)) result (finished line (squeezed text.now)) }
+    ensures { Gives (λ s. (s.marks.items, map (λ v. v.items) s.constants.items)) result
+        (finished line (squeezed text.now)) }
 {
     let mut state = begin(alloc, text.len())?;
     for byte in text {
@@ -126,7 +127,8 @@ fn push_folded(marks: &mut Vec<u8>, byte: u8) -> Result<(), AllocError>
 /// What was read of a text that ends outside a character constant.
 fn finish_outside(state: Squeezing) -> Squeezed
     requires { state.place ≡ Place.Outside }
-    ensures { left_of state [] ≡ Some (result.marks.items, map (λ v. v.items) result.constants.items) }
+    ensures { left_of state []
+        ≡ Some (result.marks.items, map (λ v. v.items) result.constants.items) }
 {
     let Squeezing {
         marks,
@@ -139,7 +141,8 @@ fn finish_outside(state: Squeezing) -> Squeezed
 /// What was read of a text that ends behind the apostrophe that closes a character constant.
 fn finish_closing(state: Squeezing) -> Result<Squeezed, AllocError>
     requires { state.place ≡ Place.Closing }
-    ensures { IfOk result (λ s. left_of state [] ≡ Some (s.marks.items, map (λ v. v.items) s.constants.items)) }
+    ensures { IfOk result (λ s. left_of state []
+        ≡ Some (s.marks.items, map (λ v. v.items) s.constants.items)) }
 {
     let Squeezing {
         marks,
@@ -152,7 +155,8 @@ fn finish_closing(state: Squeezing) -> Result<Squeezed, AllocError>
 }
 
 fn finish(state: Squeezing, line: Line) -> Result<Squeezed, Refusal>
-    ensures { Gives (λ s. (s.marks.items, map (λ v. v.items) s.constants.items)) result (finished line (left_of state [])) }
+    ensures { Gives (λ s. (s.marks.items, map (λ v. v.items) s.constants.items)) result
+        (finished line (left_of state [])) }
 {
     match state.place {
         Place::Outside => Ok(finish_outside(state)),

@@ -6,7 +6,9 @@ ghost use Rattle.ast.specs.Tree.{Statement, logical_if};
 ghost use Rattle.ast.specs.View.{access, kind, statement, term};
 ghost use Rattle.expressions.specs.Answers.{IsNumber, IsRefused, refuse};
 ghost use Rattle.syntax.specs.Pieces.{Piece, Cut, marks, constants};
-ghost use Rattle.syntax.specs.ReadingStatements.{accepted, assigned_at, assigned_behind, block_if_at, do_loop_at, kind_at, checked_at, statement_at};
+ghost use Rattle.syntax.specs.ReadingStatements.{accepted, assigned_at, assigned_behind};
+ghost use Rattle.syntax.specs.ReadingStatements.{block_if_at, do_loop_at, kind_at, checked_at};
+ghost use Rattle.syntax.specs.ReadingStatements.{statement_at};
 ghost use Rattle.syntax.specs.Squeezing.{texts_left, text_at};
 ghost use Rattle.syntax.specs.Statements.{is_initial, IsStatement};
 
@@ -108,7 +110,8 @@ fn is_initial(does: &Kind, text: &[u8]) -> bool
 
 /// Whether a statement that does this may stand there: its text and its depth. Numbers 25 and 26.
 fn check(does: &Kind, labelled: &Labelled) -> Result<(), Refusal>
-    ensures reads { Gives (λ _. kind does.now) result (accepted labelled.now.line labelled.now.text.items (kind does.now)) }
+    ensures reads { Gives (λ _.
+        kind does.now) result (accepted labelled.now.line labelled.now.text.items (kind does.now)) }
     ensures sure { IfErr result IsRefused }
 {
     let line = labelled.line;
@@ -123,7 +126,8 @@ fn check(does: &Kind, labelled: &Labelled) -> Result<(), Refusal>
 
 /// The statement that does this. Numbers 25 and 26.
 fn checked(does: Kind, labelled: &Labelled) -> Result<Stmt, Refusal>
-    ensures reads { Gives statement result (checked_at labelled.now.line labelled.now.label labelled.now.text.items (kind does)) }
+    ensures reads { Gives statement result
+        (checked_at labelled.now.line labelled.now.label labelled.now.text.items (kind does)) }
     ensures sure { IfErr result IsRefused }
 {
     check(&does, labelled)?;
@@ -135,7 +139,9 @@ fn checked(does: Kind, labelled: &Labelled) -> Result<Stmt, Refusal>
 }
 
 fn statement_of(alloc: Global, labelled: &Labelled, squeezed: Squeezed) -> Result<Stmt, Refusal>
-    ensures { Gives statement result (statement_at labelled.now.line labelled.now.label labelled.now.text.items squeezed.marks.items (map (λ v. v.items) squeezed.constants.items)) }
+    ensures { Gives statement result
+        (statement_at labelled.now.line labelled.now.label labelled.now.text.items
+        squeezed.marks.items (map (λ v. v.items) squeezed.constants.items)) }
 {
     let Squeezed { marks, constants } = squeezed;
     let mut left = constants.into_iter();
@@ -144,7 +150,8 @@ fn statement_of(alloc: Global, labelled: &Labelled, squeezed: Squeezed) -> Resul
 }
 
 fn read(alloc: Global, labelled: &Labelled) -> Result<Stmt, Refusal>
-    ensures { Gives statement result (text_at labelled.now.line labelled.now.label labelled.now.text.items) }
+    ensures { Gives statement result
+        (text_at labelled.now.line labelled.now.label labelled.now.text.items) }
 {
     let squeezed = squeeze(alloc, &labelled.text, labelled.line)?;
     statement_of(alloc, labelled, squeezed)
@@ -157,12 +164,24 @@ fn read(alloc: Global, labelled: &Labelled) -> Result<Stmt, Refusal>
 /// 26, an expression deeper than 128, where the text is a statement otherwise. The line is the
 /// statement's.
 pub fn statement(alloc: Global, labelled: &Labelled) -> Result<Stmt, Refusal>
-    ensures found { IfOk result (λ s. IsStatement labelled.now.line labelled.now.label labelled.now.text.items (statement s)) }
-    ensures only { (s : Statement) → IsStatement labelled.now.line labelled.now.label labelled.now.text.items s → Gives statement result (Ok s) }
-    ensures refused { IfErr result (Says (λ number at. (at ≡ labelled.now.line) × IsNumber number × ((s : Statement) → IsStatement labelled.now.line labelled.now.label labelled.now.text.items s → ⊥))) }
-    ensures unfinished { ((ps : List Piece) → Cut ps labelled.now.text.items → ⊥) → Gives statement result (refuse labelled.now.line 21) }
-    ensures finished { IfErr result (Says (λ number at. number ≡ 21 → (ps : List Piece) → Cut ps labelled.now.text.items → ⊥)) }
-    ensures exact { (ps : List Piece) → Cut ps labelled.now.text.items → Gives statement result (statement_at labelled.now.line labelled.now.label labelled.now.text.items (marks ps) (constants ps)) }
+    ensures found { IfOk result (λ s.
+        IsStatement labelled.now.line labelled.now.label labelled.now.text.items (statement s)) }
+    ensures only { (s : Statement)
+        → IsStatement labelled.now.line labelled.now.label labelled.now.text.items s
+        → Gives statement result (Ok s) }
+    ensures refused { IfErr result
+        (Says (λ number at. (at ≡ labelled.now.line) × IsNumber number
+        × ((s : Statement)
+        → IsStatement labelled.now.line labelled.now.label labelled.now.text.items s → ⊥))) }
+    ensures unfinished { ((ps : List Piece) → Cut ps labelled.now.text.items → ⊥)
+        → Gives statement result (refuse labelled.now.line 21) }
+    ensures finished { IfErr result
+        (Says (λ number at. number ≡ 21 → (ps : List Piece) → Cut ps labelled.now.text.items
+        → ⊥)) }
+    ensures exact { (ps : List Piece) → Cut ps labelled.now.text.items
+        → Gives statement result
+        (statement_at labelled.now.line labelled.now.label labelled.now.text.items (marks ps)
+        (constants ps)) }
 {
     read(alloc, labelled)
 }

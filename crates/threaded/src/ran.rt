@@ -40,7 +40,8 @@ pub enum Ran {
 
 /// Writes a schedule's text, if there is one.
 fn write_schedule<S: Write>(schedule: &mut S, text: &Option<Vec<u8>>) -> Result<(), EngineFault>
-    ensures ok { OnOk result (Grows (text_of text.now) (S.contents schedule.old) (S.contents schedule.new)) }
+    ensures ok { OnOk result
+        (Grows (text_of text.now) (S.contents schedule.old) (S.contents schedule.new)) }
     ensures err { IfErr result (λ fault. IsWriting fault
         × GrowsPart (text_of text.now) (S.contents schedule.old) (S.contents schedule.new)) }
 {
@@ -52,7 +53,8 @@ fn write_schedule<S: Write>(schedule: &mut S, text: &Option<Vec<u8>>) -> Result<
 
 /// Writes the records of a run that was given up.
 fn write_output<W: Write>(out: &mut W, output: &[u8]) -> Result<Outcome, EngineFault>
-    ensures { WritesText output.now (Err faults.Memory) (W.contents out.old) (W.contents out.new) result }
+    ensures { WritesText output.now (Err faults.Memory) (W.contents out.old) (W.contents out.new)
+        result }
 {
     match write_all(out, output) {
         Ok(()) => Err(EngineFault::Memory),
@@ -69,7 +71,8 @@ impl Whole {
         schedule: &mut S,
         out: &mut W,
     ) -> Result<Outcome, EngineFault>
-        ensures { WritesWhole self.now (S.contents schedule.old) (S.contents schedule.new) (W.contents out.old) (W.contents out.new) result }
+        ensures { WritesWhole self.now (S.contents schedule.old) (S.contents schedule.new)
+            (W.contents out.old) (W.contents out.new) result }
     {
         write_schedule(schedule, &self.schedule)?;
         self.page.write(out)
@@ -79,19 +82,21 @@ impl Whole {
 impl Ran {
     ghost use Rattle.threaded.specs.Running.{WritesRan};
 
-    /// Writes the text of the schedule to `schedule`, if there is one, and then to `out` what is shown.
+    /// Writes the text of the schedule to `schedule`, if there is one, and then to `out` what is
+    /// shown.
     ///
     /// # Errors
     ///
     /// A fault of one of the writers, with a beginning of its text written and, where it is the
-    /// schedule's, nothing to the other; want of memory, with the records written that had gone out; and
-    /// with nothing written that there is no run.
+    /// schedule's, nothing to the other; want of memory, with the records written that had gone
+    /// out; and with nothing written that there is no run.
     pub fn write<S: Write, W: Write>(
         &self,
         schedule: &mut S,
         out: &mut W,
     ) -> Result<Outcome, EngineFault>
-        ensures { WritesRan self.now (S.contents schedule.old) (S.contents schedule.new) (W.contents out.old) (W.contents out.new) result }
+        ensures { WritesRan self.now (S.contents schedule.old) (S.contents schedule.new)
+            (W.contents out.old) (W.contents out.new) result }
     {
         match self {
             Ran::Refused(page) => page.write(out),

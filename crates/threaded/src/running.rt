@@ -12,7 +12,8 @@ ghost use Rattle.pages.specs.Reading.{OfText};
 ghost use Rattle.pages.specs.Shown.{EndShown};
 ghost use Rattle.pages.specs.View.{rows_from};
 ghost use Rattle.engines.specs.Engines.{LeavesReaders};
-ghost use Rattle.threaded.specs.Running.{LeavesRun, Running, ComesOf, Shows, ShowsRefusal, WhereWanted, WroteRan, WroteStatus};
+ghost use Rattle.threaded.specs.Running.{LeavesRun, Running, ComesOf, Shows, ShowsRefusal};
+ghost use Rattle.threaded.specs.Running.{WhereWanted, WroteRan, WroteStatus};
 
 use crate::figures::Figures;
 use crate::ran::{Ran, Whole};
@@ -45,7 +46,10 @@ fn last_lines(
     store: bool,
 ) -> Result<Vec<u8>, AllocError>
     requires { length (cells answer.now.store) ≡ length program.now.symbols.items }
-    ensures { IfOk result (λ last. EndShown store (rows_from (cells answer.now.store) 0 (map symbol_of program.now.symbols.items)) answer.now.end last.items) }
+    ensures { IfOk result (λ last.
+        EndShown store
+        (rows_from (cells answer.now.store) 0 (map symbol_of program.now.symbols.items))
+        answer.now.end last.items) }
 {
     let mut last = Vec::new(alloc);
     let mut rows = rows(alloc, &program.symbols, &answer.store)?;
@@ -72,8 +76,12 @@ fn beside_records(
     wants: Wants,
 ) -> Result<Beside, AllocError>
     requires { length (cells report.now.answer.store) ≡ length program.now.symbols.items }
-    ensures last { IfOk result (λ b. EndShown wants.store (rows_from (cells report.now.answer.store) 0 (map symbol_of program.now.symbols.items)) report.now.answer.end b.last.items) }
-    ensures schedule { IfOk result (λ b. WhereWanted wants.schedule b.schedule (SchedText report.now.schedule)) }
+    ensures last { IfOk result (λ b.
+        EndShown wants.store
+        (rows_from (cells report.now.answer.store) 0 (map symbol_of program.now.symbols.items))
+        report.now.answer.end b.last.items) }
+    ensures schedule { IfOk result (λ b.
+        WhereWanted wants.schedule b.schedule (SchedText report.now.schedule)) }
 {
     let last = last_lines(alloc, program, &report.answer, wants.store)?;
     let schedule = wanted_text(&report.schedule, wants.schedule)?;
@@ -114,10 +122,12 @@ fn alone<R: Threads + Wait + Sync>(
     }
 }
 
-/// What came of a run that has ended: its records are there, also where there is no memory for the rest.
+/// What came of a run that has ended: its records are there, also where there is no memory for the
+/// rest.
 fn ended(alloc: Global, program: &Program, report: Report, wants: Wants, alone: Option<u128>) -> Ran
     requires { length (cells report.answer.store) ≡ length program.now.symbols.items }
-    ensures { Shows wants (map symbol_of program.now.symbols.items) report.answer report.schedule result }
+    ensures { Shows wants (map symbol_of program.now.symbols.items) report.answer report.schedule
+        result }
 {
     let beside = beside_records(alloc, program, &report, wants);
     let Report {
@@ -200,7 +210,8 @@ fn run_program<R: Threads + Wait + Sync>(
     input: &[u8],
     wants: Wants,
 ) -> Ran
-    ensures { (source : List ℕ) → Reads source (program_of program.now) → Running source input.now wants result }
+    ensures { (source : List ℕ) → Reads source (program_of program.now)
+        → Running source input.now wants result }
 {
     match compile(alloc, program) {
         Ok(compiled) => run_code(rt, alloc, program, &compiled.code, input, wants),
@@ -227,16 +238,17 @@ pub fn run_texts<R: Threads + Wait + Sync>(
 }
 
 /// Runs a source on an input in threads, writes the text of the schedule to `schedule` where it is
-/// wanted, and then to `out` the records and what follows them, and gives the exit status: 0, 1 for a
-/// source that is refused, by its text or for its code, 2 for a fault. The input is read after the
-/// source. Which processor does what is another matter at each call, and what is shown isn't.
+/// wanted, and then to `out` the records and what follows them, and gives the exit status: 0, 1 for
+/// a source that is refused, by its text or for its code, 2 for a fault. The input is read after
+/// the source. Which processor does what is another matter at each call, and what is shown isn't.
 ///
 /// # Errors
 ///
-/// A fault of one of the readers, with nothing written; of one of the writers, with a beginning of its
-/// text written and, where it is the schedule's, nothing to the other; of memory, with the records
-/// written that had gone out; and with nothing written that the numbers of processors or of open
-/// iterations are out of range, that a thread couldn't be started, or that the run couldn't go on.
+/// A fault of one of the readers, with nothing written; of one of the writers, with a beginning of
+/// its text written and, where it is the schedule's, nothing to the other; of memory, with the
+/// records written that had gone out; and with nothing written that the numbers of processors or of
+/// open iterations are out of range, that a thread couldn't be started, or that the run couldn't go
+/// on.
 pub fn run<T: Threads + Wait + Sync, R: Read, I: Read, S: Write, W: Write>(
     rt: &T,
     alloc: Global,
@@ -251,7 +263,9 @@ pub fn run<T: Threads + Wait + Sync, R: Read, I: Read, S: Write, W: Write>(
     ensures err { IfErr result (λ fault. LeavesRun fault (S.contents schedule.old) (S.contents schedule.new) (W.contents out.old) (W.contents out.new)
         (OfText (R.remaining source.old) (λ text. OfText (I.remaining input.old) (λ given.
         WroteRan (Running text given wants) (S.contents schedule.old) (S.contents schedule.new) (W.contents out.old) (W.contents out.new) (Err fault))))) }
-    ensures readers { IfErr result (λ fault. LeavesReaders fault (R.remaining source.new) (I.remaining input.old) (I.remaining input.new)) }
+    ensures readers { IfErr result (λ fault.
+        LeavesReaders fault (R.remaining source.new) (I.remaining input.old)
+        (I.remaining input.new)) }
 {
     let given = read_given(alloc, source, input)?;
     let ran = run_texts(rt, alloc, &given.source, &given.input, wants);

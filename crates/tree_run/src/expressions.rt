@@ -9,7 +9,8 @@ ghost use Rattle.ast.specs.declared.expression.Intrinsic.TheVariants.{Abs};
 ghost use Rattle.ast.specs.View.{access as access_of, extent, term};
 ghost use Rattle.tree_run.specs.Placed.{PlacedTerm, PlacedTerms};
 ghost use Rattle.tree_run.specs.Runs.{GivesValue};
-ghost use Rattle.tree_run.specs.Steps.{call_at, evaluated, greatest_at, least_at, opening, place_at, remainder_at};
+ghost use Rattle.tree_run.specs.Steps.{call_at, evaluated, greatest_at, least_at, opening};
+ghost use Rattle.tree_run.specs.Steps.{place_at, remainder_at};
 ghost use Rattle.tree_run.specs.View.{look, store_in, symbols_in};
 
 use crate::memory::Memory;
@@ -35,10 +36,12 @@ fn evaluate(memory: &Memory<'_>, expressions: &[Expr]) -> Result<(), Fault>
 #[cycle(value)]
 #[tactic(auto, using(crate::proofs::Offsets::room_kept, crate::proofs::Offsets::first_room))]
 fn place(memory: &Memory<'_>, dimensions: &[Dimension], subscripts: &[Expr]) -> Result<usize, Fault>
-    requires open { list_all (λ d. not (int_lt d.upper d.lower)) (map extent dimensions.now) ≡ true }
+    requires open { list_all (λ d. not (int_lt d.upper d.lower)) (map extent dimensions.now)
+        ≡ true }
     requires few { elements (map extent dimensions.now) ≤ most_elements }
     requires placed { PlacedTerms (symbols_in memory.now) (terms (map term subscripts.now)) }
-    ensures at { result ≡ place_at (look memory.now) (opening (map extent dimensions.now)) (terms (map term subscripts.now)) }
+    ensures at { result ≡ place_at (look memory.now) (opening (map extent dimensions.now))
+        (terms (map term subscripts.now)) }
     ensures within { IfOk result (λ p. p < elements (map extent dimensions.now)) }
 {
     let mut walk = Walk::new(dimensions);
@@ -149,8 +152,10 @@ fn call(memory: &Memory<'_>, intrinsic: Intrinsic, arguments: &[Expr]) -> Result
 #[tactic(auto, using(crate::proofs::Values::place_law))]
 pub fn target(memory: &Memory<'_>, access: &Access) -> Result<usize, Fault>
     requires { PlacedTerm (symbols_in memory.now) (accessed (access_of access.now)) }
-    ensures at { result ≡ target (symbols_in memory.now) (store_in memory.now) (access_of access.now) }
-    ensures within { IfOk result (λ p. p < elements (dimensions_in (symbols_in memory.now) access.now.reference.name.letters)) }
+    ensures at { result ≡ target (symbols_in memory.now) (store_in memory.now)
+        (access_of access.now) }
+    ensures within { IfOk result (λ p. p
+        < elements (dimensions_in (symbols_in memory.now) access.now.reference.name.letters)) }
 {
     place(
         memory,

@@ -73,7 +73,8 @@ impl<'p> Input<'p> {
     ///
     /// Those of `take`.
     pub fn next(&mut self, line: Line) -> Result<i64, Stop>
-        ensures { GivesInteger result line (left self.new) self.new.records (next_integer (left self.old) self.old.records) }
+        ensures { GivesInteger result line (left self.new) self.new.records
+            (next_integer (left self.old) self.old.records) }
     {
         while self.given >= self.integers.len() {
             self.take(line)?;

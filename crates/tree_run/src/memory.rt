@@ -45,7 +45,8 @@ impl<'p> Memory<'p> {
     /// The dimensions of a reference's name.
     pub fn dimensions(&self, reference: &Reference) -> &'p [Dimension]
         requires placed { is_placed (symbols_in self.now) (ref reference.now) ≡ true }
-        ensures dimensions { map extent result.now ≡ dimensions_in (symbols_in self.now) reference.now.name.letters }
+        ensures dimensions { map extent result.now
+            ≡ dimensions_in (symbols_in self.now) reference.now.name.letters }
         ensures open { list_all (λ d. not (int_lt d.upper d.lower)) (map extent result.now) ≡ true }
         ensures few { elements (map extent result.now) ≤ most_elements }
     {
@@ -55,7 +56,8 @@ impl<'p> Memory<'p> {
     /// The value of an element.
     pub fn load(&self, reference: &Reference, place: usize) -> i64
         requires placed { is_placed (symbols_in self.now) (ref reference.now) ≡ true }
-        requires within { place < elements (dimensions_in (symbols_in self.now) reference.now.name.letters) }
+        requires within { place < elements
+            (dimensions_in (symbols_in self.now) reference.now.name.letters) }
         ensures { result ≡ store_in self.now reference.now.name.letters place }
     {
         self.store.load(reference.cell, place)
@@ -64,8 +66,10 @@ impl<'p> Memory<'p> {
     /// Gives an element another value.
     pub fn set(&mut self, reference: &Reference, place: usize, value: i64)
         requires placed { is_placed (symbols_in self.old) (ref reference.now) ≡ true }
-        requires within { place < elements (dimensions_in (symbols_in self.old) reference.now.name.letters) }
-        ensures store { store_in self.new ≡ put (store_in self.old) reference.now.name.letters place value }
+        requires within { place < elements
+            (dimensions_in (symbols_in self.old) reference.now.name.letters) }
+        ensures store { store_in self.new
+            ≡ put (store_in self.old) reference.now.name.letters place value }
         ensures symbols { symbols_in self.new ≡ symbols_in self.old }
     {
         self.store.set(reference.cell, place, value);

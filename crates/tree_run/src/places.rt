@@ -1,6 +1,7 @@
 //! Places of elements.
 
-ghost use Rattle.std.specs.Prelude.{◌≡◌, ◌<◌, ◌≤◌, ◌*◌, ◌∷◌, ◌-ℤ◌, IfSome, false, int_lt, map, not, true, unsigned_abs};
+ghost use Rattle.std.specs.Prelude.{◌≡◌, ◌<◌, ◌≤◌, ◌*◌, ◌∷◌, ◌-ℤ◌, IfSome, false, int_lt, map, not};
+ghost use Rattle.std.specs.Prelude.{true, unsigned_abs};
 ghost use Rattle.std.specs.List.{list_all};
 ghost use Rattle.std.proofs.Props.{props};
 ghost use Rattle.ast.specs.Symbols.{elements, is_within, most_elements, width};
@@ -75,7 +76,8 @@ fn longer(stride: usize, dimension: &Dimension) -> usize
 }
 
 impl<'d> Walk<'d> {
-    ghost use Rattle.std.specs.Prelude.{◌≡◌, ◌<◌, ◌≤◌, ◌*◌, ◌∷◌, IfOk, IfSome, int_lt, map, not, true};
+    ghost use Rattle.std.specs.Prelude.{◌≡◌, ◌<◌, ◌≤◌, ◌*◌, ◌∷◌, IfOk, IfSome, int_lt, map, not};
+    ghost use Rattle.std.specs.Prelude.{true};
     ghost use Rattle.std.specs.List.{list_all};
     ghost use Rattle.ast.specs.Symbols.{elements, most_elements};
     ghost use Rattle.ast.specs.View.{extent};
@@ -84,7 +86,8 @@ impl<'d> Walk<'d> {
 
     /// Before the first subscript.
     pub fn new(dimensions: &'d [Dimension]) -> Walk<'d>
-        requires open { list_all (λ d. not (int_lt d.upper d.lower)) (map extent dimensions.now) ≡ true }
+        requires open { list_all (λ d. not (int_lt d.upper d.lower)) (map extent dimensions.now)
+            ≡ true }
         requires few { elements (map extent dimensions.now) ≤ most_elements }
         ensures { way result ≡ opening (map extent dimensions.now) }
     {
@@ -103,11 +106,14 @@ impl<'d> Walk<'d> {
         rest: &'d [Dimension],
         subscript: i64,
     ) -> Walk<'d>
-        requires open { list_all (λ d. not (int_lt d.upper d.lower)) (extent dimension.now ∷ map extent rest.now) ≡ true }
+        requires open { list_all (λ d. not (int_lt d.upper d.lower)) (extent dimension.now
+            ∷ map extent rest.now) ≡ true }
         requires positive { 1 ≤ stride }
-        requires few { stride * elements (extent dimension.now ∷ map extent rest.now) ≤ most_elements }
+        requires few { stride * elements (extent dimension.now ∷ map extent rest.now)
+            ≤ most_elements }
         requires within { IfSome place (λ p. p < stride) }
-        ensures { way result ≡ step_on (extent dimension.now ∷ map extent rest.now) stride place subscript }
+        ensures { way result ≡ step_on (extent dimension.now
+            ∷ map extent rest.now) stride place subscript }
     {
         Walk {
             rest,

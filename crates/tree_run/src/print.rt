@@ -21,7 +21,8 @@ use std::alloc::AllocError;
 
 /// Appends an integer, with a blank before it unless it is the first item.
 pub fn append_number(output: &mut Vec<u8>, is_first: bool, n: i64) -> Result<(), AllocError>
-    ensures appended { OnOk result (output.new.items ≡ output.old.items ++ shown is_first (number n)) }
+    ensures appended { OnOk result (output.new.items ≡ output.old.items
+        ++ shown is_first (number n)) }
     ensures kept { Keeps output.old.items output.new.items }
 {
     if !is_first {
@@ -40,7 +41,8 @@ fn append_item(
     output: &mut Vec<u8>,
 ) -> Result<(), Stop>
     requires placed { PlacedItems (symbols_in memory.now) (item_of item.now ∷ []) }
-    ensures appended { Gives result line output.new.items (item_onto output.old.items is_first (item_of item.now) (look memory.now)) }
+    ensures appended { Gives result line output.new.items
+        (item_onto output.old.items is_first (item_of item.now) (look memory.now)) }
     ensures kept { Keeps output.old.items output.new.items }
 {
     match item {
@@ -62,7 +64,8 @@ fn append_items(
     output: &mut Vec<u8>,
 ) -> Result<(), Stop>
     requires placed { PlacedItems (symbols_in memory.now) (map item_of items.now) }
-    ensures appended { Gives result line output.new.items (items_onto output.old.items true (map item_of items.now) (look memory.now)) }
+    ensures appended { Gives result line output.new.items
+        (items_onto output.old.items true (map item_of items.now) (look memory.now)) }
     ensures kept { Keeps output.old.items output.new.items }
 {
     let mut is_first = true;
@@ -81,7 +84,8 @@ fn append_record(
     output: &mut Vec<u8>,
 ) -> Result<(), Stop>
     requires placed { PlacedItems (symbols_in memory.now) (map item_of items.now) }
-    ensures appended { Gives result line output.new.items (record_onto output.old.items (map item_of items.now) (look memory.now)) }
+    ensures appended { Gives result line output.new.items
+        (record_onto output.old.items (map item_of items.now) (look memory.now)) }
     ensures kept { Keeps output.old.items output.new.items }
 {
     output.push(b' ')?;
@@ -93,7 +97,9 @@ fn append_record(
 /// Prints a record, nothing of it where an item faults.
 pub fn print(machine: &mut Machine<'_>, line: Line, items: &[Item]) -> Result<(), Stop>
     requires placed { PlacedItems (symbols_of machine.old) (map item_of items.now) }
-    ensures reached { Reaches result (run_of machine.new) (exec_plain (symbols_of machine.old) line (print (map item_of items.now)) (run_of machine.old Done)) }
+    ensures reached { Reaches result (run_of machine.new)
+        (exec_plain (symbols_of machine.old) line (print (map item_of items.now))
+        (run_of machine.old Done)) }
     ensures symbols { symbols_of machine.new ≡ symbols_of machine.old }
 {
     let before = machine.output.len();

@@ -1,13 +1,18 @@
 //! Statements.
 
 ghost use Rattle.std.specs.Prelude.{◌≡◌, map, true};
-ghost use Rattle.ast.specs.Meaning.{exec, exec_arms, exec_block, exec_plain, given, grown, looped, read_elements, target, step_value, then_do, turns, written};
+ghost use Rattle.ast.specs.Meaning.{exec, exec_arms, exec_block, exec_plain, given, grown, looped};
+ghost use Rattle.ast.specs.Meaning.{read_elements, target, step_value, then_do, turns, written};
 ghost use Rattle.ast.specs.Program.{is_placed};
 ghost use Rattle.ast.specs.Tree.{arms as arms_tree, assign, loop, read};
-ghost use Rattle.ast.specs.View.{access as access_of, arm, block_view, head as head_of, node as node_of, optional_term, ref, statement as statement_of, term};
+ghost use Rattle.ast.specs.View.{access as access_of, arm, block_view, head as head_of};
+ghost use Rattle.ast.specs.View.{node as node_of, optional_term, ref, statement as statement_of};
+ghost use Rattle.ast.specs.View.{term};
 ghost use Rattle.ast.specs.declared.fault.End.TheVariants.{Done};
 ghost use Rattle.tree_run.specs.Executing.{holds_at};
-ghost use Rattle.tree_run.specs.Placed.{PlacedAccess, PlacedAccesses, PlacedArms, PlacedBlock, PlacedHead, PlacedKind, PlacedNode, PlacedOptional, PlacedTerm};
+ghost use Rattle.tree_run.specs.Placed.{PlacedAccess, PlacedAccesses, PlacedArms, PlacedBlock};
+ghost use Rattle.tree_run.specs.Placed.{PlacedHead, PlacedKind, PlacedNode, PlacedOptional};
+ghost use Rattle.tree_run.specs.Placed.{PlacedTerm};
 ghost use Rattle.tree_run.specs.Runs.{Completes, GivesValue, Reaches, left, run_of, symbols_of};
 ghost use Rattle.tree_run.specs.View.{look, store_in, symbols_in};
 
@@ -22,7 +27,10 @@ use values::{add, trips};
 /// Gives an element another value.
 fn store(machine: &mut Machine<'_>, line: Line, element: &Access, number: i64) -> Result<(), Stop>
     requires placed { PlacedAccess (symbols_of machine.old) (access_of element.now) }
-    ensures reached { Completes result (run_of machine.new) (given (target (symbols_of machine.old) (store_in machine.old.memory) (access_of element.now)) line (run_of machine.old Done) (λ p. written (run_of machine.old Done) (access_of element.now).ref.name p number)) }
+    ensures reached { Completes result (run_of machine.new)
+        (given (target (symbols_of machine.old) (store_in machine.old.memory)
+        (access_of element.now)) line (run_of machine.old Done)
+        (λ p. written (run_of machine.old Done) (access_of element.now).ref.name p number)) }
     ensures symbols { symbols_of machine.new ≡ symbols_of machine.old }
     ensures input { machine.new.input ≡ machine.old.input }
 {
@@ -40,7 +48,9 @@ fn assign(
 ) -> Result<(), Stop>
     requires right_side { PlacedTerm (symbols_of machine.old) (term expression.now) }
     requires target { PlacedAccess (symbols_of machine.old) (access_of element.now) }
-    ensures reached { Completes result (run_of machine.new) (exec_plain (symbols_of machine.old) line (assign (access_of element.now) (term expression.now)) (run_of machine.old Done)) }
+    ensures reached { Completes result (run_of machine.new)
+        (exec_plain (symbols_of machine.old) line
+        (assign (access_of element.now) (term expression.now)) (run_of machine.old Done)) }
     ensures symbols { symbols_of machine.new ≡ symbols_of machine.old }
 {
     let number = value_at(&machine.memory, line, expression)?;
@@ -50,7 +60,9 @@ fn assign(
 /// Reads a value for each element, from the integers that are left and the records behind them.
 fn read_elements(machine: &mut Machine<'_>, line: Line, elements: &[Access]) -> Result<(), Stop>
     requires placed { PlacedAccesses (symbols_of machine.old) (map access_of elements.now) }
-    ensures reached { Reaches result (run_of machine.new) (read_elements (symbols_of machine.old) line (map access_of elements.now) (left machine.old.input) (run_of machine.old Done)) }
+    ensures reached { Reaches result (run_of machine.new)
+        (read_elements (symbols_of machine.old) line (map access_of elements.now)
+        (left machine.old.input) (run_of machine.old Done)) }
     ensures symbols { symbols_of machine.new ≡ symbols_of machine.old }
 {
     for element in elements {
@@ -63,7 +75,9 @@ fn read_elements(machine: &mut Machine<'_>, line: Line, elements: &[Access]) -> 
 /// A READ: a record, and then a value for each element.
 fn read(machine: &mut Machine<'_>, line: Line, elements: &[Access]) -> Result<(), Stop>
     requires placed { PlacedAccesses (symbols_of machine.old) (map access_of elements.now) }
-    ensures reached { Reaches result (run_of machine.new) (exec_plain (symbols_of machine.old) line (read (map access_of elements.now)) (run_of machine.old Done)) }
+    ensures reached { Reaches result (run_of machine.new)
+        (exec_plain (symbols_of machine.old) line (read (map access_of elements.now))
+        (run_of machine.old Done)) }
     ensures symbols { symbols_of machine.new ≡ symbols_of machine.old }
 {
     machine.input.take(line)?;
@@ -73,7 +87,9 @@ fn read(machine: &mut Machine<'_>, line: Line, elements: &[Access]) -> Result<()
 /// Executes a statement that holds no others.
 fn exec_plain(machine: &mut Machine<'_>, statement: &Stmt) -> Result<(), Stop>
     requires placed { PlacedKind (symbols_of machine.old) (statement_of statement.now).kind }
-    ensures reached { Reaches result (run_of machine.new) (exec_plain (symbols_of machine.old) statement.now.line (statement_of statement.now).kind (run_of machine.old Done)) }
+    ensures reached { Reaches result (run_of machine.new)
+        (exec_plain (symbols_of machine.old) statement.now.line
+        (statement_of statement.now).kind (run_of machine.old Done)) }
     ensures symbols { symbols_of machine.new ≡ symbols_of machine.old }
 {
     let line = statement.line;
@@ -101,7 +117,8 @@ fn exec_plain(machine: &mut Machine<'_>, statement: &Stmt) -> Result<(), Stop>
 #[tactic(auto, using(ast::proofs::Sizes::some_elements))]
 fn grow(machine: &mut Machine<'_>, line: Line, variable: &Reference, step: i64) -> Result<(), Stop>
     requires placed { is_placed (symbols_of machine.old) (ref variable.now) ≡ true }
-    ensures reached { Completes result (run_of machine.new) (grown line variable.now.name.letters step (run_of machine.old Done)) }
+    ensures reached { Completes result (run_of machine.new)
+        (grown line variable.now.name.letters step (run_of machine.old Done)) }
     ensures symbols { symbols_of machine.new ≡ symbols_of machine.old }
 {
     let before = machine.memory.load(variable, 0);
@@ -128,7 +145,8 @@ fn holds(memory: &Memory<'_>, line: Line, condition: &Option<Expr>) -> Result<bo
 #[tactic(auto, using(ast::proofs::Sizes::some_elements))]
 fn set(machine: &mut Machine<'_>, variable: &Reference, number: i64)
     requires placed { is_placed (symbols_of machine.old) (ref variable.now) ≡ true }
-    ensures written { run_of machine.new Done ≡ written (run_of machine.old Done) variable.now.name.letters 0 number }
+    ensures written { run_of machine.new Done
+        ≡ written (run_of machine.old Done) variable.now.name.letters 0 number }
     ensures symbols { symbols_of machine.new ≡ symbols_of machine.old }
 {
     machine.memory.set(variable, 0, number);
@@ -149,7 +167,8 @@ fn step_value(memory: &Memory<'_>, line: Line, step: &Option<Expr>) -> Result<i6
 #[cycle(exec)]
 pub fn exec_block(machine: &mut Machine<'_>, block: &[Node]) -> Result<(), Stop>
     requires placed { PlacedBlock (symbols_of machine.old) (block_view block.now) }
-    ensures reached { Reaches result (run_of machine.new) (exec_block (symbols_of machine.old) (block_view block.now) (run_of machine.old Done)) }
+    ensures reached { Reaches result (run_of machine.new)
+        (exec_block (symbols_of machine.old) (block_view block.now) (run_of machine.old Done)) }
     ensures symbols { symbols_of machine.new ≡ symbols_of machine.old }
 {
     for i in 0..block.len() {
@@ -165,7 +184,9 @@ pub fn exec_block(machine: &mut Machine<'_>, block: &[Node]) -> Result<(), Stop>
 #[cycle(exec)]
 fn exec_arms(machine: &mut Machine<'_>, arms: &[Arm]) -> Result<(), Stop>
     requires placed { PlacedArms (symbols_of machine.old) (arms_tree (map arm arms.now)) }
-    ensures reached { Reaches result (run_of machine.new) (exec_arms (symbols_of machine.old) (arms_tree (map arm arms.now)) (run_of machine.old Done)) }
+    ensures reached { Reaches result (run_of machine.new)
+        (exec_arms (symbols_of machine.old) (arms_tree (map arm arms.now))
+        (run_of machine.old Done)) }
     ensures symbols { symbols_of machine.new ≡ symbols_of machine.old }
 {
     for arm in arms {
@@ -188,7 +209,11 @@ fn turn(
 ) -> Result<(), Stop>
     requires variable { is_placed (symbols_of machine.old) (ref variable.now) ≡ true }
     requires range { PlacedBlock (symbols_of machine.old) (block_view range.now) }
-    ensures reached { Reaches result (run_of machine.new) (turns (λ before. then_do (exec_block (symbols_of machine.old) (block_view range.now) before) (λ after. grown line variable.now.name.letters step after)) trips (run_of machine.old Done)) }
+    ensures reached { Reaches result (run_of machine.new)
+        (turns (λ before.
+        then_do (exec_block (symbols_of machine.old) (block_view range.now) before)
+        (λ after. grown line variable.now.name.letters step after)) trips
+        (run_of machine.old Done)) }
     ensures symbols { symbols_of machine.new ≡ symbols_of machine.old }
 {
     let mut left = trips;
@@ -213,7 +238,10 @@ fn run_loop(
 ) -> Result<(), Stop>
     requires variable { is_placed (symbols_of machine.old) (ref variable.now) ≡ true }
     requires range { PlacedBlock (symbols_of machine.old) (block_view range.now) }
-    ensures reached { Reaches result (run_of machine.new) (looped line variable.now.name.letters (λ before. exec_block (symbols_of machine.old) (block_view range.now) before) first last step (run_of machine.old Done)) }
+    ensures reached { Reaches result (run_of machine.new)
+        (looped line variable.now.name.letters
+        (λ before. exec_block (symbols_of machine.old) (block_view range.now) before) first last
+        step (run_of machine.old Done)) }
     ensures symbols { symbols_of machine.new ≡ symbols_of machine.old }
 {
     if step == 0 {
@@ -240,7 +268,9 @@ fn exec_loop(
 ) -> Result<(), Stop>
     requires head { PlacedHead (symbols_of machine.old) (head_of head.now) }
     requires range { PlacedBlock (symbols_of machine.old) (block_view range.now) }
-    ensures reached { Reaches result (run_of machine.new) (exec (symbols_of machine.old) (loop line (head_of head.now) (block_view range.now)) (run_of machine.old Done)) }
+    ensures reached { Reaches result (run_of machine.new)
+        (exec (symbols_of machine.old) (loop line (head_of head.now) (block_view range.now))
+        (run_of machine.old Done)) }
     ensures symbols { symbols_of machine.new ≡ symbols_of machine.old }
 {
     let first = value_at(&machine.memory, line, &head.first)?;
@@ -253,7 +283,8 @@ fn exec_loop(
 #[cycle(exec)]
 fn exec(machine: &mut Machine<'_>, node: &Node) -> Result<(), Stop>
     requires placed { PlacedNode (symbols_of machine.old) (node_of node.now) }
-    ensures reached { Reaches result (run_of machine.new) (exec (symbols_of machine.old) (node_of node.now) (run_of machine.old Done)) }
+    ensures reached { Reaches result (run_of machine.new)
+        (exec (symbols_of machine.old) (node_of node.now) (run_of machine.old Done)) }
     ensures symbols { symbols_of machine.new ≡ symbols_of machine.old }
 {
     match node {

@@ -1,8 +1,11 @@
 //! Operations on 64-bit integers: the exact value, or the fault in its place.
 
-ghost use Rattle.std.specs.Prelude.{◌≡◌, ◌≢◌, ◌-ℤ◌, ◌+ℤ◌, ◌*ℤ◌, int_div, pos, ◌<◌, ◌^◌, unsigned_abs, ℤ};
-ghost use Rattle.ast.specs.Exact.{absolute, negated, positive_part, prefixed_value, remainder, trips, truth_value, value_of};
-ghost use Rattle.ast.specs.declared.expression.Operator.TheVariants.{Add, Subtract, Multiply, Divide};
+ghost use Rattle.std.specs.Prelude.{◌≡◌, ◌≢◌, ◌-ℤ◌, ◌+ℤ◌, ◌*ℤ◌, int_div, pos, ◌<◌, ◌^◌};
+ghost use Rattle.std.specs.Prelude.{unsigned_abs, ℤ};
+ghost use Rattle.ast.specs.Exact.{absolute, negated, positive_part, prefixed_value, remainder};
+ghost use Rattle.ast.specs.Exact.{trips, truth_value, value_of};
+ghost use Rattle.ast.specs.declared.expression.Operator.TheVariants.{Add, Subtract, Multiply};
+ghost use Rattle.ast.specs.declared.expression.Operator.TheVariants.{Divide};
 
 use ast::{Fault, Operator, Prefix};
 

@@ -3,7 +3,8 @@
 ghost use Rattle.std.specs.Prelude.{◌≡◌, ◌≤◌, ◌∷◌, ◌+◌, ◌-◌, ◌*◌, IfOk, IfSome, neg_ℤ, pos, true};
 ghost use Rattle.std.specs.Char.{is_ascii_digit};
 ghost use Rattle.ast.specs.Input.{cut_at, integer_in, integer_of, integers_of};
-ghost use Rattle.values.specs.Scanning.{kept, magnitude_in, part_onto, parts_onto, passing, piece_length, pieces, word_onto, words_onto};
+ghost use Rattle.values.specs.Scanning.{kept, magnitude_in, part_onto, parts_onto, passing};
+ghost use Rattle.values.specs.Scanning.{piece_length, pieces, word_onto, words_onto};
 ghost use Rattle.values.specs.declared.scanner.Separator.TheVariants.{Blank, Comma};
 
 use std::alloc::AllocError;
@@ -123,7 +124,8 @@ fn integer(word: &[u8]) -> Option<i64>
 
 /// Appends the integer of a word, none of an empty one; whether it is one.
 fn add_word(word: &[u8], integers: &mut Vec<i64>) -> Result<bool, AllocError>
-    ensures { IfOk result (λ is_formed. word_onto integers.old.items word.now ≡ kept is_formed integers.new.items) }
+    ensures { IfOk result (λ is_formed. word_onto integers.old.items word.now
+        ≡ kept is_formed integers.new.items) }
 {
     if word.is_empty() {
         return Ok(true);
@@ -139,7 +141,9 @@ fn add_word(word: &[u8], integers: &mut Vec<i64>) -> Result<bool, AllocError>
 
 /// Appends the integers of a part; whether all its words are integers.
 fn add_words(part: &[u8], integers: &mut Vec<i64>) -> Result<bool, AllocError>
-    ensures { IfOk result (λ is_formed. words_onto integers.old.items (cut_at (passing Blank) part.now) ≡ kept is_formed integers.new.items) }
+    ensures { IfOk result (λ is_formed.
+        words_onto integers.old.items (cut_at (passing Blank) part.now)
+        ≡ kept is_formed integers.new.items) }
 {
     let mut rest = Some(part);
     while let Some(text) = rest {
@@ -154,7 +158,8 @@ fn add_words(part: &[u8], integers: &mut Vec<i64>) -> Result<bool, AllocError>
 
 /// Appends the integers of a part; whether it is well formed: a part beside a comma has an integer.
 fn add_part(beside_comma: bool, part: &[u8], integers: &mut Vec<i64>) -> Result<bool, AllocError>
-    ensures { IfOk result (λ is_formed. part_onto beside_comma integers.old.items part.now ≡ kept is_formed integers.new.items) }
+    ensures { IfOk result (λ is_formed. part_onto beside_comma integers.old.items part.now
+        ≡ kept is_formed integers.new.items) }
 {
     let before = integers.len();
     let is_formed = add_words(part, integers)?;
@@ -163,7 +168,9 @@ fn add_part(beside_comma: bool, part: &[u8], integers: &mut Vec<i64>) -> Result<
 
 /// Appends the integers of the parts behind a comma.
 fn add_parts(parts: Option<&[u8]>, integers: &mut Vec<i64>) -> Result<bool, AllocError>
-    ensures { IfOk result (λ is_formed. parts_onto true integers.old.items (pieces Comma parts.entry) ≡ kept is_formed integers.new.items) }
+    ensures { IfOk result (λ is_formed.
+        parts_onto true integers.old.items (pieces Comma parts.entry)
+        ≡ kept is_formed integers.new.items) }
 {
     let mut rest = parts;
     while let Some(text) = rest {

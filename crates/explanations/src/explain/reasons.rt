@@ -5,8 +5,9 @@ ghost use Rattle.explanations.specs.Explained.{is_within};
 
 use std::fmt::{Display, Formatter, Result as FmtResult, Write};
 
-/// What the number behind SERIAL means: in a sentence, and at length; with a source that has such a loop,
-/// and one with a loop that may be open in its place. Either is empty where there is no short one.
+/// What the number behind SERIAL means: in a sentence, and at length; with a source that has such a
+/// loop, and one with a loop that may be open in its place. Either is empty where there is no short
+/// one.
 #[derive(Clone, Copy)]
 pub struct Reason {
     pub number: u8,

@@ -1,5 +1,5 @@
-//! Refusals of schedules, each with a schedule of the program of END alone that has it and one that is
-//! cured; and that of code that is too long.
+//! Refusals of schedules, each with a schedule of the program of END alone that has it and one that
+//! is cured; and that of code that is too long.
 
 ghost use Rattle.std.specs.Prelude.{◌≡◌, ◌||◌, IfSome, is_some};
 ghost use Rattle.explanations.specs.Explained.{is_within};

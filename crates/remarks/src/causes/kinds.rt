@@ -1,5 +1,5 @@
-//! Which operand of a statement is of the wrong kind: an integer where a logical value is wanted, or the
-//! other way round.
+//! Which operand of a statement is of the wrong kind: an integer where a logical value is wanted,
+//! or the other way round.
 
 use super::Cause;
 use crate::mentions::{LONGEST_NAME, Mention};
