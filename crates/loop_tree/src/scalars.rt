@@ -57,7 +57,7 @@ fn set(marks: &mut Vec<bool>, cell: usize)
 }
 
 impl Scalars {
-    ghost use Rattle.std.specs.Prelude.{◌≡◌, ◌<◌, [], OnOk, map, true, ℕ};
+    ghost use Rattle.std.specs.Prelude.{◌≡◌, ◌<◌, [], OnErr, OnOk, map, true, ℕ};
     ghost use Rattle.ast.specs.View.{ref};
     ghost use Rattle.loop_tree.specs.Loops.{has_cell, with_scalar};
     ghost use Rattle.loop_tree.specs.ScalarsView.{scalars};
@@ -94,9 +94,10 @@ impl Scalars {
         self.marks.len()
     }
 
-    /// Adds a scalar, unless it is among them.
+    /// Adds a scalar, unless it is among them. Where memory is refused they stay as they were.
     pub fn add(&mut self, reference: Reference) -> Result<(), AllocError>
-        ensures { OnOk result (scalars self.new ≡ with_scalar (scalars self.old) (ref reference)) }
+        ensures ok { OnOk result (scalars self.new ≡ with_scalar (scalars self.old) (ref reference)) }
+        ensures err { OnErr result (scalars self.new ≡ scalars self.old) }
     {
         if self.contains(reference.cell) {
             return Ok(());
