@@ -69,7 +69,7 @@ fn number_of(different: &mut Vec<Relation>, relation: Relation) -> Result<u32, A
 }
 
 impl Relations {
-    ghost use Rattle.std.specs.Prelude.{◌≡◌, ◌++◌, [], ◌∷◌, OnOk};
+    ghost use Rattle.std.specs.Prelude.{◌≡◌, ◌++◌, [], ◌∷◌, OnErr, OnOk};
     ghost use Rattle.dependence.specs.Related.{relations};
     ghost use Rattle.dependence.specs.Runs.{relation_at};
 
@@ -93,7 +93,7 @@ impl Relations {
         }
     }
 
-    /// Adds the relation of a pair behind the others.
+    /// Adds the relation of a pair behind the others. Where memory is refused they stay as they were.
     #[tactic(auto, using(crate::proofs::Runs::still_numbered))]
     pub fn push(
         &mut self,
@@ -101,7 +101,8 @@ impl Relations {
         second: RefId,
         relation: Relation,
     ) -> Result<(), AllocError>
-        ensures { OnOk result (relations self.new ≡ relations self.old ++ (first.0, second.0, relation) ∷ []) }
+        ensures ok { OnOk result (relations self.new ≡ relations self.old ++ (first.0, second.0, relation) ∷ []) }
+        ensures err { OnErr result (relations self.new ≡ relations self.old) }
     {
         let first = narrow(first.0)?;
         let second = narrow(second.0)?;

@@ -1,6 +1,6 @@
 //! Pairs of references that have one relation.
 
-ghost use Rattle.std.specs.Prelude.{◌≡◌, ◌+◌, ◌*◌, ◌<◌, ◌++◌, [], ◌∷◌, IfSome, List, OnOk, true, ℕ};
+ghost use Rattle.std.specs.Prelude.{◌≡◌, ◌+◌, ◌*◌, ◌<◌, ◌++◌, [], ◌∷◌, IfSome, List, OnErr, OnOk, true, ℕ};
 ghost use Rattle.dependence.specs.Runs.{are_numbered, pair_at, relation_at, run as run_of, runs as runs_of, stepped};
 ghost use Rattle.dependence.specs.declared.relation.Relation.{Relation};
 
@@ -76,6 +76,7 @@ impl Run {
 /// Adds a run of one pair behind others.
 fn begin(runs: &mut Vec<Run>, first: u32, second: u32, relation: u32) -> Result<(), AllocError>
     ensures pairs { OnOk result ((different : List Relation) → runs_of different runs.new.items ≡ runs_of different runs.old.items ++ (first, second, relation_at different relation) ∷ []) }
+    ensures err { OnErr result (runs.new.items ≡ runs.old.items) }
     ensures numbered { (n : ℕ) → are_numbered n runs.old.items ≡ true → relation < n → are_numbered n runs.new.items ≡ true }
 {
     runs.push(Run {
@@ -91,6 +92,7 @@ fn begin(runs: &mut Vec<Run>, first: u32, second: u32, relation: u32) -> Result<
 /// Adds a pair behind runs.
 pub fn put(runs: &mut Vec<Run>, first: u32, second: u32, relation: u32) -> Result<(), AllocError>
     ensures pairs { OnOk result ((different : List Relation) → runs_of different runs.new.items ≡ runs_of different runs.old.items ++ (first, second, relation_at different relation) ∷ []) }
+    ensures err { OnErr result (runs.new.items ≡ runs.old.items) }
     ensures numbered { (n : ℕ) → are_numbered n runs.old.items ≡ true → relation < n → are_numbered n runs.new.items ≡ true }
 {
     let Some(last) = runs.pop() else {
