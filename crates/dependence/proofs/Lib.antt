@@ -4,6 +4,7 @@ pub mod Distances
 pub mod Divides
 pub mod Divisors
 pub mod Fitted
+pub mod Greatest
 pub mod Meeting
 pub mod Promise
 pub mod Reformed

@@ -1,8 +1,10 @@
+pub mod Divisors
 pub mod Fitting
 pub mod Formed
 pub mod Hiding
 pub mod Kept
 pub mod Meets
+pub mod Parts
 pub mod Plan
 pub mod PlanView
 pub mod Related

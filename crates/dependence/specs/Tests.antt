@@ -15,7 +15,7 @@ use Rattle.loop_tree.specs.Occurrences.{Occurrence, numbered}
 use Rattle.loop_tree.specs.Constants.{if_some}
 use Rattle.subscripts.specs.Forms.{Form, Share, factor_in, form_of, others, varies}
 
--- The greatest common divisor, by Euclid; n bounds the steps.
+-- The greatest common divisor, by Euclid; n bounds the steps. Divisors.antt says the same without steps.
 abbrev pub gcd_within : ℕ → ℕ → ℕ → ℕ
 gcd_within zero a b = a
 gcd_within (suc n) a b = if b == 0 then a else gcd_within n b (a % b)
@@ -92,11 +92,6 @@ divided l f g =
 -- whether a number other than 0 doesn't divide another
 abbrev pub leaves_rest : ℕ → ℕ → Bool
 leaves_rest d n = not (d == 0) && not (n % d == 0)
-
--- an account of the code: the greatest common divisor, part by part
-abbrev pub divisor_by_parts : Loop → Form → Form → ℕ
-divisor_by_parts l f g =
-    gcd_with (gcd_with (gcd_with (gcd_with (gcd (gcd 0 (unsigned_abs f.coefficient)) (unsigned_abs g.coefficient)) (sizes (varying l f.shares))) (sizes (varying l g.shares))) (gaps (steady l f.shares) g.shares)) (sizes (others f.shares (steady l g.shares)))
 
 -- the greatest common divisor of all else isn't 0 and doesn't divide the difference of the constants
 abbrev pub by_divisor : Loop → Form → Form → Bool

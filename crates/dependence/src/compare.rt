@@ -1,6 +1,7 @@
 //! The four tests of two subscripts of one dimension.
 
 ghost use Rattle.std.specs.Prelude.{◌≡◌, ◌<◌, ◌^◌, ◌-ℤ◌, ◌*ℤ◌, map, unsigned_abs};
+ghost use Rattle.dependence.specs.Parts as parts;
 ghost use Rattle.dependence.specs.Tests as spec;
 ghost use Rattle.loop_tree.specs.TreeView.{seen};
 ghost use Rattle.subscripts.specs.SharesView.{share as share_of};
@@ -84,7 +85,7 @@ fn leaves_rest(divisor: u64, number: u64) -> bool
 
 /// What divides all but the constants, part by part.
 fn divisor_by_parts(view: &LoopView<'_, '_>, first: &Form, second: &Form) -> u64
-    ensures { result ≡ spec.divisor_by_parts (seen view.now) (form_of first.now) (form_of second.now) }
+    ensures { result ≡ parts.divisor_by_parts (seen view.now) (form_of first.now) (form_of second.now) }
 {
     let both = gcd(
         gcd(0, first.coefficient.unsigned_abs()),

@@ -5,6 +5,7 @@ mod compare;
 mod divisor;
 mod fitting;
 mod formed;
+mod laws;
 mod plan;
 mod recent;
 mod relating;
@@ -15,6 +16,7 @@ mod verifying;
 
 pub use fitting::{has_name, has_read, hides_inner};
 pub use formed::{forms, have_same_forms, is_given, relate_forms};
+pub use laws::{divisor_test, greatest_divisor};
 pub use plan::{LoopPlan, PlanArm, PlanStmt};
 pub use recent::Recent;
 pub use relating::relate;
