@@ -24,10 +24,11 @@ fn has_varying(view: &LoopView<'_, '_>, shares: &[Share]) -> bool
     false
 }
 
-/// Whether the second takes each of the first's scalars as often, but for those that the range gives
-/// values.
+/// Whether the second takes each of the first's scalars as often, but for those that the range
+/// gives values.
 fn are_equal(view: &LoopView<'_, '_>, first: &[Share], second: &[Share]) -> bool
-    ensures { result ≡ spec.no_gaps (seen view.now) (map share_of first.now) (map share_of second.now) }
+    ensures { result ≡ spec.no_gaps (seen view.now) (map share_of first.now)
+        (map share_of second.now) }
 {
     for share in first {
         if !view.assigns(share.cell) && share.factor.abs_diff(factor_in(second, share.cell)) != 0 {
@@ -37,9 +38,11 @@ fn are_equal(view: &LoopView<'_, '_>, first: &[Share], second: &[Share]) -> bool
     true
 }
 
-/// Whether the second takes no scalar that the first lacks, but for those that the range gives values.
+/// Whether the second takes no scalar that the first lacks, but for those that the range gives
+/// values.
 fn are_no_others(view: &LoopView<'_, '_>, first: &[Share], second: &[Share]) -> bool
-    ensures { result ≡ spec.no_others (seen view.now) (map share_of first.now) (map share_of second.now) }
+    ensures { result ≡ spec.no_others (seen view.now) (map share_of first.now)
+        (map share_of second.now) }
 {
     for share in second {
         if !view.assigns(share.cell)
@@ -85,7 +88,8 @@ fn leaves_rest(divisor: u64, number: u64) -> bool
 
 /// What divides all but the constants, part by part.
 fn divisor_by_parts(view: &LoopView<'_, '_>, first: &Form, second: &Form) -> u64
-    ensures { result ≡ parts.divisor_by_parts (seen view.now) (form_of first.now) (form_of second.now) }
+    ensures { result ≡ parts.divisor_by_parts (seen view.now) (form_of first.now)
+        (form_of second.now) }
 {
     let both = gcd(
         gcd(0, first.coefficient.unsigned_abs()),
@@ -104,7 +108,8 @@ fn divisor_by_parts(view: &LoopView<'_, '_>, first: &Form, second: &Form) -> u64
 
 /// What divides all but the constants.
 fn divisor(view: &LoopView<'_, '_>, first: &Form, second: &Form) -> u64
-    ensures { result ≡ spec.gcd_of (spec.divided (seen view.now) (form_of first.now) (form_of second.now)) }
+    ensures { result ≡ spec.gcd_of
+        (spec.divided (seen view.now) (form_of first.now) (form_of second.now)) }
 {
     divisor_by_parts(view, first, second)
 }
@@ -160,7 +165,8 @@ fn by_stride(number: i128, stride: i128) -> Found
 
 /// At what distance equal coefficients meet.
 fn at_step(step: Option<i64>, first: &Form, second: &Form) -> Found
-    ensures { result ≡ spec.at_step step first.now.coefficient (first.now.constant -ℤ second.now.constant) }
+    ensures { result ≡ spec.at_step step first.now.coefficient
+        (first.now.constant -ℤ second.now.constant) }
 {
     match step {
         None => Found::Nothing,
@@ -220,7 +226,8 @@ fn by_found(dimension: usize, trips: Option<u128>, found: Found) -> Relation
 
 /// What the tests give for a dimension. Whether the forms are alike is found once.
 pub fn tested(view: &LoopView<'_, '_>, dimension: usize, first: &Form, second: &Form) -> Relation
-    ensures { result ≡ spec.tested (seen view.now) dimension (form_of first.now) (form_of second.now) }
+    ensures { result ≡ spec.tested (seen view.now) dimension (form_of first.now)
+        (form_of second.now) }
 {
     let alike = are_alike(view, first, second);
     if alike && are_constants(first, second) {

@@ -17,10 +17,11 @@ pub fn gcd(a: u64, b: u64) -> u64
     if b == 0 { a } else { gcd(b, a % b) }
 }
 
-/// The greatest common divisor of a number and the factors of the scalars that the loop's range gives
-/// values.
+/// The greatest common divisor of a number and the factors of the scalars that the loop's range
+/// gives values.
 pub fn with_varying(view: &LoopView<'_, '_>, number: u64, shares: &[Share]) -> u64
-    ensures { result ≡ spec.gcd_with number (spec.sizes (spec.varying (seen view.now) (map share_of shares.now))) }
+    ensures { result ≡ spec.gcd_with number
+        (spec.sizes (spec.varying (seen view.now) (map share_of shares.now))) }
 {
     let mut divisor = number;
     for share in shares {
@@ -33,7 +34,8 @@ pub fn with_varying(view: &LoopView<'_, '_>, number: u64, shares: &[Share]) -> u
 
 /// By how much a factor differs from the second's of the same scalar.
 fn gap(share: Share, second: &[Share]) -> u64
-    ensures { result ≡ spec.gap (share_of share).factor (factor_in (map share_of second.now) share.cell) }
+    ensures { result ≡ spec.gap (share_of share).factor
+        (factor_in (map share_of second.now) share.cell) }
 {
     share.factor.abs_diff(factor_in(second, share.cell))
 }
@@ -41,7 +43,9 @@ fn gap(share: Share, second: &[Share]) -> u64
 /// The same of the differences between the first's factors and the second's, of scalars that the
 /// range gives no values.
 pub fn with_gaps(view: &LoopView<'_, '_>, number: u64, first: &[Share], second: &[Share]) -> u64
-    ensures { result ≡ spec.gcd_with number (spec.gaps (spec.steady (seen view.now) (map share_of first.now)) (map share_of second.now)) }
+    ensures { result ≡ spec.gcd_with number
+        (spec.gaps (spec.steady (seen view.now) (map share_of first.now))
+        (map share_of second.now)) }
 {
     let mut divisor = number;
     for share in first {
@@ -54,7 +58,10 @@ pub fn with_gaps(view: &LoopView<'_, '_>, number: u64, first: &[Share], second: 
 
 /// The same of the second's factors of scalars that the first lacks.
 pub fn with_others(view: &LoopView<'_, '_>, number: u64, first: &[Share], second: &[Share]) -> u64
-    ensures { result ≡ spec.gcd_with number (spec.sizes (others (map share_of first.now) (spec.steady (seen view.now) (map share_of second.now)))) }
+    ensures { result ≡ spec.gcd_with number
+        (spec.sizes
+        (others (map share_of first.now)
+        (spec.steady (seen view.now) (map share_of second.now)))) }
 {
     let mut divisor = number;
     for share in second {

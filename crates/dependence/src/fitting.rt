@@ -2,7 +2,8 @@
 
 ghost use Rattle.std.specs.Prelude.{◌≡◌, map};
 ghost use Rattle.ast.specs.Tree.{arms as arms_of};
-ghost use Rattle.ast.specs.View.{arm as arm_of, block_view, kind as kind_of, letters, node as node_of};
+ghost use Rattle.ast.specs.View.{arm as arm_of, block_view, kind as kind_of, letters};
+ghost use Rattle.ast.specs.View.{node as node_of};
 ghost use Rattle.dependence.specs.Fitting as spec;
 ghost use Rattle.dependence.specs.Hiding.{has_name as is_among, hides};
 ghost use Rattle.dependence.specs.Kept.{block_reads, is_read};

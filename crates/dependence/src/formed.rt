@@ -2,7 +2,8 @@
 
 ghost use Rattle.std.specs.Prelude.{◌≡◌, ◌+◌, ◌<◌, ◌^◌, IfOk, length, map, true};
 ghost use Rattle.dependence.specs.Formed as spec;
-ghost use Rattle.dependence.specs.Tests.{by_distance, is_only, on_forms, relation as relation_of, says_apart};
+ghost use Rattle.dependence.specs.Tests.{by_distance, is_only, on_forms, relation as relation_of};
+ghost use Rattle.dependence.specs.Tests.{says_apart};
 ghost use Rattle.loop_tree.specs.Occurrences.{Occurrence as Occurring};
 ghost use Rattle.loop_tree.specs.TreeView.{seen};
 ghost use Rattle.loop_tree.specs.View.{occurrence as occurrence_of};
@@ -21,7 +22,8 @@ pub fn forms(
     view: &LoopView<'_, '_>,
     occurrence: &Occurrence<'_>,
 ) -> Result<Vec<Affine>, AllocError>
-    ensures { IfOk result (λ forms. map form_in forms.items ≡ spec.forms_of (seen view.now) (occurrence_of occurrence.now).subscripts) }
+    ensures { IfOk result (λ forms. map form_in forms.items
+        ≡ spec.forms_of (seen view.now) (occurrence_of occurrence.now).subscripts) }
 {
     let mut forms = Vec::with_capacity(alloc, occurrence.subscripts.len())?;
     for subscript in occurrence.subscripts {
@@ -53,8 +55,8 @@ fn is_same_line(first: &Form, second: &Form) -> bool
         && first.coefficient == second.coefficient
 }
 
-/// Whether the forms of two references are seen to be the same, dimension by dimension. So they are where
-/// this is true; where they have shares of other scalars it is false.
+/// Whether the forms of two references are seen to be the same, dimension by dimension. So they are
+/// where this is true; where they have shares of other scalars it is false.
 pub fn have_same_forms(first: &[Affine], second: &[Affine]) -> bool
     ensures { result ≡ true → map form_in first.now ≡ map form_in second.now }
 {
@@ -75,7 +77,8 @@ fn by_dimensions(
     second: &[Affine],
 ) -> Relation
     requires { dimension + length first.now < 2 ^ 64 }
-    ensures { result ≡ spec.by_forms (seen view.now) dimension (map form_in first.now) (map form_in second.now) }
+    ensures { result ≡ spec.by_forms (seen view.now) dimension (map form_in first.now)
+        (map form_in second.now) }
 {
     match first {
         [] => Relation::Any,
@@ -89,17 +92,20 @@ fn by_dimensions(
     }
 }
 
-/// The relation of a reference with the first forms in an iteration to one with the second in a later
-/// one, as `relate` has it.
+/// The relation of a reference with the first forms in an iteration to one with the second in a
+/// later one, as `relate` has it.
 pub fn relate_forms(view: &LoopView<'_, '_>, first: &[Affine], second: &[Affine]) -> Relation
-    ensures { (a b : Occurring) → map form_in first.now ≡ spec.forms_of (seen view.now) a.subscripts → map form_in second.now ≡ spec.forms_of (seen view.now) b.subscripts → result ≡ relation_of (seen view.now) a b }
+    ensures { (a b : Occurring) → map form_in first.now ≡ spec.forms_of (seen view.now) a.subscripts
+        → map form_in second.now ≡ spec.forms_of (seen view.now) b.subscripts → result
+        ≡ relation_of (seen view.now) a b }
 {
     by_dimensions(view, 1, first, second)
 }
 
 /// The nth of forms, counted from 1.
 fn nth(forms: &[Affine], number: usize) -> Option<&Affine>
-    ensures { spec.present (λ f. form_in f.now) result ≡ spec.nth_form (map form_in forms.now) number }
+    ensures { spec.present (λ f. form_in f.now) result
+        ≡ spec.nth_form (map form_in forms.now) number }
 {
     match forms {
         [] => None,
@@ -117,7 +123,9 @@ fn is_apart(
     first: Option<&Affine>,
     second: Option<&Affine>,
 ) -> bool
-    ensures { result ≡ on_forms (spec.present (λ f. form_in f.now) first.entry) (spec.present (λ f. form_in f.now) second.entry) (λ f g. says_apart (seen view.now) reason f g) }
+    ensures { result ≡ on_forms (spec.present (λ f. form_in f.now) first.entry)
+        (spec.present (λ f. form_in f.now) second.entry)
+        (λ f g. says_apart (seen view.now) reason f g) }
 {
     match first {
         Some(first) => match second {
@@ -134,7 +142,9 @@ fn is_distant(
     first: Option<&Affine>,
     second: Option<&Affine>,
 ) -> bool
-    ensures { result ≡ on_forms (spec.present (λ f. form_in f.now) first.entry) (spec.present (λ f. form_in f.now) second.entry) (λ f g. is_only (by_distance (seen view.now) f g) distance) }
+    ensures { result ≡ on_forms (spec.present (λ f. form_in f.now) first.entry)
+        (spec.present (λ f. form_in f.now) second.entry)
+        (λ f g. is_only (by_distance (seen view.now) f g) distance) }
 {
     match first {
         Some(first) => match second {
@@ -152,7 +162,8 @@ pub fn is_given(
     second: &[Affine],
     relation: Relation,
 ) -> bool
-    ensures { result ≡ spec.verified_by (seen view.now) (map form_in first.now) (map form_in second.now) relation }
+    ensures { result ≡ spec.verified_by (seen view.now) (map form_in first.now)
+        (map form_in second.now) relation }
 {
     match relation {
         Relation::Apart(dimension, reason) => {

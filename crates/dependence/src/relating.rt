@@ -22,7 +22,8 @@ pub fn by_forms(
     first: &Affine,
     second: &Affine,
 ) -> Relation
-    ensures { result ≡ spec.dimension (seen view.now) dimension (form_in first.now) (form_in second.now) }
+    ensures { result ≡ spec.dimension (seen view.now) dimension (form_in first.now)
+        (form_in second.now) }
 {
     match first {
         Affine::Form(first) => match second {
@@ -35,7 +36,8 @@ pub fn by_forms(
 
 /// What one dimension gives.
 fn by_dimension(view: &LoopView<'_, '_>, dimension: usize, first: &Expr, second: &Expr) -> Relation
-    ensures { result ≡ spec.dimension (seen view.now) dimension (form_of (seen view.now) (term first.now)) (form_of (seen view.now) (term second.now)) }
+    ensures { result ≡ spec.dimension (seen view.now) dimension
+        (form_of (seen view.now) (term first.now)) (form_of (seen view.now) (term second.now)) }
 {
     by_forms(view, dimension, &affine(first, view), &affine(second, view))
 }
@@ -62,7 +64,8 @@ fn by_dimensions(
     second: &[Expr],
 ) -> Relation
     requires { dimension + length first.now < 2 ^ 64 }
-    ensures { result ≡ spec.dimensions (seen view.now) dimension (terms (map term first.now)) (terms (map term second.now)) }
+    ensures { result ≡ spec.dimensions (seen view.now) dimension (terms (map term first.now))
+        (terms (map term second.now)) }
 {
     match first {
         [] => Relation::Any,
@@ -81,7 +84,8 @@ fn by_occurrences(
     first: &Occurrence<'_>,
     second: &Occurrence<'_>,
 ) -> Relation
-    ensures { result ≡ spec.relation (seen view.now) (occurrence first.now) (occurrence second.now) }
+    ensures { result ≡ spec.relation (seen view.now) (occurrence first.now)
+        (occurrence second.now) }
 {
     by_dimensions(view, 1, first.subscripts, second.subscripts)
 }
@@ -98,9 +102,10 @@ fn found(view: &LoopView<'_, '_>, a: RefId, b: RefId) -> Relation
     }
 }
 
-/// The relation of the reference `a` in an iteration to the reference `b` in a later one: of one name,
-/// and both in the loop's range; `Any` of what isn't in it. Dimensions are numbered from 1. The first
-/// that shows them apart decides, otherwise the first that gives a distance. `verify` says yes to it.
+/// The relation of the reference `a` in an iteration to the reference `b` in a later one: of one
+/// name, and both in the loop's range; `Any` of what isn't in it. Dimensions are numbered from 1.
+/// The first that shows them apart decides, otherwise the first that gives a distance. `verify`
+/// says yes to it.
 pub fn relate(view: &LoopView<'_, '_>, a: RefId, b: RefId) -> Relation
     ensures exact { result ≡ spec.related (seen view.now) a.0 b.0 }
     ensures agreed { spec.verified (seen view.now) a.0 b.0 result ≡ true }

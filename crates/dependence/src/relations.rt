@@ -55,7 +55,8 @@ fn recent_number(different: &[Relation], relation: Relation) -> Option<usize>
 
 /// The number of a relation, which is added where it isn't one of the newest.
 fn number_of(different: &mut Vec<Relation>, relation: Relation) -> Result<u32, AllocError>
-    ensures kept { (rs : List Run) → are_numbered (length different.old.items) rs ≡ true → runs different.new.items rs ≡ runs different.old.items rs }
+    ensures kept { (rs : List Run) → are_numbered (length different.old.items) rs ≡ true
+        → runs different.new.items rs ≡ runs different.old.items rs }
     ensures more { length different.old.items ≤ length different.new.items }
     ensures number { IfOk result (λ n. relation_at different.new.items n ≡ relation) }
     ensures inside { IfOk result (λ n. n < length different.new.items) }
@@ -93,7 +94,8 @@ impl Relations {
         }
     }
 
-    /// Adds the relation of a pair behind the others. Where memory is refused they stay as they were.
+    /// Adds the relation of a pair behind the others. Where memory is refused they stay as they
+    /// were.
     #[tactic(auto, using(crate::proofs::Runs::still_numbered))]
     pub fn push(
         &mut self,
@@ -101,7 +103,8 @@ impl Relations {
         second: RefId,
         relation: Relation,
     ) -> Result<(), AllocError>
-        ensures ok { OnOk result (relations self.new ≡ relations self.old ++ (first.0, second.0, relation) ∷ []) }
+        ensures ok { OnOk result (relations self.new ≡ relations self.old
+            ++ (first.0, second.0, relation) ∷ []) }
         ensures err { OnErr result (relations self.new ≡ relations self.old) }
     {
         let first = narrow(first.0)?;

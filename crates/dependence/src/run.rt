@@ -1,7 +1,9 @@
 //! Pairs of references that have one relation.
 
-ghost use Rattle.std.specs.Prelude.{◌≡◌, ◌+◌, ◌*◌, ◌<◌, ◌++◌, [], ◌∷◌, IfSome, List, OnErr, OnOk, true, ℕ};
-ghost use Rattle.dependence.specs.Runs.{are_numbered, pair_at, relation_at, run as run_of, runs as runs_of, stepped};
+ghost use Rattle.std.specs.Prelude.{◌≡◌, ◌+◌, ◌*◌, ◌<◌, ◌++◌, [], ◌∷◌, IfSome, List, OnErr, OnOk};
+ghost use Rattle.std.specs.Prelude.{true, ℕ};
+ghost use Rattle.dependence.specs.Runs.{are_numbered, pair_at, relation_at, run as run_of};
+ghost use Rattle.dependence.specs.Runs.{runs as runs_of, stepped};
 ghost use Rattle.dependence.specs.declared.relation.Relation.{Relation};
 
 use ast::RefId;
@@ -31,7 +33,9 @@ impl Run {
 
     /// The step by which a number is the next of the others, if it is.
     fn step_to(&self, second: u32) -> Option<u32>
-        ensures same { IfSome result (λ step. (r : Relation) → stepped self.now.first self.now.second step self.now.count r ≡ stepped self.now.first self.now.second self.now.step self.now.count r) }
+        ensures same { IfSome result (λ step. (r : Relation)
+            → stepped self.now.first self.now.second step self.now.count r
+            ≡ stepped self.now.first self.now.second self.now.step self.now.count r) }
         ensures next { IfSome result (λ step. second ≡ self.now.second + step * self.now.count) }
     {
         if self.count == 1 {
@@ -55,7 +59,9 @@ impl Run {
 
     /// It with a pair more, if that continues it.
     fn longer(&self, first: u32, second: u32, relation: u32) -> Option<Run>
-        ensures longer { IfSome result (λ longer. (different : List Relation) → run_of different longer ≡ run_of different self.now ++ (first, second, relation_at different relation) ∷ []) }
+        ensures longer { IfSome result (λ longer. (different : List Relation)
+            → run_of different longer ≡ run_of different self.now
+            ++ (first, second, relation_at different relation) ∷ []) }
         ensures relation { IfSome result (λ longer. longer.relation ≡ relation) }
     {
         if !self.is_of(first, relation) {
@@ -75,9 +81,12 @@ impl Run {
 
 /// Adds a run of one pair behind others.
 fn begin(runs: &mut Vec<Run>, first: u32, second: u32, relation: u32) -> Result<(), AllocError>
-    ensures pairs { OnOk result ((different : List Relation) → runs_of different runs.new.items ≡ runs_of different runs.old.items ++ (first, second, relation_at different relation) ∷ []) }
+    ensures pairs { OnOk result ((different : List Relation) → runs_of different runs.new.items
+        ≡ runs_of different runs.old.items ++ (first, second, relation_at different relation)
+        ∷ []) }
     ensures err { OnErr result (runs.new.items ≡ runs.old.items) }
-    ensures numbered { (n : ℕ) → are_numbered n runs.old.items ≡ true → relation < n → are_numbered n runs.new.items ≡ true }
+    ensures numbered { (n : ℕ) → are_numbered n runs.old.items ≡ true → relation < n
+        → are_numbered n runs.new.items ≡ true }
 {
     runs.push(Run {
         first,
@@ -91,9 +100,12 @@ fn begin(runs: &mut Vec<Run>, first: u32, second: u32, relation: u32) -> Result<
 
 /// Adds a pair behind runs.
 pub fn put(runs: &mut Vec<Run>, first: u32, second: u32, relation: u32) -> Result<(), AllocError>
-    ensures pairs { OnOk result ((different : List Relation) → runs_of different runs.new.items ≡ runs_of different runs.old.items ++ (first, second, relation_at different relation) ∷ []) }
+    ensures pairs { OnOk result ((different : List Relation) → runs_of different runs.new.items
+        ≡ runs_of different runs.old.items ++ (first, second, relation_at different relation)
+        ∷ []) }
     ensures err { OnErr result (runs.new.items ≡ runs.old.items) }
-    ensures numbered { (n : ℕ) → are_numbered n runs.old.items ≡ true → relation < n → are_numbered n runs.new.items ≡ true }
+    ensures numbered { (n : ℕ) → are_numbered n runs.old.items ≡ true → relation < n
+        → are_numbered n runs.new.items ≡ true }
 {
     let Some(last) = runs.pop() else {
         return begin(runs, first, second, relation);

@@ -18,7 +18,8 @@ use subscripts::{Affine, Form, affine};
 
 /// The nth of subscripts, counted from 1.
 fn nth(subscripts: &[Expr], number: usize) -> Option<&Expr>
-    ensures { option_map (λ e. term e.now) result ≡ spec.nth_term (terms (map term subscripts.now)) number }
+    ensures { option_map (λ e. term e.now) result
+        ≡ spec.nth_term (terms (map term subscripts.now)) number }
 {
     match subscripts {
         [] => None,
@@ -32,7 +33,8 @@ fn nth(subscripts: &[Expr], number: usize) -> Option<&Expr>
 
 /// The form of the nth.
 fn form_at(view: &LoopView<'_, '_>, subscripts: &[Expr], number: usize) -> Affine
-    ensures { form_in result ≡ spec.form_at (seen view.now) (terms (map term subscripts.now)) number }
+    ensures { form_in result
+        ≡ spec.form_at (seen view.now) (terms (map term subscripts.now)) number }
 {
     match nth(subscripts, number) {
         Some(subscript) => affine(subscript, view),
@@ -60,7 +62,8 @@ fn is_nowhere(found: Found) -> bool
 
 /// Whether the test that a reason names says so.
 fn says_apart(view: &LoopView<'_, '_>, reason: Reason, first: &Form, second: &Form) -> bool
-    ensures { result ≡ spec.says_apart (seen view.now) reason (form_of first.now) (form_of second.now) }
+    ensures { result ≡ spec.says_apart (seen view.now) reason (form_of first.now)
+        (form_of second.now) }
 {
     match reason {
         Reason::Constant => by_constant(view, first, second),
@@ -72,7 +75,8 @@ fn says_apart(view: &LoopView<'_, '_>, reason: Reason, first: &Form, second: &Fo
 
 /// Whether forms are apart by the test that a reason names.
 pub fn are_apart(view: &LoopView<'_, '_>, reason: Reason, first: &Affine, second: &Affine) -> bool
-    ensures { result ≡ spec.on_forms (form_in first.now) (form_in second.now) (λ f g. spec.says_apart (seen view.now) reason f g) }
+    ensures { result ≡ spec.on_forms (form_in first.now) (form_in second.now) (λ f g.
+        spec.says_apart (seen view.now) reason f g) }
 {
     match first {
         Affine::Form(first) => match second {
@@ -85,7 +89,8 @@ pub fn are_apart(view: &LoopView<'_, '_>, reason: Reason, first: &Affine, second
 
 /// Whether the distance test gives forms just this distance.
 pub fn are_distant(view: &LoopView<'_, '_>, distance: u128, first: &Affine, second: &Affine) -> bool
-    ensures { result ≡ spec.on_forms (form_in first.now) (form_in second.now) (λ f g. spec.is_only (spec.by_distance (seen view.now) f g) distance) }
+    ensures { result ≡ spec.on_forms (form_in first.now) (form_in second.now) (λ f g.
+        spec.is_only (spec.by_distance (seen view.now) f g) distance) }
 {
     match first {
         Affine::Form(first) => match second {
@@ -102,7 +107,8 @@ fn is_verified(
     second: &Occurrence<'_>,
     relation: Relation,
 ) -> bool
-    ensures { result ≡ spec.is_verified (seen view.now) (occurrence first.now) (occurrence second.now) relation }
+    ensures { result ≡ spec.is_verified (seen view.now) (occurrence first.now)
+        (occurrence second.now) relation }
 {
     match relation {
         Relation::Apart(dimension, reason) => are_apart(
@@ -142,15 +148,17 @@ fn is_claim_verified(view: &LoopView<'_, '_>, a: RefId, b: RefId, relation: Rela
     }
 }
 
-/// Whether the test that a relation names gives it, in the dimension that it names, for the reference
-/// `a` in an iteration and the reference `b` in a later one, both in the loop's range. Yes to `Any`
-/// always.
+/// Whether the test that a relation names gives it, in the dimension that it names, for the
+/// reference `a` in an iteration and the reference `b` in a later one, both in the loop's range.
+/// Yes to `Any` always.
 ///
-/// A yes to `Apart` says that they never meet, and one to `Distance` that they meet at that distance
-/// alone.
+/// A yes to `Apart` says that they never meet, and one to `Distance` that they meet at that
+/// distance alone.
 pub fn verify(view: &LoopView<'_, '_>, a: RefId, b: RefId, relation: Relation) -> bool
     ensures exact { result ≡ spec.verified (seen view.now) a.0 b.0 relation }
-    ensures promise { IfYes result (PromisesIf (seen view.now) (numbered (seen view.now).references a.0) (numbered (seen view.now).references b.0) relation) }
+    ensures promise { IfYes result
+        (PromisesIf (seen view.now) (numbered (seen view.now).references a.0)
+        (numbered (seen view.now).references b.0) relation) }
 {
     is_claim_verified(view, a, b, relation)
 }

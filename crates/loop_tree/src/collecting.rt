@@ -2,7 +2,8 @@
 
 ghost use Rattle.std.specs.Prelude.{◌≡◌, IfOk, None, OnOk, map};
 ghost use Rattle.ast.specs.Tree.{arms as arms_of, choose, loop, plain};
-ghost use Rattle.ast.specs.View.{arm as arm_of, block_view, head as head_of, node as node_of, statement as statement_of};
+ghost use Rattle.ast.specs.View.{arm as arm_of, block_view, head as head_of, node as node_of};
+ghost use Rattle.ast.specs.View.{statement as statement_of};
 ghost use Rattle.loop_tree.specs.Collecting as spec;
 ghost use Rattle.loop_tree.specs.CollectedView.{collected, span};
 ghost use Rattle.loop_tree.specs.Occurrences.{first_line};
@@ -54,7 +55,8 @@ fn describe<'p>(
     range: &'p [Node],
     place: usize,
 ) -> Result<Info<'p>, AllocError>
-    ensures { IfOk result (λ i. span i ≡ spec.span_at around statement line (head_of head.now) (block_view range.now) place) }
+    ensures { IfOk result (λ i. span i
+        ≡ spec.span_at around statement line (head_of head.now) (block_view range.now) place) }
 {
     let mut assigned = Scalars::new(alloc);
     add_assigned(&mut assigned, range)?;
@@ -84,7 +86,9 @@ fn add_info<'p>(
     head: &'p DoHead,
     range: &'p [Node],
 ) -> Result<(), AllocError>
-    ensures { OnOk result (collected parts.new ≡ spec.with_info around statement line (head_of head.now) (block_view range.now) (collected parts.old)) }
+    ensures { OnOk result (collected parts.new
+        ≡ spec.with_info around statement line (head_of head.now) (block_view range.now)
+        (collected parts.old)) }
 {
     let place = parts.references.len();
     let info = describe(alloc, around, statement, line, head, range, place)?;
@@ -109,7 +113,8 @@ fn begin<'p>(
     head: &'p DoHead,
     range: &'p [Node],
 ) -> Result<(), AllocError>
-    ensures { OnOk result (collected parts.new ≡ spec.begun around line (head_of head.now) (block_view range.now) (collected parts.old)) }
+    ensures { OnOk result (collected parts.new
+        ≡ spec.begun around line (head_of head.now) (block_view range.now) (collected parts.old)) }
 {
     let statement = parts.lines.len();
     add_line(parts, line)?;
@@ -140,7 +145,8 @@ fn add_plain<'p>(
     around: Option<usize>,
     statement: &'p Stmt,
 ) -> Result<(), AllocError>
-    ensures { OnOk result (collected parts.new ≡ spec.after_node around (plain (statement_of statement.now)) (collected parts.old)) }
+    ensures { OnOk result (collected parts.new
+        ≡ spec.after_node around (plain (statement_of statement.now)) (collected parts.old)) }
 {
     let number = parts.lines.len();
     add_line(parts, statement.line)?;
@@ -166,7 +172,9 @@ fn add_loop<'p>(
     head: &'p DoHead,
     range: &'p [Node],
 ) -> Result<(), AllocError>
-    ensures { OnOk result (collected parts.new ≡ spec.after_node around (loop line (head_of head.now) (block_view range.now)) (collected parts.old)) }
+    ensures { OnOk result (collected parts.new
+        ≡ spec.after_node around (loop line (head_of head.now) (block_view range.now))
+        (collected parts.old)) }
 {
     let place = parts.loops.len();
     begin(alloc, parts, around, line, head, range)?;
@@ -184,7 +192,8 @@ fn add_arms<'p>(
     number: usize,
     arms: &'p [Arm],
 ) -> Result<(), AllocError>
-    ensures { OnOk result (collected parts.new ≡ spec.after_arms around number (arms_of (map arm_of arms.now)) (collected parts.old)) }
+    ensures { OnOk result (collected parts.new
+        ≡ spec.after_arms around number (arms_of (map arm_of arms.now)) (collected parts.old)) }
 {
     for arm in arms {
         add_optional(&mut parts.references, number, &arm.condition)?;
@@ -200,7 +209,8 @@ fn add_choice<'p>(
     around: Option<usize>,
     arms: &'p [Arm],
 ) -> Result<(), AllocError>
-    ensures { OnOk result (collected parts.new ≡ spec.after_node around (choose (arms_of (map arm_of arms.now))) (collected parts.old)) }
+    ensures { OnOk result (collected parts.new
+        ≡ spec.after_node around (choose (arms_of (map arm_of arms.now))) (collected parts.old)) }
 {
     let number = parts.lines.len();
     add_line(parts, first_line(arms))?;
@@ -214,7 +224,8 @@ fn add_node<'p>(
     around: Option<usize>,
     node: &'p Node,
 ) -> Result<(), AllocError>
-    ensures { OnOk result (collected parts.new ≡ spec.after_node around (node_of node.now) (collected parts.old)) }
+    ensures { OnOk result (collected parts.new
+        ≡ spec.after_node around (node_of node.now) (collected parts.old)) }
 {
     match node {
         Node::Plain(statement) => add_plain(parts, around, statement),
@@ -231,7 +242,8 @@ fn add_nodes<'p>(
     around: Option<usize>,
     nodes: &'p [Node],
 ) -> Result<(), AllocError>
-    ensures { OnOk result (collected parts.new ≡ spec.after_block around (block_view nodes.now) (collected parts.old)) }
+    ensures { OnOk result (collected parts.new
+        ≡ spec.after_block around (block_view nodes.now) (collected parts.old)) }
 {
     for node in nodes {
         add_node(alloc, parts, around, node)?;
@@ -241,7 +253,8 @@ fn add_nodes<'p>(
 
 /// What statements have.
 pub fn collect<'p>(alloc: Global, nodes: &'p [Node]) -> Result<Collected<'p>, AllocError>
-    ensures { IfOk result (λ parts. collected parts ≡ spec.after_block None (block_view nodes.now) spec.no_collected) }
+    ensures { IfOk result (λ parts. collected parts
+        ≡ spec.after_block None (block_view nodes.now) spec.no_collected) }
 {
     let mut parts = Collected {
         lines: Vec::new(alloc),

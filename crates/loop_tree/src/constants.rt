@@ -66,7 +66,8 @@ fn intrinsic_value(intrinsic: Intrinsic, arguments: &[i64]) -> Result<i64, Fault
 
 /// The value of an operation, if both operands have one.
 fn operation_value(operator: Operator, a: Option<i64>, b: Option<i64>) -> Option<i64>
-    ensures { result ≡ spec.if_some a (λ u. spec.if_some b (λ v. result_ok (value_of operator u v))) }
+    ensures { result ≡ spec.if_some a (λ u.
+        spec.if_some b (λ v. result_ok (value_of operator u v))) }
 {
     apply_operator(operator, a?, b?).ok()
 }
@@ -75,7 +76,8 @@ fn operation_value(operator: Operator, a: Option<i64>, b: Option<i64>) -> Option
 #[cycle(constant)]
 #[tactic(auto, using(crate::proofs::ConstantValues::from_none, crate::proofs::ConstantValues::next_value, crate::proofs::ConstantValues::no_values))]
 fn values_of(alloc: Global, arguments: &[Expr]) -> Result<Option<Vec<i64>>, AllocError>
-    ensures { IfOk result (λ values. listed values ≡ spec.constant_values (terms (map term arguments.now))) }
+    ensures { IfOk result (λ values. listed values
+        ≡ spec.constant_values (terms (map term arguments.now))) }
 {
     let mut values = Vec::new(alloc);
     for argument in arguments {
@@ -94,7 +96,8 @@ fn call_value(
     intrinsic: Intrinsic,
     arguments: &[Expr],
 ) -> Result<Option<i64>, AllocError>
-    ensures { IfOk result (λ value. value ≡ spec.constant_value (call intrinsic (terms (map term arguments.now)))) }
+    ensures { IfOk result (λ value. value
+        ≡ spec.constant_value (call intrinsic (terms (map term arguments.now)))) }
 {
     match values_of(alloc, arguments)? {
         Some(values) => Ok(intrinsic_value(intrinsic, &values).ok()),

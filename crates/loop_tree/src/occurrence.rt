@@ -2,7 +2,8 @@
 
 ghost use Rattle.std.specs.Prelude.{◌≡◌, ◌∷◌, ◌++◌, [], OnOk, map};
 ghost use Rattle.ast.specs.Tree.{accessed, terms};
-ghost use Rattle.ast.specs.View.{access as access_of, head as head_of, item as item_of, kind as kind_of, optional_term, term};
+ghost use Rattle.ast.specs.View.{access as access_of, head as head_of, item as item_of};
+ghost use Rattle.ast.specs.View.{kind as kind_of, optional_term, term};
 ghost use Rattle.loop_tree.specs.Occurrences as spec;
 ghost use Rattle.loop_tree.specs.View.{occurrence};
 
@@ -19,14 +20,15 @@ pub struct Occurrence<'p> {
     /// Whether the variable is given a value here.
     pub defines: bool,
     /// The number of the statement among those of the program, from 0: a DO with its parameters, an
-    /// IF with the conditions of all its arms; what stands in a range or an arm is a statement of its
-    /// own, the one of a logical IF too.
+    /// IF with the conditions of all its arms; what stands in a range or an arm is a statement of
+    /// its own, the one of a logical IF too.
     pub statement: usize,
 }
 
 /// Appends a reference.
 fn add_place<'p>(list: &mut Vec<Occurrence<'p>>, place: Occurrence<'p>) -> Result<(), AllocError>
-    ensures { OnOk result (map occurrence list.new.items ≡ map occurrence list.old.items ++ occurrence place.entry ∷ []) }
+    ensures { OnOk result (map occurrence list.new.items ≡ map occurrence list.old.items
+        ++ occurrence place.entry ∷ []) }
 {
     list.push(place)?;
     Ok(())
@@ -39,7 +41,8 @@ fn add_terms<'p>(
     statement: usize,
     expressions: &'p [Expr],
 ) -> Result<(), AllocError>
-    ensures { OnOk result (map occurrence list.new.items ≡ map occurrence list.old.items ++ spec.terms_occurrences statement (terms (map term expressions.now))) }
+    ensures { OnOk result (map occurrence list.new.items ≡ map occurrence list.old.items
+        ++ spec.terms_occurrences statement (terms (map term expressions.now))) }
 {
     for expression in expressions {
         add_term(list, statement, expression)?;
@@ -54,7 +57,8 @@ fn add_element<'p>(
     statement: usize,
     access: &'p Access,
 ) -> Result<(), AllocError>
-    ensures { OnOk result (map occurrence list.new.items ≡ map occurrence list.old.items ++ spec.term_occurrences statement (accessed (access_of access.now))) }
+    ensures { OnOk result (map occurrence list.new.items ≡ map occurrence list.old.items
+        ++ spec.term_occurrences statement (accessed (access_of access.now))) }
 {
     add_terms(list, statement, &access.subscripts)?;
     let place = Occurrence {
@@ -73,7 +77,8 @@ pub fn add_term<'p>(
     statement: usize,
     expression: &'p Expr,
 ) -> Result<(), AllocError>
-    ensures { OnOk result (map occurrence list.new.items ≡ map occurrence list.old.items ++ spec.term_occurrences statement (term expression.now)) }
+    ensures { OnOk result (map occurrence list.new.items ≡ map occurrence list.old.items
+        ++ spec.term_occurrences statement (term expression.now)) }
 {
     match expression {
         Expr::Constant(_) | Expr::Truth(_) | Expr::Parameter(_, _) => Ok(()),
@@ -94,7 +99,8 @@ pub fn add_optional<'p>(
     statement: usize,
     expression: &'p Option<Expr>,
 ) -> Result<(), AllocError>
-    ensures { OnOk result (map occurrence list.new.items ≡ map occurrence list.old.items ++ spec.optional_occurrences statement (optional_term expression.now)) }
+    ensures { OnOk result (map occurrence list.new.items ≡ map occurrence list.old.items
+        ++ spec.optional_occurrences statement (optional_term expression.now)) }
 {
     match expression {
         Some(expression) => add_term(list, statement, expression),
@@ -108,7 +114,8 @@ fn add_target<'p>(
     statement: usize,
     access: &'p Access,
 ) -> Result<(), AllocError>
-    ensures { OnOk result (map occurrence list.new.items ≡ map occurrence list.old.items ++ spec.target_occurrences statement (access_of access.now)) }
+    ensures { OnOk result (map occurrence list.new.items ≡ map occurrence list.old.items
+        ++ spec.target_occurrences statement (access_of access.now)) }
 {
     add_terms(list, statement, &access.subscripts)?;
     let place = Occurrence {
@@ -125,7 +132,8 @@ fn add_targets<'p>(
     statement: usize,
     elements: &'p [Access],
 ) -> Result<(), AllocError>
-    ensures { OnOk result (map occurrence list.new.items ≡ map occurrence list.old.items ++ spec.targets_occurrences statement (map access_of elements.now)) }
+    ensures { OnOk result (map occurrence list.new.items ≡ map occurrence list.old.items
+        ++ spec.targets_occurrences statement (map access_of elements.now)) }
 {
     for element in elements {
         add_target(list, statement, element)?;
@@ -138,7 +146,8 @@ fn add_item<'p>(
     statement: usize,
     item: &'p Item,
 ) -> Result<(), AllocError>
-    ensures { OnOk result (map occurrence list.new.items ≡ map occurrence list.old.items ++ spec.item_occurrences statement (item_of item.now)) }
+    ensures { OnOk result (map occurrence list.new.items ≡ map occurrence list.old.items
+        ++ spec.item_occurrences statement (item_of item.now)) }
 {
     match item {
         Item::Value(value) => add_term(list, statement, value),
@@ -151,7 +160,8 @@ fn add_items<'p>(
     statement: usize,
     items: &'p [Item],
 ) -> Result<(), AllocError>
-    ensures { OnOk result (map occurrence list.new.items ≡ map occurrence list.old.items ++ spec.items_occurrences statement (map item_of items.now)) }
+    ensures { OnOk result (map occurrence list.new.items ≡ map occurrence list.old.items
+        ++ spec.items_occurrences statement (map item_of items.now)) }
 {
     for item in items {
         add_item(list, statement, item)?;
@@ -166,7 +176,9 @@ fn add_assignment<'p>(
     target: &'p Access,
     value: &'p Expr,
 ) -> Result<(), AllocError>
-    ensures { OnOk result (map occurrence list.new.items ≡ map occurrence list.old.items ++ (spec.term_occurrences statement (term value.now) ++ spec.target_occurrences statement (access_of target.now))) }
+    ensures { OnOk result (map occurrence list.new.items ≡ map occurrence list.old.items
+        ++ (spec.term_occurrences statement (term value.now)
+        ++ spec.target_occurrences statement (access_of target.now))) }
 {
     add_term(list, statement, value)?;
     add_target(list, statement, target)
@@ -178,7 +190,8 @@ pub fn add_kind<'p>(
     statement: usize,
     kind: &'p Kind,
 ) -> Result<(), AllocError>
-    ensures { OnOk result (map occurrence list.new.items ≡ map occurrence list.old.items ++ spec.kind_occurrences statement (kind_of kind.now)) }
+    ensures { OnOk result (map occurrence list.new.items ≡ map occurrence list.old.items
+        ++ spec.kind_occurrences statement (kind_of kind.now)) }
 {
     match kind {
         Kind::Assign(target, value) => add_assignment(list, statement, target, value),
@@ -206,7 +219,10 @@ fn add_parameters<'p>(
     statement: usize,
     head: &'p DoHead,
 ) -> Result<(), AllocError>
-    ensures { OnOk result (map occurrence list.new.items ≡ map occurrence list.old.items ++ spec.term_occurrences statement (head_of head.now).first ++ spec.term_occurrences statement (head_of head.now).last ++ spec.optional_occurrences statement (head_of head.now).step) }
+    ensures { OnOk result (map occurrence list.new.items ≡ map occurrence list.old.items
+        ++ spec.term_occurrences statement (head_of head.now).first
+        ++ spec.term_occurrences statement (head_of head.now).last
+        ++ spec.optional_occurrences statement (head_of head.now).step) }
 {
     add_term(list, statement, &head.first)?;
     add_term(list, statement, &head.last)?;
@@ -219,7 +235,8 @@ pub fn add_head<'p>(
     statement: usize,
     head: &'p DoHead,
 ) -> Result<(), AllocError>
-    ensures { OnOk result (map occurrence list.new.items ≡ map occurrence list.old.items ++ spec.head_occurrences statement (head_of head.now)) }
+    ensures { OnOk result (map occurrence list.new.items ≡ map occurrence list.old.items
+        ++ spec.head_occurrences statement (head_of head.now)) }
 {
     add_parameters(list, statement, head)?;
     let variable = Occurrence {

@@ -96,7 +96,8 @@ impl Scalars {
 
     /// Adds a scalar, unless it is among them. Where memory is refused they stay as they were.
     pub fn add(&mut self, reference: Reference) -> Result<(), AllocError>
-        ensures ok { OnOk result (scalars self.new ≡ with_scalar (scalars self.old) (ref reference)) }
+        ensures ok { OnOk result (scalars self.new
+            ≡ with_scalar (scalars self.old) (ref reference)) }
         ensures err { OnErr result (scalars self.new ≡ scalars self.old) }
     {
         if self.contains(reference.cell) {

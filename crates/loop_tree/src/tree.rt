@@ -47,13 +47,15 @@ impl<'p> LoopTree<'p> {
     ghost use Rattle.loop_tree.specs.CollectedView.{collected as collected_of, span};
     ghost use Rattle.loop_tree.specs.Loops.{loop_numbered};
     ghost use Rattle.loop_tree.specs.Told.{are_told, known, references};
-    ghost use Rattle.loop_tree.specs.TreeView.{all_seen, lines_seen, loops_seen, references_seen, seen};
+    ghost use Rattle.loop_tree.specs.TreeView.{all_seen, lines_seen, loops_seen, references_seen};
+    ghost use Rattle.loop_tree.specs.TreeView.{seen};
     ghost use Rattle.loop_tree.specs.View.{occurrence};
 
     /// The tree of what was collected.
     pub(crate) fn new(collected: Collected<'p>) -> LoopTree<'p>
         requires numbered { are_numbered 0 (references (collected_of collected).references) ≡ true }
-        requires told { list_all (λ l. are_told (known l)) (loops_in (collected_of collected)) ≡ true }
+        requires told { list_all (λ l. are_told (known l)) (loops_in (collected_of collected))
+            ≡ true }
         ensures { result.collected ≡ collected.entry }
     {
         LoopTree { collected }
@@ -195,8 +197,8 @@ impl<'t, 'p> LoopView<'t, 'p> {
     }
 
     /// The references of its range, in order of evaluation, in which they are numbered one after
-    /// another. Among them, the loop's variable and the scalars that the range gives values, two have
-    /// one cell exactly where they have one name.
+    /// another. Among them, the loop's variable and the scalars that the range gives values, two
+    /// have one cell exactly where they have one name.
     pub fn references(&self) -> &'t [Occurrence<'p>]
         ensures all { map occurrence result.now ≡ (seen self.now).references }
         ensures numbered { are_in_turn (references (seen self.now).references) ≡ true }

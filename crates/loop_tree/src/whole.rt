@@ -14,10 +14,13 @@ use std::alloc::{AllocError, Global};
 /// The loops of a program, numbered from 1 in the order of the text. Each shows what its DO and its
 /// range have.
 pub fn loops<'p>(alloc: Global, program: &'p Program) -> Result<LoopTree<'p>, AllocError>
-    ensures all { IfOk result (λ tree. loops_seen tree ≡ loops_of (block_view program.now.body.items)) }
+    ensures all { IfOk result (λ tree. loops_seen tree
+        ≡ loops_of (block_view program.now.body.items)) }
     ensures whole { IfOk result (λ tree. AreWhole (loops_seen tree)) }
-    ensures references { IfOk result (λ tree. references_seen tree ≡ block_occurrences 0 (block_view program.now.body.items)) }
-    ensures lines { IfOk result (λ tree. lines_seen tree ≡ block_lines (block_view program.now.body.items)) }
+    ensures references { IfOk result (λ tree. references_seen tree
+        ≡ block_occurrences 0 (block_view program.now.body.items)) }
+    ensures lines { IfOk result (λ tree. lines_seen tree
+        ≡ block_lines (block_view program.now.body.items)) }
 {
     let collected = collect(alloc, &program.body)?;
     Ok(LoopTree::new(collected))

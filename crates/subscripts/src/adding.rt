@@ -18,7 +18,8 @@ use loop_tree::LoopView;
 fn add_number(form: &mut Form, minus: bool, number: i64) -> Option<()>
     requires proper { IsProper (form_of form.old) }
     requires capacity { form.old.shares.capacity ≡ 8 }
-    ensures left { Left result (form_of form.new) (spec.in_room (spec.total_form minus (form_of form.old) (spec.number_form number))) }
+    ensures left { Left result (form_of form.new)
+        (spec.in_room (spec.total_form minus (form_of form.old) (spec.number_form number))) }
     ensures capacity { form.new.shares.capacity ≡ 8 }
 {
     form.constant = total(minus, form.constant, number)?;
@@ -28,7 +29,8 @@ fn add_number(form: &mut Form, minus: bool, number: i64) -> Option<()>
 fn add_variable(form: &mut Form, minus: bool) -> Option<()>
     requires proper { IsProper (form_of form.old) }
     requires capacity { form.old.shares.capacity ≡ 8 }
-    ensures left { Left result (form_of form.new) (spec.in_room (spec.total_form minus (form_of form.old) spec.variable_form)) }
+    ensures left { Left result (form_of form.new)
+        (spec.in_room (spec.total_form minus (form_of form.old) spec.variable_form)) }
     ensures capacity { form.new.shares.capacity ≡ 8 }
 {
     form.coefficient = total(minus, form.coefficient, 1)?;
@@ -61,7 +63,8 @@ fn once(minus: bool) -> i64
 /// Adds the form of another scalar than the loop's variable.
 fn add_other_form(form: &mut Form, view: &LoopView<'_, '_>, minus: bool, cell: usize) -> Option<()>
     requires capacity { form.old.shares.capacity ≡ 8 }
-    ensures left { Left result (form_of form.new) (spec.total_of (seen view.now) minus (form_of form.old) (spec.other_form cell)) }
+    ensures left { Left result (form_of form.new)
+        (spec.total_of (seen view.now) minus (form_of form.old) (spec.other_form cell)) }
     ensures capacity { form.new.shares.capacity ≡ 8 }
 {
     let other = other_form(view.allocator(), cell);
@@ -73,7 +76,8 @@ fn add_other_form(form: &mut Form, view: &LoopView<'_, '_>, minus: bool, cell: u
 fn add_other(form: &mut Form, view: &LoopView<'_, '_>, minus: bool, cell: usize) -> Option<()>
     requires proper { IsProper (form_of form.old) }
     requires capacity { form.old.shares.capacity ≡ 8 }
-    ensures left { Left result (form_of form.new) (spec.total_of (seen view.now) minus (form_of form.old) (spec.other_form cell)) }
+    ensures left { Left result (form_of form.new)
+        (spec.total_of (seen view.now) minus (form_of form.old) (spec.other_form cell)) }
     ensures capacity { form.new.shares.capacity ≡ 8 }
 {
     if has_share(form.shares.as_slice(), cell) {
@@ -86,7 +90,9 @@ fn add_other(form: &mut Form, view: &LoopView<'_, '_>, minus: bool, cell: usize)
 fn add_scalar(form: &mut Form, view: &LoopView<'_, '_>, minus: bool, cell: usize) -> Option<()>
     requires proper { IsProper (form_of form.old) }
     requires capacity { form.old.shares.capacity ≡ 8 }
-    ensures left { Left result (form_of form.new) (spec.total_of (seen view.now) minus (form_of form.old) (spec.scalar_form (seen view.now) cell)) }
+    ensures left { Left result (form_of form.new)
+        (spec.total_of (seen view.now) minus (form_of form.old)
+        (spec.scalar_form (seen view.now) cell)) }
     ensures capacity { form.new.shares.capacity ≡ 8 }
 {
     if cell == view.head().variable.cell {
@@ -99,7 +105,9 @@ fn add_scalar(form: &mut Form, view: &LoopView<'_, '_>, minus: bool, cell: usize
 fn add_leaf(form: &mut Form, view: &LoopView<'_, '_>, minus: bool, leaf: Leaf) -> Option<()>
     requires proper { IsProper (form_of form.old) }
     requires capacity { form.old.shares.capacity ≡ 8 }
-    ensures left { Left result (form_of form.new) (spec.total_of (seen view.now) minus (form_of form.old) (leaf_form (seen view.now) leaf)) }
+    ensures left { Left result (form_of form.new)
+        (spec.total_of (seen view.now) minus (form_of form.old)
+        (leaf_form (seen view.now) leaf)) }
     ensures capacity { form.new.shares.capacity ≡ 8 }
 {
     match leaf {
@@ -118,7 +126,8 @@ pub fn operate(
     requires proper { IsProper (form_of form.old) }
     requires other { IsProper (form_of other.now) }
     requires capacity { form.old.shares.capacity ≡ 8 }
-    ensures left { Left result (form_of form.new) (spec.binary_form (seen view.now) operator (form_of form.old) (form_of other.now)) }
+    ensures left { Left result (form_of form.new)
+        (spec.binary_form (seen view.now) operator (form_of form.old) (form_of other.now)) }
     ensures proper { IfSome result (λ done. IsProper (form_of form.new)) }
     ensures capacity { form.new.shares.capacity ≡ 8 }
 {
@@ -137,7 +146,9 @@ pub fn operate_leaf(
     requires proper { IsProper (form_of form.old) }
     requires leaf { IsProperLeaf leaf }
     requires capacity { form.old.shares.capacity ≡ 8 }
-    ensures left { Left result (form_of form.new) (spec.binary_form (seen view.now) operator (form_of form.old) (leaf_form (seen view.now) leaf)) }
+    ensures left { Left result (form_of form.new)
+        (spec.binary_form (seen view.now) operator (form_of form.old)
+        (leaf_form (seen view.now) leaf)) }
     ensures proper { IfSome result (λ done. IsProper (form_of form.new)) }
     ensures capacity { form.new.shares.capacity ≡ 8 }
 {
@@ -150,7 +161,8 @@ pub fn operate_leaf(
 
 /// A form with the other sign, where it has room.
 fn negative(view: &LoopView<'_, '_>, form: &Form) -> Option<Form>
-    ensures value { option_map form_of result ≡ spec.prefixed_form (seen view.now) Minus (form_of form.now) }
+    ensures value { option_map form_of result
+        ≡ spec.prefixed_form (seen view.now) Minus (form_of form.now) }
     ensures capacity { IfSome result (λ f. f.shares.capacity ≡ 8) }
 {
     let zero = number_form(view.allocator(), 0);
@@ -160,7 +172,8 @@ fn negative(view: &LoopView<'_, '_>, form: &Form) -> Option<Form>
 /// Subtracts a form from nothing, in its place.
 fn negate(form: &mut Form, view: &LoopView<'_, '_>) -> Option<()>
     requires capacity { form.old.shares.capacity ≡ 8 }
-    ensures left { Left result (form_of form.new) (spec.prefixed_form (seen view.now) Minus (form_of form.old)) }
+    ensures left { Left result (form_of form.new)
+        (spec.prefixed_form (seen view.now) Minus (form_of form.old)) }
     ensures capacity { form.new.shares.capacity ≡ 8 }
 {
     let other = negative(view, form);
@@ -171,7 +184,8 @@ fn negate(form: &mut Form, view: &LoopView<'_, '_>) -> Option<()>
 pub fn put_prefix(form: &mut Form, view: &LoopView<'_, '_>, prefix: Prefix) -> Option<()>
     requires proper { IsProper (form_of form.old) }
     requires capacity { form.old.shares.capacity ≡ 8 }
-    ensures left { Left result (form_of form.new) (spec.prefixed_form (seen view.now) prefix (form_of form.old)) }
+    ensures left { Left result (form_of form.new)
+        (spec.prefixed_form (seen view.now) prefix (form_of form.old)) }
     ensures proper { IfSome result (λ done. IsProper (form_of form.new)) }
     ensures capacity { form.new.shares.capacity ≡ 8 }
 {

@@ -52,7 +52,9 @@ fn put_element(
 ) -> Option<()>
     requires empty { form_of form.old ≡ spec.number_form (pos 0) }
     requires capacity { form.old.shares.capacity ≡ 8 }
-    ensures left { Left result (form_of form.new) (spec.element_form (seen view.now) (ref reference.now) (terms (map term subscripts.now))) }
+    ensures left { Left result (form_of form.new)
+        (spec.element_form (seen view.now) (ref reference.now)
+        (terms (map term subscripts.now))) }
     ensures proper { IfSome result (λ done. IsProper (form_of form.new)) }
     ensures capacity { form.new.shares.capacity ≡ 8 }
 {
@@ -65,12 +67,13 @@ fn put_element(
     }
 }
 
-/// Puts an expression into an empty form. What stands to the right of an operator is put into a form
-/// of its own where it has parts.
+/// Puts an expression into an empty form. What stands to the right of an operator is put into a
+/// form of its own where it has parts.
 fn put_form(form: &mut Form, expression: &Expr, view: &LoopView<'_, '_>) -> Option<()>
     requires empty { form_of form.old ≡ spec.number_form (pos 0) }
     requires capacity { form.old.shares.capacity ≡ 8 }
-    ensures left { Left result (form_of form.new) (spec.form_of (seen view.now) (term expression.now)) }
+    ensures left { Left result (form_of form.new)
+        (spec.form_of (seen view.now) (term expression.now)) }
     ensures proper { IfSome result (λ done. IsProper (form_of form.new)) }
     ensures capacity { form.new.shares.capacity ≡ 8 }
 {
@@ -110,13 +113,13 @@ fn found(expression: &Expr, view: &LoopView<'_, '_>) -> Affine
     }
 }
 
-/// The affine form of a subscript in a loop: sums, differences, signs, and products with a number keep
-/// it. Array elements, intrinsics, divisions and other products have none, nor a sum or a difference
-/// both of whose sides take a scalar that the range gives values; nor has what takes more than 8
-/// scalars or has a number that is no 64-bit integer, in any part.
+/// The affine form of a subscript in a loop: sums, differences, signs, and products with a number
+/// keep it. Array elements, intrinsics, divisions and other products have none, nor a sum or a
+/// difference both of whose sides take a scalar that the range gives values; nor has what takes
+/// more than 8 scalars or has a number that is no 64-bit integer, in any part.
 ///
-/// Whatever number stands where an element or a scalar that the range gives values does, the value of
-/// the subscript is that of its form.
+/// Whatever number stands where an element or a scalar that the range gives values does, the value
+/// of the subscript is that of its form.
 pub fn affine(expression: &Expr, view: &LoopView<'_, '_>) -> Affine
     ensures form { form_in result ≡ spec.form_of (seen view.now) (term expression.now) }
     ensures value { HasForm result (λ f. IsForm (seen view.now) (term expression.now) f) }

@@ -88,7 +88,8 @@ fn total_shares(
     first: &[Share],
     second: &[Share],
 ) -> Option<SmallVec<Share, 8>>
-    ensures value { option_map (λ v. map share_of v.items) result ≡ put_sums minus (map share_of first.now) (map share_of second.now) }
+    ensures value { option_map (λ v. map share_of v.items) result
+        ≡ put_sums minus (map share_of first.now) (map share_of second.now) }
     ensures capacity { IfSome result (λ shares. shares.capacity ≡ 8) }
 {
     let mut shares = SmallVec::new(alloc);
@@ -117,7 +118,8 @@ fn total_step(alloc: Global, minus: bool, first: &Form, second: &Form) -> Option
 
 /// The sum or the difference of forms, where it has room.
 pub fn total_form(alloc: Global, minus: bool, first: &Form, second: &Form) -> Option<Form>
-    ensures value { option_map form result ≡ spec.in_room (spec.total_form minus (form first.now) (form second.now)) }
+    ensures value { option_map form result
+        ≡ spec.in_room (spec.total_form minus (form first.now) (form second.now)) }
     ensures capacity { IfSome result (λ f. f.shares.capacity ≡ 8) }
 {
     total_step(alloc, minus, first, second)
@@ -125,7 +127,8 @@ pub fn total_form(alloc: Global, minus: bool, first: &Form, second: &Form) -> Op
 
 /// So many times all shares.
 fn times_shares(alloc: Global, number: i64, all: &[Share]) -> Option<SmallVec<Share, 8>>
-    ensures value { option_map (λ v. map share_of v.items) result ≡ put_each [] (map (times_share number) (map share_of all.now)) }
+    ensures value { option_map (λ v. map share_of v.items) result
+        ≡ put_each [] (map (times_share number) (map share_of all.now)) }
     ensures capacity { IfSome result (λ shares. shares.capacity ≡ 8) }
 {
     let mut shares = SmallVec::new(alloc);
@@ -149,7 +152,8 @@ fn times_step(alloc: Global, number: &Form, all: &Form) -> Option<Form>
 
 /// A form as many times as the constant of another says, where it has room.
 fn times(alloc: Global, number: &Form, all: &Form) -> Option<Form>
-    ensures value { option_map form result ≡ spec.in_room (spec.times number.now.constant (form all.now)) }
+    ensures value { option_map form result
+        ≡ spec.in_room (spec.times number.now.constant (form all.now)) }
     ensures capacity { IfSome result (λ f. f.shares.capacity ≡ 8) }
 {
     times_step(alloc, number, all)
@@ -178,7 +182,8 @@ fn product_form(alloc: Global, first: &Form, second: &Form) -> Option<Form>
 
 /// A sum or a difference; there is none where both sides take a scalar that the range gives values.
 pub fn total_of(view: &LoopView<'_, '_>, minus: bool, first: &Form, second: &Form) -> Option<Form>
-    ensures value { option_map form result ≡ spec.total_of (seen view.now) minus (form first.now) (form second.now) }
+    ensures value { option_map form result
+        ≡ spec.total_of (seen view.now) minus (form first.now) (form second.now) }
     ensures capacity { IfSome result (λ f. f.shares.capacity ≡ 8) }
 {
     if share_varying(view, first.shares.as_slice(), second.shares.as_slice()) {
@@ -195,7 +200,8 @@ pub fn binary_form(
     left: &Form,
     right: &Form,
 ) -> Option<Form>
-    ensures value { option_map form result ≡ spec.binary_form (seen view.now) operator (form left.now) (form right.now) }
+    ensures value { option_map form result
+        ≡ spec.binary_form (seen view.now) operator (form left.now) (form right.now) }
     ensures capacity { IfSome result (λ f. f.shares.capacity ≡ 8) }
 {
     match operator {

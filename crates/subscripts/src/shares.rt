@@ -3,9 +3,11 @@
 ghost use Rattle.std.specs.Prelude.{◌≡◌, [], map, ◌*ℤ◌};
 ghost use Rattle.loop_tree.specs.TreeView.{seen};
 ghost use Rattle.loop_tree.specs.Constants.{if_some};
-ghost use Rattle.subscripts.specs.Forms.{factor_in, has_share, new_share, others, share_varying, times_share, total, total_share};
+ghost use Rattle.subscripts.specs.Forms.{factor_in, has_share, new_share, others, share_varying};
+ghost use Rattle.subscripts.specs.Forms.{times_share, total, total_share};
 ghost use Rattle.subscripts.specs.SharesView.{share as share_of};
-ghost use Rattle.subscripts.specs.Steps.{Left, fitted, put, put_each, put_fitted, put_new, put_sums};
+ghost use Rattle.subscripts.specs.Steps.{Left, fitted, put, put_each, put_fitted, put_new};
+ghost use Rattle.subscripts.specs.Steps.{put_sums};
 
 use loop_tree::LoopView;
 use smallvec::SmallVec;
@@ -65,7 +67,8 @@ pub fn has_share(shares: &[Share], cell: usize) -> bool
 
 /// Whether both take a scalar that the loop's range gives values.
 pub fn share_varying(view: &LoopView<'_, '_>, first: &[Share], second: &[Share]) -> bool
-    ensures { result ≡ share_varying (seen view.now) (map share_of first.now) (map share_of second.now) }
+    ensures { result ≡ share_varying (seen view.now) (map share_of first.now)
+        (map share_of second.now) }
 {
     for share in first {
         if view.assigns(share.cell) && has_share(second, share.cell) {
@@ -78,7 +81,8 @@ pub fn share_varying(view: &LoopView<'_, '_>, first: &[Share], second: &[Share])
 /// Puts a share behind others, unless it is of factor 0; `None` where there is no room.
 pub fn put(shares: &mut SmallVec<Share, 8>, cell: usize, factor: i64) -> Option<()>
     requires { shares.old.capacity ≡ 8 }
-    ensures left { Left result (map share_of shares.new.items) (put (map share_of shares.old.items) cell factor) }
+    ensures left { Left result (map share_of shares.new.items)
+        (put (map share_of shares.old.items) cell factor) }
     ensures capacity { shares.new.capacity ≡ 8 }
 {
     if factor == 0 {
@@ -94,7 +98,8 @@ pub fn put(shares: &mut SmallVec<Share, 8>, cell: usize, factor: i64) -> Option<
 /// Puts a share, if its factor is a 64-bit integer.
 fn put_fitted(shares: &mut SmallVec<Share, 8>, cell: usize, factor: Option<i64>) -> Option<()>
     requires { shares.old.capacity ≡ 8 }
-    ensures left { Left result (map share_of shares.new.items) (if_some factor (λ n. put (map share_of shares.old.items) cell n)) }
+    ensures left { Left result (map share_of shares.new.items)
+        (if_some factor (λ n. put (map share_of shares.old.items) cell n)) }
     ensures capacity { shares.new.capacity ≡ 8 }
 {
     match factor {
@@ -111,7 +116,9 @@ fn put_total(
     second: &[Share],
 ) -> Option<()>
     requires { shares.old.capacity ≡ 8 }
-    ensures left { Left result (map share_of shares.new.items) (put_fitted (map share_of shares.old.items) (total_share minus (map share_of second.now) (share_of share))) }
+    ensures left { Left result (map share_of shares.new.items)
+        (put_fitted (map share_of shares.old.items)
+        (total_share minus (map share_of second.now) (share_of share))) }
     ensures capacity { shares.new.capacity ≡ 8 }
 {
     put_fitted(
@@ -124,7 +131,8 @@ fn put_total(
 /// Puts so many times a share.
 fn put_product(shares: &mut SmallVec<Share, 8>, number: i64, share: Share) -> Option<()>
     requires { shares.old.capacity ≡ 8 }
-    ensures left { Left result (map share_of shares.new.items) (put_fitted (map share_of shares.old.items) (times_share number (share_of share))) }
+    ensures left { Left result (map share_of shares.new.items)
+        (put_fitted (map share_of shares.old.items) (times_share number (share_of share))) }
     ensures capacity { shares.new.capacity ≡ 8 }
 {
     put_fitted(shares, share.cell, product(number, share.factor))
@@ -138,7 +146,9 @@ fn put_other(
     share: Share,
 ) -> Option<()>
     requires { shares.old.capacity ≡ 8 }
-    ensures left { Left result (map share_of shares.new.items) (put_new minus (map share_of first.now) (map share_of shares.old.items) (share_of share)) }
+    ensures left { Left result (map share_of shares.new.items)
+        (put_new minus (map share_of first.now) (map share_of shares.old.items)
+        (share_of share)) }
     ensures capacity { shares.new.capacity ≡ 8 }
 {
     if has_share(first, share.cell) {
@@ -156,7 +166,9 @@ fn put_totals(
     second: &[Share],
 ) -> Option<()>
     requires { shares.old.capacity ≡ 8 }
-    ensures left { Left result (map share_of shares.new.items) (put_each (map share_of shares.old.items) (map (total_share minus (map share_of second.now)) (map share_of first.now))) }
+    ensures left { Left result (map share_of shares.new.items)
+        (put_each (map share_of shares.old.items)
+        (map (total_share minus (map share_of second.now)) (map share_of first.now))) }
     ensures capacity { shares.new.capacity ≡ 8 }
 {
     for share in first {
@@ -173,7 +185,9 @@ fn put_others(
     second: &[Share],
 ) -> Option<()>
     requires { shares.old.capacity ≡ 8 }
-    ensures left { Left result (map share_of shares.new.items) (put_each (map share_of shares.old.items) (map (new_share minus) (others (map share_of first.now) (map share_of second.now)))) }
+    ensures left { Left result (map share_of shares.new.items)
+        (put_each (map share_of shares.old.items)
+        (map (new_share minus) (others (map share_of first.now) (map share_of second.now)))) }
     ensures capacity { shares.new.capacity ≡ 8 }
 {
     for share in second {
@@ -191,7 +205,8 @@ pub fn put_sums(
 ) -> Option<()>
     requires capacity { shares.old.capacity ≡ 8 }
     requires empty { shares.old.items ≡ [] }
-    ensures left { Left result (map share_of shares.new.items) (put_sums minus (map share_of first.now) (map share_of second.now)) }
+    ensures left { Left result (map share_of shares.new.items)
+        (put_sums minus (map share_of first.now) (map share_of second.now)) }
     ensures capacity { shares.new.capacity ≡ 8 }
 {
     put_totals(shares, minus, first, second)?;
@@ -201,7 +216,9 @@ pub fn put_sums(
 /// Puts so many times the shares.
 pub fn put_times(shares: &mut SmallVec<Share, 8>, number: i64, all: &[Share]) -> Option<()>
     requires { shares.old.capacity ≡ 8 }
-    ensures left { Left result (map share_of shares.new.items) (put_each (map share_of shares.old.items) (map (times_share number) (map share_of all.now))) }
+    ensures left { Left result (map share_of shares.new.items)
+        (put_each (map share_of shares.old.items)
+        (map (times_share number) (map share_of all.now))) }
     ensures capacity { shares.new.capacity ≡ 8 }
 {
     for share in all {
