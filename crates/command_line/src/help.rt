@@ -52,7 +52,7 @@ Status:
   2  the run came to a fault
   3  the command line is wrong, or a number is out of its range
   4  a file can't be read, or the answer or OUT can't be written
-  5  there is no memory, or a thread can't be started
+  5  there is no memory, a thread can't be started, or the run can't go on
 
 At a fault of a subscript or of the input the source is then run once more, as
 by seq, to say which subscript or which record it is.
