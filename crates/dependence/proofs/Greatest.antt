@@ -1,4 +1,4 @@
--- Euclid's number is the greatest common divisor, and the divisor test asks whether there is a divisor.
+-- Euclid's number is the greatest common divisor, and the divisor test asks for any divisor.
 use Rattle.std.proofs.Common.{◌≡◌, ◌∙◌, sym, refl, ℕ, List, [], ◌∷◌, subst, arith, true≢false, ◌<◌}
 use Rattle.std.proofs.lemmas.Bool.Decides.{Decides-eqb}
 use Rattle.std.proofs.lemmas.Nat.Gcd.{IsGcd-from_mod, IsGcd-from_zero, dvd_refl, dvd-zero, dvd_trans, dvd_of_mod-eq-zero, mod-eq-zero_of_dvd}
@@ -15,7 +15,8 @@ euclid : (n a b : ℕ) → b < n → IsGcd a b (gcd_within n a b)
 euclid zero a b h = absurd (omega (arith, h))
 euclid (suc n) a b h = by (b == 0) refl (λ k. euclid n b (a % b) k)
   where
-    by : (c : Bool) → (b == 0) ≡ c → (a % b < n → IsGcd b (a % b) (gcd_within n b (a % b))) → IsGcd a b (if c then a else gcd_within n b (a % b))
+    by : (c : Bool) → (b == 0) ≡ c → (a % b < n → IsGcd b (a % b) (gcd_within n b (a % b)))
+        → IsGcd a b (if c then a else gcd_within n b (a % b))
     by true e more = IsGcd-from_zero a b ((Decides-eqb b 0).0 e)
     by false e more =
         let less = mod-lt a (positive b e) in
@@ -62,11 +63,14 @@ zeros_divided : (ns : List ℕ) → list_all is_nothing ns ≡ true → DividesE
 zeros_divided [] e = tt
 zeros_divided (n ∷ ns) e =
     let zero_n = (Decides-eqb n 0).0 (first_of_both (is_nothing n) (list_all is_nothing ns) e) in
-    (subst (λ m. 0 ∣ m) (sym zero_n) (dvd-zero 0), zeros_divided ns (second_of_both (is_nothing n) (list_all is_nothing ns) e))
+    let rest = second_of_both (is_nothing n) (list_all is_nothing ns) e in
+    (subst (λ m. 0 ∣ m) (sym zero_n) (dvd-zero 0), zeros_divided ns rest)
 
 are_zeros : (ns : List ℕ) → DividesEach 0 ns → list_all is_nothing ns ≡ true
 are_zeros [] h = refl
-are_zeros (n ∷ ns) h = both_hold (is_nothing n) (list_all is_nothing ns) ((Decides-eqb n 0).1 (eq-zero_of_zero-dvd h.0)) (are_zeros ns h.1)
+are_zeros (n ∷ ns) h =
+    let zero_n = (Decides-eqb n 0).1 (eq-zero_of_zero-dvd h.0) in
+    both_hold (is_nothing n) (list_all is_nothing ns) zero_n (are_zeros ns h.1)
 
 has_divisor : (ns : List ℕ) (n : ℕ) → leaves_rest (gcd_of ns) n ≡ true → HasDivisor ns n
 has_divisor ns n e =
@@ -74,8 +78,9 @@ has_divisor ns n e =
     let is = greatest ns in
     let some = first_of_both (not (g == 0)) (not (n % g == 0)) e in
     let rest = second_of_both (not (g == 0)) (not (n % g == 0)) e in
+    let no_zero = λ (divides : 0 ∣ g). never (g == 0) some ((Decides-eqb g 0).1 (eq-zero_of_zero-dvd divides)) in
     record {
-      some = is_false (list_all is_nothing ns) (λ zeros. never (g == 0) some ((Decides-eqb g 0).1 (eq-zero_of_zero-dvd (is.greatest 0 (zeros_divided ns zeros)))));
+      some = is_false (list_all is_nothing ns) (λ zeros. no_zero (is.greatest 0 (zeros_divided ns zeros)));
       divisor = g;
       divides = is.divides;
       not_n = λ divides. never (n % g == 0) rest ((Decides-eqb (n % g) 0).1 (mod-eq-zero_of_dvd g divides));
@@ -85,9 +90,12 @@ leaves : (ns : List ℕ) (n : ℕ) → HasDivisor ns n → leaves_rest (gcd_of n
 leaves ns n h =
     let g = gcd_of ns in
     let is = greatest ns in
+    let zeros = λ (e : (g == 0) ≡ true). are_zeros ns (subst (λ m. DividesEach m ns) ((Decides-eqb g 0).0 e) is.divides) in
+    let divides = λ (e : (n % g == 0) ≡ true). dvd_of_mod-eq-zero g ((Decides-eqb (n % g) 0).0 e) in
+    let smaller = is.greatest h.divisor h.divides in
     both_hold (not (g == 0)) (not (n % g == 0))
-    (is_not (g == 0) (λ e. true≢false (sym (are_zeros ns (subst (λ m. DividesEach m ns) ((Decides-eqb g 0).0 e) is.divides)) ∙ h.some)))
-    (is_not (n % g == 0) (λ e. h.not_n (dvd_trans h.divisor (is.greatest h.divisor h.divides) (dvd_of_mod-eq-zero g ((Decides-eqb (n % g) 0).0 e)))))
+    (is_not (g == 0) (λ e. true≢false (sym (zeros e) ∙ h.some)))
+    (is_not (n % g == 0) (λ e. h.not_n (dvd_trans h.divisor smaller (divides e))))
 
 pub is_by_divisor : IsByDivisor
 is_by_divisor l f g =

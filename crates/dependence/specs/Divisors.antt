@@ -11,7 +11,7 @@ abbrev pub DividesEach : ℕ → List ℕ → Type 0
 DividesEach d [] = ⊤
 DividesEach d (n ∷ ns) = (d ∣ n) × DividesEach d ns
 
--- g divides each of the numbers, and whatever does so divides g. Of zeros, and of no numbers, it is 0.
+-- g divides each of the numbers, and whatever does so divides g. Of zeros it is 0.
 pub record IsGreatestDivisor (g : ℕ) (ns : List ℕ) : Type 0 where
   pub divides : DividesEach g ns
   pub greatest : (d : ℕ) → DividesEach d ns → d ∣ g
@@ -30,4 +30,6 @@ pub record HasDivisor (ns : List ℕ) (n : ℕ) : Type 0 where
 -- The divisor test says so exactly where some number divides all but the constants, and not their
 -- difference.
 abbrev pub IsByDivisor : Type 0
-IsByDivisor = (l : Loop) (f g : Form) → (by_divisor l f g ≡ true) ↔ HasDivisor (divided l f g) (gap f.constant g.constant)
+IsByDivisor =
+    (l : Loop) (f g : Form)
+    → (by_divisor l f g ≡ true) ↔ HasDivisor (divided l f g) (gap f.constant g.constant)

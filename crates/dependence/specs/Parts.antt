@@ -1,4 +1,4 @@
--- An account of the code: the greatest common divisor of all that the divisor test takes, part by part.
+-- An account of the code: the greatest common divisor that the divisor test takes, part by part.
 use Rattle.std.specs.Prelude.{ℕ, unsigned_abs}
 use Rattle.loop_tree.specs.Loops.{Loop}
 use Rattle.subscripts.specs.Forms.{Form, others}

@@ -15,7 +15,7 @@ use Rattle.loop_tree.specs.Occurrences.{Occurrence, numbered}
 use Rattle.loop_tree.specs.Constants.{if_some}
 use Rattle.subscripts.specs.Forms.{Form, Share, factor_in, form_of, others, varies}
 
--- The greatest common divisor, by Euclid; n bounds the steps. Divisors.antt says the same without steps.
+-- The greatest common divisor, by Euclid; n bounds the steps. Divisors.antt has it without steps.
 abbrev pub gcd_within : ℕ → ℕ → ℕ → ℕ
 gcd_within zero a b = a
 gcd_within (suc n) a b = if b == 0 then a else gcd_within n b (a % b)
