@@ -7,7 +7,8 @@ use Rattle.codegen.specs.Program.{HasLongCode, IsCompiled}
 use Rattle.machine.specs.Code.{Code}
 use Rattle.profile_check.specs.Reads.{Reads}
 use Rattle.replay.specs.Replayed.{GivesNone, HasStop, IsUpgrade}
-use Rattle.replay.specs.Replays.{Point, Replays}
+use Rattle.activities.specs.Points.{Point}
+use Rattle.replay.specs.Replays.{Replays}
 use Rattle.schedules.specs.Refusals.{Refuses}
 use Rattle.schedules.specs.Schedules.{SchedText, Schedule}
 use Rattle.handing.specs.Handing.{AppendsPart}

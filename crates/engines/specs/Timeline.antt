@@ -4,7 +4,8 @@ use Rattle.ast.specs.Meaning.{seq}
 use Rattle.ast.specs.Program.{ProgramTree}
 use Rattle.machine.specs.Code.{Code}
 use Rattle.replay.specs.Replayed.{GivesNone}
-use Rattle.replay.specs.Replays.{Point, Replays}
+use Rattle.activities.specs.Points.{Point}
+use Rattle.replay.specs.Replays.{Replays}
 use Rattle.schedules.specs.Schedules.{SchedText, Schedule}
 use Rattle.pages.specs.declared.outcomes.Outcome.{Outcome}
 use Rattle.pages.specs.declared.outcomes.Outcome.TheVariants.{Refused, NoSchedule}

@@ -1,7 +1,7 @@
 //! Activities, driven on one thread.
 
 ghost use Rattle.std.specs.Prelude.{IfOk, IfSome};
-ghost use Rattle.replay.specs.Activities.{AreActivities};
+ghost use Rattle.activities.specs.Activities.{AreActivities};
 
 use machine::{Code, stands_local};
 use replay::Activities;

@@ -1,7 +1,7 @@
 //! Runs that schedules describe, watched turn by turn.
 
 ghost use Rattle.std.specs.Prelude.{◌<◌, length};
-ghost use Rattle.replay.specs.Activities.{AreActivities};
+ghost use Rattle.activities.specs.Activities.{AreActivities};
 
 use crate::driving::begun;
 use machine::{Code, Next, stands_next};

@@ -5,7 +5,8 @@ use Rattle.machine.specs.State.{AreSizes, Machine}
 use Rattle.ast.specs.declared.answer.Answer.{Answer}
 use Rattle.replay.specs.CoreView.{CoreView, point_at}
 use Rattle.replay.specs.Replayed.{IsAnswer}
-use Rattle.replay.specs.Replays.{Point, Replays, beginning}
+use Rattle.activities.specs.Points.{Point, beginning}
+use Rattle.replay.specs.Replays.{Replays}
 use Rattle.schedules.specs.Schedules.{IsSchedule, Schedule}
 use Rattle.schedules.specs.declared.entry.Version.TheVariants.{Second}
 use Rattle.processors.specs.Calls.{IsCoreOf, IsOutputOf, IsRunOf, IsStateOf}

@@ -5,7 +5,8 @@ use Rattle.machine.specs.Code.{Code}
 use Rattle.machine.specs.State.{AreSizes, Machine}
 use Rattle.replay.specs.CoreView.{CoreView}
 use Rattle.replay.specs.Replayed.{IsReplay}
-use Rattle.replay.specs.Replays.{Point, Replays}
+use Rattle.activities.specs.Points.{Point}
+use Rattle.replay.specs.Replays.{Replays}
 use Rattle.schedules.specs.Schedules.{IsSchedule, Schedule}
 
 -- a core with this code and input, and so many processors and slots

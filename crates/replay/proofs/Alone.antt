@@ -5,11 +5,12 @@ use Rattle.machine.specs.State.{Choice, take_main, take_iteration, take_ticket}
 use Rattle.schedules.specs.Schedules.{works, shares, IsAct}
 use Rattle.schedules.specs.declared.entry.Version.{Version}
 use Rattle.schedules.specs.declared.entry.Version.TheVariants.{First, Second}
-use Rattle.replay.specs.Activities.{Stays, code_in, kept_in, point_in}
+use Rattle.activities.specs.Activities.{Stays, code_in, kept_in, point_in}
 use Rattle.replay.specs.Making.{IsNamed, MadeAs, pick_of}
-use Rattle.replay.specs.Parts.{Kept, point_of}
-use Rattle.replay.specs.Replays.{Point, ByRule, Moves, Picks, Works, Does}
-use Rattle.replay.specs.declared.activities.Activities.{Activities}
+use Rattle.activities.specs.Parts.{Kept, point_of}
+use Rattle.activities.specs.Points.{Point, ByRule, Moves, Picks, Works}
+use Rattle.replay.specs.Replays.{Does}
+use Rattle.activities.specs.declared.holding.Activities.{Activities}
 use Rattle.replay.proofs.Determined.{moves_same, picks_same, works_same, holds_no_pick}
 
 pub made_work : (v : Version) (code : Code) (s n : ℕ) (a : Point) (q : ℕ) (b : Point) → IsAct v (works n) → Works code s n a q b → MadeAs v code s (works n) a q (works n) b

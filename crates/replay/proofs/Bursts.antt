@@ -8,11 +8,12 @@ use Rattle.schedules.specs.Schedules.{Entry, Schedule, bursts, last_burst, longe
 use Rattle.schedules.specs.declared.entry.Version.{Version}
 use Rattle.schedules.specs.declared.entry.Version.TheVariants.{Second}
 use Rattle.schedules.proofs.Bursts.{burst}
-use Rattle.replay.specs.Activities.{Stays, code_in, frame_at, point_in}
-use Rattle.replay.specs.Replays.{Point, Leads, Replays, Works, beginning}
+use Rattle.activities.specs.Activities.{Stays, code_in, frame_at, point_in}
+use Rattle.activities.specs.Points.{Point, Works, beginning}
+use Rattle.replay.specs.Replays.{Leads, Replays}
 use Rattle.replay.specs.Tallies.{Tallies}
 use Rattle.replay.specs.Whole.{AreParts, IsWhole, IsWorked}
-use Rattle.replay.specs.declared.activities.Activities.{Activities}
+use Rattle.activities.specs.declared.holding.Activities.{Activities}
 use Rattle.replay.specs.declared.stepped.Tally.{Tally}
 use Rattle.replay.proofs.Parking.{works_still}
 use Rattle.replay.proofs.Recorded.{here}

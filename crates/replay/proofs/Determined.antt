@@ -7,7 +7,7 @@ use Rattle.machine.specs.Frame.{Frame}
 use Rattle.machine.specs.State.{Active, Machine, CodeStep, until_retired, Who, the_main, iteration, Choice, take_main, take_iteration, take_ticket, Takes, Turn, Move, MainMove, put_at, put_cells}
 use Rattle.machine.specs.View.{View, doing, loading, storing, printing, reading, awaiting, advancing, opening, joining, leaving, breaking, halting, stuck, view, trips_of, begin}
 use Rattle.machine.specs.declared.code.Open.{Open}
-use Rattle.replay.specs.Replays.{Point, slot, frame_of, wait_of, view_in, moved, Moves, Picks, Works}
+use Rattle.activities.specs.Points.{Point, slot, frame_of, wait_of, view_in, moved, Moves, Picks, Works}
 
 move_same : (v : View Frame Open) (x : Active Frame) (m : Machine) (q k : ℕ) (n o : Machine) → Move v x m q k n → Move v x m q k o → n ≡ o
 move_same (doing g) x m q k n o h i = h ∙ sym i

@@ -8,12 +8,12 @@ use Rattle.machine.specs.Code.{Code}
 use Rattle.schedules.specs.Refusals.{Explains}
 use Rattle.schedules.specs.Schedules.{Schedule}
 use Rattle.schedules.specs.declared.refusal.ReplayRefusal.{ReplayRefusal}
-use Rattle.replay.specs.Activities.{AreOf, Stays, code_in, point_in}
+use Rattle.activities.specs.Activities.{AreOf, Stays, code_in, point_in}
 use Rattle.replay.specs.Making.{LeadsOnly}
-use Rattle.replay.specs.Parts.{store_of}
+use Rattle.activities.specs.Parts.{store_of}
 use Rattle.replay.specs.Replayed.{GivesNone, HasStop, IsReplay, IsUpgrade, LeadsNowhere, NamesPicks, NeverEnds, NoneLeads, NotEnded, StopsAt, stored}
-use Rattle.replay.specs.Replays.{Point, beginning}
-use Rattle.replay.specs.declared.activities.Activities.{Activities}
+use Rattle.activities.specs.Points.{Point, beginning}
+use Rattle.activities.specs.declared.holding.Activities.{Activities}
 use Rattle.replay.proofs.Followed.{explained}
 
 -- a claim about the beginning is one about the activities that have just begun

@@ -9,11 +9,12 @@ use Rattle.schedules.specs.declared.entry.Version.{Version}
 use Rattle.schedules.specs.declared.entry.Version.TheVariants.{First, Second}
 use Rattle.schedules.specs.declared.refusal.ReplayRefusal.{ReplayRefusal}
 use Rattle.schedules.specs.declared.refusal.ReplayRefusal.TheVariants.{Memory, Refused}
-use Rattle.replay.specs.Activities.{AreActivities, Stays, code_in, point_in}
+use Rattle.activities.specs.Activities.{AreActivities, Stays, code_in, point_in}
 use Rattle.replay.specs.Making.{AreNamed, IsNamed, LeadsOnly, MadeAs}
 use Rattle.replay.specs.Replayed.{CannotBeMade, NamesPicks, NoneLeads, StopsAt}
-use Rattle.replay.specs.Replays.{Point, Works, Does, Leads}
-use Rattle.replay.specs.declared.activities.Activities.{Activities}
+use Rattle.activities.specs.Points.{Point, Works}
+use Rattle.replay.specs.Replays.{Does, Leads}
+use Rattle.activities.specs.declared.holding.Activities.{Activities}
 
 -- the entries before this line were made, and the rest is left
 pub record Follows (v : Version) (code : Code) (s : ℕ) (start : Point) (all rest : List Entry) (line : ℕ) (a : Point) : Type 0 where

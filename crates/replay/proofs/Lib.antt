@@ -1,13 +1,4 @@
 pub mod Running
-pub mod Maps
-pub mod Queues
-pub mod Turning
-pub mod Leading
-pub mod Pieces
-pub mod Values
-pub mod Entering
-pub mod Remaining
-pub mod Going
 pub mod Determined
 pub mod Alone
 pub mod Followed
@@ -15,19 +6,7 @@ pub mod Cells
 pub mod Ends
 pub mod Parking
 pub mod Recorded
-mod Records
-pub mod Stepping
-pub mod Led
-pub mod Taken
-pub mod Choosing
-pub mod Locals
-pub mod Opening
-pub mod Shares
 pub mod Onwards
 pub mod Ongoing
 pub mod Weighing
-pub mod Picks
-pub mod Labour
-pub mod Beginning
-pub mod Leasts
 pub mod Bursts

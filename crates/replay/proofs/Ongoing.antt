@@ -10,14 +10,14 @@ use Rattle.machine.specs.State.{Choice, CodeStep, Machine, Turn, Who}
 use Rattle.machine.specs.View.{view, trips_of, begin}
 use Rattle.machine.specs.declared.code.Open.{Open}
 use Rattle.schedules.specs.Schedules.{Schedule}
-use Rattle.replay.specs.Activities.{code_in, frame_at, frame_held, kept_in, who}
-use Rattle.replay.specs.Core.{IsCore}
+use Rattle.activities.specs.Activities.{code_in, frame_at, frame_held, kept_in, who}
+use Rattle.activities.specs.Core.{IsCore}
 use Rattle.replay.specs.CoreView.{CoreView, point_at}
-use Rattle.replay.specs.Replays.{Moves, Picks, Point, frame_of, local_in, moved, slot, taken, view_in, wait_of}
+use Rattle.activities.specs.Points.{Moves, Picks, Point, frame_of, local_in, moved, slot, taken, view_in, wait_of}
 use Rattle.replay.specs.Stepping.{CanGo, KeepsGoing, HasLocal, IsWent, WentOrLocal, Steps}
 use Rattle.replay.specs.Whole.{AreParts, seen_as}
-use Rattle.replay.specs.declared.activities.Activities.{Activities}
-use Rattle.replay.specs.declared.activities.Holder.{Holder}
+use Rattle.activities.specs.declared.holding.Activities.{Activities}
+use Rattle.activities.specs.declared.holding.Holder.{Holder}
 use Rattle.replay.specs.declared.stepped.Stepped.{Stepped}
 use Rattle.replay.specs.declared.stepped.Stepped.TheVariants.{Went, Idle, Ended}
 use Rattle.replay.specs.declared.stepped.Tally.{Tally}

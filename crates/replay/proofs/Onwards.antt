@@ -12,28 +12,29 @@ use Rattle.machine.specs.State.{Wait, until_count, until_retired, Who, Choice, t
 use Rattle.schedules.specs.Schedules.{Entry, Schedule, with_entry}
 use Rattle.schedules.specs.declared.entry.Version.{Version}
 use Rattle.schedules.specs.declared.entry.Version.TheVariants.{Second}
-use Rattle.replay.specs.Activities.{Stays, code_in, frame_at, frame_held, kept_in, point_in, who}
-use Rattle.replay.specs.Core.{IsCore}
+use Rattle.activities.specs.Activities.{Stays, code_in, frame_at, frame_held, kept_in, point_in, who}
+use Rattle.activities.specs.Core.{IsCore}
 use Rattle.replay.specs.CoreView.{CoreView, point_at}
-use Rattle.replay.specs.Parts.{Kept, Standing, held_of, point_of, standing, wait_in}
-use Rattle.replay.specs.Picking.{is_due, main_up, iteration_up}
-use Rattle.replay.specs.Replays.{Point, ByRule, Moves, Picks, Works, Does, Replays, beginning}
+use Rattle.activities.specs.Parts.{Kept, Standing, held_of, point_of, standing, wait_in}
+use Rattle.activities.specs.Picking.{is_due, main_up, iteration_up}
+use Rattle.activities.specs.Points.{Point, ByRule, Moves, Picks, Works, beginning}
+use Rattle.replay.specs.Replays.{Does, Replays}
 use Rattle.replay.specs.Stepping.{HasEnded, IsFrom, IsStuck, PicksUp, Steps}
 use Rattle.replay.specs.Tallies.{Again, Tallies, steps}
-use Rattle.replay.specs.Waiting.{Stands}
+use Rattle.activities.specs.Waiting.{Stands}
 use Rattle.replay.specs.Whole.{AreParts, Counted, IsSame, IsWhole, seen_as}
-use Rattle.replay.specs.declared.activities.Activities.{Activities}
-use Rattle.replay.specs.declared.activities.Holder.{Holder}
+use Rattle.activities.specs.declared.holding.Activities.{Activities}
+use Rattle.activities.specs.declared.holding.Holder.{Holder}
 use Rattle.replay.specs.declared.stepped.Stepped.{Stepped}
 use Rattle.replay.specs.declared.stepped.Stepped.TheVariants.{Went, Idle, Ended}
 use Rattle.replay.specs.declared.stepped.Tally.{Tally}
 use Rattle.replay.proofs.Alone.{point_stays}
-use Rattle.replay.proofs.Choosing.{iteration_picked, main_picked, ready_stands}
+use Rattle.activities.proofs.Choosing.{iteration_picked, main_picked, ready_stands}
 use Rattle.replay.proofs.Followed.{leads_more}
-use Rattle.replay.proofs.Maps.{standing_there}
-use Rattle.replay.proofs.Queues.{IsReached, first_ready, ready_reached}
+use Rattle.activities.proofs.Maps.{standing_there}
+use Rattle.activities.proofs.Queues.{IsReached, first_ready, ready_reached}
 use Rattle.replay.proofs.Recorded.{here}
-use Rattle.replay.proofs.Taken.{due_in, due_ready}
+use Rattle.activities.proofs.Taken.{due_in, due_ready}
 use Rattle.replay.proofs.Weighing.{works_frame}
 
 -- ---- one entry more

@@ -10,15 +10,15 @@ use Rattle.machine.specs.State.{Active, Machine, Wait, Who, the_main, iteration,
 use Rattle.machine.specs.View.{View, doing, loading, storing, printing, reading, awaiting, advancing, opening, joining, leaving, breaking, halting, stuck, view, trips_of, begin}
 use Rattle.machine.specs.declared.code.Open.{Open}
 use Rattle.machine.proofs.Views.{local_is_doing}
-use Rattle.replay.specs.Activities.{point_in}
-use Rattle.replay.specs.Core.{IsCore}
-use Rattle.replay.specs.Parts.{Kept, Standing, held_of, machine_of, numbered, point_of, standing, wait_in}
-use Rattle.replay.specs.PartsView.{standing_of}
-use Rattle.replay.specs.Replays.{Point, Moves, Picks, Works, frame_in, frame_of, local_in, wait_of}
+use Rattle.activities.specs.Activities.{point_in}
+use Rattle.activities.specs.Core.{IsCore}
+use Rattle.activities.specs.Parts.{Kept, Standing, held_of, machine_of, numbered, point_of, standing, wait_in}
+use Rattle.activities.specs.PartsView.{standing_of}
+use Rattle.activities.specs.Points.{Point, Moves, Picks, Works, frame_in, frame_of, local_in, wait_of}
 use Rattle.replay.specs.Tallies.{Again, takes_parked}
-use Rattle.replay.specs.declared.activities.Activities.{Activities}
-use Rattle.replay.specs.declared.parts.Iteration.{Iteration}
-use Rattle.replay.proofs.Maps.{standing_is}
+use Rattle.activities.specs.declared.holding.Activities.{Activities}
+use Rattle.activities.specs.declared.parts.Iteration.{Iteration}
+use Rattle.activities.proofs.Maps.{standing_is}
 
 pub put_here : {A : Type 0} (f : ℕ → A) (k : ℕ) (v : A) → put_at f k v k ≡ v
 unfolding put_at

@@ -7,18 +7,18 @@ use Rattle.machine.specs.Frame.{Frame}
 use Rattle.machine.specs.Local.{locals}
 use Rattle.machine.specs.State.{Wait, Who, Choice, take_main, take_iteration, take_ticket}
 use Rattle.schedules.specs.Schedules.{works, shares, Schedule, with_entry}
-use Rattle.replay.specs.Activities.{AreActivities, code_in, frame_at, kept_in, point_in, who}
+use Rattle.activities.specs.Activities.{AreActivities, code_in, frame_at, kept_in, point_in, who}
 use Rattle.replay.specs.Making.{pick_of}
-use Rattle.replay.specs.Parts.{held_of, numbered, wait_in}
-use Rattle.replay.specs.PartsView.{standing_of, wait}
-use Rattle.replay.specs.Replays.{Point, Moves, Picks, Works, wait_of}
+use Rattle.activities.specs.Parts.{held_of, numbered, wait_in}
+use Rattle.activities.specs.PartsView.{standing_of, wait}
+use Rattle.activities.specs.Points.{Point, Moves, Picks, Works, wait_of}
 use Rattle.replay.specs.Tallies.{steps, takes_parked}
 use Rattle.replay.specs.Whole.{AreParts, IsMore, IsSame}
-use Rattle.replay.specs.declared.activities.Activities.{Activities}
-use Rattle.replay.specs.declared.activities.Holder.{Holder}
-use Rattle.replay.specs.declared.activities.Holder.TheVariants as holders
-use Rattle.replay.specs.declared.parts.Iteration.{Iteration}
-use Rattle.replay.specs.declared.parts.Until.{Until}
+use Rattle.activities.specs.declared.holding.Activities.{Activities}
+use Rattle.activities.specs.declared.holding.Holder.{Holder}
+use Rattle.activities.specs.declared.holding.Holder.TheVariants as holders
+use Rattle.activities.specs.declared.parts.Iteration.{Iteration}
+use Rattle.activities.specs.declared.parts.Until.{Until}
 use Rattle.replay.specs.declared.stepped.Tally.{Tally}
 use Rattle.replay.proofs.Parking.{again_pick, again_share, parked_at, works_still}
 

@@ -10,7 +10,8 @@ use Rattle.machine.specs.declared.code.Open.{Open}
 use Rattle.schedules.specs.Schedules.{Act, works, shares, picks_main, picks, takes_ticket, Entry, AreEntries, IsAct}
 use Rattle.schedules.specs.declared.entry.Version.{Version}
 use Rattle.schedules.specs.declared.entry.Version.TheVariants.{First, Second}
-use Rattle.replay.specs.Replays.{Point, slot, frame_of, wait_of, view_in, local_in, moved, taken, Picks, Works, Does, Leads, beginning, EveryRun, IsRun}
+use Rattle.activities.specs.Points.{Point, slot, frame_of, wait_of, view_in, local_in, moved, taken, Picks, Works, beginning}
+use Rattle.replay.specs.Replays.{Does, Leads, EveryRun, IsRun}
 
 -- ---- the numbers of iterations are below how many steps were made
 

@@ -11,8 +11,9 @@ use Rattle.machine.proofs.Views.{local_is_doing}
 use Rattle.schedules.specs.Schedules.{Act, works, shares, picks_main, picks, takes_ticket, AreEntries, Entry}
 use Rattle.schedules.specs.declared.entry.Version.{Version}
 use Rattle.schedules.specs.declared.entry.Version.TheVariants.{First, Second}
-use Rattle.replay.specs.Activities.{frame_at, frame_held}
-use Rattle.replay.specs.Replays.{Point, Picks, Works, Does, beginning, frame_in, frame_of}
+use Rattle.activities.specs.Activities.{frame_at, frame_held}
+use Rattle.activities.specs.Points.{Point, Picks, Works, beginning, frame_in, frame_of}
+use Rattle.replay.specs.Replays.{Does}
 use Rattle.replay.specs.Tallies.{Again, AreCounts, Tallies, Weighed, steps}
 use Rattle.replay.proofs.Parking.{local_still, put_here, works_still}
 use Rattle.replay.proofs.Running.{picked_step}

@@ -3,8 +3,8 @@ use Rattle.std.specs.Prelude.{◌≡◌, ℕ, List, [], ◌∷◌}
 use Rattle.machine.specs.Code.{Code}
 use Rattle.schedules.specs.Schedules.{Entry, Schedule, with_entries}
 use Rattle.schedules.specs.declared.entry.Version.TheVariants.{Second}
-use Rattle.replay.specs.Parts.{Kept, point_of}
-use Rattle.replay.specs.Replays.{Point, beginning}
+use Rattle.activities.specs.Parts.{Kept, point_of}
+use Rattle.activities.specs.Points.{Point, beginning}
 use Rattle.machine.specs.State.{AreSizes}
 
 -- its code and input, the schedule of what it did, and what it keeps

@@ -5,9 +5,9 @@ use Rattle.machine.specs.Frame.{Frame}
 use Rattle.machine.specs.FrameView.{frame_of}
 use Rattle.machine.specs.WorkView.{work_of}
 use Rattle.machine.specs.declared.work.Work.{Work}
-use Rattle.replay.specs.Activities.{frame_at}
+use Rattle.activities.specs.Activities.{frame_at}
 use Rattle.replay.specs.CoreView.{CoreView, point_at}
-use Rattle.replay.specs.Replays.{local_in}
+use Rattle.activities.specs.Points.{local_in}
 use Rattle.replay.specs.Stepping.{CannotHandIn, HandsInAll, HasLocal}
 use Rattle.replay.specs.declared.stepped.HandIn.{HandIn}
 
@@ -15,8 +15,8 @@ use Rattle.replay.specs.declared.stepped.HandIn.{HandIn}
 abbrev pub HasFrame : CoreView → ℕ → Frame → Type 0
 HasFrame x q f = frame_at q (point_at x) ≡ Some f
 
--- A local instruction of what processor q holds stands next, and the work leads from its frame; or none
--- does, and the work hasn't changed.
+-- A local instruction of what processor q holds stands next, and the work leads from its frame; or
+-- none does, and the work hasn't changed.
 abbrev pub Loads : CoreView → ℕ → Work → Work → Bool → Type 0
 Loads x q old new true = HasLocal x q × HasFrame x q (frame_of new.from) × (new.made ≡ 0)
 Loads x q old new false = (local_in x.code (frame_at q (point_at x)) ≡ false) × (work_of new ≡ work_of old)

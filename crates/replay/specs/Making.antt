@@ -5,9 +5,10 @@ use Rattle.machine.specs.State.{Choice, take_main, take_iteration, take_ticket}
 use Rattle.schedules.specs.Schedules.{Act, works, shares, picks_main, picks, takes_ticket, Entry, IsAct}
 use Rattle.schedules.specs.declared.entry.Version.{Version}
 use Rattle.schedules.specs.declared.entry.Version.TheVariants.{Second}
-use Rattle.replay.specs.Activities.{code_in, point_in}
-use Rattle.replay.specs.Replays.{Point, Does, Leads}
-use Rattle.replay.specs.declared.activities.Activities.{Activities}
+use Rattle.activities.specs.Activities.{code_in, point_in}
+use Rattle.activities.specs.Points.{Point}
+use Rattle.replay.specs.Replays.{Does, Leads}
+use Rattle.activities.specs.declared.holding.Activities.{Activities}
 
 -- the entry of a choice
 abbrev pub pick_of : Choice → Act
@@ -15,7 +16,8 @@ pick_of take_main = picks_main
 pick_of (take_iteration k) = picks k
 pick_of take_ticket = takes_ticket
 
--- The second version names an act so: a shared step may turn out to be a pick, all else is as it was.
+-- The second version names an act so: a shared step may turn out to be a pick, all else is as it
+-- was.
 abbrev pub IsNamed : Act → Act → Type 0
 IsNamed shares (works n) = ⊥
 IsNamed shares y = ⊤
@@ -27,8 +29,8 @@ AreNamed [] [] = ⊤
 AreNamed (x ∷ xs) (y ∷ ys) = (y.processor ≡ x.processor) × IsNamed x.act y.act × AreNamed xs ys
 AreNamed _ _ = ⊥
 
--- What processor q does in an entry leads to this point alone, and an entry of the second version says
--- the same.
+-- What processor q does in an entry leads to this point alone, and an entry of the second version
+-- says the same.
 pub record MadeAs (v : Version) (code : Code) (s : ℕ) (x : Act) (a : Point) (q : ℕ) (y : Act) (b : Point) : Type 0 where
   pub does : Does v code s x a q b
   pub only : (c : Point) → Does v code s x a q c → c ≡ b

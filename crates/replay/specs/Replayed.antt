@@ -11,7 +11,8 @@ use Rattle.schedules.specs.Schedules.{Act, Entry, Schedule}
 use Rattle.schedules.specs.declared.entry.Version.{Version}
 use Rattle.schedules.specs.declared.entry.Version.TheVariants.{Second}
 use Rattle.replay.specs.Making.{AreNamed}
-use Rattle.replay.specs.Replays.{Point, Does, Leads, Replays, beginning}
+use Rattle.activities.specs.Points.{Point, beginning}
+use Rattle.replay.specs.Replays.{Does, Leads, Replays}
 
 -- the name of each variable, and how many cells it has
 abbrev pub shapes_of : List Variable → List (List ℕ × ℕ)
@@ -83,8 +84,8 @@ LeadsNowhere code input x = (b : Point) → Replays code input x b → ⊥
 
 -- ---- upgrades
 
--- From a point a schedule of the second version leads where this one leads, entry by entry; one that is
--- of that version already is itself.
+-- From a point a schedule of the second version leads where this one leads, entry by entry; one
+-- that is of that version already is itself.
 pub record NamesPicks (code : Code) (a : Point) (x y : Schedule) : Type 0 where
   pub version : y.version ≡ Second
   pub processors : y.processors ≡ x.processors

@@ -1,98 +1,11 @@
 -- What a schedule does: from the state at the beginning its entries in order lead to others.
-use Rattle.std.specs.Prelude.{◌≡◌, ℕ, zero, suc, ◌+◌, ◌%◌, ◌≤◌, ◌^◌, length, ◌⊎◌, Bool, true, false, List, [], ◌∷◌, Option, Some, None}
-use Rattle.ec_kernel.specs.View as kernel
-use Rattle.ec_kernel.specs.View.{first_of, without, parked, advanced, restarted, new_kernel}
+use Rattle.std.specs.Prelude.{◌≡◌, ℕ, ◌≤◌, ◌^◌, length, ◌⊎◌, false, List, [], ◌∷◌}
 use Rattle.machine.specs.Code.{Code}
-use Rattle.machine.specs.Frame.{Frame}
-use Rattle.machine.specs.Local.{is_local}
-use Rattle.machine.specs.State.{Active, Machine, CodeRun, CodeStep, Init, Wait, until_count, until_retired, Who, the_main, iteration, Choice, take_main, take_iteration, take_ticket, Takes, AreSizes}
-use Rattle.machine.specs.View.{View, advancing, leaving, opening, stuck, most_events, view, trips_of, begin}
-use Rattle.machine.specs.declared.code.Open.{Open}
+use Rattle.machine.specs.State.{Machine, CodeRun, Init, Choice, take_main, take_iteration, take_ticket, AreSizes}
+use Rattle.activities.specs.Points.{Point, ByRule, Moves, Picks, Works, beginning}
 use Rattle.schedules.specs.Schedules.{IsSchedule, Act, works, shares, picks_main, picks, takes_ticket, Entry, Schedule}
 use Rattle.schedules.specs.declared.entry.Version.{Version}
 use Rattle.schedules.specs.declared.entry.Version.TheVariants.{First, Second}
-
--- ---- Beside the machine's state stands who waits and who became ready when: a kernel of
--- eventcounts, in which main has slot 0 and iteration k slot 1 + k mod s. No two open iterations have
--- one slot, since at most s follow one another.
-
-pub record Point : Type 0 where
-  pub machine : Machine
-  pub order : kernel.View
-
-abbrev pub slot : ℕ → Who → ℕ
-slot s the_main = 0
-slot s (iteration k) = 1 + k % s
-
-abbrev pub frame_in : Option (Active Frame) → Option Frame
-frame_in None = None
-frame_in (Some a) = Some a.frame
-
--- the frame of an activity that isn't over
-abbrev pub frame_of : Machine → Who → Option Frame
-frame_of m the_main = Some m.main
-frame_of m (iteration k) = frame_in (m.iterations k)
-
--- what an activity is parked on, if it is
-abbrev pub wait_of : Machine → Who → Option Wait
-wait_of m the_main = m.waiting
-wait_of m (iteration k) = m.parked k
-
-abbrev pub waits : Wait → ℕ → kernel.View → kernel.View
-waits (until_count e v) slot x = parked x e v slot
-waits (until_retired v) slot x = parked x 0 v slot
-
--- the counts after a step of an activity that isn't parked by it
-abbrev pub counted : View Frame Open → kernel.View → kernel.View
-counted (advancing e g) x = advanced x e
-counted (leaving xs) x = advanced x 0
-counted (opening l g) x = restarted x
-counted _ x = x
-
-abbrev pub moved : Option Wait → View Frame Open → ℕ → kernel.View → kernel.View
-moved (Some w) v slot x = waits w slot x
-moved None v slot x = counted v x
-
--- one who is ready is taken up, or a ticket is drawn
-abbrev pub taken : ℕ → Choice → kernel.View → kernel.View
-taken s take_main x = record x { ready = without (slot s the_main) x.ready }
-taken s (take_iteration k) x = record x { ready = without (slot s (iteration k)) x.ready }
-taken s take_ticket x = record x { ticket = x.ticket + 1 }
-
-abbrev pub view_in : Code → Option Frame → View Frame Open
-view_in code None = stuck
-view_in code (Some f) = view code f
-
-abbrev pub local_in : Code → Option Frame → Bool
-local_in code None = false
-local_in code (Some f) = is_local code.instructions f
-
--- ---- The steps.
-
--- Processor q makes a step of the activity that it holds, a local one or a shared one.
-pub record Moves (code : Code) (s : ℕ) (local : Bool) (a : Point) (q : ℕ) (b : Point) : Type 0 where
-  pub who : Who
-  pub holds : a.machine.held q ≡ Some who
-  pub kind : local_in code (frame_of a.machine who) ≡ local
-  pub step : CodeStep code s a.machine q b.machine
-  pub order : b.order ≡ moved (wait_of b.machine who) (view_in code (frame_of a.machine who)) (slot s who) a.order
-
--- Processor q, which holds nothing, takes this up.
-pub record Picks (code : Code) (s : ℕ) (c : Choice) (a : Point) (q : ℕ) (b : Point) : Type 0 where
-  pub going : a.machine.ended ≡ None
-  pub idle : a.machine.held q ≡ None
-  pub takes : Takes Frame Open (view code) trips_of (begin code) s c a.machine q b.machine
-  pub order : b.order ≡ taken s c a.order
-
--- The rule of the first version: who became ready first, and a ticket only where nobody is ready.
-abbrev pub ByRule : ℕ → kernel.View → Choice → Type 0
-ByRule s x take_main = first_of x.ready ≡ Some (slot s the_main)
-ByRule s x (take_iteration k) = first_of x.ready ≡ Some (slot s (iteration k))
-ByRule s x take_ticket = x.ready ≡ []
-
-abbrev pub Works : Code → ℕ → ℕ → Point → ℕ → Point → Type 0
-Works code s zero a q b = a ≡ b
-Works code s (suc n) a q b = (x : Point) × Moves code s true a q x × Works code s n x q b
 
 -- What processor q does in an entry.
 abbrev pub Does : Version → Code → ℕ → Act → Point → ℕ → Point → Type 0
@@ -107,13 +20,6 @@ Does v code s takes_ticket a q b = Picks code s take_ticket a q b
 abbrev pub Leads : Version → Code → ℕ → Point → List Entry → Point → Type 0
 Leads v code s a [] b = a ≡ b
 Leads v code s a (e ∷ es) b = (x : Point) × Does v code s e.act a e.processor x × Leads v code s x es b
-
--- Main is ready, and nothing else has happened.
-abbrev pub at_first : ℕ → kernel.View
-at_first s = record (new_kernel (1 + s) (1 + most_events)) { ready = 0 ∷ []; free = [] }
-
-abbrev pub beginning : Code → List ℕ → ℕ → Point
-beginning code input s = record { machine = Init code input; order = at_first s }
 
 -- The schedule's entries lead from the beginning to this point.
 pub record Replays (code : Code) (input : List ℕ) (x : Schedule) (b : Point) : Type 0 where

@@ -5,10 +5,10 @@ use Rattle.machine.specs.Code.{Code}
 use Rattle.machine.specs.Frame.{Frame}
 use Rattle.machine.specs.State.{Choice, take_ticket, CodeStep, Machine, AreSizes}
 use Rattle.schedules.specs.Schedules.{bursts, works, shares}
-use Rattle.replay.specs.Activities.{frame_at}
+use Rattle.activities.specs.Activities.{frame_at}
 use Rattle.replay.specs.CoreView.{CoreView, IsAfter, IsFurther, point_at}
 use Rattle.replay.specs.Making.{pick_of}
-use Rattle.replay.specs.Replays.{Point, ByRule, Moves, Picks, Works, local_in}
+use Rattle.activities.specs.Points.{Point, ByRule, Moves, Picks, Works, local_in}
 use Rattle.replay.specs.declared.stepped.CoreRefusal.{CoreRefusal}
 use Rattle.replay.specs.declared.stepped.CoreRefusal.TheVariants as refusals
 use Rattle.replay.specs.declared.stepped.HandIn.{HandIn}
@@ -84,7 +84,8 @@ abbrev pub IsWent : Stepped → Type 0
 IsWent (Went ticket) = ⊤
 IsWent _ = ⊥
 
--- Where the machine has a step of processor q, a local instruction of it stands next, or a step was made.
+-- Where the machine has a step of processor q, a local instruction of it stands next, or a step was
+-- made.
 abbrev pub WentOrLocal : CoreView → ℕ → Stepped → Type 0
 WentOrLocal x q answer = (n : Machine) → MayStep x q n → HasLocal x q ⊎ IsWent answer
 

@@ -8,7 +8,8 @@ use Rattle.machine.specs.View.{view, trips_of, begin}
 use Rattle.machine.specs.declared.code.Open.{Open}
 use Rattle.schedules.specs.Schedules.{Act, works, Entry, IsSchedule, Schedule}
 use Rattle.schedules.specs.declared.entry.Version.{Version}
-use Rattle.replay.specs.Replays.{Point, Does, beginning}
+use Rattle.activities.specs.Points.{Point, beginning}
+use Rattle.replay.specs.Replays.{Does}
 
 abbrev pub steps : Act → ℕ
 steps (works n) = n
@@ -18,8 +19,8 @@ steps _ = 1
 abbrev pub Again : Machine → Machine → ℕ → Type 0
 Again a b m = ((m ≡ 0) × Still a b) ⊎ ((m ≡ 1) × (Still a b → ⊥))
 
--- Entries lead from one point to another by so many steps, of which so many park somebody or take up
--- who was parked.
+-- Entries lead from one point to another by so many steps, of which so many park somebody or take
+-- up who was parked.
 abbrev pub Tallies : Version → Code → ℕ → Point → List Entry → Point → ℕ → ℕ → Type 0
 Tallies v code s a [] b made again = (a ≡ b) × (made ≡ 0) × (again ≡ 0)
 Tallies v code s a (e ∷ es) b made again =
@@ -40,8 +41,8 @@ pub record Weighed (code : Code) (p s : ℕ) (m n : Machine) (made again : ℕ) 
   pub made_is : length turns ≡ made
   pub again_is : made ≡ again + weight
 
--- What is counted of a schedule's entries is the length of a run to where they lead, and how many of
--- its steps don't weigh.
+-- What is counted of a schedule's entries is the length of a run to where they lead, and how many
+-- of its steps don't weigh.
 abbrev pub AreCounts : Type 0
 AreCounts =
     (code : Code) (input : List ℕ) (x : Schedule) (b : Point) (made again : ℕ) → IsSchedule x → Tallies x.version code x.slots (beginning code input x.slots) x.entries b made again

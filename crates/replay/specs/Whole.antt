@@ -3,12 +3,13 @@ use Rattle.std.specs.Prelude.{◌≡◌, ◌+◌, ◌*◌, ◌≤◌, ℕ, Bool,
 use Rattle.machine.specs.State.{Choice}
 use Rattle.schedules.specs.Schedules.{Entry, IsSchedule, Schedule, bursts, shares, with_entries, with_entry, works}
 use Rattle.schedules.specs.declared.entry.Version.TheVariants.{Second}
-use Rattle.replay.specs.Activities.{AreActivities, AreOf, code_in, kept_in, point_in}
+use Rattle.activities.specs.Activities.{AreActivities, AreOf, code_in, kept_in, point_in}
 use Rattle.replay.specs.CoreView.{CoreView}
 use Rattle.replay.specs.Making.{pick_of}
-use Rattle.replay.specs.Replays.{Moves, Picks, Point, Replays, Works, beginning}
+use Rattle.activities.specs.Points.{Moves, Picks, Point, Works, beginning}
+use Rattle.replay.specs.Replays.{Replays}
 use Rattle.replay.specs.Tallies.{Again, Tallies, steps}
-use Rattle.replay.specs.declared.activities.Activities.{Activities}
+use Rattle.activities.specs.declared.holding.Activities.{Activities}
 use Rattle.replay.specs.declared.stepped.Tally.{Tally}
 
 -- its parts fit each other

@@ -5,13 +5,13 @@ ghost use Rattle.machine.specs.CodeView.{code_of};
 ghost use Rattle.schedules.specs.Refusals.{Explains};
 ghost use Rattle.schedules.specs.Schedules.{IsAct};
 ghost use Rattle.schedules.specs.View.{act as act_view};
-ghost use Rattle.replay.specs.Activities.{AreActivities, AreOf, Stays, code_in, point_in};
+ghost use Rattle.activities.specs.Activities.{AreActivities, AreOf, Stays, code_in, point_in};
 ghost use Rattle.replay.specs.Making.{LeadsOnly, MadeAs};
 ghost use Rattle.replay.specs.Replayed.{CannotBeMade, NoneLeads, StopsAt};
-ghost use Rattle.replay.specs.Replays.{beginning};
+ghost use Rattle.activities.specs.Points.{beginning};
 
-use crate::activities::Activities;
 use crate::making::make;
+use activities::Activities;
 use machine::Code;
 use schedules::{Act, Entry, ReplayRefusal, Schedule, Version};
 use std::alloc::Global;
@@ -65,8 +65,8 @@ pub fn begun<'c>(
 ///
 /// # Errors
 ///
-/// 56 at the first entry behind the end of the run, 54 at the first that isn't possible before that;
-/// and want of memory.
+/// 56 at the first entry behind the end of the run, 54 at the first that isn't possible before
+/// that; and want of memory.
 pub fn follow(activities: &mut Activities<'_>, schedule: &Schedule) -> Result<(), ReplayRefusal>
     requires stand { AreActivities activities.old }
     requires of { AreOf (code_in activities.old) schedule.now.processors schedule.now.slots activities.old }

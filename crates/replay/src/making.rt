@@ -4,11 +4,11 @@ ghost use Rattle.std.specs.Prelude.{◌≡◌, ◌<◌, IfOk, false, length, opt
 ghost use Rattle.schedules.specs.Schedules.{IsAct, shares, works};
 ghost use Rattle.schedules.specs.declared.entry.Version.TheVariants.{First, Second};
 ghost use Rattle.schedules.specs.View.{act as act_view};
-ghost use Rattle.replay.specs.Activities.{AreActivities, Stays, chosen, code_in, point_in};
+ghost use Rattle.activities.specs.Activities.{AreActivities, Stays, chosen, code_in, point_in};
 ghost use Rattle.replay.specs.Making.{Made, pick_of};
-ghost use Rattle.replay.specs.Replays.{Moves, Point};
+ghost use Rattle.activities.specs.Points.{Moves, Point};
 
-use crate::activities::{Activities, Choice};
+use activities::{Activities, Choice};
 use schedules::{Act, Entry, Version};
 use std::alloc::AllocError;
 

@@ -3,16 +3,16 @@
 ghost use Rattle.std.specs.Prelude.{◌≡◌, ◌≤◌, ◌<◌, IfOk, OnOk, OnErr, Some, None, false, true, is_some, length, option_map};
 ghost use Rattle.machine.specs.FrameView.{frame_of};
 ghost use Rattle.machine.specs.State.{iteration};
-ghost use Rattle.replay.specs.Activities.{AreActivities, Stays, chosen, frame_at, kept_in, point_in, who};
-ghost use Rattle.replay.specs.Parts.{held_of};
-ghost use Rattle.replay.specs.Putting.{LeadTo};
-ghost use Rattle.replay.specs.Replays.{wait_of};
+ghost use Rattle.activities.specs.Activities.{AreActivities, Stays, chosen, frame_at, kept_in, point_in, who};
+ghost use Rattle.activities.specs.Parts.{held_of};
+ghost use Rattle.activities.specs.Putting.{LeadTo};
+ghost use Rattle.activities.specs.Points.{wait_of};
 ghost use Rattle.replay.specs.Tallies.{takes_parked};
 ghost use Rattle.replay.specs.Whole.{AreParts, IsBurst, IsSame, IsWorked, Shares, TakesUp};
 
-use crate::activities::{Activities, Choice, Holder};
 use crate::making::pick_of;
 use crate::stepped::Tally;
+use activities::{Activities, Choice, Holder};
 use machine::Frame;
 use schedules::{Act, Entry, Schedule};
 use std::alloc::AllocError;
@@ -137,8 +137,8 @@ pub fn pick(
     }
 }
 
-/// What processor `q` holds gets the frame to which so many local instructions of its own lead, from
-/// 1 to 1,024. Where memory is refused nothing changes.
+/// What processor `q` holds gets the frame to which so many local instructions of its own lead,
+/// from 1 to 1,024. Where memory is refused nothing changes.
 pub fn put(
     activities: &mut Activities<'_>,
     schedule: &mut Schedule,

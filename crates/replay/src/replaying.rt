@@ -16,8 +16,8 @@ use std::alloc::Global;
 ///
 /// # Errors
 ///
-/// 54 at the first entry that isn't possible, 55 at the last line where the run hasn't ended then, 56
-/// at the first entry behind its end; and want of memory.
+/// 54 at the first entry that isn't possible, 55 at the last line where the run hasn't ended then,
+/// 56 at the first entry behind its end; and want of memory.
 pub fn replay<'c>(
     alloc: Global,
     code: &'c Code,

@@ -5,13 +5,13 @@ ghost use Rattle.machine.specs.CodeView.{code_of};
 ghost use Rattle.schedules.specs.Refusals.{Explains};
 ghost use Rattle.schedules.specs.Schedules.{IsSchedule};
 ghost use Rattle.schedules.specs.declared.entry.Version.TheVariants.{First, Second};
-ghost use Rattle.replay.specs.Activities.{AreActivities, AreOf, code_in, point_in};
+ghost use Rattle.activities.specs.Activities.{AreActivities, AreOf, code_in, point_in};
 ghost use Rattle.replay.specs.Making.{AreNamed, LeadsOnly};
 ghost use Rattle.replay.specs.Replayed.{HasStop, IsUpgrade, LeadsNowhere, NamesPicks, NoneLeads, StopsAt};
 ghost use Rattle.replay.specs.Replays.{Leads};
 
-use crate::activities::Activities;
 use crate::following::{begun, follow, make_at};
+use activities::Activities;
 use machine::Code;
 use schedules::{Entry, ReplayRefusal, Schedule, Version};
 use std::alloc::Global;
@@ -89,13 +89,14 @@ fn as_it_is(activities: &mut Activities<'_>, schedule: &Schedule) -> Result<Sche
     }
 }
 
-/// A schedule of the second version that leads to the same point, whether the run ends there or not. Its
-/// entries are the same, one by one, but for shared steps that turn out to be picks; one that is of that version already is given back as it is.
+/// A schedule of the second version that leads to the same point, whether the run ends there or
+/// not. Its entries are the same, one by one, but for shared steps that turn out to be picks; one
+/// that is of that version already is given back as it is.
 ///
 /// # Errors
 ///
-/// 54 at the first entry that isn't possible, 56 at the first one behind the end of the run; and want
-/// of memory.
+/// 54 at the first entry that isn't possible, 56 at the first one behind the end of the run; and
+/// want of memory.
 pub fn upgrade<'c>(
     alloc: Global,
     code: &'c Code,

@@ -1,14 +1,13 @@
 //! The whole machine with its schedule.
 
 ghost use Rattle.std.specs.Prelude.{◌≡◌};
-ghost use Rattle.replay.specs.Activities.{chosen};
+ghost use Rattle.activities.specs.Activities.{chosen};
 ghost use Rattle.replay.specs.Stepping.{begun_by};
 
-use crate::activities::{Activities, Choice, Holder};
 use crate::answering::answer;
-use crate::parts::Shared;
 use crate::recording;
 use crate::stepped::{CoreRefusal, HandIn, Stepped, Tally};
+use activities::{Activities, Choice, Holder, Shared};
 use ast::Answer;
 use machine::{Code, Done, Frame, Work, stands_local};
 use schedules::{Schedule, Version};
@@ -73,17 +72,19 @@ impl<'c> Core<'c> {
     ghost use Rattle.machine.specs.FrameView.{frame_of};
     ghost use Rattle.machine.specs.WorkView.{IsSpent, work_of};
     ghost use Rattle.schedules.specs.declared.entry.Version.TheVariants.{Second};
-    ghost use Rattle.replay.specs.Activities.{chosen, frame_at, who};
+    ghost use Rattle.activities.specs.Activities.{chosen, frame_at, who};
     ghost use Rattle.replay.specs.CoreView.{CoreView, IsNew, point_at};
-    ghost use Rattle.replay.specs.Least.{IsLeast, has_ticket};
+    ghost use Rattle.activities.specs.Least.{IsLeast, has_ticket};
     ghost use Rattle.replay.specs.Loading.{CannotHandInWork, HandsInWork, HasFrame, Loads};
-    ghost use Rattle.replay.specs.Parts.{held_of};
+    ghost use Rattle.activities.specs.Parts.{held_of};
     ghost use Rattle.replay.specs.Replayed.{IsAnswer};
-    ghost use Rattle.replay.specs.Replays.{Replays, beginning, local_in};
+    ghost use Rattle.activities.specs.Points.{beginning, local_in};
+    ghost use Rattle.replay.specs.Replays.{Replays};
     ghost use Rattle.replay.specs.Stepping.{CannotHandIn, HandsIn, HasLocal, IsFrom, IsGoing, HasEnded, KeepsGoing, MayTry, NoCore, PicksUp, Steps, WentOrLocal};
     ghost use Rattle.replay.specs.Tallies.{Tallies};
 
-    /// A run at its beginning, of `p` processors, 1 to 64, with `s` iterations open at most, 1 to 256.
+    /// A run at its beginning, of `p` processors, 1 to 64, with `s` iterations open at most, 1 to
+    /// 256.
     ///
     /// # Errors
     ///
@@ -215,8 +216,9 @@ impl<'c> Core<'c> {
         Ok(Stepped::Idle)
     }
 
-    /// Processor `q` makes a shared step of what it holds. Where it holds nothing it picks: what became
-    /// ready first, and a ticket only where nothing is ready. Where memory is refused nothing changes.
+    /// Processor `q` makes a shared step of what it holds. Where it holds nothing it picks: what
+    /// became ready first, and a ticket only where nothing is ready. Where memory is refused
+    /// nothing changes.
     pub fn step(&mut self, q: usize) -> Result<Stepped, AllocError>
         ensures ok { IfOk result (λ stepped. Steps self.old q stepped self.new) }
         ensures goes_on { KeepsGoing self.old }
@@ -239,8 +241,8 @@ impl<'c> Core<'c> {
         }
     }
 
-    /// Processor `q`, which holds nothing, takes this up where it may. Where memory is refused nothing
-    /// changes.
+    /// Processor `q`, which holds nothing, takes this up where it may. Where memory is refused
+    /// nothing changes.
     pub fn pick(&mut self, q: usize, choice: Choice) -> Result<Stepped, AllocError>
         ensures ok { IfOk result (λ stepped. PicksUp self.old q (chosen choice) stepped self.new) }
         ensures err { OnErr result (self.new ≡ self.old) }
@@ -275,7 +277,8 @@ impl<'c> Core<'c> {
         }
     }
 
-    /// What processor `q` holds gets the frame to which local work leads, in this code, from its own.
+    /// What processor `q` holds gets the frame to which local work leads, in this code, from its
+    /// own.
     fn put(&mut self, q: usize, done: Done<'_>) -> Result<(), HandIn>
         requires going { IsGoing self.old }
         requires from { IsFrom self.old q (code_of done.code.now) (frame_of done.from) }
@@ -303,9 +306,9 @@ impl<'c> Core<'c> {
     ///
     /// # Errors
     ///
-    /// `Ended` where the run had ended; otherwise `Stranger` where the processor holds no activity, or
-    /// one with another frame, or the work is of other code; and want of memory. Nothing has changed
-    /// then.
+    /// `Ended` where the run had ended; otherwise `Stranger` where the processor holds no activity,
+    /// or one with another frame, or the work is of other code; and want of memory. Nothing has
+    /// changed then.
     pub fn hand_in(&mut self, q: usize, done: Done<'_>) -> Result<(), HandIn>
         ensures ok { OnOk result (HandsIn self.old q (code_of done.entry.code.now) (frame_of done.entry.from) done.entry.made self.new) }
         ensures frame { OnOk result (frame_at q (point_at self.new) ≡ Some (frame_of done.entry.to)) }
@@ -321,8 +324,8 @@ impl<'c> Core<'c> {
         self.put(q, done)
     }
 
-    /// What processor `q` holds gets the frame to which local work of the core's own code leads from
-    /// its own.
+    /// What processor `q` holds gets the frame to which local work of the core's own code leads
+    /// from its own.
     fn put_work(&mut self, q: usize, work: &mut Work<'_>) -> Result<(), HandIn>
         requires going { IsGoing self.old }
         requires some { 1 ≤ work.old.made }
@@ -348,10 +351,10 @@ impl<'c> Core<'c> {
         Ok(())
     }
 
-    /// As `hand_in`, of local work of any length of which the caller knows that it is of the core's own
-    /// code: codes are not compared, so that it takes no longer where the code is longer. The schedule
-    /// grows by as many entries as it takes, each as long as it may be, and memory is taken for them
-    /// alone. None of the work is left to be handed in then.
+    /// As `hand_in`, of local work of any length of which the caller knows that it is of the core's
+    /// own code: codes are not compared, so that it takes no longer where the code is longer. The
+    /// schedule grows by as many entries as it takes, each as long as it may be, and memory is
+    /// taken for them alone. None of the work is left to be handed in then.
     ///
     /// # Errors
     ///
@@ -384,8 +387,8 @@ impl<'c> Core<'c> {
         Work::new(alloc, self.activities.code)
     }
 
-    /// Loads the frame of what processor `q` holds, where a local instruction of it stands next, and
-    /// tells whether one does. Where none does, or memory is refused, the work hasn't changed.
+    /// Loads the frame of what processor `q` holds, where a local instruction of it stands next,
+    /// and tells whether one does. Where none does, or memory is refused, the work hasn't changed.
     pub fn load(&self, q: usize, work: &mut Work<'_>) -> Result<bool, AllocError>
         ensures ok { IfOk result (Loads self.now q work.old work.new) }
         ensures code { code_of work.new.code.now ≡ code_of work.old.code.now }
@@ -452,8 +455,8 @@ impl<'c> Core<'c> {
         self.activities.overlap()
     }
 
-    /// What a processor that holds nothing takes up so that iterations retire early: main where it is
-    /// ready, else the least iteration that is, and a ticket only where nothing is ready.
+    /// What a processor that holds nothing takes up so that iterations retire early: main where it
+    /// is ready, else the least iteration that is, and a ticket only where nothing is ready.
     pub fn least(&self) -> Choice
         ensures { IsLeast (point_at self.now).machine (chosen result) }
     {

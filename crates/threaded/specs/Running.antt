@@ -10,7 +10,8 @@ use Rattle.ast.specs.declared.answer.Answer.{Answer}
 use Rattle.codegen.specs.Headline.{IsBeginning}
 use Rattle.machine.specs.Code.{Code}
 use Rattle.machine.specs.State.{AreSizes, Ended}
-use Rattle.replay.specs.Replays.{Point, Replays}
+use Rattle.activities.specs.Points.{Point}
+use Rattle.replay.specs.Replays.{Replays}
 use Rattle.schedules.specs.Schedules.{SchedText, Schedule}
 use Rattle.handing.specs.Handing.{AppendsPart}
 use Rattle.pages.specs.Outcomes.{outcome_of, status_of}

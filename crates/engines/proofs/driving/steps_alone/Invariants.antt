@@ -1,4 +1,4 @@
-use Rattle.replay.specs.Activities.{AreActivities}
+use Rattle.activities.specs.Activities.{AreActivities}
 use Rattle.engines.proofs.driving.steps_alone.Given as goal
 
 abbrev pub invariant-loop : goal.invariant-loop

@@ -1,5 +1,5 @@
 use Rattle.std.proofs.Common.{length}
-use Rattle.replay.specs.Activities.{AreActivities}
+use Rattle.activities.specs.Activities.{AreActivities}
 use Rattle.engines.proofs.watching.gather.Given as goal
 
 abbrev pub invariant-loop-entry : goal.invariant-loop-entry

@@ -1,7 +1,7 @@
 use Rattle.std.proofs.Common.{arith}
 use Rattle.schedules.specs.Kept.{entries_of}
 use Rattle.schedules.specs.View.{act, entry}
-use Rattle.replay.specs.Activities.{code_in, point_in}
+use Rattle.activities.specs.Activities.{code_in, point_in}
 use Rattle.replay.proofs.Followed.{follows_on, lines_left, refused_nowhere, refused_stop}
 use Rattle.replay.proofs.following.follow.Goals as goal
 

@@ -1,4 +1,4 @@
-use Rattle.replay.specs.Activities.{chosen, code_in, point_in}
+use Rattle.activities.specs.Activities.{chosen, code_in, point_in}
 use Rattle.replay.proofs.Alone.{made_pick, pick_named}
 use Rattle.replay.proofs.making.pick.Goals as goal
 

@@ -1,4 +1,4 @@
-use Rattle.replay.specs.Activities.{chosen, code_in, point_in}
+use Rattle.activities.specs.Activities.{chosen, code_in, point_in}
 use Rattle.replay.proofs.Alone.{made_by_rule, none_by_rule}
 use Rattle.replay.proofs.making.pick_by_rule.Goals as goal
 

@@ -1,8 +1,8 @@
 use Rattle.std.proofs.Common.{false, subst}
 use Rattle.std.specs.Prelude.{ℕ}
 use Rattle.machine.specs.Code.{Code}
-use Rattle.replay.specs.Activities.{code_in, point_in}
-use Rattle.replay.specs.Replays.{Moves, Point}
+use Rattle.activities.specs.Activities.{code_in, point_in}
+use Rattle.activities.specs.Points.{Moves, Point}
 use Rattle.replay.proofs.Alone.{made_share, point_stays}
 use Rattle.replay.proofs.making.share.Goals as goal
 

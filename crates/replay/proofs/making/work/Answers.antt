@@ -1,4 +1,4 @@
-use Rattle.replay.specs.Activities.{code_in, point_in}
+use Rattle.activities.specs.Activities.{code_in, point_in}
 use Rattle.replay.proofs.Alone.{made_work}
 use Rattle.replay.proofs.making.work.Goals as goal
 

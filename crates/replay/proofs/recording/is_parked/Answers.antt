@@ -1,13 +1,13 @@
 use Rattle.std.proofs.Common.{◌≡◌, ◌∙◌, ℕ, refl, sym, ap, subst, get_or, Some, None}
 use Rattle.std.specs.Prelude.{is_some}
 use Rattle.machine.specs.State.{iteration}
-use Rattle.replay.specs.Activities.{kept_in, point_in, who}
-use Rattle.replay.specs.Parts.{held_of}
-use Rattle.replay.specs.Replays.{wait_of}
-use Rattle.replay.specs.declared.activities.Holder.{Holder}
-use Rattle.replay.proofs.Labour.{held_runs}
+use Rattle.activities.specs.Activities.{kept_in, point_in, who}
+use Rattle.activities.specs.Parts.{held_of}
+use Rattle.activities.specs.Points.{wait_of}
+use Rattle.activities.specs.declared.holding.Holder.{Holder}
+use Rattle.activities.proofs.Labour.{held_runs}
 use Rattle.replay.proofs.Recorded.{else_there, parked_is, then_there}
-use Rattle.replay.proofs.Shares.{held_is}
+use Rattle.activities.proofs.Shares.{held_is}
 use Rattle.replay.proofs.recording.is_parked.Goals as goal
 
 pub returns-then-is_iteration : goal.returns-then-is_iteration

@@ -1,7 +1,7 @@
 use Rattle.std.proofs.Common.{ap, ◌+◌, ◌∙◌, Bool, arith}
 use Rattle.std.specs.Prelude.{if◌then◌else◌}
 use Rattle.schedules.specs.Schedules.{Act, with_entry}
-use Rattle.replay.specs.Activities.{chosen}
+use Rattle.activities.specs.Activities.{chosen}
 use Rattle.replay.proofs.Recorded.{pick_more}
 use Rattle.std.proofs.lemmas.Grind.{common_steps}
 use Rattle.replay.proofs.recording.pick.Goals as goal

@@ -1,5 +1,5 @@
 use Rattle.std.proofs.Common.{arith}
-use Rattle.replay.specs.Activities.{who}
+use Rattle.activities.specs.Activities.{who}
 use Rattle.replay.proofs.Recorded.{share_more, share_none}
 use Rattle.std.proofs.lemmas.Grind.{common_steps}
 use Rattle.replay.proofs.recording.share.Goals as goal

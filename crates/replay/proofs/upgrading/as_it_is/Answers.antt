@@ -1,4 +1,4 @@
-use Rattle.replay.specs.Activities.{code_in, point_in}
+use Rattle.activities.specs.Activities.{code_in, point_in}
 use Rattle.replay.proofs.Followed.{names_itself}
 use Rattle.replay.proofs.upgrading.as_it_is.Goals as goal
 

@@ -1,8 +1,8 @@
 use Rattle.std.proofs.Common.{subst}
-use Rattle.replay.specs.Activities.{chosen}
+use Rattle.activities.specs.Activities.{chosen}
 use Rattle.replay.specs.CoreView.{CoreView, point_at}
-use Rattle.replay.specs.Least.{IsLeast}
-use Rattle.replay.specs.Replays.{Point}
+use Rattle.activities.specs.Least.{IsLeast}
+use Rattle.activities.specs.Points.{Point}
 use Rattle.replay.proofs.Onwards.{point_seen}
 use Rattle.replay.proofs.whole.Core.least.Goals as goal
 

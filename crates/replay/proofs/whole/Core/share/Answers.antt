@@ -1,6 +1,6 @@
 use Rattle.std.proofs.Common.{◌∙◌}
 use Rattle.schedules.specs.Schedules.{shares}
-use Rattle.replay.specs.Activities.{who}
+use Rattle.activities.specs.Activities.{who}
 use Rattle.replay.proofs.Onwards.{seen_same, stuck_seen, whole_more}
 use Rattle.replay.proofs.whole.Core.share.Goals as goal
 

@@ -1,7 +1,7 @@
 use Rattle.std.proofs.Common.{refl, sym, ap, arith, ◌∙◌, Some, None}
-use Rattle.replay.specs.Activities.{chosen}
+use Rattle.activities.specs.Activities.{chosen}
 use Rattle.replay.specs.CoreView.{CoreView}
-use Rattle.replay.specs.Parts.{held_of}
+use Rattle.activities.specs.Parts.{held_of}
 use Rattle.replay.proofs.Ongoing.{went_if, goes_on}
 use Rattle.replay.proofs.Onwards.{by_rule, has_ended, holds}
 use Rattle.replay.proofs.whole.Core.step.Goals as goal

@@ -1,5 +1,5 @@
 use Rattle.schedules.specs.declared.entry.Version.TheVariants.{Second}
-use Rattle.replay.specs.Activities.{chosen, code_in, point_in}
+use Rattle.activities.specs.Activities.{chosen, code_in, point_in}
 use Rattle.replay.specs.Making.{pick_of}
 use Rattle.replay.proofs.Alone.{named_pick}
 use Rattle.replay.proofs.Onwards.{whole_more}

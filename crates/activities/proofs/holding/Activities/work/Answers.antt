@@ -1,0 +1,44 @@
+use Rattle.std.proofs.Common.{◌≡◌, ◌∙◌, None, Some, refl, sym, ap}
+use Rattle.std.specs.Prelude.{option_map}
+use Rattle.machine.specs.FrameView as frames
+use Rattle.machine.specs.State.{the_main, iteration}
+use Rattle.activities.specs.Activities.{kept_in, who}
+use Rattle.activities.specs.Parts.{held_of}
+use Rattle.activities.specs.declared.holding.Holder.{Holder}
+use Rattle.activities.specs.declared.holding.Holder.TheVariants as holder
+use Rattle.activities.proofs.Shares.{held_is}
+use Rattle.activities.proofs.Labour.{main_stands, none_worked, not_some, not_worked, stood_main, with_main_frame, worked}
+use Rattle.activities.proofs.holding.Activities.work.Goals as goal
+
+pub work_iteration-requires-clause-holds : goal.work_iteration-requires-clause-holds
+work_iteration-requires-clause-holds c =
+    let some : c.index.result.now ≡ Some c.in-Some-Iteration.field-0 = c.in-Some-Iteration.is in
+    let one : Some c.in-Some-Iteration.field-0 ≡ Some (holder.Iteration c.in-Some-Iteration.number c.in-Some-Iteration.place) = ap (λ (h : Holder). Some h) (rw some at c.in-Some-Iteration.field-0-is) in
+    let h : held_of (kept_in c.args.self.now).held c.args.q ≡ Some (iteration c.in-Some-Iteration.number) = held_is c.args.self.now.held.items c.args.q c.index.result.now c.index.result.now c.requires.processor c.index.ensures ∙ ap (λ o. option_map who o) (some ∙ one) in
+    h
+
+pub returns-in-None-clause-fails : goal.returns-in-None-clause-fails
+returns-in-None-clause-fails c e b =
+    let none : held_of (kept_in c.args.self.now).held c.args.q ≡ None = held_is c.args.self.now.held.items c.args.q c.index.result.now c.index.result.now c.requires.processor c.index.ensures ∙ ap (λ o. option_map who o) c.in-None.is in
+    none_worked c.args.q c.args.n c.args.self.now b c.requires.some none
+
+pub returns-in-Some-Main-clause-went : goal.returns-in-Some-Main-clause-went
+returns-in-Some-Main-clause-went c =
+    let some : c.index.result.now ≡ Some c.in-Some-Main.field-0 = c.in-Some-Main.is in
+    let one : Some c.in-Some-Main.field-0 ≡ Some (holder.Main) = ap (λ (h : Holder). Some h) (rw some at c.in-Some-Main.field-0-is) in
+    let h : held_of (kept_in c.args.self.now).held c.args.q ≡ Some the_main = held_is c.args.self.now.held.items c.args.q c.index.result.now c.index.result.now c.requires.processor c.index.ensures ∙ ap (λ o. option_map who o) (some ∙ one) in
+    let old = c.args.self.now in
+    let going : old.shared.ended ≡ None = not_some old.shared.ended (sym c.is_some.ensures ∙ c.if-is_some.false) in
+    worked the_main c.args.q c.args.n c.work_on.result (kept_in old).main (frames.frame_of c.work_on.new.frame) old (with_main_frame c.work_on.new.frame old) (stood_main c.args.q old c.requires.stand going h) c.work_on.ensures refl
+
+pub returns-in-Some-Main-clause-fails : goal.returns-in-Some-Main-clause-fails
+returns-in-Some-Main-clause-fails c e b =
+    let some : c.index.result.now ≡ Some c.in-Some-Main.field-0 = c.in-Some-Main.is in
+    let one : Some c.in-Some-Main.field-0 ≡ Some (holder.Main) = ap (λ (h : Holder). Some h) (rw some at c.in-Some-Main.field-0-is) in
+    let h : held_of (kept_in c.args.self.now).held c.args.q ≡ Some the_main = held_is c.args.self.now.held.items c.args.q c.index.result.now c.index.result.now c.requires.processor c.index.ensures ∙ ap (λ o. option_map who o) (some ∙ one) in
+    let old = c.args.self.now in
+    let going : old.shared.ended ≡ None = not_some old.shared.ended (sym c.is_some.ensures ∙ c.if-is_some.false) in
+    not_worked the_main c.args.q c.args.n c.work_on.result (kept_in old).main (frames.frame_of c.work_on.new.frame) old b (stood_main c.args.q old c.requires.stand going h) c.work_on.ensures e
+
+pub returns-in-Some-Main-clause-stand : goal.returns-in-Some-Main-clause-stand
+returns-in-Some-Main-clause-stand c = main_stands c.work_on.new.frame c.args.self.now c.requires.stand

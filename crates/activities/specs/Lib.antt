@@ -1,0 +1,13 @@
+pub mod Activities
+pub mod Core
+pub mod Least
+pub mod MainTurns
+pub mod Parts
+pub mod PartsView
+pub mod Picking
+pub mod Points
+pub mod Printing
+pub mod Putting
+pub mod Sharing
+pub mod Turns
+pub mod Waiting

@@ -1,0 +1,18 @@
+//! What the machine's processors hold, and what each step does of it: turns, picks, parks, work
+//! handed in.
+#![tactic(auto)]
+
+mod holding;
+mod input;
+mod local_work;
+mod main_turn;
+mod parts;
+mod picking;
+mod printing;
+mod sharing;
+mod turn;
+mod values_at;
+
+pub use holding::{Activities, Choice, Holder};
+pub use input::Input;
+pub use parts::{Iteration, Main, Shared, Until};
