@@ -106,7 +106,8 @@ fn first_main<'c>(alloc: Global, code: &Code, input: &'c [u8]) -> Result<Main<'c
 
 /// So many places in which no iteration stands.
 fn no_iterations(alloc: Global, slots: usize) -> Result<Vec<Option<Iteration>>, AllocError>
-    ensures { IfOk result (λ v. map (λ o. option_map standing_of o) v.items ≡ replicate slots None) }
+    ensures { IfOk result (λ v. map (λ o. option_map standing_of o) v.items
+        ≡ replicate slots None) }
 {
     let mut places = Vec::new(alloc);
     while places.len() < slots {
@@ -132,7 +133,8 @@ fn none_taken(
     processors: usize,
     slots: usize,
 ) -> Result<(Vec<Option<Iteration>>, Vec<Option<Holder>>), AllocError>
-    ensures iterations { IfOk result (λ r. map (λ o. option_map standing_of o) r.0.items ≡ replicate slots None) }
+    ensures iterations { IfOk result (λ r. map (λ o. option_map standing_of o) r.0.items
+        ≡ replicate slots None) }
     ensures held { IfOk result (λ r. r.1.items ≡ replicate processors None) }
 {
     let iterations = no_iterations(alloc, slots)?;
@@ -140,11 +142,13 @@ fn none_taken(
 }
 
 impl<'c> Activities<'c> {
-    ghost use Rattle.std.specs.Prelude.{◌≡◌, ◌≤◌, ◌<◌, IfOk, None, Some, get_or, is_some, length, option_map, ◌%◌};
+    ghost use Rattle.std.specs.Prelude.{◌≡◌, ◌≤◌, ◌<◌, IfOk, None, Some, get_or, is_some, length};
+    ghost use Rattle.std.specs.Prelude.{option_map, ◌%◌};
     ghost use Rattle.machine.specs.CodeView.{code_of};
     ghost use Rattle.machine.specs.FrameView.{frame_of};
     ghost use Rattle.machine.specs.State.{AreSizes};
-    ghost use Rattle.activities.specs.Activities.{AreActivities, AreOf, frame_at, frame_there, kept_in, point_in};
+    ghost use Rattle.activities.specs.Activities.{AreActivities, AreOf, frame_at, frame_there};
+    ghost use Rattle.activities.specs.Activities.{kept_in, point_in};
     ghost use Rattle.activities.specs.Points.{beginning};
 
     /// Main is ready, and nothing else has happened. There are 1 to 64 processors and 1 to 256
@@ -157,7 +161,8 @@ impl<'c> Activities<'c> {
         slots: usize,
     ) -> Result<Activities<'c>, AllocError>
         requires sizes { AreSizes processors slots }
-        ensures point { IfOk result (λ a. point_in a ≡ beginning (code_of code.now) input.now slots) }
+        ensures point { IfOk result (λ a. point_in a
+            ≡ beginning (code_of code.now) input.now slots) }
         ensures are { IfOk result (λ a. AreOf (code_of code.now) processors slots a) }
         ensures stand { IfOk result AreActivities }
     {
@@ -179,7 +184,8 @@ impl<'c> Activities<'c> {
         requires stand { AreActivities self.now }
         requires place { 0 < self.now.slots }
         requires room { length self.now.iterations.items ≡ self.now.slots }
-        ensures { option_map (λ f. frame_of f.now) result ≡ frame_there (get_or (kept_in self.now).iterations (k % self.now.slots) None) }
+        ensures { option_map (λ f. frame_of f.now) result
+            ≡ frame_there (get_or (kept_in self.now).iterations (k % self.now.slots) None) }
     {
         match &self.iterations[self.place_from(k, place)] {
             Some(iteration) => Some(&iteration.frame),

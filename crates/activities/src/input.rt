@@ -39,7 +39,8 @@ impl<'p> Input<'p> {
     ///
     /// `EndOfInput` where no record is left and `BadInput` where it isn't well formed.
     pub fn take(&mut self) -> Result<Result<(), Fault>, AllocError>
-        ensures ok { IfOk result (λ r. Took r (taken (input_of self.old).records) (input_of self.old) (input_of self.new)) }
+        ensures ok { IfOk result (λ r.
+            Took r (taken (input_of self.old).records) (input_of self.old) (input_of self.new)) }
         ensures err { OnErr result (input_of self.new ≡ input_of self.old) }
     {
         let mut records = self.records.clone()?;
@@ -63,7 +64,9 @@ impl<'p> Input<'p> {
     ///
     /// Those of `take`.
     pub fn take_value(&mut self) -> Result<Result<i64, Fault>, AllocError>
-        ensures ok { IfOk result (λ r. TookValue r (next_integer (input_of self.old).left (input_of self.old).records) (input_of self.old) (input_of self.new)) }
+        ensures ok { IfOk result (λ r.
+            TookValue r (next_integer (input_of self.old).left (input_of self.old).records)
+            (input_of self.old) (input_of self.new)) }
         ensures err { OnErr result (input_of self.new ≡ input_of self.old) }
     {
         if self.given < self.integers.len() {

@@ -15,14 +15,16 @@ use std::mem::swap;
 /// So many local instructions; false where there aren't so many, and then it has made those that
 /// there are.
 fn work_on(code: &Code, frame: &mut Frame, n: u32) -> bool
-    ensures { Working (code_of code.now).instructions n result (frame_of frame.old) (frame_of frame.new) }
+    ensures { Working (code_of code.now).instructions n result (frame_of frame.old)
+        (frame_of frame.new) }
 {
     local(code, frame, n).made == n
 }
 
 /// The same of what stands in a place.
 fn work_at(code: &Code, place: &mut Option<Iteration>, n: u32) -> bool
-    ensures { IfSome (option_map standing_of place.old) (λ a. WorkedAt (code_of code.now).instructions n result a (option_map standing_of place.new)) }
+    ensures { IfSome (option_map standing_of place.old) (λ a.
+        WorkedAt (code_of code.now).instructions n result a (option_map standing_of place.new)) }
 {
     match place {
         Some(iteration) => work_on(code, &mut iteration.frame, n),
@@ -54,8 +56,10 @@ impl<'c> Activities<'c> {
         requires stand { AreActivities self.old }
         requires going { self.old.shared.ended ≡ None }
         requires holds { held_of (kept_in self.old).held q ≡ Some (iteration k) }
-        ensures went { result ≡ true → Works (code_in self.old) self.old.slots n (point_in self.old) q (point_in self.new) }
-        ensures fails { result ≡ false → (b : Point) → Works (code_in self.old) self.old.slots n (point_in self.old) q b → ⊥ }
+        ensures went { result ≡ true
+            → Works (code_in self.old) self.old.slots n (point_in self.old) q (point_in self.new) }
+        ensures fails { result ≡ false → (b : Point)
+            → Works (code_in self.old) self.old.slots n (point_in self.old) q b → ⊥ }
         ensures stand { AreActivities self.new }
         ensures stays { Stays self.old self.new }
     {
@@ -69,8 +73,10 @@ impl<'c> Activities<'c> {
         requires stand { AreActivities self.old }
         requires processor { q < length self.old.held.items }
         requires some { 1 ≤ n }
-        ensures went { result ≡ true → Works (code_in self.old) self.old.slots n (point_in self.old) q (point_in self.new) }
-        ensures fails { result ≡ false → (b : Point) → Works (code_in self.old) self.old.slots n (point_in self.old) q b → ⊥ }
+        ensures went { result ≡ true
+            → Works (code_in self.old) self.old.slots n (point_in self.old) q (point_in self.new) }
+        ensures fails { result ≡ false → (b : Point)
+            → Works (code_in self.old) self.old.slots n (point_in self.old) q b → ⊥ }
         ensures stand { AreActivities self.new }
         ensures stays { Stays self.old self.new }
     {

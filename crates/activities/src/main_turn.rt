@@ -1,6 +1,7 @@
 //! Steps of main.
 
-ghost use Rattle.std.specs.Prelude.{◌≡◌, ◌<◌, List, Option, Some, None, IfOk, OnErr, OnOk, length, map, pos, set, slice_get, true};
+ghost use Rattle.std.specs.Prelude.{◌≡◌, ◌<◌, List, Option, Some, None, IfOk, OnErr, OnOk, length};
+ghost use Rattle.std.specs.Prelude.{map, pos, set, slice_get, true};
 ghost use Rattle.ast.specs.Exact.{in_range};
 ghost use Rattle.ast.specs.Input.{next_integer, taken};
 ghost use Rattle.ec_kernel.specs.View.{IsKernel, NoWaiter, places};
@@ -11,7 +12,8 @@ ghost use Rattle.machine.specs.Laid.{cell_number, count_of};
 ghost use Rattle.machine.specs.Local.{going_on, without};
 ghost use Rattle.machine.specs.Next.{Goes, Pushes, Tells};
 ghost use Rattle.machine.specs.State.{Who};
-ghost use Rattle.machine.specs.View.{frame_after, frame_joined, frame_with, index_at, input_after, input_behind, values_wanted, view};
+ghost use Rattle.machine.specs.View.{frame_after, frame_joined, frame_with, index_at, input_after};
+ghost use Rattle.machine.specs.View.{input_behind, values_wanted, view};
 ghost use Rattle.machine.specs.declared.next.Next.TheVariants.{Opens};
 ghost use Rattle.activities.specs.MainTurns.{MayLead, after_of, kept_of, main_part, printed_out};
 ghost use Rattle.activities.specs.Parts.{Standing};
@@ -36,8 +38,13 @@ fn print_out(
 ) -> Result<(), AllocError>
     requires goes { Goes (frame_of frame.old) values }
     requires wanted { values ≡ values_wanted (map part pieces.now) }
-    ensures ok { OnOk result ((shared_of shared.new ≡ printed_out pieces.now (frame_of frame.old) (shared_of shared.old)) × (frame_of frame.new ≡ going_on (without values (frame_of frame.old).operands) (frame_of frame.old))) }
-    ensures err { OnErr result ((shared_of shared.new ≡ shared_of shared.old) × (frame_of frame.new ≡ frame_of frame.old)) }
+    ensures ok { OnOk result
+        ((shared_of shared.new
+        ≡ printed_out pieces.now (frame_of frame.old) (shared_of shared.old))
+        × (frame_of frame.new
+        ≡ going_on (without values (frame_of frame.old).operands) (frame_of frame.old))) }
+    ensures err { OnErr result ((shared_of shared.new ≡ shared_of shared.old)
+        × (frame_of frame.new ≡ frame_of frame.old)) }
 {
     print(&mut shared.output, pieces, &frame.operands()[..values])?;
     frame.go_on(values);
@@ -47,7 +54,13 @@ fn print_out(
 /// A record of the input is taken.
 fn take_record(main: &mut Main<'_>, line: Line) -> Result<(), AllocError>
     requires goes { Goes (frame_of main.old.frame) 0 }
-    ensures ok { OnOk result (main_part main.new ≡ record (main_part main.old) { frame = frame_after (taken (main_part main.old).input.records) line (main_part main.old).frame; input = input_after (taken (main_part main.old).input.records) (main_part main.old).input }) }
+    ensures ok { OnOk result (main_part main.new
+        ≡ record (main_part main.old) {
+          frame = frame_after (taken (main_part main.old).input.records) line
+              (main_part main.old).frame;
+          input = input_after
+              (taken (main_part main.old).input.records) (main_part main.old).input;
+        }) }
     ensures err { OnErr result (main_part main.new ≡ main_part main.old) }
 {
     match main.input.take()? {
@@ -60,7 +73,15 @@ fn take_record(main: &mut Main<'_>, line: Line) -> Result<(), AllocError>
 /// An integer of the input becomes an operand.
 fn take_value(main: &mut Main<'_>, line: Line) -> Result<(), AllocError>
     requires pushes { Pushes (frame_of main.old.frame) 0 }
-    ensures ok { OnOk result (main_part main.new ≡ record (main_part main.old) { frame = frame_with (next_integer (main_part main.old).input.left (main_part main.old).input.records) line (main_part main.old).frame; input = input_behind (next_integer (main_part main.old).input.left (main_part main.old).input.records) (main_part main.old).input }) }
+    ensures ok { OnOk result (main_part main.new
+        ≡ record (main_part main.old) {
+          frame = frame_with
+              (next_integer (main_part main.old).input.left (main_part main.old).input.records) line
+              (main_part main.old).frame;
+          input = input_behind
+              (next_integer (main_part main.old).input.left (main_part main.old).input.records)
+              (main_part main.old).input;
+        }) }
     ensures err { OnErr result (main_part main.new ≡ main_part main.old) }
 {
     match main.input.take_value()? {
@@ -75,7 +96,10 @@ fn open(shared: &mut Shared, main: &mut Main<'_>, none: bool, opened: Open) -> O
     requires kept { IsKernel shared.old.kernel }
     requires alone { none ≡ true → NoWaiter shared.old.kernel.waiters }
     requires goes { Goes (frame_of main.old.frame) 2 }
-    ensures after { (code : Plain) (xs : List (Option Standing)) (hs : List (Option Who)) → none_open xs ≡ none → after_of result (shared_of shared.new) (main_part main.new) ≡ main_after code (Opens opened) (kept_of (shared_of shared.old) (main_part main.old) xs hs) }
+    ensures after { (code : Plain) (xs : List (Option Standing)) (hs : List (Option Who))
+        → none_open xs ≡ none → after_of result (shared_of shared.new) (main_part main.new)
+        ≡ main_after code (Opens opened)
+        (kept_of (shared_of shared.old) (main_part main.old) xs hs) }
     ensures kept { IsKernel shared.new.kernel }
 {
     if !none {
@@ -98,7 +122,11 @@ fn set_cell(cells: &mut [i64], cell: usize, value: i64)
 /// The open loop's variable gets its last value.
 fn store_last(shared: &mut Shared, code: &Code, variable: usize, value: i64)
     requires cells { length shared.old.cells.items ≡ count_of code.now.variables.items }
-    ensures { shared_of shared.new ≡ record (shared_of shared.old) { cells = set_if (cell_number (slice_get code.now.variables.items variable) (pos 0)) value shared.old.cells.items } }
+    ensures { shared_of shared.new
+        ≡ record (shared_of shared.old) {
+          cells = set_if (cell_number (slice_get code.now.variables.items variable) (pos 0))
+              value shared.old.cells.items;
+        } }
 {
     if let Some(cell) = code.cell_at(variable, 0) {
         set_cell(&mut shared.cells, cell, value);
@@ -123,8 +151,15 @@ pub fn variable_and_step(code: &Code, number: u32) -> (usize, i64)
 fn close(shared: &mut Shared, frame: &mut Frame, code: &Code, line: Line, opened: Open)
     requires cells { length shared.old.cells.items ≡ count_of code.now.variables.items }
     requires goes { Goes (frame_of frame.old) 0 }
-    ensures shared { shared_of shared.new ≡ record (shared_of shared.old) { cells = with_last (code_of code.now) opened (in_range (index_at (code_of code.now) opened opened.trips)) shared.old.cells.items; loop = None } }
-    ensures frame { frame_of frame.new ≡ frame_joined (in_range (index_at (code_of code.now) opened opened.trips)) line (frame_of frame.old) }
+    ensures shared { shared_of shared.new
+        ≡ record (shared_of shared.old) {
+          cells = with_last (code_of code.now) opened
+              (in_range (index_at (code_of code.now) opened opened.trips)) shared.old.cells.items;
+          loop = None;
+        } }
+    ensures frame { frame_of frame.new
+        ≡ frame_joined (in_range (index_at (code_of code.now) opened opened.trips)) line
+        (frame_of frame.old) }
     ensures kernel { shared.new.kernel ≡ shared.old.kernel }
 {
     let (variable, step) = variable_and_step(code, opened.number);
@@ -146,7 +181,10 @@ fn join(shared: &mut Shared, main: &mut Main<'_>, code: &Code, line: Line) -> Ou
     requires nowhere { places 0 shared.old.kernel ≡ 0 }
     requires cells { length shared.old.cells.items ≡ count_of code.now.variables.items }
     requires goes { Goes (frame_of main.old.frame) 0 }
-    ensures after { (xs : List (Option Standing)) (hs : List (Option Who)) → after_of result (shared_of shared.new) (main_part main.new) ≡ joins (code_of code.now) line shared.old.open (kept_of (shared_of shared.old) (main_part main.old) xs hs) }
+    ensures after { (xs : List (Option Standing)) (hs : List (Option Who))
+        → after_of result (shared_of shared.new) (main_part main.new)
+        ≡ joins (code_of code.now) line shared.old.open
+        (kept_of (shared_of shared.old) (main_part main.old) xs hs) }
     ensures kept { IsKernel shared.new.kernel }
 {
     let Some(opened) = shared.open else {
@@ -171,10 +209,15 @@ pub fn main_turn(
     next: Next<'_>,
 ) -> Result<Outcome, AllocError>
     requires may { MayLead (code_of code.now) (shared_of shared.old) none }
-    requires tells { Tells (code_of code.now) (frame_of main.old.frame) (view (code_of code.now) (frame_of main.old.frame)) next }
-    ensures ok { IfOk result (λ o. (xs : List (Option Standing)) (hs : List (Option Who)) → none_open xs ≡ none → after_of o (shared_of shared.new) (main_part main.new) ≡ main_after (code_of code.now) next.entry (kept_of (shared_of shared.old) (main_part main.old) xs hs)) }
+    requires tells { Tells (code_of code.now) (frame_of main.old.frame)
+        (view (code_of code.now) (frame_of main.old.frame)) next }
+    ensures ok { IfOk result (λ o. (xs : List (Option Standing)) (hs : List (Option Who))
+        → none_open xs ≡ none → after_of o (shared_of shared.new) (main_part main.new)
+        ≡ main_after (code_of code.now) next.entry
+        (kept_of (shared_of shared.old) (main_part main.old) xs hs)) }
     ensures kept { OnOk result (IsKernel shared.new.kernel) }
-    ensures err { OnErr result ((shared_of shared.new ≡ shared_of shared.old) × (main_part main.new ≡ main_part main.old)) }
+    ensures err { OnErr result ((shared_of shared.new ≡ shared_of shared.old)
+        × (main_part main.new ≡ main_part main.old)) }
 {
     match next {
         Next::Load { cell, popped } => {

@@ -48,9 +48,13 @@ fn stands_ready(kernel: &Kernel, place: &Option<Iteration>, slot: usize, k: u128
 fn take_up(kernel: &mut Kernel, place: &mut Option<Iteration>, slot: usize, k: u128) -> bool
     requires zero { 0 < length kernel.old.counts }
     requires stands { Stands kernel.old slot (wait_in (option_map standing_of place.old)) }
-    ensures due { result ≡ is_due kernel.old (wait_in (numbered k (option_map standing_of place.old))) }
-    ensures taken { result ≡ true → (kernel.new ≡ no_longer_ready slot kernel.old) × (option_map standing_of place.new ≡ option_map unparked (option_map standing_of place.old)) × IsKernel kernel.new }
-    ensures same { result ≡ false → (kernel.new ≡ kernel.old) × (option_map standing_of place.new ≡ option_map standing_of place.old) }
+    ensures due { result ≡ is_due kernel.old
+        (wait_in (numbered k (option_map standing_of place.old))) }
+    ensures taken { result ≡ true → (kernel.new ≡ no_longer_ready slot kernel.old)
+        × (option_map standing_of place.new
+        ≡ option_map unparked (option_map standing_of place.old)) × IsKernel kernel.new }
+    ensures same { result ≡ false → (kernel.new ≡ kernel.old)
+        × (option_map standing_of place.new ≡ option_map standing_of place.old) }
 {
     let Some(iteration) = place else {
         return false;
@@ -90,11 +94,14 @@ fn begin(alloc: Global, code: &Code, opened: Open, k: u128) -> Result<Iteration,
 }
 
 impl<'c> Activities<'c> {
-    ghost use Rattle.std.specs.Prelude.{◌≡◌, ◌<◌, ◌+◌, ◌-◌, ◌^◌, ℕ, IfOk, OnErr, None, Some, get_or, is_none, length, ◌&&◌, nat_lt, true};
+    ghost use Rattle.std.specs.Prelude.{◌≡◌, ◌<◌, ◌+◌, ◌-◌, ◌^◌, ℕ, IfOk, OnErr, None, Some};
+    ghost use Rattle.std.specs.Prelude.{get_or, is_none, length, ◌&&◌, nat_lt, true};
     ghost use Rattle.activities.specs.Parts.{Standing};
     ghost use Rattle.ec_kernel.specs.View.{count_at};
-    ghost use Rattle.machine.specs.State.{Choice as PlainChoice, take_iteration, take_main, take_ticket};
-    ghost use Rattle.activities.specs.Activities.{AreActivities, Did, Stays, chosen, code_in, kept_in, point_in};
+    ghost use Rattle.machine.specs.State.{Choice as PlainChoice, take_iteration, take_main};
+    ghost use Rattle.machine.specs.State.{take_ticket};
+    ghost use Rattle.activities.specs.Activities.{AreActivities, Did, Stays, chosen, code_in};
+    ghost use Rattle.activities.specs.Activities.{kept_in, point_in};
     ghost use Rattle.activities.specs.Least.{IsLeast, IsLeastReady, IsReached, IsReady, has_ticket};
     ghost use Rattle.activities.specs.Parts.{held_of};
     ghost use Rattle.activities.specs.Points.{ByRule, Picks, Point};
@@ -117,7 +124,8 @@ impl<'c> Activities<'c> {
         requires processor { q < length self.old.held.items }
         requires going { self.old.shared.ended ≡ None }
         requires idle { held_of (kept_in self.old).held q ≡ None }
-        ensures did { Did result (λ a b. Picks (code_in self.old) self.old.slots take_main a q b) self.old self.new }
+        ensures did { Did result (λ a b.
+            Picks (code_in self.old) self.old.slots take_main a q b) self.old self.new }
         ensures stand { AreActivities self.new }
         ensures stays { Stays self.old self.new }
     {
@@ -136,7 +144,8 @@ impl<'c> Activities<'c> {
         requires processor { q < length self.old.held.items }
         requires going { self.old.shared.ended ≡ None }
         requires idle { held_of (kept_in self.old).held q ≡ None }
-        ensures did { Did result (λ a b. Picks (code_in self.old) self.old.slots (take_iteration k) a q b) self.old self.new }
+        ensures did { Did result (λ a b.
+            Picks (code_in self.old) self.old.slots (take_iteration k) a q b) self.old self.new }
         ensures stand { AreActivities self.new }
         ensures stays { Stays self.old self.new }
     {
@@ -154,7 +163,9 @@ impl<'c> Activities<'c> {
     /// Whether the next iteration of an open loop may begin.
     fn has_ticket(&self, opened: Open) -> bool
         requires counts { 0 < length self.now.shared.kernel.counts }
-        ensures may { result ≡ nat_lt self.now.shared.kernel.ticket opened.trips && nat_lt self.now.shared.kernel.ticket (count_at self.now.shared.kernel 0 + self.now.slots) }
+        ensures may { result ≡ nat_lt self.now.shared.kernel.ticket opened.trips
+            && nat_lt self.now.shared.kernel.ticket
+            (count_at self.now.shared.kernel 0 + self.now.slots) }
         ensures few { result ≡ true → self.now.shared.kernel.ticket < 2 ^ 128 - 1 }
     {
         let k = self.shared.kernel.next_ticket();
@@ -170,7 +181,9 @@ impl<'c> Activities<'c> {
         requires processor { q < length self.old.held.items }
         requires going { self.old.shared.ended ≡ None }
         requires idle { held_of (kept_in self.old).held q ≡ None }
-        ensures did { IfOk result (λ did. Did did (λ a b. Picks (code_in self.old) self.old.slots take_ticket a q b) self.old self.new) }
+        ensures did { IfOk result (λ did.
+            Did did (λ a b. Picks (code_in self.old) self.old.slots take_ticket a q b) self.old
+            self.new) }
         ensures err { OnErr result (kept_in self.new ≡ kept_in self.old) }
         ensures stand { AreActivities self.new }
         ensures stays { Stays self.old self.new }
@@ -198,7 +211,9 @@ impl<'c> Activities<'c> {
     pub fn pick(&mut self, q: usize, choice: Choice) -> Result<bool, AllocError>
         requires stand { AreActivities self.old }
         requires processor { q < length self.old.held.items }
-        ensures did { IfOk result (λ did. Did did (λ a b. Picks (code_in self.old) self.old.slots (chosen choice) a q b) self.old self.new) }
+        ensures did { IfOk result (λ did.
+            Did did (λ a b. Picks (code_in self.old) self.old.slots (chosen choice) a q b) self.old
+            self.new) }
         ensures err { OnErr result (kept_in self.new ≡ kept_in self.old) }
         ensures stand { AreActivities self.new }
         ensures stays { Stays self.old self.new }
@@ -216,7 +231,8 @@ impl<'c> Activities<'c> {
     /// The number of the iteration that stands in a place; 0 where there is none.
     fn number_at(&self, at: usize) -> u128
         requires { at < length self.now.iterations.items }
-        ensures { (a : Standing) → get_or (kept_in self.now).iterations at None ≡ Some a → result ≡ a.number }
+        ensures { (a : Standing) → get_or (kept_in self.now).iterations at None ≡ Some a → result
+            ≡ a.number }
     {
         match &self.iterations[at] {
             Some(iteration) => iteration.number,
@@ -229,7 +245,10 @@ impl<'c> Activities<'c> {
     pub fn choice(&self) -> Choice
         requires stand { AreActivities self.now }
         ensures rule { ByRule self.now.slots (point_in self.now).order (chosen result) }
-        ensures only { (c : PlainChoice) (q : ℕ) (b : Point) → ByRule self.now.slots (point_in self.now).order c → Picks (code_in self.now) self.now.slots c (point_in self.now) q b → c ≡ chosen result }
+        ensures only { (c : PlainChoice) (q : ℕ) (b : Point)
+            → ByRule self.now.slots (point_in self.now).order c
+            → Picks (code_in self.now) self.now.slots c (point_in self.now) q b → c
+            ≡ chosen result }
     {
         match self.shared.kernel.first_ready() {
             None => Choice::Ticket,
@@ -252,7 +271,8 @@ impl<'c> Activities<'c> {
     /// How many iterations are open.
     pub fn overlap(&self) -> u128
         requires stand { AreActivities self.now }
-        ensures { result ≡ (point_in self.now).machine.ticket - (point_in self.now).machine.retired }
+        ensures { result ≡ (point_in self.now).machine.ticket -
+            (point_in self.now).machine.retired }
     {
         self.shared.kernel.next_ticket() - self.shared.kernel.read(0)
     }
@@ -269,7 +289,8 @@ impl<'c> Activities<'c> {
     /// Whether main is parked, and what it waits for has been reached.
     fn main_is_ready(&self) -> bool
         requires stand { AreActivities self.now }
-        ensures { Decides result (IsReached (point_in self.now).machine (point_in self.now).machine.waiting) }
+        ensures { Decides result
+            (IsReached (point_in self.now).machine (point_in self.now).machine.waiting) }
     {
         is_due(&self.shared.kernel, self.main.wait)
     }

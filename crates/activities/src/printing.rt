@@ -31,7 +31,8 @@ fn append_piece(
     left: usize,
 ) -> Result<usize, AllocError>
     requires left { left ≤ length operands.now }
-    ensures printed { IfOk result (λ rest. PrintsPiece is_first (part piece.now) left operands.now out.old.items rest out.new.items) }
+    ensures printed { IfOk result (λ rest.
+        PrintsPiece is_first (part piece.now) left operands.now out.old.items rest out.new.items) }
     ensures left { IfOk result (λ rest. rest ≤ left) }
     ensures kept { Keeps out.old.items out.new.items }
 {
@@ -53,7 +54,8 @@ fn append_piece(
 /// Appends a record; where memory is refused, a beginning of it.
 fn append_record(out: &mut Vec<u8>, pieces: &[Piece], operands: &[i64]) -> Result<(), AllocError>
     requires values { length operands.now ≡ values_wanted (map part pieces.now) }
-    ensures appended { OnOk result (out.new.items ≡ out.old.items ++ record_of (filled (map part pieces.now) (reverse operands.now))) }
+    ensures appended { OnOk result (out.new.items ≡ out.old.items
+        ++ record_of (filled (map part pieces.now) (reverse operands.now))) }
     ensures kept { Keeps out.old.items out.new.items }
 {
     out.push(b' ')?;
@@ -70,7 +72,8 @@ fn append_record(out: &mut Vec<u8>, pieces: &[Piece], operands: &[i64]) -> Resul
 /// Appends a record of operands, the last one first; nothing of it where memory is refused.
 pub fn print(out: &mut Vec<u8>, pieces: &[Piece], operands: &[i64]) -> Result<(), AllocError>
     requires values { length operands.now ≡ values_wanted (map part pieces.now) }
-    ensures appended { OnOk result (out.new.items ≡ out.old.items ++ record_of (filled (map part pieces.now) (reverse operands.now))) }
+    ensures appended { OnOk result (out.new.items ≡ out.old.items
+        ++ record_of (filled (map part pieces.now) (reverse operands.now))) }
     ensures err { OnErr result (out.new.items ≡ out.old.items) }
 {
     let before = out.len();

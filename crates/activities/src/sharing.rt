@@ -1,6 +1,7 @@
 //! Shared steps of what processors hold.
 
-ghost use Rattle.std.specs.Prelude.{◌≡◌, ◌+◌, ◌<◌, List, Option, None, Some, IfOk, IfSome, OnErr, get_or, length, map, option_map, pos, true};
+ghost use Rattle.std.specs.Prelude.{◌≡◌, ◌+◌, ◌<◌, List, Option, None, Some, IfOk, IfSome, OnErr};
+ghost use Rattle.std.specs.Prelude.{get_or, length, map, option_map, pos, true};
 ghost use Rattle.ast.specs.Exact.{fits};
 ghost use Rattle.machine.specs.CodeView.{code_of};
 ghost use Rattle.machine.specs.FrameView.{frame_of};
@@ -50,9 +51,12 @@ fn operand(frame: &Frame, above: usize) -> i64
 /// Whether a loop is to be opened, and may be. In each of its iterations its variable has a 64-bit
 /// integer.
 fn may_open(code: &Code, frame: &Frame, next: Next<'_>, iterations: &[Option<Iteration>]) -> bool
-    requires told { Tells (code_of code.now) (frame_of frame.now) (view (code_of code.now) (frame_of frame.now)) next }
-    ensures opens { (l : Open) → next.entry ≡ Opens l → result ≡ none_open (map (λ o. option_map standing_of o) iterations.now) }
-    ensures only { result ≡ true → none_open (map (λ o. option_map standing_of o) iterations.now) ≡ true }
+    requires told { Tells (code_of code.now) (frame_of frame.now)
+        (view (code_of code.now) (frame_of frame.now)) next }
+    ensures opens { (l : Open) → next.entry ≡ Opens l → result
+        ≡ none_open (map (λ o. option_map standing_of o) iterations.now) }
+    ensures only { result ≡ true → none_open (map (λ o. option_map standing_of o) iterations.now)
+        ≡ true }
     ensures indices { (l : Open) → next.entry ≡ Opens l → HaveIndices (code_of code.now) (Some l) }
 {
     match next {
@@ -82,9 +86,14 @@ fn step_at(
     slot: usize,
     code: &Code,
 ) -> Result<Outcome, AllocError>
-    requires may { IfSome (option_map standing_of place.old) (λ a. May (code_of code.now) slot (shared_of shared.old) a) }
-    ensures ok { IfOk result (λ o. IfSome (option_map standing_of place.old) (λ a. Turned (code_of code.now) slot (shared_of shared.old) a o (shared_of shared.new) (option_map standing_of place.new))) }
-    ensures err { OnErr result ((shared_of shared.new ≡ shared_of shared.old) × (option_map standing_of place.new ≡ option_map standing_of place.old)) }
+    requires may { IfSome (option_map standing_of place.old) (λ a.
+        May (code_of code.now) slot (shared_of shared.old) a) }
+    ensures ok { IfOk result (λ o.
+        IfSome (option_map standing_of place.old)
+        (λ a. Turned (code_of code.now) slot (shared_of shared.old) a o (shared_of shared.new)
+        (option_map standing_of place.new))) }
+    ensures err { OnErr result ((shared_of shared.new ≡ shared_of shared.old)
+        × (option_map standing_of place.new ≡ option_map standing_of place.old)) }
 {
     let outcome = match place {
         Some(iteration) => {
@@ -106,9 +115,15 @@ fn lead(
     iterations: &[Option<Iteration>],
     code: &Code,
 ) -> Result<Outcome, AllocError>
-    requires may { MayLead (code_of code.now) (shared_of shared.old) (none_open (map (λ o. option_map standing_of o) iterations.now)) }
-    ensures ok { IfOk result (λ o. (hs : List (Option Who)) → Led (code_of code.now) (kept_of (shared_of shared.old) (main_part main.old) (map (λ o. option_map standing_of o) iterations.now) hs) (after_of o (shared_of shared.new) (main_part main.new))) }
-    ensures err { OnErr result ((shared_of shared.new ≡ shared_of shared.old) × (main_part main.new ≡ main_part main.old)) }
+    requires may { MayLead (code_of code.now) (shared_of shared.old)
+        (none_open (map (λ o. option_map standing_of o) iterations.now)) }
+    ensures ok { IfOk result (λ o. (hs : List (Option Who))
+        → Led (code_of code.now)
+        (kept_of (shared_of shared.old) (main_part main.old)
+        (map (λ o. option_map standing_of o) iterations.now) hs)
+        (after_of o (shared_of shared.new) (main_part main.new))) }
+    ensures err { OnErr result ((shared_of shared.new ≡ shared_of shared.old)
+        × (main_part main.new ≡ main_part main.old)) }
 {
     let next = stands_next(code, &main.frame);
     let none = may_open(code, &main.frame, next, iterations);
@@ -116,7 +131,8 @@ fn lead(
 }
 
 impl<'c> Activities<'c> {
-    ghost use Rattle.std.specs.Prelude.{◌≡◌, ◌<◌, ◌%◌, true, false, IfOk, OnErr, None, Some, length};
+    ghost use Rattle.std.specs.Prelude.{◌≡◌, ◌<◌, ◌%◌, true, false, IfOk, OnErr, None, Some};
+    ghost use Rattle.std.specs.Prelude.{length};
     ghost use Rattle.machine.specs.State.{iteration, the_main};
     ghost use Rattle.activities.specs.Activities.{AreActivities, Did, Stays, code_in, kept_in};
     ghost use Rattle.activities.specs.Parts.{held_of};
@@ -127,7 +143,8 @@ impl<'c> Activities<'c> {
     /// Processor `q` has made a step that came to this; whether there was one.
     fn note(&mut self, q: usize, outcome: Outcome) -> bool
         requires processor { q < length self.old.held.items }
-        ensures kept { kept_in self.new ≡ record (kept_in self.old) { held = held_after outcome q (kept_in self.old).held } }
+        ensures kept { kept_in self.new
+            ≡ record (kept_in self.old) { held = held_after outcome q (kept_in self.old).held } }
         ensures went { result ≡ went outcome }
         ensures stays { Stays self.old self.new }
     {
@@ -185,7 +202,9 @@ impl<'c> Activities<'c> {
         requires processor { q < length self.old.held.items }
         requires going { self.old.shared.ended ≡ None }
         requires holds { held_of (kept_in self.old).held q ≡ Some the_main }
-        ensures did { IfOk result (λ did. Did did (λ a b. Moves (code_in self.old) self.old.slots false a q b) self.old self.new) }
+        ensures did { IfOk result (λ did.
+            Did did (λ a b. Moves (code_in self.old) self.old.slots false a q b) self.old
+            self.new) }
         ensures err { OnErr result (kept_in self.new ≡ kept_in self.old) }
         ensures stand { AreActivities self.new }
         ensures stays { Stays self.old self.new }
@@ -206,7 +225,9 @@ impl<'c> Activities<'c> {
         requires processor { q < length self.old.held.items }
         requires going { self.old.shared.ended ≡ None }
         requires holds { held_of (kept_in self.old).held q ≡ Some (iteration k) }
-        ensures did { IfOk result (λ did. Did did (λ a b. Moves (code_in self.old) self.old.slots false a q b) self.old self.new) }
+        ensures did { IfOk result (λ did.
+            Did did (λ a b. Moves (code_in self.old) self.old.slots false a q b) self.old
+            self.new) }
         ensures err { OnErr result (kept_in self.new ≡ kept_in self.old) }
         ensures stand { AreActivities self.new }
         ensures stays { Stays self.old self.new }
@@ -226,7 +247,9 @@ impl<'c> Activities<'c> {
     pub fn share(&mut self, q: usize) -> Result<bool, AllocError>
         requires stand { AreActivities self.old }
         requires processor { q < length self.old.held.items }
-        ensures did { IfOk result (λ did. Did did (λ a b. Moves (code_in self.old) self.old.slots false a q b) self.old self.new) }
+        ensures did { IfOk result (λ did.
+            Did did (λ a b. Moves (code_in self.old) self.old.slots false a q b) self.old
+            self.new) }
         ensures err { OnErr result (kept_in self.new ≡ kept_in self.old) }
         ensures stand { AreActivities self.new }
         ensures stays { Stays self.old self.new }

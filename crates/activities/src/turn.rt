@@ -1,6 +1,7 @@
 //! Steps of activities.
 
-ghost use Rattle.std.specs.Prelude.{ℕ, ◌≡◌, ◌==◌, ◌<◌, ◌≤◌, ◌+◌, map, ◌-◌, ◌^◌, IfOk, OnOk, OnErr, get_or, length, pos, set};
+ghost use Rattle.std.specs.Prelude.{ℕ, ◌≡◌, ◌==◌, ◌<◌, ◌≤◌, ◌+◌, map, ◌-◌, ◌^◌, IfOk, OnOk, OnErr};
+ghost use Rattle.std.specs.Prelude.{get_or, length, pos, set};
 ghost use Rattle.ec_kernel.specs.View.{IsKernel, count_at, places};
 ghost use Rattle.machine.specs.Code.{Code as Plain};
 ghost use Rattle.machine.specs.CodeView.{code_of, part};
@@ -13,7 +14,8 @@ ghost use Rattle.machine.specs.State.{until_count};
 ghost use Rattle.machine.specs.View.{values_wanted, view, with_operand};
 ghost use Rattle.machine.specs.declared.next.Next.TheVariants.{Await, Advance, Retire};
 ghost use Rattle.activities.specs.PartsView.{shared_of, standing_of};
-ghost use Rattle.activities.specs.Turns.{May, cells_after, ends, iteration_after, leaves, one_after, parks, printed_own, reported, waits_its_turn};
+ghost use Rattle.activities.specs.Turns.{May, cells_after, ends, iteration_after, leaves};
+ghost use Rattle.activities.specs.Turns.{one_after, parks, printed_own, reported, waits_its_turn};
 
 use crate::parts::{Iteration, Shared, Until};
 use crate::printing::print;
@@ -40,7 +42,8 @@ pub enum Outcome {
 pub fn load(frame: &mut Frame, cells: &[i64], cell: usize, popped: usize)
     requires pushes { Pushes (frame_of frame.old) popped }
     requires cell { cell < length cells.now }
-    ensures { frame_of frame.new ≡ with_operand popped (frame_of frame.old) (get_or cells.now cell (pos 0)) }
+    ensures { frame_of frame.new
+        ≡ with_operand popped (frame_of frame.old) (get_or cells.now cell (pos 0)) }
 {
     frame.go_on_with(popped, cells[cell]);
 }
@@ -49,7 +52,8 @@ pub fn load(frame: &mut Frame, cells: &[i64], cell: usize, popped: usize)
 pub fn store(frame: &mut Frame, cells: &mut [i64], cell: usize, value: i64, popped: usize)
     requires goes { Goes (frame_of frame.old) popped }
     requires cell { cell < length cells.old }
-    ensures frame { frame_of frame.new ≡ going_on (without popped (frame_of frame.old).operands) (frame_of frame.old) }
+    ensures frame { frame_of frame.new
+        ≡ going_on (without popped (frame_of frame.old).operands) (frame_of frame.old) }
     ensures cells { cells.new ≡ set cells.old cell value }
 {
     cells[cell] = value;
@@ -62,8 +66,12 @@ fn park(shared: &mut Shared, iteration: &mut Iteration, slot: usize, event: u32,
     requires slot { slot < shared.old.kernel.slots }
     requires nowhere { places slot shared.old.kernel ≡ 0 }
     requires far { count_at shared.old.kernel event < value }
-    ensures shared { shared_of shared.new ≡ (parks slot event value (until_count event value) (shared_of shared.old) (standing_of iteration.old)).shared }
-    ensures iteration { standing_of iteration.new ≡ (parks slot event value (until_count event value) (shared_of shared.old) (standing_of iteration.old)).standing }
+    ensures shared { shared_of shared.new
+        ≡ (parks slot event value (until_count event value) (shared_of shared.old)
+        (standing_of iteration.old)).shared }
+    ensures iteration { standing_of iteration.new
+        ≡ (parks slot event value (until_count event value) (shared_of shared.old)
+        (standing_of iteration.old)).standing }
     ensures kept { IsKernel shared.new.kernel }
 {
     shared.kernel.park(event as usize, value, slot);
@@ -76,8 +84,10 @@ pub fn wait_for_turn(shared: &mut Shared, iteration: &mut Iteration, slot: usize
     requires slot { slot < shared.old.kernel.slots }
     requires nowhere { places slot shared.old.kernel ≡ 0 }
     requires far { count_at shared.old.kernel 0 < iteration.old.number }
-    ensures shared { shared_of shared.new ≡ (waits_its_turn slot (shared_of shared.old) (standing_of iteration.old)).shared }
-    ensures iteration { standing_of iteration.new ≡ (waits_its_turn slot (shared_of shared.old) (standing_of iteration.old)).standing }
+    ensures shared { shared_of shared.new
+        ≡ (waits_its_turn slot (shared_of shared.old) (standing_of iteration.old)).shared }
+    ensures iteration { standing_of iteration.new
+        ≡ (waits_its_turn slot (shared_of shared.old) (standing_of iteration.old)).standing }
     ensures kept { IsKernel shared.new.kernel }
 {
     let value = iteration.number;
@@ -99,7 +109,15 @@ pub fn await_event(
     requires nowhere { places slot shared.old.kernel ≡ 0 }
     requires goes { Goes (frame_of iteration.old.frame) 0 }
     requires number { iteration.old.number < 2 ^ 128 - 1 }
-    ensures after { (code : Plain) → record { outcome = result; shared = shared_of shared.new; standing = standing_of iteration.new } ≡ iteration_after code slot (Await event distance) (shared_of shared.old) (standing_of iteration.old) }
+    ensures after { (code : Plain)
+        → record {
+          outcome = result;
+          shared = shared_of shared.new;
+          standing = standing_of
+              iteration.new;
+        }
+        ≡ iteration_after code slot (Await event distance) (shared_of shared.old)
+        (standing_of iteration.old) }
     ensures kept { IsKernel shared.new.kernel }
 {
     let number = iteration.number;
@@ -117,7 +135,15 @@ pub fn advance(shared: &mut Shared, iteration: &mut Iteration, event: u32) -> Ou
     requires event { event < length shared.old.kernel.counts }
     requires goes { Goes (frame_of iteration.old.frame) 0 }
     requires number { iteration.old.number < 2 ^ 128 - 1 }
-    ensures after { (code : Plain) (slot : ℕ) → record { outcome = result; shared = shared_of shared.new; standing = standing_of iteration.new } ≡ iteration_after code slot (Advance event) (shared_of shared.old) (standing_of iteration.old) }
+    ensures after { (code : Plain) (slot : ℕ)
+        → record {
+          outcome = result;
+          shared = shared_of shared.new;
+          standing = standing_of
+              iteration.new;
+        }
+        ≡ iteration_after code slot (Advance event) (shared_of shared.old)
+        (standing_of iteration.old) }
     ensures kept { IsKernel shared.new.kernel }
 {
     if shared.kernel.read(event as usize) != iteration.number {
@@ -143,7 +169,8 @@ fn store_private(cells: &mut [i64], code: &Code, variable: u32, private: Option<
 /// The private scalars that were defined become the values of their variables.
 fn store_privates(cells: &mut [i64], code: &Code, variables: &[u32], values: &[Scalar])
     requires cells { length cells.old ≡ count_of code.now.variables.items }
-    ensures { cells.new ≡ cells_after (code_of code.now) variables.now (scalars_of values.now) cells.old }
+    ensures { cells.new ≡ cells_after (code_of code.now) variables.now (scalars_of values.now)
+        cells.old }
 {
     let mut i = if variables.len() < values.len() {
         variables.len()
@@ -167,7 +194,9 @@ pub fn leave(
     requires cells { length shared.old.cells.items ≡ count_of code.now.variables.items }
     requires counts { 0 < length shared.old.kernel.counts }
     requires few { count_at shared.old.kernel 0 < 2 ^ 128 - 1 }
-    ensures ok { OnOk result (shared_of shared.new ≡ (leaves (code_of code.now) number (shared_of shared.old) (standing_of iteration.now)).shared) }
+    ensures ok { OnOk result (shared_of shared.new
+        ≡ (leaves (code_of code.now) number (shared_of shared.old)
+        (standing_of iteration.now)).shared) }
     ensures kept { OnOk result (IsKernel shared.new.kernel) }
     ensures err { OnErr result (shared_of shared.new ≡ shared_of shared.old) }
 {
@@ -185,7 +214,8 @@ pub fn leave(
 
 /// The run ends: what the iteration printed goes out.
 pub fn finish(shared: &mut Shared, iteration: &Iteration, end: End) -> Result<(), AllocError>
-    ensures ok { OnOk result (shared_of shared.new ≡ (ends end (shared_of shared.old) (standing_of iteration.now)).shared) }
+    ensures ok { OnOk result (shared_of shared.new
+        ≡ (ends end (shared_of shared.old) (standing_of iteration.now)).shared) }
     ensures err { OnErr result (shared_of shared.new ≡ shared_of shared.old) }
 {
     shared.output.extend_from_slice(&iteration.out)?;
@@ -211,9 +241,13 @@ fn retire(
 ) -> Result<Outcome, AllocError>
     requires number { number < length code.now.loops.items }
     requires may { May (code_of code.now) slot (shared_of shared.old) (standing_of iteration.old) }
-    ensures ok { IfOk result (λ o. record { outcome = o; shared = shared_of shared.new; standing = standing_of iteration.new } ≡ iteration_after (code_of code.now) slot (Retire number) (shared_of shared.old) (standing_of iteration.old)) }
+    ensures ok { IfOk result (λ o.
+        record { outcome = o; shared = shared_of shared.new; standing = standing_of iteration.new }
+        ≡ iteration_after (code_of code.now) slot (Retire number) (shared_of shared.old)
+        (standing_of iteration.old)) }
     ensures kept { OnOk result (IsKernel shared.new.kernel) }
-    ensures err { OnErr result ((shared_of shared.new ≡ shared_of shared.old) × (standing_of iteration.new ≡ standing_of iteration.old)) }
+    ensures err { OnErr result ((shared_of shared.new ≡ shared_of shared.old)
+        × (standing_of iteration.new ≡ standing_of iteration.old)) }
 {
     if !is_next(shared, iteration) {
         wait_for_turn(shared, iteration, slot);
@@ -235,9 +269,12 @@ fn report(
     requires slot { slot < shared.old.kernel.slots }
     requires nowhere { places slot shared.old.kernel ≡ 0 }
     requires turn { count_at shared.old.kernel 0 ≤ iteration.old.number }
-    ensures ok { IfOk result (λ o. record { outcome = o; shared = shared_of shared.new; standing = standing_of iteration.new } ≡ reported slot end (shared_of shared.old) (standing_of iteration.old)) }
+    ensures ok { IfOk result (λ o.
+        record { outcome = o; shared = shared_of shared.new; standing = standing_of iteration.new }
+        ≡ reported slot end (shared_of shared.old) (standing_of iteration.old)) }
     ensures kept { OnOk result (IsKernel shared.new.kernel) }
-    ensures err { OnErr result ((shared_of shared.new ≡ shared_of shared.old) × (standing_of iteration.new ≡ standing_of iteration.old)) }
+    ensures err { OnErr result ((shared_of shared.new ≡ shared_of shared.old)
+        × (standing_of iteration.new ≡ standing_of iteration.old)) }
 {
     if !is_next(shared, iteration) {
         wait_for_turn(shared, iteration, slot);
@@ -251,7 +288,8 @@ fn report(
 fn print_own(iteration: &mut Iteration, pieces: &[Piece], values: usize) -> Result<(), AllocError>
     requires goes { Goes (frame_of iteration.old.frame) values }
     requires wanted { values ≡ values_wanted (map part pieces.now) }
-    ensures ok { OnOk result (standing_of iteration.new ≡ printed_own pieces.now values (standing_of iteration.old)) }
+    ensures ok { OnOk result (standing_of iteration.new
+        ≡ printed_own pieces.now values (standing_of iteration.old)) }
     ensures err { OnErr result (standing_of iteration.new ≡ standing_of iteration.old) }
 {
     print(
@@ -272,10 +310,15 @@ pub fn iteration_turn(
     next: Next<'_>,
 ) -> Result<Outcome, AllocError>
     requires may { May (code_of code.now) slot (shared_of shared.old) (standing_of iteration.old) }
-    requires tells { Tells (code_of code.now) (frame_of iteration.old.frame) (view (code_of code.now) (frame_of iteration.old.frame)) next }
-    ensures ok { IfOk result (λ o. record { outcome = o; shared = shared_of shared.new; standing = standing_of iteration.new } ≡ iteration_after (code_of code.now) slot next.entry (shared_of shared.old) (standing_of iteration.old)) }
+    requires tells { Tells (code_of code.now) (frame_of iteration.old.frame)
+        (view (code_of code.now) (frame_of iteration.old.frame)) next }
+    ensures ok { IfOk result (λ o.
+        record { outcome = o; shared = shared_of shared.new; standing = standing_of iteration.new }
+        ≡ iteration_after (code_of code.now) slot next.entry (shared_of shared.old)
+        (standing_of iteration.old)) }
     ensures kept { OnOk result (IsKernel shared.new.kernel) }
-    ensures err { OnErr result ((shared_of shared.new ≡ shared_of shared.old) × (standing_of iteration.new ≡ standing_of iteration.old)) }
+    ensures err { OnErr result ((shared_of shared.new ≡ shared_of shared.old)
+        × (standing_of iteration.new ≡ standing_of iteration.old)) }
 {
     match next {
         Next::Load { cell, popped } => {

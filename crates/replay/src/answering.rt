@@ -47,7 +47,8 @@ pub fn answer(
 ) -> Result<Answer, AllocError>
     requires { length cells.now ≡ count_of (code_of code.now).variables }
     ensures output { IfOk result (λ answer. answer.output.items ≡ output.items) }
-    ensures store { IfOk result (λ answer. named_values answer.store ≡ stored (code_of code.now).variables (store_of (code_of code.now).variables cells.now)) }
+    ensures store { IfOk result (λ answer. named_values answer.store
+        ≡ stored (code_of code.now).variables (store_of (code_of code.now).variables cells.now)) }
     ensures end { IfOk result (λ answer. answer.end ≡ end) }
 {
     let store = stored(alloc, &code.variables, cells)?;
@@ -58,7 +59,9 @@ pub fn answer(
 pub fn answer_of(alloc: Global, code: &Code, shared: Shared, end: End) -> Result<Answer, AllocError>
     requires { length shared.cells.items ≡ count_of (code_of code.now).variables }
     ensures output { IfOk result (λ answer. answer.output.items ≡ shared.output.items) }
-    ensures store { IfOk result (λ answer. named_values answer.store ≡ stored (code_of code.now).variables (store_of (code_of code.now).variables shared.cells.items)) }
+    ensures store { IfOk result (λ answer. named_values answer.store
+        ≡ stored (code_of code.now).variables
+        (store_of (code_of code.now).variables shared.cells.items)) }
     ensures end { IfOk result (λ answer. answer.end ≡ end) }
 {
     let Shared { cells, output, .. } = shared;

@@ -30,8 +30,13 @@ pub fn make_at(
     requires stand { AreActivities activities.old }
     requires processor { entry.processor < length activities.old.held.items }
     requires allowed { IsAct version (act_view entry.act) }
-    ensures made { IfOk result (λ named. MadeAs version (code_in activities.old) activities.old.slots (act_view entry.act) (point_in activities.old) entry.processor (act_view named) (point_in activities.new)) }
-    ensures refused { IfErr result (λ fault. Explains fault (λ number at. (at ≡ line) × CannotBeMade version (code_in activities.old) activities.old.slots (act_view entry.act) (point_in activities.old) entry.processor number)) }
+    ensures made { IfOk result (λ named.
+        MadeAs version (code_in activities.old) activities.old.slots (act_view entry.act)
+        (point_in activities.old) entry.processor (act_view named) (point_in activities.new)) }
+    ensures refused { IfErr result (λ fault.
+        Explains fault (λ number at. (at ≡ line)
+        × CannotBeMade version (code_in activities.old) activities.old.slots (act_view entry.act)
+        (point_in activities.old) entry.processor number)) }
     ensures stand { AreActivities activities.new }
     ensures stays { Stays activities.old activities.new }
 {
@@ -51,8 +56,10 @@ pub fn begun<'c>(
     input: &'c [u8],
     schedule: &Schedule,
 ) -> Result<Activities<'c>, ReplayRefusal>
-    ensures point { IfOk result (λ a. point_in a ≡ beginning (code_of code.now) input.now schedule.now.slots) }
-    ensures are { IfOk result (λ a. AreOf (code_of code.now) schedule.now.processors schedule.now.slots a) }
+    ensures point { IfOk result (λ a. point_in a
+        ≡ beginning (code_of code.now) input.now schedule.now.slots) }
+    ensures are { IfOk result (λ a.
+        AreOf (code_of code.now) schedule.now.processors schedule.now.slots a) }
     ensures stand { IfOk result AreActivities }
     ensures memory { IfErr result (λ fault. Explains fault (λ number line. ⊥)) }
 {
@@ -69,10 +76,20 @@ pub fn begun<'c>(
 /// that; and want of memory.
 pub fn follow(activities: &mut Activities<'_>, schedule: &Schedule) -> Result<(), ReplayRefusal>
     requires stand { AreActivities activities.old }
-    requires of { AreOf (code_in activities.old) schedule.now.processors schedule.now.slots activities.old }
-    ensures leads { OnOk result (LeadsOnly schedule.now.version (code_in activities.old) schedule.now.slots (point_in activities.old) schedule.now.entries (point_in activities.new)) }
-    ensures refused { IfErr result (λ fault. Explains fault (StopsAt schedule.now.version (code_in activities.old) schedule.now.slots (point_in activities.old) schedule.now.entries)) }
-    ensures only { IfErr result (λ fault. Explains fault (λ number line. NoneLeads schedule.now.version (code_in activities.old) schedule.now.slots (point_in activities.old) schedule.now.entries)) }
+    requires of { AreOf (code_in activities.old) schedule.now.processors schedule.now.slots
+        activities.old }
+    ensures leads { OnOk result
+        (LeadsOnly schedule.now.version (code_in activities.old) schedule.now.slots
+        (point_in activities.old) schedule.now.entries (point_in activities.new)) }
+    ensures refused { IfErr result (λ fault.
+        Explains fault
+        (StopsAt schedule.now.version (code_in activities.old) schedule.now.slots
+        (point_in activities.old) schedule.now.entries)) }
+    ensures only { IfErr result (λ fault.
+        Explains fault
+        (λ number line.
+        NoneLeads schedule.now.version (code_in activities.old) schedule.now.slots
+        (point_in activities.old) schedule.now.entries)) }
     ensures stand { AreActivities activities.new }
     ensures stays { Stays activities.old activities.new }
 {

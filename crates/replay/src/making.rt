@@ -33,7 +33,9 @@ fn pick(
 ) -> Result<Option<Act>, AllocError>
     requires stand { AreActivities activities.old }
     requires processor { q < length activities.old.held.items }
-    ensures made { IfOk result (λ o. Made version (pick_of (chosen choice)) q (option_map act_view o) activities.old activities.new) }
+    ensures made { IfOk result (λ o.
+        Made version (pick_of (chosen choice)) q (option_map act_view o) activities.old
+        activities.new) }
     ensures stand { AreActivities activities.new }
     ensures stays { Stays activities.old activities.new }
 {
@@ -48,8 +50,11 @@ fn pick(
 fn pick_by_rule(activities: &mut Activities<'_>, q: usize) -> Result<Option<Act>, AllocError>
     requires stand { AreActivities activities.old }
     requires processor { q < length activities.old.held.items }
-    requires still { (b : Point) → Moves (code_in activities.old) activities.old.slots false (point_in activities.old) q b → ⊥ }
-    ensures made { IfOk result (λ o. Made First shares q (option_map act_view o) activities.old activities.new) }
+    requires still { (b : Point)
+        → Moves (code_in activities.old) activities.old.slots false (point_in activities.old) q b
+        → ⊥ }
+    ensures made { IfOk result (λ o.
+        Made First shares q (option_map act_view o) activities.old activities.new) }
     ensures stand { AreActivities activities.new }
     ensures stays { Stays activities.old activities.new }
 {
@@ -69,7 +74,8 @@ fn share(
 ) -> Result<Option<Act>, AllocError>
     requires stand { AreActivities activities.old }
     requires processor { q < length activities.old.held.items }
-    ensures made { IfOk result (λ o. Made version shares q (option_map act_view o) activities.old activities.new) }
+    ensures made { IfOk result (λ o.
+        Made version shares q (option_map act_view o) activities.old activities.new) }
     ensures stand { AreActivities activities.new }
     ensures stays { Stays activities.old activities.new }
 {
@@ -87,7 +93,8 @@ fn work(activities: &mut Activities<'_>, version: Version, q: usize, count: u16)
     requires stand { AreActivities activities.old }
     requires processor { q < length activities.old.held.items }
     requires allowed { IsAct version (works count) }
-    ensures made { Made version (works count) q (option_map act_view result) activities.old activities.new }
+    ensures made { Made version (works count) q (option_map act_view result) activities.old
+        activities.new }
     ensures stand { AreActivities activities.new }
     ensures stays { Stays activities.old activities.new }
 {
@@ -107,7 +114,9 @@ pub fn make(
     requires stand { AreActivities activities.old }
     requires processor { entry.processor < length activities.old.held.items }
     requires allowed { IsAct version (act_view entry.act) }
-    ensures made { IfOk result (λ o. Made version (act_view entry.act) entry.processor (option_map act_view o) activities.old activities.new) }
+    ensures made { IfOk result (λ o.
+        Made version (act_view entry.act) entry.processor (option_map act_view o) activities.old
+        activities.new) }
     ensures stand { AreActivities activities.new }
     ensures stays { Stays activities.old activities.new }
 {

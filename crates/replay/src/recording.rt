@@ -1,9 +1,11 @@
 //! Steps of activities with their entries in a schedule.
 
-ghost use Rattle.std.specs.Prelude.{◌≡◌, ◌≤◌, ◌<◌, IfOk, OnOk, OnErr, Some, None, false, true, is_some, length, option_map};
+ghost use Rattle.std.specs.Prelude.{◌≡◌, ◌≤◌, ◌<◌, IfOk, OnOk, OnErr, Some, None, false, true};
+ghost use Rattle.std.specs.Prelude.{is_some, length, option_map};
 ghost use Rattle.machine.specs.FrameView.{frame_of};
 ghost use Rattle.machine.specs.State.{iteration};
-ghost use Rattle.activities.specs.Activities.{AreActivities, Stays, chosen, frame_at, kept_in, point_in, who};
+ghost use Rattle.activities.specs.Activities.{AreActivities, Stays, chosen, frame_at, kept_in};
+ghost use Rattle.activities.specs.Activities.{point_in, who};
 ghost use Rattle.activities.specs.Parts.{held_of};
 ghost use Rattle.activities.specs.Putting.{LeadTo};
 ghost use Rattle.activities.specs.Points.{wait_of};

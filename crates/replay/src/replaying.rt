@@ -25,8 +25,10 @@ pub fn replay<'c>(
     schedule: &Schedule,
 ) -> Result<Answer, ReplayRefusal>
     ensures found { IfOk result (IsReplay (code_of code.now) input.now schedule.now) }
-    ensures refused { IfErr result (λ fault. Explains fault (GivesNone (code_of code.now) input.now schedule.now)) }
-    ensures only { IfErr result (λ fault. Explains fault (λ number line. NeverEnds (code_of code.now) input.now schedule.now)) }
+    ensures refused { IfErr result (λ fault.
+        Explains fault (GivesNone (code_of code.now) input.now schedule.now)) }
+    ensures only { IfErr result (λ fault.
+        Explains fault (λ number line. NeverEnds (code_of code.now) input.now schedule.now)) }
 {
     let mut activities = begun(alloc, code, input, schedule)?;
     if let Err(refusal) = follow(&mut activities, schedule) {

@@ -7,7 +7,8 @@ ghost use Rattle.schedules.specs.Schedules.{IsSchedule};
 ghost use Rattle.schedules.specs.declared.entry.Version.TheVariants.{First, Second};
 ghost use Rattle.activities.specs.Activities.{AreActivities, AreOf, code_in, point_in};
 ghost use Rattle.replay.specs.Making.{AreNamed, LeadsOnly};
-ghost use Rattle.replay.specs.Replayed.{HasStop, IsUpgrade, LeadsNowhere, NamesPicks, NoneLeads, StopsAt};
+ghost use Rattle.replay.specs.Replayed.{HasStop, IsUpgrade, LeadsNowhere, NamesPicks, NoneLeads};
+ghost use Rattle.replay.specs.Replayed.{StopsAt};
 ghost use Rattle.replay.specs.Replays.{Leads};
 
 use crate::following::{begun, follow, make_at};
@@ -24,14 +25,33 @@ fn follow_naming(
     named: &mut Schedule,
 ) -> Result<(), ReplayRefusal>
     requires stand { AreActivities activities.old }
-    requires of { AreOf (code_in activities.old) schedule.now.processors schedule.now.slots activities.old }
-    requires new { named.old ≡ record { version = Second; processors = schedule.now.processors; slots = schedule.now.slots; entries = [] } }
-    ensures leads { OnOk result (LeadsOnly schedule.now.version (code_in activities.old) schedule.now.slots (point_in activities.old) schedule.now.entries (point_in activities.new)) }
-    ensures named { OnOk result (Leads Second (code_in activities.old) schedule.now.slots (point_in activities.old) named.new.entries (point_in activities.new)) }
+    requires of { AreOf (code_in activities.old) schedule.now.processors schedule.now.slots
+        activities.old }
+    requires new { named.old
+        ≡ record {
+          version = Second;
+          processors = schedule.now.processors;
+          slots
+              = schedule.now.slots;
+          entries = [];
+        } }
+    ensures leads { OnOk result
+        (LeadsOnly schedule.now.version (code_in activities.old) schedule.now.slots
+        (point_in activities.old) schedule.now.entries (point_in activities.new)) }
+    ensures named { OnOk result
+        (Leads Second (code_in activities.old) schedule.now.slots (point_in activities.old)
+        named.new.entries (point_in activities.new)) }
     ensures each { OnOk result (AreNamed schedule.now.entries named.new.entries) }
     ensures sizes { named.new ≡ record named.old { entries = named.new.entries } }
-    ensures refused { IfErr result (λ fault. Explains fault (StopsAt schedule.now.version (code_in activities.old) schedule.now.slots (point_in activities.old) schedule.now.entries)) }
-    ensures only { IfErr result (λ fault. Explains fault (λ number line. NoneLeads schedule.now.version (code_in activities.old) schedule.now.slots (point_in activities.old) schedule.now.entries)) }
+    ensures refused { IfErr result (λ fault.
+        Explains fault
+        (StopsAt schedule.now.version (code_in activities.old) schedule.now.slots
+        (point_in activities.old) schedule.now.entries)) }
+    ensures only { IfErr result (λ fault.
+        Explains fault
+        (λ number line.
+        NoneLeads schedule.now.version (code_in activities.old) schedule.now.slots
+        (point_in activities.old) schedule.now.entries)) }
 {
     let version = schedule.version();
     let mut entries = schedule.entries();
@@ -56,11 +76,20 @@ fn with_names(
     schedule: &Schedule,
 ) -> Result<Schedule, ReplayRefusal>
     requires stand { AreActivities activities.old }
-    requires of { AreOf (code_in activities.old) schedule.now.processors schedule.now.slots activities.old }
+    requires of { AreOf (code_in activities.old) schedule.now.processors schedule.now.slots
+        activities.old }
     requires first { schedule.now.version ≡ First }
-    ensures found { IfOk result (NamesPicks (code_in activities.old) (point_in activities.old) schedule.now) }
-    ensures refused { IfErr result (λ fault. Explains fault (StopsAt schedule.now.version (code_in activities.old) schedule.now.slots (point_in activities.old) schedule.now.entries)) }
-    ensures only { IfErr result (λ fault. Explains fault (λ number line. NoneLeads schedule.now.version (code_in activities.old) schedule.now.slots (point_in activities.old) schedule.now.entries)) }
+    ensures found { IfOk result
+        (NamesPicks (code_in activities.old) (point_in activities.old) schedule.now) }
+    ensures refused { IfErr result (λ fault.
+        Explains fault
+        (StopsAt schedule.now.version (code_in activities.old) schedule.now.slots
+        (point_in activities.old) schedule.now.entries)) }
+    ensures only { IfErr result (λ fault.
+        Explains fault
+        (λ number line.
+        NoneLeads schedule.now.version (code_in activities.old) schedule.now.slots
+        (point_in activities.old) schedule.now.entries)) }
 {
     let mut named = Schedule::new(
         alloc,
@@ -77,11 +106,20 @@ fn with_names(
 /// The schedule itself, whose picks are named.
 fn as_it_is(activities: &mut Activities<'_>, schedule: &Schedule) -> Result<Schedule, ReplayRefusal>
     requires stand { AreActivities activities.old }
-    requires of { AreOf (code_in activities.old) schedule.now.processors schedule.now.slots activities.old }
+    requires of { AreOf (code_in activities.old) schedule.now.processors schedule.now.slots
+        activities.old }
     requires second { schedule.now.version ≡ Second }
-    ensures found { IfOk result (NamesPicks (code_in activities.old) (point_in activities.old) schedule.now) }
-    ensures refused { IfErr result (λ fault. Explains fault (StopsAt schedule.now.version (code_in activities.old) schedule.now.slots (point_in activities.old) schedule.now.entries)) }
-    ensures only { IfErr result (λ fault. Explains fault (λ number line. NoneLeads schedule.now.version (code_in activities.old) schedule.now.slots (point_in activities.old) schedule.now.entries)) }
+    ensures found { IfOk result
+        (NamesPicks (code_in activities.old) (point_in activities.old) schedule.now) }
+    ensures refused { IfErr result (λ fault.
+        Explains fault
+        (StopsAt schedule.now.version (code_in activities.old) schedule.now.slots
+        (point_in activities.old) schedule.now.entries)) }
+    ensures only { IfErr result (λ fault.
+        Explains fault
+        (λ number line.
+        NoneLeads schedule.now.version (code_in activities.old) schedule.now.slots
+        (point_in activities.old) schedule.now.entries)) }
 {
     match follow(activities, schedule) {
         Ok(()) => Ok(schedule.try_copy()?),
@@ -105,8 +143,10 @@ pub fn upgrade<'c>(
 ) -> Result<Schedule, ReplayRefusal>
     ensures found { IfOk result (IsUpgrade (code_of code.now) input.now schedule.now) }
     ensures kept { IfOk result IsSchedule }
-    ensures refused { IfErr result (λ fault. Explains fault (HasStop (code_of code.now) input.now schedule.now)) }
-    ensures only { IfErr result (λ fault. Explains fault (λ number line. LeadsNowhere (code_of code.now) input.now schedule.now)) }
+    ensures refused { IfErr result (λ fault.
+        Explains fault (HasStop (code_of code.now) input.now schedule.now)) }
+    ensures only { IfErr result (λ fault.
+        Explains fault (λ number line. LeadsNowhere (code_of code.now) input.now schedule.now)) }
 {
     let mut activities = begun(alloc, code, input, schedule)?;
     match schedule.version() {

@@ -66,7 +66,8 @@ impl<'c> Model for Core<'c> {
 
 impl<'c> Core<'c> {
     ghost use Rattle.std.specs.Bool.{Decides};
-    ghost use Rattle.std.specs.Prelude.{◌≡◌, ◌<◌, ◌≤◌, ◌-◌, true, IfOk, IfErr, IfSome, OnOk, OnErr, Some, None, is_some, option_map};
+    ghost use Rattle.std.specs.Prelude.{◌≡◌, ◌<◌, ◌≤◌, ◌-◌, true, IfOk, IfErr, IfSome, OnOk, OnErr};
+    ghost use Rattle.std.specs.Prelude.{Some, None, is_some, option_map};
     ghost use Rattle.ec_kernel.specs.View.{first_of};
     ghost use Rattle.machine.specs.CodeView.{code_of};
     ghost use Rattle.machine.specs.FrameView.{frame_of};
@@ -80,7 +81,9 @@ impl<'c> Core<'c> {
     ghost use Rattle.replay.specs.Replayed.{IsAnswer};
     ghost use Rattle.activities.specs.Points.{beginning, local_in};
     ghost use Rattle.replay.specs.Replays.{Replays};
-    ghost use Rattle.replay.specs.Stepping.{CannotHandIn, HandsIn, HasLocal, IsFrom, IsGoing, HasEnded, KeepsGoing, MayTry, NoCore, PicksUp, Steps, WentOrLocal};
+    ghost use Rattle.replay.specs.Stepping.{CannotHandIn, HandsIn, HasLocal, IsFrom, IsGoing};
+    ghost use Rattle.replay.specs.Stepping.{HasEnded, KeepsGoing, MayTry, NoCore, PicksUp, Steps};
+    ghost use Rattle.replay.specs.Stepping.{WentOrLocal};
     ghost use Rattle.replay.specs.Tallies.{Tallies};
 
     /// A run at its beginning, of `p` processors, 1 to 64, with `s` iterations open at most, 1 to
@@ -142,7 +145,8 @@ impl<'c> Core<'c> {
     /// What the processors did so far. The state is its replay.
     pub fn schedule(&self) -> &Schedule
         ensures schedule { result.now ≡ self.now.schedule }
-        ensures replays { Replays self.now.code self.now.input self.now.schedule (point_at self.now) }
+        ensures replays { Replays self.now.code self.now.input self.now.schedule
+            (point_at self.now) }
     {
         &self.schedule
     }
@@ -259,7 +263,8 @@ impl<'c> Core<'c> {
 
     /// Whether local work leads from the frame of what processor `q` holds, in this code.
     fn is_from(&self, q: usize, done: &Done<'_>) -> bool
-        ensures { Decides result (IsFrom self.now q (code_of done.now.code.now) (frame_of done.now.from)) }
+        ensures { Decides result
+            (IsFrom self.now q (code_of done.now.code.now) (frame_of done.now.from)) }
     {
         match self.held_frame(q) {
             Some(frame) => frame.is_same(done.from()) && self.activities.code.is_same(done.code()),
@@ -282,9 +287,13 @@ impl<'c> Core<'c> {
     fn put(&mut self, q: usize, done: Done<'_>) -> Result<(), HandIn>
         requires going { IsGoing self.old }
         requires from { IsFrom self.old q (code_of done.code.now) (frame_of done.from) }
-        ensures ok { OnOk result (HandsIn self.old q (code_of done.entry.code.now) (frame_of done.entry.from) done.entry.made self.new) }
-        ensures frame { OnOk result (frame_at q (point_at self.new) ≡ Some (frame_of done.entry.to)) }
-        ensures refused { IfErr result (CannotHandIn self.old q (code_of done.entry.code.now) (frame_of done.entry.from)) }
+        ensures ok { OnOk result
+            (HandsIn self.old q (code_of done.entry.code.now) (frame_of done.entry.from)
+            done.entry.made self.new) }
+        ensures frame { OnOk result (frame_at q (point_at self.new)
+            ≡ Some (frame_of done.entry.to)) }
+        ensures refused { IfErr result
+            (CannotHandIn self.old q (code_of done.entry.code.now) (frame_of done.entry.from)) }
         ensures err { OnErr result (self.new ≡ self.old) }
     {
         let made = done.made();
@@ -310,9 +319,13 @@ impl<'c> Core<'c> {
     /// or one with another frame, or the work is of other code; and want of memory. Nothing has
     /// changed then.
     pub fn hand_in(&mut self, q: usize, done: Done<'_>) -> Result<(), HandIn>
-        ensures ok { OnOk result (HandsIn self.old q (code_of done.entry.code.now) (frame_of done.entry.from) done.entry.made self.new) }
-        ensures frame { OnOk result (frame_at q (point_at self.new) ≡ Some (frame_of done.entry.to)) }
-        ensures refused { IfErr result (CannotHandIn self.old q (code_of done.entry.code.now) (frame_of done.entry.from)) }
+        ensures ok { OnOk result
+            (HandsIn self.old q (code_of done.entry.code.now) (frame_of done.entry.from)
+            done.entry.made self.new) }
+        ensures frame { OnOk result (frame_at q (point_at self.new)
+            ≡ Some (frame_of done.entry.to)) }
+        ensures refused { IfErr result
+            (CannotHandIn self.old q (code_of done.entry.code.now) (frame_of done.entry.from)) }
         ensures err { OnErr result (self.new ≡ self.old) }
     {
         if self.has_ended() {
@@ -450,7 +463,8 @@ impl<'c> Core<'c> {
 
     /// How many iterations are open.
     pub fn overlap(&self) -> u128
-        ensures { result ≡ (point_at self.now).machine.ticket - (point_at self.now).machine.retired }
+        ensures { result ≡ (point_at self.now).machine.ticket -
+            (point_at self.now).machine.retired }
     {
         self.activities.overlap()
     }
@@ -465,14 +479,17 @@ impl<'c> Core<'c> {
 
     /// How many steps were made, and how many of them parked an activity or took up a parked one.
     pub fn tally(&self) -> Tally
-        ensures { Tallies Second self.now.code self.now.schedule.slots (beginning self.now.code self.now.input self.now.schedule.slots) self.now.schedule.entries (point_at self.now) result.made result.again }
+        ensures { Tallies Second self.now.code self.now.schedule.slots
+            (beginning self.now.code self.now.input self.now.schedule.slots)
+            self.now.schedule.entries (point_at self.now) result.made result.again }
     {
         self.tally
     }
 
     /// The answer, where the run has ended.
     pub fn answer(&self) -> Result<Option<Answer>, AllocError>
-        ensures some { IfOk result (λ o. IfSome o (IsAnswer self.now.code (point_at self.now).machine)) }
+        ensures some { IfOk result (λ o.
+            IfSome o (IsAnswer self.now.code (point_at self.now).machine)) }
         ensures none { IfOk result (λ o. o ≡ None → IsGoing self.now) }
         ensures memory { OnErr result (HasEnded self.now) }
     {
