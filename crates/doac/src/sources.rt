@@ -60,14 +60,31 @@ fn check_source<R: Eprint + AllocGlobal, W: Write>(
     match judged(rt.alloc(), text) {
         Ok(verdict) => {
             let outcome = tell_verdict(rt.alloc(), &verdict, out);
-            if let Verdict::Accepted(program) = &verdict {
-                warn(rt, name, text, program);
+            let is_told = outcome.is_ok();
+            if is_told {
+                warn_of_accepted(rt, name, text, &verdict);
             }
             let status = tell(rt, name, text, outcome);
-            tell_further(rt, name, text, &verdict);
+            if is_told {
+                tell_further(rt, name, text, &verdict);
+            }
             status
         }
         Err(_) => tell(rt, name, text, Err(EngineFault::Memory)),
+    }
+}
+
+/// Says on standard error what is odd about a source that is accepted.
+fn warn_of_accepted<R: Eprint + AllocGlobal>(rt: &R, name: &str, text: &[u8], verdict: &Verdict) {
+    if let Verdict::Accepted(program) = verdict {
+        warn(rt, name, text, program);
+    }
+}
+
+/// Says on standard error what keeps loops serial.
+fn say_of_loops<R: Eprint + AllocGlobal>(rt: &R, name: &str, survey: &Survey) {
+    if let Survey::Loops { program, reports } = survey {
+        say_why_serial(rt, name, program, reports);
     }
 }
 
@@ -118,8 +135,8 @@ fn list_source<R: Eprint + AllocGlobal, W: Write>(
     match surveyed(rt.alloc(), text) {
         Ok(survey) => {
             let outcome = tell_loops(rt.alloc(), &survey, why, out);
-            if let Survey::Loops { program, reports } = &survey {
-                say_why_serial(rt, name, program, reports);
+            if outcome.is_ok() {
+                say_of_loops(rt, name, &survey);
             }
             tell(rt, name, text, outcome)
         }

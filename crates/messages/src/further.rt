@@ -64,13 +64,19 @@ impl Rest {
 
     /// Leaves the refused statement out: whether what is left has a refusal that is worth telling.
     fn strike(&mut self, alloc: Global) -> Result<bool, AllocError> {
-        let is_simple = is_simple_in(alloc, &self.source, self.line)?;
-        if !is_of_text(self.number) && !(is_of_rule(self.number) && is_simple) {
+        let is_alone = self.leaves_others(alloc)?;
+        if !is_of_text(self.number) && !(is_of_rule(self.number) && is_alone) {
             return Ok(false);
         }
-        self.is_sure = self.is_sure && is_simple;
+        self.is_sure = self.is_sure && is_alone;
         self.source = struck(alloc, &self.source, self.number, self.line)?;
         self.judge(alloc)
+    }
+
+    /// Whether no other statement stands on what is left out: a statement, or a label that stands
+    /// twice.
+    fn leaves_others(&self, alloc: Global) -> Result<bool, AllocError> {
+        Ok(self.number == LABEL_TWICE || is_simple_in(alloc, &self.source, self.line)?)
     }
 
     /// Judges what is left: whether it has a refusal that is worth telling.

@@ -7,7 +7,7 @@ use machine::{Code, Done, Frame, Next, stands_local, stands_next};
 use profile_check::program;
 use remarks::Visible;
 use replay::{Choice, Core};
-use schedules::{Act, Entry, Schedule};
+use schedules::{Act, Entry, Schedule, Version};
 use std::alloc::{AllocError, Global};
 use std::fmt::{Display, Formatter, Result as FmtResult, Write};
 
@@ -41,9 +41,10 @@ pub enum Obstacle {
     Ended,
     /// The processor holds nothing, so it has no local instruction.
     HoldsNothing,
-    /// So many local instructions stand before this step, fewer than are asked for.
+    /// So many local instructions stand before this step, fewer than are wanted.
     Few {
         count: u32,
+        wanted: u16,
         step: Option<SharedStep>,
     },
     /// So many local instructions stand before the shared step.
@@ -54,6 +55,8 @@ pub enum Obstacle {
     Holds {
         iteration: Option<u128>,
     },
+    /// The processor holds nothing, and what it is to pick isn't named.
+    PicksNothing,
     /// There is nothing for the processor to pick.
     NothingReady,
     /// What is to be picked isn't parked, or what it waits for isn't reached.
@@ -147,18 +150,18 @@ fn met_behind(
         }
     }
     match entries.next() {
-        Some(entry) => met_by(core, entry),
+        Some(entry) => met_by(core, schedule.version(), entry),
         None => Ok(None),
     }
 }
 
-/// What an entry meets.
-fn met_by(core: &Core<'_>, entry: Entry) -> Result<Option<Met>, AllocError> {
+/// What an entry of a schedule of a version meets.
+fn met_by(core: &Core<'_>, version: Version, entry: Entry) -> Result<Option<Met>, AllocError> {
     let q = usize::from(entry.processor);
     let obstacle = match entry.act {
         _ if core.has_ended() => Obstacle::Ended,
-        Act::Work(_) => at_work(core, q)?,
-        Act::Share => at_share(core, q)?,
+        Act::Work(wanted) => at_work(core, q, wanted)?,
+        Act::Share => at_share(core, version, q)?,
         Act::PickMain => at_pick(core, q, Choice::Main)?,
         Act::PickIteration(number) => at_pick(core, q, Choice::Iteration(number))?,
         Act::TakeTicket => at_pick(core, q, Choice::Ticket)?,
@@ -169,33 +172,39 @@ fn met_by(core: &Core<'_>, entry: Entry) -> Result<Option<Met>, AllocError> {
     }))
 }
 
-/// What stands in the way of more local instructions.
-fn at_work(core: &Core<'_>, q: usize) -> Result<Obstacle, AllocError> {
+/// What stands in the way of so many local instructions.
+fn at_work(core: &Core<'_>, q: usize, wanted: u16) -> Result<Obstacle, AllocError> {
     match core.frame(q)? {
         None => Ok(Obstacle::HoldsNothing),
-        Some(frame) => ahead(core.code(), frame),
+        Some(frame) => {
+            let (count, step) = ahead(core.code(), frame)?;
+            Ok(Obstacle::Few {
+                count,
+                wanted,
+                step,
+            })
+        }
     }
 }
 
-/// How many local instructions stand before the next step of a frame.
-fn ahead(code: &Code, frame: Frame) -> Result<Obstacle, AllocError> {
+/// How many local instructions stand before the next shared step of a frame, and which step that is.
+fn ahead(code: &Code, frame: Frame) -> Result<(u32, Option<SharedStep>), AllocError> {
     if !stands_local(code, &frame) {
-        let step = step_of(code, &frame);
-        return Ok(Obstacle::Few { count: 0, step });
+        return Ok((0, step_of(code, &frame)));
     }
     let done = Done::work(code, frame, BURST)?;
-    Ok(Obstacle::Few {
-        count: done.made(),
-        step: step_of(code, done.to()),
-    })
+    Ok((done.made(), step_of(code, done.to())))
 }
 
 /// What stands in the way of a shared step.
-fn at_share(core: &Core<'_>, q: usize) -> Result<Obstacle, AllocError> {
-    match at_work(core, q)? {
-        Obstacle::Few { count: 0, step } => Ok(Obstacle::NotPossible(step)),
-        Obstacle::Few { count, .. } => Ok(Obstacle::Local { count }),
-        _ => Ok(Obstacle::NothingReady),
+fn at_share(core: &Core<'_>, version: Version, q: usize) -> Result<Obstacle, AllocError> {
+    match core.frame(q)? {
+        None if version == Version::First => Ok(Obstacle::NothingReady),
+        None => Ok(Obstacle::PicksNothing),
+        Some(frame) => match ahead(core.code(), frame)? {
+            (0, step) => Ok(Obstacle::NotPossible(step)),
+            (count, _) => Ok(Obstacle::Local { count }),
+        },
     }
 }
 
@@ -274,15 +283,26 @@ impl Display for Met {
         match self.obstacle {
             Obstacle::Ended => f.write_str("the run has ended before this entry"),
             Obstacle::HoldsNothing => write!(f, "processor {q} holds nothing"),
-            Obstacle::Few { count, step } => write_few(f, q, count, step),
-            Obstacle::Local { count } => write!(
-                f,
-                "processor {q} has {count} local instructions next, before its shared step"
-            ),
+            Obstacle::Few { count: 0, step, .. } => write_none(f, q, step),
+            Obstacle::Few {
+                count,
+                wanted,
+                step,
+            } => write_few(f, q, count, wanted, step),
+            Obstacle::Local { count } => {
+                write_count(f, q, count)?;
+                f.write_str(", before its shared step")
+            }
             Obstacle::Holds { iteration: None } => write!(f, "processor {q} holds main"),
             Obstacle::Holds {
                 iteration: Some(number),
             } => write!(f, "processor {q} holds iteration {number}"),
+            Obstacle::PicksNothing => {
+                write!(
+                    f,
+                    "processor {q} holds nothing; what it picks is named first"
+                )
+            }
             Obstacle::NothingReady => {
                 write!(f, "processor {q} holds nothing, and nothing is ready")
             }
@@ -292,15 +312,32 @@ impl Display for Met {
     }
 }
 
+fn write_count<W: Write>(f: &mut Formatter<W>, q: u8, count: u32) -> FmtResult {
+    match count {
+        1 => write!(f, "processor {q} has 1 local instruction next"),
+        _ => write!(f, "processor {q} has {count} local instructions next"),
+    }
+}
+
+fn write_none<W: Write>(f: &mut Formatter<W>, q: u8, step: Option<SharedStep>) -> FmtResult {
+    write!(f, "processor {q} has no local instruction next")?;
+    match step {
+        Some(step) => write!(f, "; a shared step stands next: {step}"),
+        None => Ok(()),
+    }
+}
+
 fn write_few<W: Write>(
     f: &mut Formatter<W>,
     q: u8,
     count: u32,
+    wanted: u16,
     step: Option<SharedStep>,
 ) -> FmtResult {
-    write!(f, "processor {q} has {count} local instructions next")?;
+    write_count(f, q, count)?;
+    write!(f, ", not {wanted}")?;
     match step {
-        Some(step) => write!(f, ", and then a shared step, {step}"),
+        Some(step) => write!(f, "; then a shared step stands next: {step}"),
         None => Ok(()),
     }
 }
