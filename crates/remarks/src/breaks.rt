@@ -171,9 +171,9 @@ impl<'a> Reading<'a> {
                 Some((1, FIRST))
             }
             b'+' | b'-' if may_sign => Some((1, NEXT)),
-            b'0'..=b'9' => Some((self.digits(), BEHIND)),
+            b'0'..=b'9' => Some((self.length(false), BEHIND)),
             b'A'..=b'Z' => Some((
-                self.letters(),
+                self.length(true),
                 Wanted::Operator {
                     is_behind_name: true,
                 },
@@ -241,23 +241,11 @@ impl<'a> Reading<'a> {
         None
     }
 
-    /// How many digits stand here.
-    fn digits(&self) -> usize {
+    /// How many digits stand here, or digits and letters.
+    fn length(&self, has_letters: bool) -> usize {
         let mut length: usize = 0;
         for byte in self.text.get(self.at..).unwrap_or(&[]) {
-            if !byte.is_ascii_digit() {
-                break;
-            }
-            length = length.saturating_add(1);
-        }
-        length
-    }
-
-    /// How many letters and digits stand here.
-    fn letters(&self) -> usize {
-        let mut length: usize = 0;
-        for byte in self.text.get(self.at..).unwrap_or(&[]) {
-            if !byte.is_ascii_alphanumeric() {
+            if !byte.is_ascii_digit() && !(has_letters && byte.is_ascii_alphabetic()) {
                 break;
             }
             length = length.saturating_add(1);

@@ -66,6 +66,10 @@ pub enum Cause {
     Integer(Name),
     /// A name that is given a logical value.
     Logical(Name),
+    /// A logical value where a number is wanted.
+    Truth,
+    /// A statement that can't stand behind a condition.
+    Misplaced,
     /// A limit.
     Limit(&'static str),
 }
@@ -122,12 +126,30 @@ fn cause_in(
     statements: &[Squeezed],
     statement: &Squeezed,
 ) -> Result<Option<Cause>, AllocError> {
+    if matches!(number, 37 | 38 | 43) {
+        return cause_in_action(alloc, number, statements, statement);
+    }
     let names = mentions(alloc, statement)?;
     match number {
         31 => real(alloc, statements, &names),
-        43 => Ok(wrong_kind(statement, &names)),
-        32 | 38 | 42 => by_declarations(alloc, number, statements, statement, &names),
+        32 | 42 => by_declarations(alloc, number, statements, statement, &names),
         _ => by_place(alloc, number, statements, statement, &names),
+    }
+}
+
+/// The same, where it goes by what the statement does.
+fn cause_in_action(
+    alloc: Global,
+    number: u8,
+    statements: &[Squeezed],
+    statement: &Squeezed,
+) -> Result<Option<Cause>, AllocError> {
+    let done = statement.action(alloc)?;
+    let names = mentions(alloc, &done)?;
+    match number {
+        37 => by_place(alloc, number, statements, &done, &names),
+        38 => by_declarations(alloc, number, statements, &done, &names),
+        _ => Ok(wrong_kind(statement, &done, &names)),
     }
 }
 
@@ -158,6 +180,7 @@ fn by_place(
     let before = Before::of(alloc, statements, statement.line)?;
     Ok(match number {
         33 => before.misfit(names),
+        36 if statement.is_misplaced() => Some(Cause::Misplaced),
         37 => before.active(statement, names),
         40 => Some(limit(statements, &before, statement)),
         41 => before.labelled(statement),
@@ -393,10 +416,9 @@ impl Display for Cause {
             Cause::Loop { label, line } => write_loop(f, *label, *line),
             Cause::Block(line) => write!(f, "the IF in line {line} is open"),
             Cause::Limit(limit) => f.write_str(limit),
-            Cause::NoValue => f.write_str("a value here overflows, or is divided by zero"),
             _ => match self.named() {
                 Some((name, text)) => write_of(f, name, text),
-                None => Ok(()),
+                None => f.write_str(self.unnamed()),
             },
         }
     }
@@ -417,6 +439,18 @@ impl Cause {
             Cause::Integer(name) => Some((*name, " is an integer, and a logical value is wanted")),
             Cause::Logical(name) => Some((*name, " is an integer, and is given a logical value")),
             _ => None,
+        }
+    }
+}
+
+impl Cause {
+    /// What is told where no name, line or limit is.
+    fn unnamed(&self) -> &'static str {
+        match self {
+            Cause::NoValue => "a value here overflows, or is divided by zero",
+            Cause::Truth => "a logical value stands where a number is wanted",
+            Cause::Misplaced => "such a statement can't stand behind the condition of an IF",
+            _ => "",
         }
     }
 }

@@ -77,7 +77,7 @@ fn without_keyword(statement: &Squeezed) -> &[u8] {
 }
 
 /// The text of a DO behind its label and the comma that may follow it.
-fn behind_label(text: &[u8]) -> &[u8] {
+pub fn behind_label(text: &[u8]) -> &[u8] {
     let mut start: usize = 2;
     for byte in text.iter().skip(2) {
         if !byte.is_ascii_digit() && *byte != b',' {

@@ -8,6 +8,17 @@ use std::alloc::{AllocError, Global};
 /// What stands for each character of a text.
 const BLOT: u8 = b'~';
 
+/// What begins the statements that don't stand behind a condition, but for a DO.
+const UNCONDITIONAL: [&[u8]; 7] = [
+    b"IF(",
+    b"ELSE",
+    b"END",
+    b"INTEGER",
+    b"DIMENSION",
+    b"PARAMETER",
+    b"PROGRAM",
+];
+
 /// Whether a sign stands outside all parentheses.
 pub fn has_outer(sign: u8, text: &[u8]) -> bool {
     let mut depth: u32 = 0;
@@ -20,6 +31,33 @@ pub fn has_outer(sign: u8, text: &[u8]) -> bool {
         }
     }
     false
+}
+
+/// What stands behind the parenthesis that closes the first one of a text, if it is closed.
+pub fn behind_parentheses(text: &[u8]) -> Option<&[u8]> {
+    let mut depth: u32 = 0;
+    for (place, byte) in text.iter().enumerate() {
+        match byte {
+            b'(' => depth = depth.saturating_add(1),
+            b')' if depth <= 1 => return text.get(place.saturating_add(1)..),
+            b')' => depth = depth.saturating_sub(1),
+            _ => {}
+        }
+    }
+    None
+}
+
+/// What a statement does: what stands behind the condition of a logical IF, else the whole.
+pub fn action(text: &[u8]) -> &[u8] {
+    if text.starts_with(b"IF(") {
+        return behind_parentheses(text).unwrap_or(text);
+    }
+    text
+}
+
+/// Whether a text begins as a DO with a label.
+pub fn names_label(text: &[u8]) -> bool {
+    matches!(text, [b'D', b'O', b'0'..=b'9', ..])
 }
 
 /// A statement without blanks, in capitals, its texts blotted out.
@@ -36,17 +74,21 @@ pub struct Squeezed {
 }
 
 impl Squeezed {
-    /// The statement that begins in a line, with its continuation lines.
+    /// The statement that begins in a line, or else the last one before, with its continuation
+    /// lines.
     pub fn of(alloc: Global, source: &[u8], line: Line) -> Result<Self, AllocError> {
         let mut statement = Squeezed::new(alloc, line, None);
         let mut number: Line = 0;
         for text in source.lines() {
             number = number.saturating_add(1);
-            if number < line || is_comment(text) || is_blank(text) {
+            if is_comment(text) || is_blank(text) {
                 continue;
             }
-            if number > line && !is_continuation(text) {
-                break;
+            if !is_continuation(text) {
+                if number > line {
+                    break;
+                }
+                statement = Squeezed::new(alloc, number, label_of(text));
             }
             statement.add_line(text)?;
         }
@@ -82,11 +124,23 @@ impl Squeezed {
         }
     }
 
+    /// What it does, as a statement of its own.
+    pub fn action(&self, alloc: Global) -> Result<Self, AllocError> {
+        let mut done = Squeezed::new(alloc, self.line, self.label);
+        done.text.extend_from_slice(action(&self.text))?;
+        Ok(done)
+    }
+
+    /// Whether behind the condition of a logical IF stands what can't stand there.
+    pub fn is_misplaced(&self) -> bool {
+        let done = action(&self.text);
+        done.len() < self.text.len()
+            && (names_label(done) || UNCONDITIONAL.iter().any(|front| done.starts_with(front)))
+    }
+
     /// Whether it is a DO, if it is a statement.
     pub fn is_loop(&self) -> bool {
-        matches!(self.text.as_slice(), [b'D', b'O', b'0'..=b'9', ..])
-            && has_outer(b'=', &self.text)
-            && has_outer(b',', &self.text)
+        names_label(&self.text) && has_outer(b'=', &self.text) && has_outer(b',', &self.text)
     }
 
     /// The label that a DO names.

@@ -21,8 +21,8 @@ impl<'a> Visible<'a> {
 impl<'a> Display for Visible<'a> {
     fn fmt<W: Write>(&self, f: &mut Formatter<W>) -> FmtResult {
         let (front, mark) = match self.text.get(..WIDTH) {
-            Some(front) => (front, " .."),
-            None => (self.text, ""),
+            Some(front) if front.len() < self.text.len() => (front, " .."),
+            _ => (self.text, ""),
         };
         for character in front.chars() {
             write_visible(f, character)?;

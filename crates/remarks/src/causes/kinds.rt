@@ -3,18 +3,22 @@
 
 use super::Cause;
 use crate::mentions::{LONGEST_NAME, Mention};
-use crate::squeezed::Squeezed;
+use crate::squeezed::{Squeezed, behind_parentheses, has_outer};
 use ast::Name;
 use bstr::ByteSlice;
 
 /// The operators that compare integers.
 const RELATIONS: [&[u8]; 6] = [b"EQ.", b"NE.", b"LT.", b"LE.", b"GT.", b"GE."];
 
+/// How many bytes each of them has.
+const RELATION_LEN: usize = 3;
+
 /// The operators between logical values, and the one before a logical value.
 const CONNECTIVES: [&[u8]; 5] = [b".AND.", b".OR.", b".EQV.", b".NEQV.", b".NOT."];
 
-/// What is of the wrong kind in a statement of these names, as far as that can be told.
-pub fn wrong_kind(statement: &Squeezed, names: &[Mention]) -> Option<Cause> {
+/// What is of the wrong kind in a statement that does this, with these names, as far as that can be
+/// told.
+pub fn wrong_kind(statement: &Squeezed, done: &Squeezed, names: &[Mention]) -> Option<Cause> {
     let text = statement.text.as_slice();
     let operand = CONNECTIVES
         .iter()
@@ -23,11 +27,72 @@ pub fn wrong_kind(statement: &Squeezed, names: &[Mention]) -> Option<Cause> {
         return Some(Cause::Integer(name));
     }
     match names.first() {
-        Some(mention) if mention.is_given && mention.depth == 0 && text.contains(&b'.') => {
+        Some(mention) if mention.is_given && mention.depth == 0 && gives_logical(done) => {
             Some(Cause::Logical(mention.name))
         }
+        _ if wants_numbers(done) && done.text.contains(&b'.') => Some(Cause::Truth),
+        _ if compares_logical(text) => Some(Cause::Truth),
         _ => None,
     }
+}
+
+/// Whether an assignment gives a logical value.
+fn gives_logical(done: &Squeezed) -> bool {
+    let text = done.text.as_slice();
+    let start = text.iter().position(|byte| *byte == b'=');
+    let value = text.get(start.unwrap_or(0)..).unwrap_or(&[]);
+    let value = value.strip_prefix(b"=".as_slice()).unwrap_or(value);
+    !done.is_loop() && (has_outer(b'.', value) || is_parenthesised(value) && value.contains(&b'.'))
+}
+
+/// Whether one pair of parentheses stands around a whole text.
+fn is_parenthesised(text: &[u8]) -> bool {
+    text.starts_with(b"(") && behind_parentheses(text).is_some_and(|rest| rest.is_empty())
+}
+
+/// Whether all values of a statement are numbers.
+fn wants_numbers(done: &Squeezed) -> bool {
+    has_outer(b'=', &done.text)
+        || [b"PRINT".as_slice(), b"WRITE".as_slice(), b"READ".as_slice()]
+            .iter()
+            .any(|front| done.text.starts_with(front))
+}
+
+/// Whether a logical value stands beside an operator that compares integers.
+fn compares_logical(text: &[u8]) -> bool {
+    for place in 0..text.len() {
+        let front = text.get(..place).unwrap_or(&[]);
+        let rest = text.get(place..).unwrap_or(&[]);
+        if behind_relation(rest).is_some_and(|behind| has_logical(front, behind)) {
+            return true;
+        }
+    }
+    false
+}
+
+/// What stands behind the operator that a text begins with, if it compares.
+fn behind_relation(text: &[u8]) -> Option<&[u8]> {
+    let text = text.strip_prefix(b".".as_slice())?;
+    if RELATIONS.iter().any(|relation| text.starts_with(relation)) {
+        text.get(RELATION_LEN..)
+    } else {
+        None
+    }
+}
+
+/// Whether a logical value ends the text before an operator or begins the one behind.
+fn has_logical(before: &[u8], behind: &[u8]) -> bool {
+    last_operand(before).contains(&b'.') || first_operand(behind).contains(&b'.')
+}
+
+fn last_operand(text: &[u8]) -> &[u8] {
+    let start = text.len().saturating_sub(last_len(text));
+    text.get(start..).unwrap_or(text)
+}
+
+fn first_operand(text: &[u8]) -> &[u8] {
+    let end = first_len(text);
+    text.get(..end).unwrap_or(text)
 }
 
 /// The integer beside the first of these operators, if there is one.

@@ -9,7 +9,7 @@ pub struct Sign {
 }
 
 /// What stands in a line that is refused by rule 1.
-pub const CHARACTERS: [Sign; 6] = [
+pub const CHARACTERS: [Sign; 7] = [
     Sign {
         begins: b"",
         holds: b"\t",
@@ -27,8 +27,13 @@ pub const CHARACTERS: [Sign; 6] = [
     },
     Sign {
         begins: b"",
-        holds: b"\xE2\x80",
-        hint: "a dash or a quotation mark is not one of the keyboard",
+        holds: b"\xE2\x80\x8B",
+        hint: "a blank that has no width stands in the line; take it out",
+    },
+    Sign {
+        begins: b"",
+        holds: b"\xE2\x80\xAF",
+        hint: "a narrow blank stands in the line; put a blank in its place",
     },
     Sign {
         begins: b"",
@@ -42,12 +47,32 @@ pub const CHARACTERS: [Sign; 6] = [
     },
 ];
 
+/// The dashes and quotation marks of a word processor.
+pub const TYPOGRAPHY: [&[u8]; 10] = [
+    b"\xE2\x80\x90",
+    b"\xE2\x80\x91",
+    b"\xE2\x80\x92",
+    b"\xE2\x80\x93",
+    b"\xE2\x80\x94",
+    b"\xE2\x80\x95",
+    b"\xE2\x80\x98",
+    b"\xE2\x80\x99",
+    b"\xE2\x80\x9C",
+    b"\xE2\x80\x9D",
+];
+
+/// What is said of a power.
+const POWER: &str = "there is no power; write a product";
+
+/// What is said of a DO with a condition.
+pub const WHILE: &str = "there is no DO WHILE; give a DO a last value, and write an IF in it";
+
 /// Signs of other languages, in a statement that is none or is not well formed.
-pub const FOREIGN: [Sign; 19] = [
+pub const FOREIGN: [Sign; 20] = [
     Sign {
         begins: b"",
         holds: b"**",
-        hint: "there is no power; write a product",
+        hint: POWER,
     },
     Sign {
         begins: b"",
@@ -58,16 +83,6 @@ pub const FOREIGN: [Sign; 19] = [
         begins: b"",
         holds: b"/=",
         hint: "write .NE. in the place of '/='",
-    },
-    Sign {
-        begins: b"",
-        holds: b"!",
-        hint: "'!' begins no comment; a comment is a line with a C in column 1",
-    },
-    Sign {
-        begins: b"",
-        holds: b"\"",
-        hint: "a text stands between apostrophes",
     },
     Sign {
         begins: b"",
@@ -91,6 +106,11 @@ pub const FOREIGN: [Sign; 19] = [
     },
     Sign {
         begins: b"",
+        holds: b"<>",
+        hint: "write .NE. in the place of '<>'",
+    },
+    Sign {
+        begins: b"",
         holds: b"<",
         hint: "write .LT. or .LE. in the place of '<' or '<='",
     },
@@ -107,7 +127,7 @@ pub const FOREIGN: [Sign; 19] = [
     Sign {
         begins: b"",
         holds: b"^",
-        hint: "there is no power; write a product",
+        hint: POWER,
     },
     Sign {
         begins: b"",
@@ -136,18 +156,23 @@ pub const FOREIGN: [Sign; 19] = [
     },
     Sign {
         begins: b"",
+        holds: b"&&",
+        hint: "write .AND. in the place of '&&'",
+    },
+    Sign {
+        begins: b"",
+        holds: b"||",
+        hint: "write .OR. in the place of '||'",
+    },
+    Sign {
+        begins: b"",
         holds: b"&",
         hint: "a statement goes on in a line with a sign in column 6",
     },
 ];
 
 /// What a statement begins with and holds that is none or is not well formed.
-pub const BEGINNINGS: [Sign; 12] = [
-    Sign {
-        begins: b"ENDPROGRAM",
-        holds: b"",
-        hint: "END stands alone",
-    },
+pub const BEGINNINGS: [Sign; 11] = [
     Sign {
         begins: b"INTEGER(",
         holds: b"",
@@ -209,7 +234,7 @@ pub const BEGINNINGS: [Sign; 12] = [
 pub const NEIGHBOURS: [&[u8]; 7] = [b"*-", b"*+", b"/-", b"/+", b"+-", b"-+", b"--"];
 
 /// What a statement begins with and holds whose name is too long.
-pub const LENGTHS: [Sign; 3] = [
+pub const LENGTHS: [Sign; 2] = [
     Sign {
         begins: b"INTEGERFUNCTION",
         holds: b"",
@@ -217,22 +242,10 @@ pub const LENGTHS: [Sign; 3] = [
     },
     Sign {
         begins: b"INTEGER",
-        holds: b"::",
-        hint: "a declaration has no '::', as in INTEGER K",
-    },
-    Sign {
-        begins: b"INTEGER",
         holds: b"=",
         hint: "a declaration gives no value; an assignment does, or a PARAMETER statement",
     },
 ];
-
-/// What the last line of a source without END holds.
-pub const LAST: [Sign; 1] = [Sign {
-    begins: b"ENDPROGRAM",
-    holds: b"",
-    hint: "END stands alone",
-}];
 
 /// The constant that is too large.
 pub const GREAT: [Sign; 1] = [Sign {
@@ -281,7 +294,7 @@ pub const LEFT_OUT: [Sign; 20] = [
     Sign {
         begins: b"DOWHILE",
         holds: b"",
-        hint: "a DO counts; give it a last value, and an IF in it",
+        hint: WHILE,
     },
     Sign {
         begins: b"IMPLICIT",
@@ -297,6 +310,11 @@ pub const LEFT_OUT: [Sign; 20] = [
         begins: b"CALL",
         holds: b"",
         hint: "there are no subroutines; write the statements in its place",
+    },
+    Sign {
+        begins: b"RETURN",
+        holds: b"",
+        hint: "there are no subroutines to return from; STOP ends the program",
     },
     Sign {
         begins: b"SUBROUTINE",
@@ -337,11 +355,6 @@ pub const LEFT_OUT: [Sign; 20] = [
         begins: b"PRINT",
         holds: b"",
         hint: "write PRINT *, and a comma behind it",
-    },
-    Sign {
-        begins: b"IF(",
-        holds: b"",
-        hint: "there is no arithmetic IF; write an IF block",
     },
 ];
 
