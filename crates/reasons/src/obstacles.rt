@@ -187,7 +187,8 @@ fn at_work(core: &Core<'_>, q: usize, wanted: u16) -> Result<Obstacle, AllocErro
     }
 }
 
-/// How many local instructions stand before the next shared step of a frame, and which step that is.
+/// How many local instructions stand before the next shared step of a frame, and which step that
+/// is.
 fn ahead(code: &Code, frame: Frame) -> Result<(u32, Option<SharedStep>), AllocError> {
     if !stands_local(code, &frame) {
         return Ok((0, step_of(code, &frame)));
