@@ -1,8 +1,8 @@
 use Rattle.doac.proofs.Statuses.{of_nothing, of_verdict}
 use Rattle.doac.proofs.sources.check_source.Goals as goal
 
-pub returns-after-verdict : goal.returns-after-verdict
-returns-after-verdict g c =
+pub returns-after-is_told-2 : goal.returns-after-is_told-2
+returns-after-is_told-2 g c =
     record {
       came = c.tell_verdict-outcome.result;
       works = of_verdict c.args.text.now c.in-Ok.verdict _ _ c.tell_verdict-outcome.result c.in-Ok.ensures c.tell_verdict-outcome.ensures;

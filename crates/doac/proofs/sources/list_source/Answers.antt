@@ -2,8 +2,8 @@ use Rattle.engines.proofs.Surveys.{of_survey_as}
 use Rattle.doac.proofs.Statuses.{of_nothing}
 use Rattle.doac.proofs.sources.list_source.Goals as goal
 
-pub returns-after-survey : goal.returns-after-survey
-returns-after-survey g c =
+pub returns-after-is_ok : goal.returns-after-is_ok
+returns-after-is_ok g c =
     record {
       came = c.tell_loops-outcome.result;
       works = of_survey_as c.args.why c.args.text.now c.in-Ok.survey _ _ c.tell_loops-outcome.result c.in-Ok.ensures c.tell_loops-outcome.ensures;
