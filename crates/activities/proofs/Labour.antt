@@ -152,10 +152,6 @@ put_there q k at g o p old a h e f w = w ∙ ap (λ (u : Option Standing). optio
 
 -- ---- the frame of what is held
 
-pub not_some : {X : Type 0} (o : Option X) → is_some o ≡ false → o ≡ None
-not_some None e = refl
-not_some (Some x) e = cc
-
 pub frame_in_place : (q k : ℕ) (old : Activities) → AreActivities old → held_of (kept_in old).held q ≡ Some (iteration k) → frame_there (get_or (kept_in old).iterations (k % old.slots) None) ≡ frame_at q (point_in old)
 frame_in_place q k old a h =
     let r = a.core.runs q k h in

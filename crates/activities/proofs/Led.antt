@@ -18,12 +18,13 @@ use Rattle.machine.specs.declared.next.Next.{Next}
 use Rattle.machine.specs.declared.next.Next.TheVariants.{Store, Print, Opens, Join, Report, Stop, Halt}
 use Rattle.activities.specs.Core.{HaveIndices, IsCore}
 use Rattle.activities.specs.Parts.{Kept, Standing, wait_in, held_of}
-use Rattle.activities.specs.Turns.{MainAfter, closes, joins, main_after, main_as, none_open, opens, put_main, set_if, with_last}
+use Rattle.activities.specs.Turns.{MainAfter, closes, joins, main_after, main_as, none_open, opens, put_main, with_last}
 use Rattle.activities.specs.Waiting.{Stands}
 use Rattle.activities.specs.declared.turn.Outcome.TheVariants.{Parks, Idle}
 use Rattle.activities.proofs.Leading.{Leads, none_standing, zero_at, zeros_of}
 use Rattle.activities.proofs.Queues.{parks_itself, parks_other, restarts}
 use Rattle.activities.proofs.Remaining.{held_other}
+use Rattle.activities.proofs.Turning.{if_length}
 
 -- it goes on; the kernel is as it was
 pub led_core : (code : Code) (s : ℕ) (x : Kept) (cells : List ℤ) (out : List ℕ) (l : Option Open) (e : Option End) (i : Input) (f : Frame) → IsCore code s x → length cells ≡ length x.shared.cells → HaveIndices code l
@@ -101,10 +102,6 @@ opened_core code s q x l c w o h k =
       runs = λ r j g. (let z = c.runs r j g in record { standing = z.standing; here = z.here; number = z.number; wait = z.wait });
       apart = c.apart;
     }
-
-if_length : (o : Option ℕ) (v : ℤ) (cells : List ℤ) → length (set_if o v cells) ≡ length cells
-if_length None v cells = refl
-if_length (Some n) v cells = length-set cells n v
 
 last_length : (code : Code) (l : Open) (r : Result ℤ Fault) (cells : List ℤ) → length (with_last code l r cells) ≡ length cells
 last_length code l (Err e) cells = refl

@@ -2,7 +2,6 @@ pub mod Maps
 pub mod Queues
 pub mod Turning
 pub mod Leading
-pub mod Pieces
 pub mod Values
 pub mod Entering
 pub mod Remaining

@@ -8,8 +8,9 @@ use Rattle.machine.specs.State.{Active, Machine, MainMove, Move, Turn, Wait, Who
 use Rattle.machine.specs.View.{View, doing, view, trips_of, begin}
 use Rattle.machine.specs.declared.code.Open.{Open}
 use Rattle.machine.proofs.Views.{local_is_doing}
+use Rattle.machine.proofs.Puts.{put_same as put_got}
 use Rattle.activities.specs.Points.{Moves, Point, Works, counted, frame_in, frame_of, local_in, moved, slot, view_in, wait_of}
-use Rattle.activities.proofs.Maps.{decide, put_same}
+use Rattle.activities.proofs.Maps.{put_same}
 use Rattle.activities.proofs.Stepping.{step_of}
 
 -- processor q holds this activity, which has this frame and isn't parked
@@ -30,10 +31,6 @@ framed (iteration k) g m = record m { iterations = put_at m.iterations k (again 
 
 abbrev pub framed_at : Who → Frame → Point → Point
 framed_at u g p = record { machine = framed u g p.machine; order = p.order }
-
-put_got : {A : Type 0} (f : ℕ → A) (k : ℕ) (v : A) → put_at f k v k ≡ v
-unfolding put_at
-put_got f k v = decide k k (λ b. cond b v (f k) ≡ v) (λ e. refl) (λ d. absurd (d refl))
 
 put_over : {A : Type 0} (f : ℕ → A) (k : ℕ) (v w : A) → put_at (put_at f k v) k w ≡ put_at f k w
 unfolding put_at

@@ -5,12 +5,13 @@ use Rattle.std.proofs.Math.ListN.{set}
 use Rattle.std.proofs.lemmas.Bool.{eqb-true, eq-eqb, ne_eqb}
 use Rattle.std.proofs.lemmas.List.{get_or-set_same, get_or-set_other}
 use Rattle.ast.specs.Store.{put, same_name}
+use Rattle.ast.proofs.SameNames.{same_itself, same_is}
 use Rattle.machine.specs.Code.{Cell}
 use Rattle.machine.specs.Laid.{are_laid, number_at}
 use Rattle.machine.specs.Frame.{Frame}
 use Rattle.machine.specs.State.{Active, Wait, put_at, put_cell}
 use Rattle.machine.specs.declared.code.Variable.{Variable}
-use Rattle.machine.proofs.Naming.{cells_apart, same, same_itself}
+use Rattle.machine.proofs.Naming.{cells_apart}
 use Rattle.activities.specs.Parts.{Standing, value_in, store_of, held_of, numbered, standing, active, wait_in, counts_of}
 
 -- ---- one value of a map
@@ -136,7 +137,7 @@ decides : (a b : List ℕ) (p q : ℕ) (P : Bool → Type 0) → (a ≡ b → p 
 decides a b p q P at off = by (same_name a b) (p == q) refl refl
   where
     by : (c d : Bool) → same_name a b ≡ c → (p == q) ≡ d → P (c && d)
-    by true true e f = at (same a b e) (eqb-true p q f)
+    by true true e f = at (same_is a b e) (eqb-true p q f)
     by true false e f = off (λ h k. let z : true ≡ false = sym (eq-eqb p q k) ∙ f in cc)
     by false d e f = off (λ h k. let z : true ≡ false = sym (subst (λ (x : List ℕ). same_name a x ≡ true) h (same_itself a)) ∙ e in cc)
 

@@ -6,6 +6,7 @@ use Rattle.std.proofs.Math.ListN.{set}
 use Rattle.std.proofs.lemmas.Bool.{cases_eq, eq-eqb, eqb-true, ne_eqb, leb-true}
 use Rattle.std.proofs.lemmas.List.{get_or-set_same, get_or-set_other, length-set}
 use Rattle.ec_kernel.specs.View.{View, IsKernel, AllAbove, count_at, waiters_at, places, times, times_waiting, queued, parked, advanced, wakes, restarted, without, reached_by, first_of}
+use Rattle.ec_kernel.proofs.Steps.{times-without}
 use Rattle.machine.specs.State.{Wait, until_count, until_retired}
 use Rattle.activities.specs.Waiting.{Waits, StandsAt, Stands}
 
@@ -194,14 +195,6 @@ times_without s t (x ∷ xs) d = by (t == x) refl (times_without s t xs d)
     by true e h = rw (ne_eqb s x (λ k. d (k ∙ sym (eqb-true t x e)))) (omega (arith, h))
     by false e h = omega (arith, h)
 
-none_without : (s : ℕ) (xs : List ℕ) → times s (without s xs) ≡ 0
-none_without s [] = refl
-none_without s (x ∷ xs) = by (s == x) refl (none_without s xs)
-  where
-    by : (b : Bool) → (s == x) ≡ b → times s (without s xs) ≡ 0 → times s (if b then without s xs else x ∷ without s xs) ≡ 0
-    by true e h = h
-    by false e h = rw e (omega (arith, h))
-
 taken_at : (x : View) (s t i u : ℕ) → (s ≡ t → ⊥) → StandsAt x s i u → StandsAt (record x { ready = without t x.ready }) s i u
 taken_at x s t i u d (l, inl h) = (l, inl (h.0, omega (arith, h.1, times_without s t x.ready d)))
 taken_at x s t i u d (l, inr h) = (l, inr h)
@@ -212,7 +205,7 @@ takes_other x s t (Some (until_count i u)) d h = (h.0, taken_at x s t i u d h.1)
 takes_other x s t (Some (until_retired u)) d h = taken_at x s t 0 u d h
 
 pub takes_itself : (x : View) (s : ℕ) → IsKernel x → 0 < times s x.ready → Stands (record x { ready = without s x.ready }) s None
-takes_itself x s k h = omega (arith, h, k.once s, none_without s x.ready)
+takes_itself x s k h = omega (arith, h, k.once s, times-without s x.ready)
 
 -- ---- beginning anew
 

@@ -1,12 +1,12 @@
 -- A record that is printed piece by piece, and bytes that begin with those before.
 use Rattle.std.proofs.Common.{◌≡◌, ◌∙◌, ◌≤◌, ◌<◌, ◌+◌, ◌++◌, ◌∷◌, [], ℕ, suc, zero, Bool, true, false, List, drop, get_or, length, map, reverse, take, refl, sym, ap, subst, arith}
 use Rattle.std.specs.Prelude.{ℤ}
-use Rattle.std.proofs.lemmas.List.{append_assoc, append-nil, length-append, take_all, take-take, take_at}
-use Rattle.ast.specs.Record.{items_printed, record_of}
+use Rattle.std.proofs.lemmas.List.{append_assoc, append-nil, length-append, take_all, take_at}
+use Rattle.ast.specs.Record.{Keeps, all_shown, items_printed, record_of}
 use Rattle.machine.specs.CodeView.{part}
 use Rattle.machine.specs.View.{filled, values_wanted}
 use Rattle.machine.specs.declared.code.Piece.{Piece}
-use Rattle.activities.specs.Printing.{Keeps, PrintsPiece, all_shown, to_print}
+use Rattle.activities.specs.Printing.{PrintsPiece, to_print}
 
 pub keeps_same : (old new : List ℕ) → new ≡ old → Keeps old new
 keeps_same old new e = (let n = ap (λ (l : List ℕ). length l) e in omega (arith, n), ap (λ (l : List ℕ). take (length old) l) e ∙ take_all (length old) old (omega arith))
@@ -15,12 +15,6 @@ pub keeps_more : (old more new : List ℕ) → new ≡ old ++ more → Keeps old
 keeps_more old more new e = (
   let n = ap (λ (l : List ℕ). length l) e ∙ length-append old more in omega (arith, n),
   ap (λ (l : List ℕ). take (length old) l) e ∙ take_at old more (length old) refl,
-)
-
-pub keeps_on : (old mid new : List ℕ) → Keeps old mid → Keeps mid new → Keeps old new
-keeps_on old mid new h g = (
-  omega (arith, h.0, g.0),
-  sym (take-take (length old) (length mid) new h.0) ∙ ap (λ (l : List ℕ). take (length old) l) g.1 ∙ h.1,
 )
 
 drop_one : (ps : List Piece) (i : ℕ) (p : Piece) → i < length ps → drop i ps ≡ get_or ps i p ∷ drop (suc i) ps

@@ -25,7 +25,7 @@ use Rattle.activities.specs.declared.turn.Outcome.{Outcome}
 use Rattle.activities.specs.declared.turn.Outcome.TheVariants.{Leaves, Parks, Idle}
 use Rattle.activities.proofs.Leading.{Leads, main_moves}
 use Rattle.activities.proofs.Maps.{Mine, count_is, standing_is}
-use Rattle.activities.proofs.Turning.{Runs, Went, event_some, moves}
+use Rattle.activities.proofs.Turning.{Runs, Went, event_some, moves, here_is}
 
 -- ---- whether the step that stands next is local
 
@@ -156,9 +156,6 @@ number_after code at x a n = refl
 
 abbrev of : Standing → Active Frame
 of a = record { frame = a.frame; out = a.out }
-
-here_is : (code : Code) (s q k : ℕ) (a : Standing) (x : Kept) → Runs code s q k a x → standing x.iterations s k ≡ Some a
-here_is code s q k a x r = standing_is x.iterations s k (Some a) r.here r.number
 
 staying_mine : (o : Outcome) (a : Standing) (k : ℕ) → a.number ≡ k → Mine k (staying o a)
 staying_mine Leaves a k e = tt

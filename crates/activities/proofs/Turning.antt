@@ -63,7 +63,7 @@ turned code s q k a x y hs b r m =
     ap (λ (f : ℕ → Option (Active Frame)). record M { iterations = f; parked = λ i. wait_in (standing (set x.iterations (k % s) b) s i) }) (iterations_put x.iterations s k b r.room old m)
     ∙ ap (λ (g : ℕ → Option Wait). record M { iterations = put_at (λ i. active (standing x.iterations s i)) k (active b); parked = g }) (parked_put x.iterations s k b r.room old m)
 
-here_is : (code : Code) (s q k : ℕ) (a : Standing) (x : Kept) → Runs code s q k a x → standing x.iterations s k ≡ Some a
+pub here_is : (code : Code) (s q k : ℕ) (a : Standing) (x : Kept) → Runs code s q k a x → standing x.iterations s k ≡ Some a
 here_is code s q k a x r = standing_is x.iterations s k (Some a) r.here r.number
 
 -- it goes on
@@ -111,7 +111,7 @@ same_machine code s q k a x y r =
 abbrev pub Vars : Type 0
 Vars = List Variable
 
-if_length : (o : Option ℕ) (v : ℤ) (cells : List ℤ) → length (set_if o v cells) ≡ length cells
+pub if_length : (o : Option ℕ) (v : ℤ) (cells : List ℤ) → length (set_if o v cells) ≡ length cells
 if_length None v cells = refl
 if_length (Some n) v cells = length-set cells n v
 

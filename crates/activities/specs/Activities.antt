@@ -19,10 +19,12 @@ use Rattle.activities.specs.declared.holding.Choice.TheVariants as choices
 use Rattle.activities.specs.declared.holding.Holder.{Holder}
 use Rattle.activities.specs.declared.holding.Holder.TheVariants as holders
 
+-- the activity that a processor holds, as the machine's state has it
 abbrev pub who : Holder → Who
 who holders.Main = the_main
 who (holders.Iteration k at) = iteration k
 
+-- what may be taken up, as the machine has it
 abbrev pub chosen : Choice → machine.Choice
 chosen choices.Main = take_main
 chosen (choices.Iteration k) = take_iteration k
@@ -35,6 +37,7 @@ shared_at_first code s = record { cells = replicate (count_of code.variables) (p
 abbrev pub input_at_first : List ℕ → Input
 input_at_first input = record { left = []; records = records_of input }
 
+-- what activities keep, as lists
 abbrev pub kept_in : Activities → Kept
 kept_in a = record {
   shared = shared_of a.shared;
@@ -45,9 +48,11 @@ kept_in a = record {
   held = map (λ o. option_map who o) a.held.items;
 }
 
+-- the code that they run
 abbrev pub code_in : Activities → Code
 code_in a = code_of a.code.now
 
+-- the point that they stand for
 abbrev pub point_in : Activities → Point
 point_in a = point_of (code_in a).variables a.slots (kept_in a)
 
@@ -76,6 +81,7 @@ abbrev pub frame_held : machine.Machine → Option Who → Option Frame
 frame_held m None = None
 frame_held m (Some u) = frame_of m u
 
+-- the frame of what processor q holds at a point, if it holds anything
 abbrev pub frame_at : ℕ → Point → Option Frame
 frame_at q x = frame_held x.machine (x.machine.held q)
 

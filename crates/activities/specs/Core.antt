@@ -22,6 +22,10 @@ abbrev pub HaveIndices : Code → Option Open → Type 0
 HaveIndices code None = Unit {0}
 HaveIndices code (Some l) = (k : ℕ) → k < l.trips → fits (index_at code l k) ≡ true
 
+-- What holds of what a core keeps, where s iterations may be open. The kernel is one, and has a
+-- slot for main and s for iterations, a count of those that have retired and one for each of 64
+-- events; the ticket is at least the first of these counts and has 128 bits. Each cell of the code
+-- has a value, and there are s places for open iterations.
 pub record IsCore (code : Code) (s : ℕ) (x : Kept) : Type 0 where
   pub some : 0 < s
   pub kernel : IsKernel x.shared.order

@@ -7,6 +7,7 @@ use Rattle.machine.specs.declared.code.Open.{Open}
 abbrev pub IsReached : Machine → Option Wait → Type 0
 IsReached m o = (w : Wait) × (o ≡ Some w) × Reached m w
 
+-- iteration k is parked, and what it waits for is reached
 abbrev pub IsReady : Machine → ℕ → Type 0
 IsReady m k = IsReached m (m.parked k)
 
@@ -26,5 +27,6 @@ abbrev pub begins : ℕ → Machine → Option Open → Bool
 begins s m None = false
 begins s m (Some l) = nat_lt m.ticket l.trips && nat_lt m.ticket (m.retired + s)
 
+-- the same of the loop that is open in a state: whether there is a ticket to take up
 abbrev pub has_ticket : ℕ → Machine → Bool
 has_ticket s m = begins s m m.loop

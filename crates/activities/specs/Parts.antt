@@ -49,6 +49,7 @@ store_of xs cells = λ name place. value_in cells (number_at xs name place)
 unfoldable pub held_of : {A : Type 0} → List (Option A) → ℕ → Option A
 held_of xs = λ i. get_or xs i None
 
+-- what stands in a place, if that is iteration k
 abbrev pub numbered : ℕ → Option Standing → Option Standing
 numbered k None = None
 numbered k (Some a) = if a.number == k then Some a else None
@@ -56,10 +57,12 @@ numbered k (Some a) = if a.number == k then Some a else None
 unfoldable pub standing : List (Option Standing) → ℕ → ℕ → Option Standing
 standing xs s = λ k. numbered k (get_or xs (k % s) None)
 
+-- an open iteration as the machine's state has it
 abbrev pub active : Option Standing → Option (Active Frame)
 active None = None
 active (Some a) = Some (record { frame = a.frame; out = a.out })
 
+-- what the iteration in a place is parked on, if it is
 abbrev pub wait_in : Option Standing → Option Wait
 wait_in None = None
 wait_in (Some a) = a.wait
@@ -68,6 +71,7 @@ wait_in (Some a) = a.wait
 unfoldable pub counts_of : List ℕ → ℕ → ℕ
 counts_of xs = λ e. cond (eqb e 0) 0 (get_or xs e 0)
 
+-- the state of the machine that is kept so
 abbrev pub machine_of : List Variable → ℕ → Kept → Machine
 machine_of xs s x = record {
   store = store_of xs x.shared.cells;
@@ -85,5 +89,6 @@ machine_of xs s x = record {
   ended = x.shared.ended;
 }
 
+-- the point that is kept so: that state, and the kernel beside it
 abbrev pub point_of : List Variable → ℕ → Kept → Point
 point_of xs s x = record { machine = machine_of xs s x; order = x.shared.order }

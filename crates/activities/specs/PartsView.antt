@@ -11,16 +11,20 @@ use Rattle.activities.specs.declared.parts.Shared.{Shared}
 use Rattle.activities.specs.declared.parts.Until.{Until}
 use Rattle.activities.specs.declared.parts.Until.TheVariants.{Count, Retired}
 
+-- what is waited for
 abbrev pub wait : Until → Wait
 wait (Count e v) = until_count e v
 wait (Retired v) = until_retired v
 
+-- an open iteration
 abbrev pub standing_of : Iteration → plain.Standing
 standing_of a = record { number = a.number; frame = frame_of a.frame; out = a.out.items; wait = option_map wait a.wait }
 
+-- what all activities share
 abbrev pub shared_of : Shared → plain.Shared
 shared_of x = record { cells = x.cells.items; order = x.kernel; output = x.output.items; loop = x.open; ended = x.ended }
 
+-- the input: what is left of the record that was taken last, and the records behind it
 abbrev pub input_of : Input → machine.Input
 input_of i = record { left = drop i.given i.integers.items; records = i.records }
 

@@ -13,12 +13,15 @@ is_due x None = false
 is_due x (Some (until_count e v)) = nat_le v (count_at x e)
 is_due x (Some (until_retired v)) = nat_le v (count_at x 0)
 
+-- a slot is taken from the ready list
 abbrev pub no_longer_ready : ℕ → View → View
 no_longer_ready slot x = record x { ready = without slot x.ready }
 
+-- processor q holds an activity
 abbrev pub holding : ℕ → Who → Kept → Kept
 holding q u x = record x { held = set x.held q (Some u) }
 
+-- main is taken up
 abbrev pub main_up : ℕ → Kept → Kept
 main_up q x = record (holding q the_main x) { shared = record x.shared { order = no_longer_ready 0 x.shared.order }; waiting = None }
 
@@ -29,6 +32,7 @@ iteration_up q at a x = record (holding q (iteration a.number) x) {
   iterations = set x.iterations at (Some (record a { wait = None }));
 }
 
+-- iteration k of an open loop as it begins
 abbrev pub begun : Code → Open → ℕ → Standing
 begun code l k = record { number = k; frame = begin code l k; out = []; wait = None }
 
@@ -44,5 +48,6 @@ abbrev pub IsCounted : View → Option Wait → Type 0
 IsCounted x (Some (until_count e v)) = e < length x.counts
 IsCounted x _ = Unit {0}
 
+-- an iteration that isn't parked any more
 abbrev pub unparked : Standing → Standing
 unparked a = record a { wait = None }

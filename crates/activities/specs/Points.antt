@@ -13,10 +13,12 @@ use Rattle.machine.specs.declared.code.Open.{Open}
 -- eventcounts, in which main has slot 0 and iteration k slot 1 + k mod s. No two open iterations
 -- have one slot, since at most s follow one another.
 
+-- a state of the machine, and the kernel beside it
 pub record Point : Type 0 where
   pub machine : Machine
   pub order : kernel.View
 
+-- an activity's slot in the kernel, where s iterations may be open
 abbrev pub slot : ℕ → Who → ℕ
 slot s the_main = 0
 slot s (iteration k) = 1 + k % s
@@ -35,6 +37,7 @@ abbrev pub wait_of : Machine → Who → Option Wait
 wait_of m the_main = m.waiting
 wait_of m (iteration k) = m.parked k
 
+-- the kernel with an activity parked on an event's count, or on that of the retired, event 0
 abbrev pub waits : Wait → ℕ → kernel.View → kernel.View
 waits (until_count e v) slot x = parked x e v slot
 waits (until_retired v) slot x = parked x 0 v slot
@@ -46,6 +49,7 @@ counted (leaving xs) x = advanced x 0
 counted (opening l g) x = restarted x
 counted _ x = x
 
+-- the kernel after a step: the activity was parked by it, or it wasn't
 abbrev pub moved : Option Wait → View Frame Open → ℕ → kernel.View → kernel.View
 moved (Some w) v slot x = waits w slot x
 moved None v slot x = counted v x
@@ -56,10 +60,12 @@ taken s take_main x = record x { ready = without (slot s the_main) x.ready }
 taken s (take_iteration k) x = record x { ready = without (slot s (iteration k)) x.ready }
 taken s take_ticket x = record x { ticket = x.ticket + 1 }
 
+-- what an activity does next, by its frame; it is stuck where it has none
 abbrev pub view_in : Code → Option Frame → View Frame Open
 view_in code None = stuck
 view_in code (Some f) = view code f
 
+-- whether what it does next is a local instruction
 abbrev pub local_in : Code → Option Frame → Bool
 local_in code None = false
 local_in code (Some f) = is_local code.instructions f
@@ -87,6 +93,7 @@ ByRule s x take_main = first_of x.ready ≡ Some (slot s the_main)
 ByRule s x (take_iteration k) = first_of x.ready ≡ Some (slot s (iteration k))
 ByRule s x take_ticket = x.ready ≡ []
 
+-- Processor q makes so many local steps, one after another.
 abbrev pub Works : Code → ℕ → ℕ → Point → ℕ → Point → Type 0
 Works code s zero a q b = a ≡ b
 Works code s (suc n) a q b = (x : Point) × Moves code s true a q x × Works code s n x q b
@@ -95,5 +102,6 @@ Works code s (suc n) a q b = (x : Point) × Moves code s true a q x × Works cod
 abbrev pub at_first : ℕ → kernel.View
 at_first s = record (new_kernel (1 + s) (1 + most_events)) { ready = 0 ∷ []; free = [] }
 
+-- where every run begins: main alone, ready
 abbrev pub beginning : Code → List ℕ → ℕ → Point
 beginning code input s = record { machine = Init code input; order = at_first s }

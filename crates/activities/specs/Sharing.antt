@@ -44,6 +44,7 @@ pub record Working (code : List Instr) (n : ℕ) (done : Bool) (f g : Frame) : T
   pub works : Works code n f made g
   pub all : done ≡ (made == n)
 
+-- an iteration with another frame
 abbrev pub with_frame : Frame → Standing → Standing
 with_frame g a = record a { frame = g }
 

@@ -23,17 +23,21 @@ use Rattle.activities.specs.Parts.{Standing, Shared, Kept}
 use Rattle.activities.specs.declared.turn.Outcome.{Outcome}
 use Rattle.activities.specs.declared.turn.Outcome.TheVariants.{Stays, Parks, Leaves, Ends, Idle}
 
+-- what came of the step, and the shared parts and the iteration behind it
 pub record After : Type 0 where
   pub outcome : Outcome
   pub shared : Shared
   pub standing : Standing
 
+-- the iteration stays, with these parts
 abbrev pub stays : Shared → Standing → After
 stays x a = record { outcome = Stays; shared = x; standing = a }
 
+-- nothing was done
 abbrev pub idle : Shared → Standing → After
 idle x a = record { outcome = Idle; shared = x; standing = a }
 
+-- the iteration is parked in its slot, on the count of event e
 abbrev pub parks : ℕ → ℕ → ℕ → Wait → Shared → Standing → After
 parks slot e v w x a = record { outcome = Parks; shared = record x { order = parked x.order e v slot }; standing = record a { wait = Some w } }
 
@@ -46,6 +50,7 @@ abbrev pub set_if : Option ℕ → ℤ → List ℤ → List ℤ
 set_if None v cells = cells
 set_if (Some n) v cells = set cells n v
 
+-- the cells when an iteration retires: those of private scalars that it defined have their values
 abbrev pub cells_after : Code → List ℕ → List (Option ℤ) → List ℤ → List ℤ
 cells_after code [] vs cells = cells
 cells_after code (x ∷ xs) [] cells = cells
@@ -57,6 +62,7 @@ abbrev pub one_after : Code → ℕ → Option ℤ → List ℤ → List ℤ
 one_after code x None cells = cells
 one_after code x (Some v) cells = set_if (cell_number (slice_get code.variables x) (pos 0)) v cells
 
+-- the iteration retires, and its output goes out
 abbrev pub leaves : Code → ℕ → Shared → Standing → After
 leaves code n x a = record {
   outcome = Leaves;
@@ -68,12 +74,15 @@ leaves code n x a = record {
   standing = a;
 }
 
+-- the run ends, and the iteration's output goes out
 abbrev pub ends : End → Shared → Standing → After
 ends e x a = record { outcome = Ends; shared = record x { output = x.output ++ a.out; ended = Some e }; standing = a }
 
+-- a fault or a STOP of an iteration: it ends the run where those before have retired
 abbrev pub reported : ℕ → End → Shared → Standing → After
 reported slot e x a = if count_at x.order 0 == a.number then ends e x a else waits_its_turn slot x a
 
+-- a record of k values is printed to the iteration's own output
 abbrev pub printed_own : List Piece → ℕ → Standing → Standing
 printed_own pieces k a = record a {
   frame = going_on (without k a.frame.operands) a.frame;
@@ -98,10 +107,12 @@ iteration_after code slot next x a = idle x a
 
 -- ---- what a core keeps then
 
+-- what stands in the iteration's place then
 abbrev pub staying : Outcome → Standing → Option Standing
 staying Leaves a = None
 staying _ a = Some a
 
+-- what the processors hold then
 abbrev pub held_after : Outcome → ℕ → List (Option Who) → List (Option Who)
 held_after Parks q hs = set hs q None
 held_after Leaves q hs = set hs q None
@@ -125,12 +136,15 @@ pub record MainAfter : Type 0 where
   pub main : Frame
   pub waiting : Option Wait
 
+-- nothing of what is kept has changed
 abbrev pub main_as : Outcome → Kept → MainAfter
 main_as o x = record { outcome = o; shared = x.shared; input = x.input; main = x.main; waiting = x.waiting }
 
+-- main goes on with this frame
 abbrev pub main_stays : Frame → Kept → MainAfter
 main_stays g x = record (main_as Stays x) { main = g }
 
+-- main ends the run
 abbrev pub main_ends : End → Kept → MainAfter
 main_ends e x = record (main_as Ends x) { shared = record x.shared { ended = Some e } }
 
@@ -140,6 +154,7 @@ none_open [] = true
 none_open (None ∷ xs) = none_open xs
 none_open (Some a ∷ xs) = false
 
+-- main opens a loop
 abbrev pub opens : Open → Kept → MainAfter
 opens l x = record (main_as Stays x) { shared = record x.shared { order = restarted x.shared.order; loop = Some l }; main = going_on (without 2 x.main.operands) x.main }
 
@@ -148,18 +163,21 @@ abbrev pub with_last : Code → Open → Result ℤ Fault → List ℤ → List 
 with_last code l (Ok v) cells = set_if (cell_number (slice_get code.variables (loop_at code l.number).variable) (pos 0)) v cells
 with_last code l (Err e) cells = cells
 
+-- main joins a loop whose iterations have all retired
 abbrev pub closes : Code → ℕ → Open → Kept → MainAfter
 closes code line l x = record (main_as Stays x) {
   shared = record x.shared { cells = with_last code l (in_range (index_at code l l.trips)) x.shared.cells; loop = None };
   main = frame_joined (in_range (index_at code l l.trips)) line x.main;
 }
 
+-- main joins a loop, or is parked until its iterations have retired
 abbrev pub joins : Code → ℕ → Option Open → Kept → MainAfter
 joins code line None x = main_as Idle x
 joins code line (Some l) x =
     if nat_le l.trips (count_at x.shared.order 0) then closes code line l x
     else record (main_as Parks x) { shared = record x.shared { order = parked x.shared.order 0 l.trips 0 }; waiting = Some (until_retired l.trips) }
 
+-- main makes the step that stands next
 abbrev pub main_after : Code → Next → Kept → MainAfter
 main_after code (Load n k) x = main_stays (with_operand k x.main (get_or x.shared.cells n (pos 0))) x
 main_after code (Store n v k) x = record (main_stays (going_on (without k x.main.operands) x.main) x) { shared = record x.shared { cells = set x.shared.cells n v } }

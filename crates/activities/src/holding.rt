@@ -12,6 +12,7 @@ ghost use Rattle.activities.specs.declared.parts.Until.TheVariants.{Retired};
 
 use crate::input::Input;
 use crate::parts::{Iteration, Main, Shared, Until};
+use ast::MOST_EVENTS;
 use ec_kernel::Kernel;
 use machine::{Code, Frame};
 use std::alloc::{AllocError, Global};
@@ -49,9 +50,8 @@ pub struct Activities<'c> {
     pub held: Vec<Option<Holder>>,
 }
 
-/// How many counts there are: those of events 1 to 64, and that of the iterations that have
-/// retired.
-const COUNTS: usize = 65;
+/// How many counts there are: those of events, and that of the iterations that have retired.
+const COUNTS: usize = MOST_EVENTS + 1;
 
 /// Takes all free slots.
 fn take_slots(kernel: &mut Kernel)

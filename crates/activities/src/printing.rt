@@ -1,10 +1,10 @@
 //! Records of PRINTs.
 
 ghost use Rattle.std.specs.Prelude.{◌≡◌, ◌≤◌, ◌<◌, ◌++◌, IfOk, OnOk, OnErr, length, map, reverse};
-ghost use Rattle.ast.specs.Record.{number, record_of};
+ghost use Rattle.ast.specs.Record.{Keeps, number, record_of, shown};
 ghost use Rattle.machine.specs.CodeView.{part};
 ghost use Rattle.machine.specs.View.{filled, values_wanted};
-ghost use Rattle.activities.specs.Printing.{Keeps, PrintsPiece, shown};
+ghost use Rattle.activities.specs.Printing.{PrintsPiece};
 
 use itoa::Buffer;
 use machine::Piece;

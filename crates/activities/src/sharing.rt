@@ -61,6 +61,7 @@ fn may_open(code: &Code, frame: &Frame, next: Next<'_>, iterations: &[Option<Ite
 {
     match next {
         Next::Opens(_) => {
+            // Its contract says that the operand is a 64-bit integer: so are the loop's parameters.
             let _last = operand(frame, 0);
             let _first = operand(frame, 1);
             none_open(iterations)

@@ -18,6 +18,7 @@ pub record Way : Type 0 where
   pub over : ℕ
   pub row : ℕ
 
+-- the place to which it goes
 abbrev pub to : Way → Place
 to w = record { column = w.from.column + w.over; row = w.row }
 
@@ -56,6 +57,7 @@ tip p = record { x = LEFT + STEP * p.column - TIP; y = MIDDLE + PITCH * p.row }
 abbrev pub bend : ℕ → ℕ
 bend distance = if nat_le distance 1 then 0 else 24
 
+-- the text of an arrow: a curve from the box that it leaves to the one to which it goes
 abbrev pub stroke : Way → List ℕ
 stroke w = curve (exit w.from) (tip (to w)) (bend w.over)
 
@@ -117,5 +119,6 @@ order_if (Some reason) text = text
 abbrev pub order : LoopPicture → List ℕ
 order p = order_if p.serial (one_by_one p.columns p.rows.items)
 
+-- all arrows of a loop's picture: those of the order, where it is serial, and then each group
 abbrev pub arrows : LoopPicture → List ℕ
 arrows p = order p ++ groups p.columns p.rows.items p.arrows.items

@@ -16,6 +16,7 @@ escape c =
     if is_printable c then c ∷ [] else
     63 ∷ []
 
+-- a text as it stands in SVG, byte by byte
 abbrev pub escaped : List ℕ → List ℕ
 escaped [] = []
 escaped (c ∷ cs) = escape c ++ escaped cs

@@ -36,6 +36,7 @@ title text = codes "<title>" ++ escaped text ++ codes "</title>"
 abbrev pub said : List ℕ → List ℕ
 said text = codes ">" ++ escaped text ++ codes "</text>\n"
 
+-- the text of words at a point
 abbrev pub words : Class → Point → List ℕ → List ℕ
 words c p text = classed (codes "<text class=\"") c ++ at_point p ++ said text
 
@@ -45,6 +46,7 @@ cornered c p = classed (codes "<rect class=\"") c ++ at_point p
 abbrev pub tile_title : List ℕ → List ℕ
 tile_title text = codes " rx=\"3\">" ++ title text ++ codes "</rect>\n"
 
+-- a box of a size at a point, with a title
 abbrev pub tile : Class → Point → Size → List ℕ → List ℕ
 tile c p s text = cornered c p ++ sized s ++ tile_title text
 
@@ -63,20 +65,24 @@ inner n = codes ">" ++ decimal n ++ codes "</text></g>\n"
 abbrev pub number_in : Point → ℕ → List ℕ
 number_in p n = codes "<text class=\"number\" dy=\"3\"" ++ at_point p ++ inner n
 
+-- a disc around a point, with a number in it and a title
 abbrev pub disc : Class → Point → ℕ → List ℕ → List ℕ
 disc c p n text = ring c text ++ circle p ++ number_in p n
 
+-- the text of a mark: words, a box or a disc
 abbrev pub mark : Mark → List ℕ
 mark (Words c p text) = words c p text.items
 mark (Tile c p s text) = tile c p s text.items
 mark (Disc c p n text) = disc c p n text.items
 
+-- marks one after another
 abbrev pub marks : List Mark → List ℕ
 marks [] = []
 marks (m ∷ ms) = mark m ++ marks ms
 
 -- ---- arrows
 
+-- the coordinates of a point, as a path has them
 abbrev pub point : Point → List ℕ
 point p = codes " " ++ decimal p.x ++ codes " " ++ decimal p.y
 

@@ -123,6 +123,10 @@ fn ends_of(rows: &[Row<'_>], arrow: &Arrow) -> Option<Ends>
 }
 
 /// Of each dependence, the row of its sink, from 0, if both its lines have one.
+///
+/// # Errors
+///
+/// `AllocError` where memory is refused.
 pub fn sinks(alloc: Global, picture: &LoopPicture<'_>) -> Result<Vec<Option<usize>>, AllocError> {
     let mut sinks = Vec::with_capacity(alloc, picture.arrows.len())?;
     for arrow in &picture.arrows {
@@ -254,6 +258,10 @@ fn order_of(alloc: Global, picture: &LoopPicture<'_>) -> Result<Vec<u8>, AllocEr
 }
 
 /// The arrows of a loop's picture, as elements of an SVG file.
+///
+/// # Errors
+///
+/// `AllocError` where memory is refused.
 pub fn arrows_of(alloc: Global, picture: &LoopPicture<'_>) -> Result<Vec<u8>, AllocError>
     ensures { IfOk result (λ text. text.items ≡ spec.arrows picture.now) }
 {

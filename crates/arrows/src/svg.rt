@@ -23,6 +23,10 @@ pub struct Size {
 }
 
 /// Appends a number in shortest decimal.
+///
+/// # Errors
+///
+/// `AllocError` where memory is refused; a part may have been appended then.
 pub fn append_number<I: Integer>(out: &mut Vec<u8>, number: I) -> Result<(), AllocError>
     ensures { OnOk result (out.new.items ≡ out.old.items ++ I.text number) }
 {
@@ -75,6 +79,10 @@ fn append_name(out: &mut Vec<u8>, front: &[u8], class: Class) -> Result<(), Allo
 }
 
 /// Appends the beginning of an element up to its class, by what stands before that.
+///
+/// # Errors
+///
+/// `AllocError` where memory is refused; a part may have been appended then.
 pub fn append_class(out: &mut Vec<u8>, front: &[u8], class: Class) -> Result<(), AllocError>
     ensures { OnOk result (out.new.items ≡ out.old.items ++ spec.classed front.now class) }
 {
@@ -101,6 +109,10 @@ fn append_said(out: &mut Vec<u8>, words: &[u8]) -> Result<(), AllocError>
 }
 
 /// Appends words that begin, or have their middle or their end, at a point, as their class says.
+///
+/// # Errors
+///
+/// `AllocError` where memory is refused; a part may have been appended then.
 pub fn append_words(
     out: &mut Vec<u8>,
     class: Class,
@@ -130,6 +142,10 @@ fn append_tile_title(out: &mut Vec<u8>, title: &[u8]) -> Result<(), AllocError>
 }
 
 /// Appends a box with its upper left corner at a point.
+///
+/// # Errors
+///
+/// `AllocError` where memory is refused; a part may have been appended then.
 pub fn append_tile(
     out: &mut Vec<u8>,
     class: Class,
@@ -209,6 +225,10 @@ fn append_mark(out: &mut Vec<u8>, mark: &Mark) -> Result<(), AllocError>
 }
 
 /// Appends marks, one after another.
+///
+/// # Errors
+///
+/// `AllocError` where memory is refused; a part may have been appended then.
 pub fn append_marks(out: &mut Vec<u8>, marks: &[Mark]) -> Result<(), AllocError>
     ensures { OnOk result (out.new.items ≡ out.old.items ++ spec.marks marks.now) }
 {
@@ -219,6 +239,10 @@ pub fn append_marks(out: &mut Vec<u8>, marks: &[Mark]) -> Result<(), AllocError>
 }
 
 /// What a file begins with: its size, a style sheet, and the ground.
+///
+/// # Errors
+///
+/// `AllocError` where memory is refused.
 pub fn opening(alloc: Global, size: Size, sheet: &[u8]) -> Result<Vec<u8>, AllocError>
     ensures { IfOk result (λ text. text.items ≡ spec.opening size sheet.now) }
 {

@@ -137,8 +137,8 @@ intrinsic_fits Min0 (a ∷ xs) f = just (least a xs) (least_fits a xs f.0 f.1)
 abbrev pub Fit : List Term → Type 0
 Fit es = list_all (λ e. is_fitting e) es ≡ true
 
-parts : (xs ys : List Term) → Fit (xs ++ ys) → Fit xs × Fit ys
-parts xs ys h = and_parts (list_all (λ e. is_fitting e) xs) (list_all (λ e. is_fitting e) ys) (sym (list_all-append (λ e. is_fitting e) xs ys) ∙ h)
+pub fit_parts : (xs ys : List Term) → Fit (xs ++ ys) → Fit xs × Fit ys
+fit_parts xs ys h = and_parts (list_all (λ e. is_fitting e) xs) (list_all (λ e. is_fitting e) ys) (sym (list_all-append (λ e. is_fitting e) xs ys) ∙ h)
 
 bound_fits : {X : Type 0} (r : Result X Fault) (next : X → Result ℤ Fault) → ((x : X) → r ≡ Ok x → GivesFit (next x)) → GivesFit (r >>= next)
 bound_fits (Ok x) next h = h x refl
@@ -326,7 +326,7 @@ module _ (symbols : List Symbol) where
     node_fits (plain s) run w f = kind_fits s.line s.kind run w f
     node_fits (loop line h b) run w f =
         let l = looked_up symbols run.store in
-        let p = parts (head_expressions h) (block_expressions b) w in
+        let p = fit_parts (head_expressions h) (block_expressions b) w in
         given_fits (value l h.first) line run (λ m1. given (value l h.last) line run (λ m2. given (step_value l h.step) line run (λ m3. looped line h.variable.name (λ before. exec_block symbols b before) m1 m2 m3 run))) f (λ m1 e1.
         given_fits (value l h.last) line run (λ m2. given (step_value l h.step) line run (λ m3. looped line h.variable.name (λ before. exec_block symbols b before) m1 m2 m3 run)) f (λ m2 e2.
         given_fits (step_value l h.step) line run (λ m3. looped line h.variable.name (λ before. exec_block symbols b before) m1 m2 m3 run) f (λ m3 e3.
@@ -336,13 +336,13 @@ module _ (symbols : List Symbol) where
     pub block_fits : (b : Block) (run : Run) → are_fitting b ≡ true → RunFits run → RunFits (exec_block symbols b run)
     block_fits no_nodes run w f = f
     block_fits (then_node n b) run w f =
-        let p = parts (node_expressions n) (block_expressions b) w in
+        let p = fit_parts (node_expressions n) (block_expressions b) w in
         either (is_last_stop n b) run (then_do (exec symbols n run) (λ r. exec_block symbols b r)) f (then_fits (exec symbols n run) (λ r. exec_block symbols b r) (node_fits n run p.0 f) (λ r k. block_fits b r p.1 k))
 
     arms_fit : (a : Arms) (run : Run) → Fit (arms_expressions a) → RunFits run → RunFits (exec_arms symbols a run)
     arms_fit no_arms run w f = f
-    arms_fit (then_arm line None b more) run w f = block_fits b run (parts (block_expressions b) (arms_expressions more) w).0 f
+    arms_fit (then_arm line None b more) run w f = block_fits b run (fit_parts (block_expressions b) (arms_expressions more) w).0 f
     arms_fit (then_arm line (Some c) b more) run w f =
-        let p = parts (c ∷ block_expressions b) (arms_expressions more) w in
+        let p = fit_parts (c ∷ block_expressions b) (arms_expressions more) w in
         let q = and_parts (is_fitting c) (list_all (λ e. is_fitting e) (block_expressions b)) p.0 in
         given_fits (value (looked_up symbols run.store) c) line run (λ v. if is_true v then exec_block symbols b run else exec_arms symbols more run) f (λ v e. either (is_true v) (exec_block symbols b run) (exec_arms symbols more run) (block_fits b run q.1 f) (arms_fit more run p.1 f))

@@ -1,4 +1,5 @@
--- The values of a DO variable in its trips lie between the first two parameters, so they are 64-bit integers.
+-- The values of a DO variable in its trips lie between the first two parameters, so they are 64-bit
+-- integers.
 use Rattle.std.proofs.Common.{◌≡◌, ◌∙◌, ◌+◌, ◌*◌, ◌/◌, ◌^◌, ◌<◌, ◌≤◌, ◌≤ℤ◌, ◌<ℤ◌, ℕ, zero, suc, ℤ, pos, negsuc, true, false, neg_ℤ, refl, sym, ap, subst, arith}
 use Rattle.std.specs.Prelude.{◌+ℤ◌, ◌-ℤ◌, ◌*ℤ◌, int_div}
 use Rattle.std.specs.Ordering.{int_eq}

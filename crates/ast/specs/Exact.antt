@@ -18,32 +18,41 @@ abbrev pub fits : ℤ → Bool
 fits (pos n) = nat_lt n (2 ^ 63)
 fits (negsuc n) = nat_lt n (2 ^ 63)
 
+-- a whole number that is a 64-bit integer, otherwise OVERFLOW
 abbrev pub in_range : ℤ → Result ℤ Fault
 in_range z = if fits z then Ok z else Err Overflow
 
+-- the quotient, truncated toward zero, in range, or ZERO DIVISOR
 abbrev pub quotient : ℤ → ℤ → Result ℤ Fault
 quotient a (pos zero) = Err ZeroDivisor
 quotient a (pos (suc n)) = in_range (int_div a (pos (suc n)))
 quotient a (negsuc n) = in_range (int_div a (negsuc n))
 
+-- what a truncated quotient leaves, or ZERO DIVISOR; it is always in range
 abbrev pub remainder : ℤ → ℤ → Result ℤ Fault
 remainder a (pos zero) = Err ZeroDivisor
 remainder a (pos (suc n)) = Ok (int_rem a (pos (suc n)))
 remainder a (negsuc n) = Ok (int_rem a (negsuc n))
 
+-- the absolute value, in range: that of -2**63 is not
 abbrev pub absolute : ℤ → Result ℤ Fault
 absolute a = in_range (pos (unsigned_abs a))
 
+-- the number with the other sign, in range
 abbrev pub negated : ℤ → Result ℤ Fault
 negated a = in_range (neg_ℤ a)
 
+-- 1 for true, 0 for false
 abbrev pub truth_value : Bool → ℤ
 truth_value true = pos 1
 truth_value false = pos 0
 
+-- every other number than 0 counts as true
 abbrev pub is_true : ℤ → Bool
 is_true v = not (int_eq v (pos 0))
 
+-- The exact sum, difference, product or truncated quotient, in range, or ZERO DIVISOR; of a
+-- comparison or a logical operator a truth value.
 abbrev pub value_of : Operator → ℤ → ℤ → Result ℤ Fault
 value_of Add a b = in_range (a +ℤ b)
 value_of Subtract a b = in_range (a -ℤ b)
@@ -60,14 +69,17 @@ value_of Or a b = Ok (truth_value (is_true a || is_true b))
 value_of Equivalent a b = Ok (truth_value (if is_true a then is_true b else not (is_true b)))
 value_of NotEquivalent a b = Ok (truth_value (if is_true a then not (is_true b) else is_true b))
 
+-- the value of a prefix with its operand
 abbrev pub prefixed_value : Prefix → ℤ → Result ℤ Fault
 prefixed_value Plus a = Ok a
 prefixed_value Minus a = negated a
 prefixed_value Not a = Ok (truth_value (not (is_true a)))
 
+-- the greater of two numbers
 abbrev pub greater : ℤ → ℤ → ℤ
 greater a b = if int_lt a b then b else a
 
+-- the lesser of two numbers
 abbrev pub less : ℤ → ℤ → ℤ
 less a b = if int_lt b a then b else a
 
@@ -96,5 +108,6 @@ abbrev pub positive_part : ℤ → ℕ
 positive_part (pos n) = n
 positive_part (negsuc n) = 0
 
+-- by the first value, the last and the step
 abbrev pub trips : ℤ → ℤ → ℤ → ℕ
 trips m1 m2 m3 = positive_part (int_div ((m2 -ℤ m1) +ℤ m3) m3)

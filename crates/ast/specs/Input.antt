@@ -11,6 +11,7 @@ use Rattle.ast.specs.Results.{◌>>=◌}
 use Rattle.ast.specs.declared.fault.Fault.{Fault}
 use Rattle.ast.specs.declared.fault.Fault.TheVariants.{EndOfInput, BadInput}
 
+-- the records of an input, without what ends their lines
 abbrev pub records_of : List ℕ → List (List ℕ)
 records_of input = map without_terminator (lines_of input)
 
@@ -43,6 +44,7 @@ integer_of sign digits =
     if not (is_empty digits) && (list_all is_ascii_digit digits && fits (sign (digits_value 10 digits)))
     then Some (sign (digits_value 10 digits)) else None
 
+-- the integer that a word spells, if it spells one of 64 bits
 abbrev pub integer_in : List ℕ → Option ℤ
 integer_in [] = None
 integer_in (c ∷ cs) =
@@ -54,6 +56,7 @@ abbrev pub with_first : Option ℤ → Option (List ℤ) → Option (List ℤ)
 with_first (Some x) (Some xs) = Some (x ∷ xs)
 with_first _ _ = None
 
+-- the integers that words spell, if each spells one
 abbrev pub integers_in : List (List ℕ) → Option (List ℤ)
 integers_in [] = Some []
 integers_in (w ∷ ws) = with_first (integer_in w) (integers_in ws)

@@ -10,6 +10,7 @@ pub mod Record
 pub mod References
 pub mod Regular
 pub mod Results
+pub mod Spelling
 pub mod Stops
 pub mod Store
 pub mod Symbols

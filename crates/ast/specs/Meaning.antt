@@ -19,8 +19,8 @@ use Rattle.ast.specs.declared.fault.End.TheVariants.{Done, Stopped, Fault as Fau
 abbrev pub LookUp : Type 0
 LookUp = Ref → List ℤ → Result ℤ Fault
 
--- The value of an expression, or its first fault: all operands, from left to right, also under .AND.
--- and .OR.; of an element its subscripts, then what it holds.
+-- The value of an expression, or its first fault: all operands, from left to right, also under
+-- .AND. and .OR.; of an element its subscripts, then what it holds.
 abbrev mutual
   pub value : LookUp → Term → Result ℤ Fault
   value look (constant n) = Ok n
@@ -89,6 +89,7 @@ abbrev pub are_stop_and_end : Kind → Kind → Bool
 are_stop_and_end stop end = true
 are_stop_and_end _ _ = false
 
+-- whether a node is a STOP and what stands behind it in its block is END alone
 abbrev pub is_last_stop : Node → Block → Bool
 is_last_stop (plain s) (then_node (plain t) no_nodes) = are_stop_and_end s.kind t.kind
 is_last_stop _ _ = false
@@ -110,6 +111,7 @@ read_elements symbols line (a ∷ more) xs run =
     given (target symbols run.store a) line run (λ p.
     read_elements symbols line more x.1 (written (record run { input = x.2 }) a.ref.name p x.0)))
 
+-- where a run stands after a statement that holds no others
 abbrev pub exec_plain : List Symbol → ℕ → Kind → Run → Run
 exec_plain symbols line (assign a e) run =
     given (value (looked_up symbols run.store) e) line run (λ n.
@@ -132,6 +134,7 @@ looped line name range m1 m2 m3 run =
     else turns (λ before. then_do (range before) (λ after. grown line name m3 after)) (trips m1 m2 m3) (written run name 0 m1)
 
 abbrev mutual
+  -- Where a run stands after a statement. The parameters of a DO are evaluated first, in order.
   pub exec : List Symbol → Node → Run → Run
   exec symbols (plain s) run = exec_plain symbols s.line s.kind run
   exec symbols (loop line h b) run =

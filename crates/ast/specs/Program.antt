@@ -19,6 +19,7 @@ abbrev mutual
   loops_in_node (loop l h b) = 1 + loops_in b
   loops_in_node (choose a) = loops_in_arms a
 
+  -- those of a block, at any depth
   pub loops_in : Block → ℕ
   loops_in no_nodes = 0
   loops_in (then_node n b) = loops_in_node n + loops_in b
@@ -39,6 +40,7 @@ is_variable_named name (Some s) = same_name s.name name && is_variable s.sort
 abbrev pub is_placed : List Symbol → Ref → Bool
 is_placed symbols r = is_variable_named r.name (slice_get symbols r.cell)
 
+-- each reference of a block is placed among the symbols
 abbrev pub are_placed : List Symbol → Block → Bool
 are_placed symbols b = list_all (λ r. is_placed symbols r) (block_references b)
 
@@ -46,5 +48,6 @@ are_placed symbols b = list_all (λ r. is_placed symbols r) (block_references b)
 abbrev pub greatest_depth : ℕ
 greatest_depth = 128
 
+-- no expression of a block is deeper than that
 abbrev pub are_shallow : Block → Bool
 are_shallow b = list_all (λ e. nat_le (depth e) greatest_depth) (block_expressions b)

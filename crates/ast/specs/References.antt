@@ -46,6 +46,7 @@ abbrev mutual
   node_expressions (loop l h b) = head_expressions h ++ block_expressions b
   node_expressions (choose a) = arms_expressions a
 
+  -- the expressions of a block, in order of evaluation
   pub block_expressions : Block → List Term
   block_expressions no_nodes = []
   block_expressions (then_node n b) = node_expressions n ++ block_expressions b
@@ -58,6 +59,7 @@ abbrev pub expressions_references : List Term → List Ref
 expressions_references [] = []
 expressions_references (e ∷ es) = term_references e ++ expressions_references es
 
+-- the references of a block, in order of evaluation
 abbrev pub block_references : Block → List Ref
 block_references b = expressions_references (block_expressions b)
 

@@ -1,5 +1,5 @@
--- What holds of each program's tree beside the places and the numbers of its references: the profile's rules
--- on subscripts, on DO variables and on END, and the range of constants.
+-- What holds of each program's tree beside the places and the numbers of its references: the
+-- profile's rules on subscripts, on DO variables and on END, and the range of constants.
 use Rattle.std.specs.Prelude.{ℕ, Bool, true, false, not, ◌&&◌, ◌||◌, ◌==◌, List, [], ◌∷◌, length, map}
 use Rattle.std.specs.List.{list_all, list_any}
 use Rattle.ast.specs.Exact.{fits}
@@ -53,7 +53,8 @@ abbrev pub is_none_of : List (List ℕ) → List ℕ → Bool
 is_none_of names name = not (list_any (same_name name) names)
 
 abbrev mutual
-  -- no statement and no inner DO gives one of these names a value, nor its own variable in its range
+  -- no statement and no inner DO gives one of these names a value, nor its own variable in its
+  -- range
   pub node_keeps : List (List ℕ) → Node → Bool
   node_keeps names (plain s) = list_all (is_none_of names) (given_by s.kind)
   node_keeps names (loop l h b) = is_none_of names h.variable.name && block_keeps (h.variable.name ∷ names) b
@@ -88,14 +89,18 @@ holds_end (plain s) = false
 holds_end (loop l h b) = block_has_end b
 holds_end (choose a) = arms_have_end a
 
+-- no node of a block holds END inside: it stands at the outer level alone
 abbrev pub ends_outside : Block → Bool
 ends_outside no_nodes = true
 ends_outside (then_node n b) = not (holds_end n) && ends_outside b
 
 -- ---- a program's block
 
+-- Each reference has as many subscripts as its name has dimensions; no statement and no DO gives
+-- the variable of a DO around it a value; END stands in no range and in no arm.
 abbrev pub is_regular : List Symbol → Block → Bool
 is_regular symbols b = list_all (λ e. is_counted symbols e) (block_expressions b) && (block_keeps [] b && ends_outside b)
 
+-- each constant in a block is a 64-bit integer
 abbrev pub are_fitting : Block → Bool
 are_fitting b = list_all (λ e. is_fitting e) (block_expressions b)

@@ -6,6 +6,7 @@ use Rattle.std.specs.Cmp.Lexicographic.{pointwise}
 abbrev pub same_name : List ℕ → List ℕ → Bool
 same_name = pointwise nat_eq
 
+-- a store: the value of each name at each place
 abbrev pub StoreOf : Type 0
 StoreOf = List ℕ → ℕ → ℤ
 

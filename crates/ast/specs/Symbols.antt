@@ -16,6 +16,7 @@ pub data Sort : Type 0 where
   variable : List Extent → Sort
   fixed : ℤ → Sort
 
+-- a name, and what it stands for
 pub record Symbol : Type 0 where
   pub name : List ℕ
   pub sort : Sort
@@ -41,6 +42,7 @@ size (fixed n) = 0
 abbrev pub shapes_of : List Symbol → List (List ℕ × ℕ)
 shapes_of symbols = map (λ s. (s.name, size s.sort)) symbols
 
+-- whether a subscript is within the bounds of its dimension
 abbrev pub is_within : Extent → ℤ → Bool
 is_within d x = not (int_lt x d.lower) && not (int_lt d.upper x)
 
@@ -58,6 +60,7 @@ abbrev pub dimensions_of : Sort → List Extent
 dimensions_of (variable ds) = ds
 dimensions_of (fixed n) = []
 
+-- the dimensions of a name among symbols; none where it isn't there
 abbrev pub dimensions_in : List Symbol → List ℕ → List Extent
 dimensions_in [] name = []
 dimensions_in (s ∷ symbols) name = if same_name s.name name then dimensions_of s.sort else dimensions_in symbols name
@@ -70,6 +73,7 @@ most_elements = 1048576
 abbrev pub is_sized_sort : Sort → Bool
 is_sized_sort s = list_all (λ d. not (int_lt d.upper d.lower)) (dimensions_of s) && nat_le (size s) most_elements
 
+-- no bounds of a symbol are crossed, and it has at most 1,048,576 elements
 abbrev pub is_sized : Symbol → Bool
 is_sized s = is_sized_sort s.sort
 
@@ -77,5 +81,6 @@ is_sized s = is_sized_sort s.sort
 abbrev pub cell_of : StoreOf → Symbol → List ℕ × List ℤ
 cell_of store s = (s.name, values_from (store s.name) 0 (size s.sort))
 
+-- each name with the values that it has in a store
 abbrev pub cells_of : List Symbol → StoreOf → List (List ℕ × List ℤ)
 cells_of symbols store = map (λ s. cell_of store s) symbols

@@ -1,5 +1,5 @@
--- The trees that definitions speak of. A name is the list of its six codes, blanks filling it on the
--- right.
+-- The trees that definitions speak of. A name is the list of its six codes, blanks filling it on
+-- the right.
 use Rattle.std.specs.Prelude.{ℕ, ℤ, Bool, List, [], ◌∷◌, ◌+◌, max, Option}
 use Rattle.ast.specs.declared.expression.Operator.{Operator}
 use Rattle.ast.specs.declared.expression.Prefix.{Prefix}
@@ -13,8 +13,8 @@ pub record Ref : Type 0 where
   pub cell : ℕ
 
 mutual
-  -- An expression. A scalar variable is an element without subscripts; in the text of a statement an
-  -- element is any name, with what follows it in parentheses.
+  -- An expression. A scalar variable is an element without subscripts; in the text of a statement
+  -- an element is any name, with what follows it in parentheses.
   pub data Term : Type 0 where
     constant : ℤ → Term
     truth : Bool → Term
@@ -108,14 +108,17 @@ mutual
     loop : ℕ → DoHead → Block → Node
     choose : Arms → Node
 
+  -- statements, one after another
   pub data Block : Type 0 where
     no_nodes : Block
     then_node : Node → Block → Block
 
+  -- the arms of an IF: the line, the condition if it is no ELSE, and the statements of each
   pub data Arms : Type 0 where
     no_arms : Arms
     then_arm : ℕ → Option Term → Block → Arms → Arms
 
+-- the block of a list of nodes
 abbrev pub block : List Node → Block
 block [] = no_nodes
 block (n ∷ ns) = then_node n (block ns)

@@ -30,9 +30,11 @@ use Rattle.ast.specs.declared.tree.Node.{Node, fold-Node}
 use Rattle.ast.specs.declared.tree.Node.TheOpen.{Node-F, Arm-F}
 use Rattle.ast.specs.declared.tree.Arm.{Arm, fold-Arm}
 
+-- the letters of a name
 abbrev pub letters : Name → List ℕ
 letters n = n.letters
 
+-- a reference: its name, its number, and the place of the name
 abbrev pub ref : Reference → Ref
 ref r = record { name = r.name.letters; id = r.id.0; cell = r.cell }
 
@@ -51,30 +53,38 @@ term_step (Expr-F.Binary o a b) = tree.binary o a.value b.value
 abbrev pub access_step : Access-F Term tree.Access → tree.Access
 access_step a = record { ref = ref a.reference; subscripts = terms a.subscripts.items }
 
+-- an expression
 abbrev pub term : Expr → Term
 term = fold-Expr Term tree.Access term_step access_step
 
+-- a variable or an element
 abbrev pub access : Access → tree.Access
 access = fold-Access Term tree.Access term_step access_step
 
+-- an expression that may be absent
 abbrev pub optional_term : Option Expr → Option Term
 optional_term e = option_map term e
 
 -- ---- statements of the text
 
+-- an item of a PRINT
 abbrev pub item : Item → PrintItem
 item (Value e) = value_item (term e)
 item (Text t) = text_item t.items
 
+-- the bounds of a dimension
 abbrev pub bounds : Bounds → tree.Bounds
 bounds b = record { lower = optional_term b.lower; upper = term b.upper }
 
+-- a declarator
 abbrev pub declarator : Declarator → tree.Declarator
 declarator d = record { name = d.name.letters; bounds = map bounds d.bounds.items }
 
+-- the definition of a constant
 abbrev pub definition : Definition → tree.Definition
 definition d = record { name = d.name.letters; value = term d.value }
 
+-- a DO statement
 abbrev pub head : DoHead → tree.DoHead
 head h = record { terminal = h.terminal; variable = ref h.variable; first = term h.first; last = term h.last; step = optional_term h.step }
 
@@ -96,9 +106,11 @@ kind_step (Kind-F.Read elements) = tree.read (map access elements.items)
 kind_step Kind-F.Stop = tree.stop
 kind_step Kind-F.End = tree.end
 
+-- what a statement does
 abbrev pub kind : Kind → tree.Kind
 kind = fold-Kind tree.Kind kind_step
 
+-- a statement of the text
 abbrev pub statement : Stmt → Statement
 statement s = record { line = s.line; label = s.label; kind = kind s.kind }
 
@@ -112,22 +124,28 @@ node_step (Node-F.Choice a) = tree.choose (arms a.items)
 abbrev pub arm_step : Arm-F tree.Node tree.Arm → tree.Arm
 arm_step a = record { line = a.line; condition = optional_term a.condition; body = block a.body.items }
 
+-- a statement of a program, with those that it holds
 abbrev pub node : Node → tree.Node
 node = fold-Node tree.Node tree.Arm node_step arm_step
 
+-- an arm of an IF
 abbrev pub arm : Arm → tree.Arm
 arm = fold-Arm tree.Node tree.Arm node_step arm_step
 
+-- statements, one after another
 abbrev pub block_view : List Node → Block
 block_view ns = block (map node ns)
 
+-- a dimension, with the values of its bounds
 abbrev pub extent : Dimension → Extent
 extent d = record { lower = d.lower; upper = d.upper }
 
+-- what a name stands for
 abbrev pub sort : SymbolKind → Sort
 sort (sorts.Variable ds) = symbols.variable (map extent ds.items)
 sort (sorts.Constant n) = symbols.fixed n
 
+-- a name, and what it stands for
 abbrev pub symbol : Symbol → symbols.Symbol
 symbol s = record { name = s.name.letters; sort = sort s.kind }
 
@@ -137,6 +155,7 @@ symbol s = record { name = s.name.letters; sort = sort s.kind }
 abbrev pub shapes_in : List Seat → List (List ℕ × ℕ)
 shapes_in seats = map (λ s. (s.name.letters, s.size)) seats
 
+-- the same of a table
 abbrev pub shapes : Table → List (List ℕ × ℕ)
 shapes t = shapes_in t.seats.items
 

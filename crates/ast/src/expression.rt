@@ -29,6 +29,22 @@ pub enum Prefix {
     Not,
 }
 
+impl Prefix {
+    ghost use Rattle.std.specs.Prelude.{◌≡◌};
+    ghost use Rattle.ast.specs.Spelling.{prefix_spelling};
+
+    /// How a statement without blanks spells it.
+    pub fn spelling(self) -> &'static [u8]
+        ensures { result.now ≡ prefix_spelling self }
+    {
+        match self {
+            Prefix::Plus => b"+",
+            Prefix::Minus => b"-",
+            Prefix::Not => b".NOT.",
+        }
+    }
+}
+
 /// An operator between two operands.
 #[derive(Clone, Copy, PartialEq, Eq)]
 pub enum Operator {
@@ -48,6 +64,33 @@ pub enum Operator {
     NotEquivalent,
 }
 
+impl Operator {
+    ghost use Rattle.std.specs.Prelude.{◌≡◌};
+    ghost use Rattle.ast.specs.Spelling.{spelling};
+
+    /// How a statement without blanks spells it.
+    pub fn spelling(self) -> &'static [u8]
+        ensures { result.now ≡ spelling self }
+    {
+        match self {
+            Operator::Add => b"+",
+            Operator::Subtract => b"-",
+            Operator::Multiply => b"*",
+            Operator::Divide => b"/",
+            Operator::Less => b".LT.",
+            Operator::LessOrEqual => b".LE.",
+            Operator::Equal => b".EQ.",
+            Operator::NotEqual => b".NE.",
+            Operator::Greater => b".GT.",
+            Operator::GreaterOrEqual => b".GE.",
+            Operator::And => b".AND.",
+            Operator::Or => b".OR.",
+            Operator::Equivalent => b".EQV.",
+            Operator::NotEquivalent => b".NEQV.",
+        }
+    }
+}
+
 /// An intrinsic function, by its name.
 #[derive(Clone, Copy, PartialEq, Eq)]
 pub enum Intrinsic {
@@ -58,6 +101,50 @@ pub enum Intrinsic {
     Min,
     Min0,
     Mod,
+}
+
+impl Intrinsic {
+    ghost use Rattle.std.specs.Prelude.{◌≡◌};
+    ghost use Rattle.ast.specs.Spelling.{intrinsic_name, intrinsic_named};
+
+    pub fn name(self) -> Name
+        ensures { result.letters ≡ intrinsic_name self }
+    {
+        let letters = match self {
+            Intrinsic::Abs => *b"ABS   ",
+            Intrinsic::Iabs => *b"IABS  ",
+            Intrinsic::Max => *b"MAX   ",
+            Intrinsic::Max0 => *b"MAX0  ",
+            Intrinsic::Min => *b"MIN   ",
+            Intrinsic::Min0 => *b"MIN0  ",
+            Intrinsic::Mod => *b"MOD   ",
+        };
+        Name { letters }
+    }
+
+    /// The intrinsic function of this name, if there is one.
+    pub fn named(name: &Name) -> Option<Self>
+        ensures { result ≡ intrinsic_named name.now.letters }
+    {
+        let letters = &name.letters;
+        if *letters == *b"ABS   " {
+            Some(Intrinsic::Abs)
+        } else if *letters == *b"IABS  " {
+            Some(Intrinsic::Iabs)
+        } else if *letters == *b"MAX   " {
+            Some(Intrinsic::Max)
+        } else if *letters == *b"MAX0  " {
+            Some(Intrinsic::Max0)
+        } else if *letters == *b"MIN   " {
+            Some(Intrinsic::Min)
+        } else if *letters == *b"MIN0  " {
+            Some(Intrinsic::Min0)
+        } else if *letters == *b"MOD   " {
+            Some(Intrinsic::Mod)
+        } else {
+            None
+        }
+    }
 }
 
 /// An expression, integer or logical.

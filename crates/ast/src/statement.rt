@@ -121,6 +121,7 @@ pub struct Stmt {
     pub kind: Kind,
 }
 
+/// An equal expression where there is one, or `AllocError` where memory is refused.
 pub fn copy_of_optional(alloc: Global, given: &Option<Expr>) -> Result<Option<Expr>, AllocError>
     ensures { IfOk result (λ copy. optional_term copy ≡ optional_term given.now) }
 {

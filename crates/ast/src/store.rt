@@ -62,6 +62,10 @@ impl Store {
     }
 
     /// A store of zeros, in the order of a program's symbols.
+    ///
+    /// # Errors
+    ///
+    /// `AllocError` where memory is refused.
     #[tactic(auto, using(crate::proofs::Cells::zeros_dealt))]
     pub fn zeros(alloc: Global, symbols: &[Symbol]) -> Result<Store, AllocError>
         requires { list_all is_sized (map symbol_of symbols.now) ≡ true }

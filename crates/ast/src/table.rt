@@ -62,6 +62,10 @@ impl Table {
     }
 
     /// The names of a program's symbols, in their order.
+    ///
+    /// # Errors
+    ///
+    /// `AllocError` where memory is refused.
     pub fn of(alloc: Global, symbols: &[Symbol]) -> Result<Table, AllocError>
         requires { list_all is_sized (map symbol_of symbols.now) ≡ true }
         ensures { IfOk result (λ table. shapes table ≡ shapes_of (map symbol_of symbols.now)) }

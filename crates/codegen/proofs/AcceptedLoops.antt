@@ -10,21 +10,21 @@ use Rattle.ast.specs.Stops.{is_end_kind}
 use Rattle.ast.specs.Store.{same_name}
 use Rattle.ast.specs.Symbols.{dimensions_in, names_of}
 use Rattle.ast.specs.Tree.{Ref, Terms, no_terms, then_term, Block, count_of}
+use Rattle.ast.proofs.SameNames.{same_itself}
 use Rattle.dependence.specs.Plan.{awaits, advances, plain, loop, choose, PlanBlock, no_nodes, then_node, PlanArms, no_arms, made_else, then_arm}
 use Rattle.loop_tree.specs.Loops.{Loop, loops_of}
 use Rattle.loop_tree.specs.Occurrences.{Occurrence}
 use Rattle.loop_tree.specs.Private.{Private}
 use Rattle.loop_tree.proofs.RegularLoops.{Each, RegularLoop, inner_scalars, is_left, is_right, loops_regular}
-use Rattle.machine.proofs.Naming.{same_itself}
 use Rattle.expr_code.specs.Places.{dimensions_at}
 use Rattle.expr_code.specs.Process.{count}
 use Rattle.expr_code.proofs.Finding.{dimensions_same}
 use Rattle.plan_check.specs.GoodPlan.{GoodPlan, SameBody, made_bare, made_bare_arms, only_events, stripped, stripped_arms}
-use Rattle.plan_check.proofs.Members.{In}
+use Rattle.plan_check.proofs.Members.{In, all_in}
 use Rattle.privatise.specs.Privates.{ArePrivate, Picked}
 use Rattle.codegen.specs.Program.{Planned, most_symbols}
 use Rattle.codegen.proofs.AssignedOnce.{Apart, block_apart, few_scalars, names_once, picked_apart}
-use Rattle.codegen.proofs.ProgramFacts.{all_at, body_placed, parts_placed, reference_placed, regular, shape, shown_placed, unique}
+use Rattle.codegen.proofs.ProgramFacts.{body_placed, parts_placed, reference_placed, regular, shape, shown_placed, unique}
 use Rattle.codegen.proofs.RegularPlans.{ArmsNoEnd, NoEnd, Regular}
 use Rattle.codegen.proofs.Theorem.{Opens}
 
@@ -79,10 +79,10 @@ module _ (t : ProgramTree) (distinct : IsDistinct same_name (names_of t.symbols)
       regular t distinct placed numbered x.loop among
       (λ o i.
       same_count o.subscripts
-      ∙ eqb-true (count_of o.subscripts) (length (dimensions_in t.symbols o.ref.name)) (all_at (is_right t.symbols) x.loop.references o is.counted i)
+      ∙ eqb-true (count_of o.subscripts) (length (dimensions_in t.symbols o.ref.name)) (all_in (is_right t.symbols) x.loop.references o is.counted i)
       ∙ ap length (dimensions_same t.symbols o.ref distinct (reference_placed t distinct placed numbered x.loop among o i)))
       (sym (dimensions_same t.symbols x.loop.head.variable distinct (parts_placed t distinct placed numbered x.loop among).0) ∙ is.scalar)
-      (λ o i d e. unassigned o (all_at (is_left (x.loop.head.variable.name ∷ [])) x.loop.references o is.left i) d e)
+      (λ o i d e. unassigned o (all_in (is_left (x.loop.head.variable.name ∷ [])) x.loop.references o is.left i) d e)
     where
       unassigned : (o : Occurrence) → (not o.defines || is_none_of (x.loop.head.variable.name ∷ []) o.ref.name) ≡ true → o.defines ≡ true → o.ref.name ≡ x.loop.head.variable.name → ⊥
       unassigned o h d e =
@@ -113,7 +113,7 @@ module _ (t : ProgramTree) (distinct : IsDistinct same_name (names_of t.symbols)
       picked_in P (q ∷ rs) ps (inr h) r i = inr (picked_in P rs ps h.1 r i)
 
       scalars_placed : (r : Ref) → In r privates.scalars → is_placed t.symbols r ≡ true
-      scalars_placed r i = all_at (λ q. is_placed t.symbols q) x.loop.assigned r (parts_placed t distinct placed numbered x.loop among).1 (picked_in (λ q. Private x.loop q.cell) x.loop.assigned privates.scalars privates.picked r i)
+      scalars_placed r i = all_in (λ q. is_placed t.symbols q) x.loop.assigned r (parts_placed t distinct placed numbered x.loop among).1 (picked_in (λ q. Private x.loop q.cell) x.loop.assigned privates.scalars privates.picked r i)
 
       inner : (lp : Loop) → In lp (loops_of x.loop.body) → dimensions_at t.symbols lp.head.variable.cell ≡ []
       inner lp i =

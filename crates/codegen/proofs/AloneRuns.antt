@@ -1,4 +1,5 @@
--- The run alone comes to each point of every run at which no loop is open, and to the opening of each loop.
+-- The run alone comes to each point of every run at which no loop is open, and to the opening of
+-- each loop.
 use Rattle.std.proofs.Common.{◌≡◌, ◌∙◌, ℕ, ◌<◌, ◌≤◌, ℤ, List, [], ◌∷◌, ◌++◌, Option, Some, None, ◌⊎◌, inl, inr, refl, sym, ap, subst, ⊎_elim, arith}
 use Rattle.ast.specs.Store.{StoreOf}
 use Rattle.ast.specs.declared.fault.End.{End}
@@ -6,7 +7,7 @@ use Rattle.ast.specs.declared.fault.End.TheVariants.{Done}
 use Rattle.machine.specs.Code.{Cell}
 use Rattle.machine.specs.State.{State, Active, Wait, until_retired, Who, the_main, iteration, Choice, take_main, take_iteration, take_ticket, Reached, Move, MainMove, Takes, Turn, Step, Run, put_at, put_cell, put_cells, end_of}
 use Rattle.machine.specs.View.{Cause, Input, View, doing, loading, storing, printing, reading, awaiting, advancing, opening, joining, leaving, breaking, halting, stuck}
-use Rattle.codegen.proofs.IterationLaws.{put_same}
+use Rattle.machine.proofs.Puts.{put_same}
 use Rattle.codegen.proofs.IterationSteps.{Process, fault, after, sequential, went}
 use Rattle.codegen.proofs.LoopRuns.{faulted, finished, pasts, shown}
 use Rattle.codegen.proofs.Outcomes.{Outcome}

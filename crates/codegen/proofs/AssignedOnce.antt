@@ -1,5 +1,5 @@
--- A range's assigned scalars are listed once each, so a program's loop has no more private scalars than the
--- program has symbols, and no two of one name.
+-- A range's assigned scalars are listed once each, so a program's loop has no more private scalars
+-- than the program has symbols, and no two of one name.
 use Rattle.std.proofs.Common.{◌≡◌, ◌∙◌, ◌<◌, ◌≤◌, inl, inr, ℕ, zero, suc, Bool, true, false, List, [], ◌∷◌, ◌++◌, map, length, get_or, refl, sym, ap, subst, arith, Option, Some, None}
 use Rattle.std.specs.Prelude.{◌==◌, ◌||◌, if◌then◌else◌, slice_get}
 use Rattle.std.specs.List.{AllByRecursion, IsDistinct, list_any}

@@ -1,5 +1,5 @@
--- Beside every run of the machine there is the run alone: at each state of that one, where no loop is open,
--- it stands in one that is like it, and, where one is, at the loop's opening.
+-- Beside every run of the machine there is the run alone: at each state of that one, where no loop
+-- is open, it stands in one that is like it, and, where one is, at the loop's opening.
 use Rattle.std.proofs.Common.{◌≡◌, ◌∙◌, ℕ, ◌<◌, ◌≤◌, ℤ, List, [], ◌∷◌, ◌++◌, Option, Some, None, ◌⊎◌, inl, inr, refl, sym, ap, subst, arith}
 use Rattle.ast.specs.Input.{records_of}
 use Rattle.ast.specs.Store.{StoreOf, zeros}

@@ -3,6 +3,7 @@ use Rattle.std.proofs.Common.{◌≡◌, ◌∙◌, inl, inr, ℕ, zero, suc, �
 use Rattle.std.specs.Prelude.{if◌then◌else◌}
 use Rattle.std.specs.Ordering.{int_eq}
 use Rattle.std.proofs.lemmas.List.{append-nil}
+use Rattle.plan_check.proofs.Members.{in_left}
 use Rattle.ast.specs.Exact.{is_true, trips}
 use Rattle.ast.specs.Record.{Printed, number, record_of, text}
 use Rattle.ast.specs.References.{expressions_references, items_expressions, optional, term_references, terms_references}
@@ -12,13 +13,14 @@ use Rattle.ast.specs.declared.fault.Fault.TheVariants.{ZeroStep}
 use Rattle.dependence.specs.Plan.{PlanNode, awaits, advances, plain, loop, choose, PlanBlock, no_nodes, then_node, PlanArms, no_arms, made_else, then_arm, PlanNodePaths, PlanPaths, PlanArmsPaths}
 use Rattle.loop_tree.specs.Loops.{Loop}
 use Rattle.loop_tree.specs.Paths.{Token, defines, await, advance, Ending, at_end, at_stop, PathSet, Just, Then, Either, Times, AnyTimes, KindPaths, used, head_tokens, targets_tokens}
+use Rattle.loop_tree.proofs.References.{used_append}
 use Rattle.expr_code.specs.Places.{Places, Home, loop_index, private_scalar, in_store, dimensions_at, home}
 use Rattle.expr_code.specs.Process.{term_into}
 use Rattle.codegen.specs.Process as process
 use Rattle.codegen.specs.Process.{Doing, arms_into, block_into, given_into, grown_into, is_last_stop, items_into, kind_into, node_into, serial_into, set_up_into, step_into, stored_into, turns_into, variable_into}
 use Rattle.codegen.specs.Program.{none_open}
 use Rattle.codegen.proofs.IterationSteps.{In}
-use Rattle.codegen.proofs.Walking.{AllKnown, Known, Located, WalksTerms, home_at, target_walks, term_walks, used-append}
+use Rattle.codegen.proofs.Walking.{AllKnown, Known, Located, WalksTerms, home_at, target_walks, term_walks}
 
 -- ---- each plan has a path
 
@@ -76,8 +78,8 @@ mutual
 
 -- ---- the steps' rules
 
--- What is given a value, awaited or advanced is a token. After a trip of a serial DO its variable grows,
--- which is no token: the variable was given a value before.
+-- What is given a value, awaited or advanced is a token. After a trip of a serial DO its variable
+-- grows, which is no token: the variable was given a value before.
 pub record Walks (l : Loop) (held : ℕ → ℤ) (i : ℤ) (Stands : Ref → Terms → Type 0) (A : Type 0) (D : Doing A) (p : Places) (Q : A → List Token → Type 0) (Begun : List Token → Type 0) : Type 0 where
   pub evaluates : (line : ℕ) → WalksTerms l held i Stands A (D.evaluate line) p.symbols (home_at p) Q Begun
   pub keeps : (r : Ref) (es : Terms) (n : ℕ) (v : ℤ) (a : A) (h : List Token) → home_at p r ≡ in_store → Located l held i Stands p.symbols r es n → Q a (h ++ defines r ∷ []) → Q (D.keep r (record { name = r.name; place = n }) v a) h
@@ -89,8 +91,9 @@ pub record Walks (l : Loop) (held : ℕ → ℤ) (i : ℤ) (Stands : Ref → Ter
   pub stops : (line : ℕ) (h : List Token) → Begun h → Q (D.stop line) h
   pub grows : (line : ℕ) (r : Ref) (x : ℕ) (m3 : ℤ) (a : A) (h : List Token) → home_at p r ≡ private_scalar x → home p [] r.name ≡ private_scalar x → Begun h → In (defines r) h → Q a h → Q (grown_into A D p line r m3 a) h
 
--- A plan of a loop's range: its references stand with their subscripts, nothing is read from the input, the
--- loop's variable gets no value, variables of inner loops are private scalars, and END follows no STOP.
+-- A plan of a loop's range: its references stand with their subscripts, nothing is read from the
+-- input, the loop's variable gets no value, variables of inner loops are private scalars, and END
+-- follows no STOP.
 module _ (symbols : List Symbol) (homes : Ref → Home) (Stands : Ref → Terms → Type 0) where
   abbrev pub ItemsKnown : List PrintItem → Type 0
   ItemsKnown [] = Unit {0}
@@ -127,11 +130,6 @@ module _ (symbols : List Symbol) (homes : Ref → Home) (Stands : Ref → Terms 
     AreBodies (then_arm line None b more) = IsBody b
     AreBodies (then_arm line (Some c) b more) = Known Stands c × IsBody b × AreBodies more
 
-in_left : (x : Token) (xs ys : List Token) → In x xs → In x (xs ++ ys)
-in_left x [] ys h = absurd h
-in_left x (y ∷ xs) ys (inl e) = inl e
-in_left x (y ∷ xs) ys (inr h) = inr (in_left x xs ys h)
-
 in-end : (x : Token) (xs : List Token) → In x (xs ++ x ∷ [])
 in-end x [] = inl refl
 in-end x (y ∷ xs) = inr (in-end x xs)
@@ -154,7 +152,7 @@ module _ (l : Loop) (held : ℕ → ℤ) (i : ℤ) (Stands : Ref → Terms → T
   begun_first h u v b = shorter (h ++ u) v (begun_apart h u v b)
 
   refs_are : (h : List Token) (xs ys : List Ref) → h ++ used (xs ++ ys) ≡ (h ++ used xs) ++ used ys
-  refs_are h xs ys = ap (λ (t : List Token). h ++ t) (used-append xs ys) ∙ sym (append_assoc h (used xs) (used ys))
+  refs_are h xs ys = ap (λ (t : List Token). h ++ t) (used_append xs ys) ∙ sym (append_assoc h (used xs) (used ys))
 
   given_walks : (o : Home) (r : Ref) (es : Terms) (n : ℕ) (v : ℤ) (a : A) (h : List Token) → home_at p r ≡ o → (home_at p r ≡ loop_index → ⊥) → Located l held i Stands p.symbols r es n → Q a (h ++ defines r ∷ []) → Q (given_into A D p o r n v a) h
   given_walks (private_scalar x) r es n v a h is free at q = W.sets r x v a h is q
@@ -279,7 +277,7 @@ module _ (l : Loop) (held : ℕ → ℤ) (i : ℤ) (Stands : Ref → Terms → T
           let r1 = term_references d.first in
           let r2 = term_references d.last in
           let r3 = expressions_references (optional d.step) in
-          ap (λ (t : List Token). h ++ (t ++ defines d.variable ∷ [])) (used-append r1 (r2 ++ r3) ∙ ap (λ (t : List Token). used r1 ++ t) (used-append r2 r3))
+          ap (λ (t : List Token). h ++ (t ++ defines d.variable ∷ [])) (used_append r1 (r2 ++ r3) ∙ ap (λ (t : List Token). used r1 ++ t) (used_append r2 r3))
           ∙ sym (append_assoc h (used r1 ++ (used r2 ++ used r3)) (defines d.variable ∷ []))
           ∙ ap (λ (t : List Token). t ++ defines d.variable ∷ []) (sym (append_assoc h (used r1) (used r2 ++ used r3)) ∙ sym (append_assoc (h ++ used r1) (used r2) (used r3)))
 

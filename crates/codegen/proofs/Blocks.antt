@@ -1,9 +1,10 @@
 -- The code of plans, and of programs, does their process.
-use Rattle.std.proofs.Common.{◌≡◌, ◌∙◌, ◌⊎◌, inl, inr, ◌<◌, ◌≤◌, ◌+◌, ◌^◌, ℕ, zero, suc, ℤ, Bool, true, false, List, [], ◌∷◌, ◌++◌, Option, Some, None, length, refl, sym, ap, subst, arith, length-append}
+use Rattle.std.proofs.Common.{◌≡◌, ◌∙◌, ◌⊎◌, inl, inr, ◌<◌, ◌≤◌, ◌+◌, ◌^◌, ℕ, ℤ, Bool, true, false, List, [], ◌∷◌, ◌++◌, Option, Some, None, length, refl, sym, ap, subst, arith, length-append}
 use Rattle.std.specs.Prelude.{max, slice_get, if◌then◌else◌}
 use Rattle.std.proofs.Math.Nat.{le-max_left, le-max_right, max-eq_left, max-eq_right}
 use Rattle.ast.specs.Exact.{is_true}
 use Rattle.ast.specs.Tree.{DoHead, Kind, assign, print, read, stop, program, integer, dimension, parameters, do_loop, go_on, block_if, else_if, else_arm, end_if, logical_if, end}
+use Rattle.ast.proofs.Numbers.{either_way}
 use Rattle.dependence.specs.Plan.{PlanNode, awaits, advances, plain, loop, choose, PlanBlock, no_nodes, then_node, PlanArms, no_arms, made_else, then_arm}
 use Rattle.machine.specs.Code.{Code, Part}
 use Rattle.machine.specs.Frame.{Frame}
@@ -81,15 +82,6 @@ module _ (code : Code) (p : Places) (opens : ℕ → Option ℕ) where
     ArmsReach (then_arm line None b more) = BlockReaches b
     ArmsReach (then_arm line (Some c) b more) = Reaches code p c × BlockReaches b × ArmsReach more
 
-le_or : (m n : ℕ) → (m ≤ n) ⊎ (n ≤ m)
-le_or zero n = inl (omega arith)
-le_or (suc m) zero = inr (omega arith)
-le_or (suc m) (suc n) = by (le_or m n)
-  where
-    by : (m ≤ n) ⊎ (n ≤ m) → (suc m ≤ suc n) ⊎ (suc n ≤ suc m)
-    by (inl l) = inl (omega (arith, l))
-    by (inr l) = inr (omega (arith, l))
-
 -- a frame with so much room, for operands above those that stand there, and for serial loops
 pub record Roomy (f : Frame) (st : List ℤ) (m n : ℕ) : Type 0 where
   pub above : length st + m ≤ f.operands.room
@@ -162,7 +154,7 @@ module _ (A : Type 0) (D : Doing A) (code : Code) (limit : ℕ) (index : ℤ) (S
       next
     where
       enough : (x y : ℕ) → length st + x ≤ f.operands.room → length st + y ≤ f.operands.room → length st + max x y ≤ f.operands.room
-      enough x y a b = by (le_or x y)
+      enough x y a b = by (either_way x y)
         where
           by : (x ≤ y) ⊎ (y ≤ x) → length st + max x y ≤ f.operands.room
           by (inl l) = let e : max x y ≡ y = max-eq_right l in omega (arith, e, b)

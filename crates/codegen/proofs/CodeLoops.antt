@@ -21,8 +21,8 @@ use Rattle.codegen.proofs.PlanPaths.{Comes}
 use Rattle.codegen.proofs.ProgramStanding.{Loops}
 use Rattle.codegen.proofs.Walking.{home_at}
 
--- of each loop, by its number: the loop of the source, its places, its plan's body, the cells of scalars to
--- which its range gives no value, and the events that it names
+-- of each loop, by its number: the loop of the source, its places, its plan's body, the cells of
+-- scalars to which its range gives no value, and the events that it names
 module _ (code : Code) (source : ℕ → Loop) (places : ℕ → Places) (body : ℕ → PlanBlock) (fixed : ℕ → Cell → Bool) (Named : ℕ → ℕ → Type 0) (Stands : ℕ → Ref → Terms → Type 0) (held : StoreOf → ℕ → ℤ) (Valid : Opened → Type 0) where
   abbrev pub start : Opened → StoreOf → ℕ → Process
   start l ι k = iteration_process code l.number (places l.number) (body l.number) (fixed l.number) ι (index_at code l k)

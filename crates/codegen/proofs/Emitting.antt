@@ -1,8 +1,8 @@
 -- Code is emitted piece by piece: laws of what was appended, and of what was filled in.
-use Rattle.std.proofs.Common.{◌≡◌, ◌∙◌, ◌+◌, ◌-◌, ◌<◌, ◌≤◌, ℕ, Bool, false, List, [], ◌∷◌, ◌++◌, length, drop, take, Option, Some, refl, sym, ap, get_or, arith}
+use Rattle.std.proofs.Common.{◌≡◌, ◌∙◌, ◌+◌, ◌-◌, ◌≤◌, ℕ, Bool, false, List, [], ◌∷◌, ◌++◌, length, drop, Option, Some, refl, sym, ap, arith}
 use Rattle.std.specs.Prelude.{if◌then◌else◌, set, Vec}
 use Rattle.std.specs.Global.{Global}
-use Rattle.std.proofs.lemmas.List.{append_assoc, length-append, length-map, length-drop, length-set, drop_more, set_at, take_all}
+use Rattle.std.proofs.lemmas.List.{append_assoc, length-append, length-map, length-set, set_at}
 use Rattle.ast.specs.Tree.{Term, Ref}
 use Rattle.dependence.specs.Plan.{PlanNode, PlanBlock, then_node, PlanArms, then_arm}
 use Rattle.machine.specs.Code.{Part}
@@ -26,13 +26,6 @@ next old new first rest all target e f w = ap (λ xs. xs ++ rest) f ∙ append_a
 
 unless : {X : Type 0} (x : Bool) (xs : List X) → false ≡ x → (if x then [] else xs) ≡ xs
 unless x xs h = ap (λ (y : Bool). if y then [] else xs) (sym h)
-
-pub item_here : {X : Type 0} (xs : List X) (i : ℕ) (x : X) → i < length xs → x ≡ get_or xs i x → drop i xs ≡ x ∷ drop (i + 1) xs
-item_here xs i x l e = drop_more xs i x l ∙ ap (λ y. y ∷ drop (i + 1) xs) (sym e)
-
--- a slice from an index on
-pub rest_of : {X : Type 0} (xs : List X) (i : ℕ) → take (length xs - i) (drop i xs) ≡ drop i xs
-rest_of xs i = take_all (length xs - i) (drop i xs) (let k = length-drop i xs in omega (arith, k))
 
 -- what holds of all from an index on holds of all
 pub all_done : {X : Type 0} (f : List X → ℕ) (xs : List X) (n most : ℕ) → n ≤ 0 → most ≡ f (drop n xs) → most ≡ f xs

@@ -1,6 +1,5 @@
 -- A good plan gives what the proofs of the iterations ask for.
 use Rattle.std.proofs.Common.{◌≡◌, ◌∙◌, ◌+◌, ◌<◌, ◌≤◌, ◌⊎◌, inl, inr, ℕ, zero, suc, ℤ, pos, ◌+ℤ◌, ◌*ℤ◌, Bool, true, false, List, [], ◌∷◌, ◌++◌, Option, Some, None, get_or, length, if◌then◌else◌, Ok, refl, sym, ap, subst, ⊎_elim, arith, append_assoc}
-use Rattle.std.proofs.lemmas.Cmp.{nat_list_eq_equiv}
 use Rattle.std.proofs.lemmas.Bool.{or_left, or_right}
 use Rattle.ast.specs.Store.{same_name}
 use Rattle.ast.specs.Symbols.{Extent, place_of}
@@ -15,6 +14,7 @@ use Rattle.plan_check.proofs.Members.{In, among, contained}
 use Rattle.plan_check.proofs.Naming.{named_on}
 use Rattle.plan_check.specs.GoodPlan.{GoodPlan, IsPrivate, Together, Names, named, token_of}
 use Rattle.ast.specs.Store.{StoreOf}
+use Rattle.ast.proofs.SameNames.{same_itself}
 use Rattle.machine.specs.Code.{Cell}
 use Rattle.expr_code.specs.Places.{Places, loop_index, in_store, dimensions_at, home, is_loop_name, number_in, private_or_stored}
 use Rattle.codegen.proofs.GoodPaths.{GoodPaths, AtIn, Begins, Meets}
@@ -34,13 +34,10 @@ agree l held i j (then_term g es) (then_term f fs) vs ws a b e =
     rest [] = []
     rest (x ∷ xs) = xs
 
-itself : (x : List ℕ) → same_name x x ≡ true
-itself x = nat_list_eq_equiv.refl x
-
 -- a name has a number among names
 numbered_in : (n : ℕ) (name : List ℕ) (xs : List (List ℕ)) → In name xs → number_in n name xs ≡ None → ⊥
 numbered_in n name [] i e = i
-numbered_in n name (x ∷ xs) (inl z) e = let h : same_name x name ≡ true = subst (λ (y : List ℕ). same_name y name ≡ true) z (itself name) in none (ap (λ (b : Bool). if b then Some n else number_in (n + 1) name xs) (sym h) ∙ e)
+numbered_in n name (x ∷ xs) (inl z) e = let h : same_name x name ≡ true = subst (λ (y : List ℕ). same_name y name ≡ true) z (same_itself name) in none (ap (λ (b : Bool). if b then Some n else number_in (n + 1) name xs) (sym h) ∙ e)
   where
     none : Some n ≡ None → ⊥
     none q = cc
@@ -121,7 +118,7 @@ module _ (l : Loop) (p : PlanTree) (held : ℕ → ℤ) (first step : ℤ) (inde
     not_variable k r c a e =
         let d = variable r a.1 a.3.1 e in
         let h = subst (λ (ds : List Extent). home pl ds r.name ≡ in_store) d a.0 in
-        let yes : is_loop_name pl.loop_name r.name ≡ true = ap (λ (o : Option (List ℕ)). is_loop_name o r.name) loop_name ∙ subst (λ (x : List ℕ). same_name x r.name ≡ true) e (itself r.name) in
+        let yes : is_loop_name pl.loop_name r.name ≡ true = ap (λ (o : Option (List ℕ)). is_loop_name o r.name) loop_name ∙ subst (λ (x : List ℕ). same_name x r.name ≡ true) e (same_itself r.name) in
         index_home (is_loop_name pl.loop_name r.name) yes h
       where
         index_home : (b : Bool) → b ≡ true → (if b then loop_index else private_or_stored (number_in 0 r.name pl.privates)) ≡ in_store → ⊥

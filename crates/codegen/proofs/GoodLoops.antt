@@ -8,6 +8,7 @@ use Rattle.ast.specs.Program.{is_placed}
 use Rattle.ast.specs.Store.{same_name}
 use Rattle.ast.specs.Symbols.{Extent, Symbol, dimensions_in, elements, is_sized, names_of}
 use Rattle.ast.specs.Tree.{Ref, Terms}
+use Rattle.ast.proofs.SameNames.{same_itself, same_is}
 use Rattle.dependence.specs.Plan.{PlanPaths}
 use Rattle.loop_tree.specs.Loops.{Loop}
 use Rattle.loop_tree.specs.Occurrences.{Occurrence, block_occurrences}
@@ -15,7 +16,6 @@ use Rattle.loop_tree.specs.Paths.{Token, defines, Ending}
 use Rattle.machine.specs.Code as machine
 use Rattle.machine.specs.Code.{Code, Cell, cell_at, loop_at}
 use Rattle.machine.specs.View.{defined_cells, stored_if}
-use Rattle.machine.proofs.Naming.{same, same_itself}
 use Rattle.expr_code.specs.Computes.{HasVariables}
 use Rattle.expr_code.specs.Emitted.{short}
 use Rattle.expr_code.specs.Places.{loop_index, private_scalar, dimensions_at, home_of}
@@ -39,13 +39,14 @@ place_is (t ∷ ss) n (suc i) s name d e k = by (same_name t.name name) refl (pl
   where
     -- it isn't the first, since names are distinct
     away : IsDistinct same_name (names_of (t ∷ ss)) → same_name t.name name ≡ true → ⊥
-    away d2 h = let z : 0 ≡ suc i = one_place (t ∷ ss) d2 0 (suc i) t s refl e (same t.name name h ∙ sym k) in omega (arith, z)
+    away d2 h = let z : 0 ≡ suc i = one_place (t ∷ ss) d2 0 (suc i) t s refl e (same_is t.name name h ∙ sym k) in omega (arith, z)
 
     by : (b : Bool) → same_name t.name name ≡ b → place_of_name (n + 1) ss name ≡ n + 1 + i → (if b then n else place_of_name (n + 1) ss name) ≡ n + suc i
     by true h q = absurd (away d h)
     by false h q = q ∙ omega arith
 
--- What is known of a loop that is opened, and of its plan (a good plan of the loop of an accepted program).
+-- What is known of a loop that is opened, and of its plan (a good plan of the loop of an accepted
+-- program).
 pub record GoodLoop (symbols : List Symbol) (x : Planned) : Type 0 where
   pub place : IsPlace symbols x.loop x.plan.privates x.plan.body
   pub unassigned : (o : Occurrence) → In o x.loop.references → o.defines ≡ true → o.ref.name ≡ x.loop.head.variable.name → ⊥

@@ -13,8 +13,8 @@ use Rattle.codegen.proofs.IterationSteps.{Process, load, store, print, await, ad
 use Rattle.codegen.proofs.LoopMachine.{Loads, Ordered, Plan, Stores}
 use Rattle.codegen.proofs.PlanPaths.{AllShow, Comes, advances_told, awaits_done, before, each, far, lasts, once, reach}
 
--- index: the value of the loop's variable in each iteration; total: its trips; Named: the events that its
--- range names
+-- index: the value of the loop's variable in each iteration; total: its trips; Named: the events
+-- that its range names
 module _ (l : Loop) (held : ℕ → ℤ) (index : ℕ → ℤ) (Stands : Ref → Terms → Type 0) (p : Places) (fixed : Cell → Bool) (opened : StoreOf) (S : PathSet) (total : ℕ) (Named : ℕ → Type 0) where
   abbrev pub Begins : List Token → Type 0
   Begins h = Begun l held (index 0) Stands p fixed opened S h
@@ -33,9 +33,9 @@ module _ (l : Loop) (held : ℕ → ℤ) (index : ℕ → ℤ) (Stands : Ref →
   abbrev pub Defines : Token → Type 0
   Defines a = (r : Ref) × (a ≡ defines r)
 
-  -- On each path each event that the range names is advanced once, with an await of it before; where two
-  -- tokens may meet, one of them giving a value, an event keeps them apart: no path has the first behind its
-  -- advance, and each path has an await of it before the second.
+  -- On each path each event that the range names is advanced once, with an await of it before;
+  -- where two tokens may meet, one of them giving a value, an event keeps them apart: no path has
+  -- the first behind its advance, and each path has an await of it before the second.
   pub record GoodPaths : Type 0 where
     pub once : (u : List Token) (e : ℕ) → Begins (u ++ advanced_at e ∷ []) → In (advanced_at e) u → ⊥
     pub before : (u : List Token) (e : ℕ) → Begins (u ++ advanced_at e ∷ []) → In (awaited_at e 1) u

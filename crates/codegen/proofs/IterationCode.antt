@@ -19,8 +19,8 @@ use Rattle.codegen.proofs.Blocks.{BlockReaches, HasList, block_runs}
 use Rattle.codegen.proofs.IterationStanding.{Ready, Stands, Work, iteration_doing, iteration_does}
 use Rattle.codegen.proofs.IterationSteps.{Process, leave}
 
--- The code of a plan's body as the range of loop n: it stands at the loop's place and before a limit, a
--- Retire behind it, and it has room.
+-- The code of a plan's body as the range of loop n: it stands at the loop's place and before a
+-- limit, a Retire behind it, and it has room.
 pub record IsRange (code : Code) (n : ℕ) (p : Places) (body : PlanBlock) : Type 0 where
   pub loop : slice_get code.loops n ≡ Some (loop_at code n)
   pub privates : length p.privates ≡ length (loop_at code n).privates

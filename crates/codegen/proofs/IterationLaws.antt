@@ -3,17 +3,14 @@ use Rattle.std.proofs.Common.{◌≡◌, ◌∙◌, ℕ, ℤ, pos, Bool, true, f
 use Rattle.std.specs.Prelude.{◌&&◌, ◌==◌, cond, if◌then◌else◌}
 use Rattle.std.proofs.lemmas.Bool.{eq-eqb, eqb-true, ne_eqb, cases_eq}
 use Rattle.ast.specs.Store.{StoreOf, put, same_name}
+use Rattle.ast.proofs.SameNames.{same_itself, same_is}
 use Rattle.machine.specs.Code.{Cell}
 use Rattle.machine.specs.State.{put_at, put_cell, put_cells}
-use Rattle.machine.proofs.Naming.{same, same_itself}
+use Rattle.machine.proofs.Puts.{put_same}
 pub use Rattle.plan_check.proofs.Members.{in_left, in_right, in_which}
 use Rattle.codegen.proofs.IterationSteps.{Process, load, store, print, await, advance, tick, fault, leave, gone, IsKey, Ran, act, acts, after, cell_value, first, follow, run}
 
 -- ---- maps
-
-pub put_same : {A : Type 0} (f : ℕ → A) (k : ℕ) (v : A) → put_at f k v k ≡ v
-unfolding put_at
-put_same f k v = ap (λ (b : Bool). cond b v (f k)) (eq-eqb k k refl)
 
 pub put_other : {A : Type 0} (f : ℕ → A) (k : ℕ) (v : A) (i : ℕ) → (i ≡ k → ⊥) → put_at f k v i ≡ f i
 unfolding put_at
@@ -32,7 +29,7 @@ cases_cell c d = by (same_name c.name d.name) (c.place == d.place) refl refl
   where
     by : (a b : Bool) → same_name c.name d.name ≡ a → (c.place == d.place) ≡ b → (c ≡ d) ⊎ (c ≡ d → ⊥)
     by true true h k =
-        let name : c.name ≡ d.name = same c.name d.name h in
+        let name : c.name ≡ d.name = same_is c.name d.name h in
         let place : c.place ≡ d.place = eqb-true c.place d.place k in
         inl (ap (λ (x : List ℕ). record { name = x; place = c.place }) name ∙ ap (λ (x : ℕ). record { name = d.name; place = x }) place)
     by false b h k = inr (λ e. let z : true ≡ false = sym (same_itself c.name) ∙ ap (λ (x : Cell). same_name c.name x.name) e ∙ h in cc)
@@ -50,7 +47,7 @@ cell_other σ c v d h = by (same_name c.name d.name) (c.place == d.place) refl r
   where
     by : (a b : Bool) → same_name c.name d.name ≡ a → (c.place == d.place) ≡ b → (if a && b then v else cell_value σ d) ≡ cell_value σ d
     by true true e f =
-        let name : d.name ≡ c.name = sym (same c.name d.name e) in
+        let name : d.name ≡ c.name = sym (same_is c.name d.name e) in
         let place : d.place ≡ c.place = sym (eqb-true c.place d.place f) in
         absurd (h (ap (λ (x : List ℕ). record { name = x; place = d.place }) name ∙ ap (λ (x : ℕ). record { name = c.name; place = x }) place))
     by false b e f = refl

@@ -1,8 +1,9 @@
--- An iteration comes to what its range means, its private scalars and its loop's variable in the place of
--- the store's.
+-- An iteration comes to what its range means, its private scalars and its loop's variable in the
+-- place of the store's.
 use Rattle.std.proofs.Common.{◌≡◌, ◌∙◌, ◌<◌, ◌+◌, ℕ, zero, suc, ℤ, pos, Bool, true, false, List, [], ◌∷◌, ◌++◌, Option, Some, None, Result, Ok, Err, length, get_or, refl, sym, ap, subst, ⊎_elim, arith}
 use Rattle.std.specs.Prelude.{◌+ℤ◌, slice_get, slice_set, if◌then◌else◌}
 use Rattle.std.specs.Ordering.{int_eq}
+use Rattle.std.proofs.lemmas.List.{length-set}
 use Rattle.ast.specs.Exact.{in_range, is_true, trips, value_of}
 use Rattle.ast.specs.Meaning as meaning
 use Rattle.ast.specs.Meaning.{Run, going_on, then_do, given, written, printed, step_value, turns, target, exec_plain, grown, looped, exec, exec_block, exec_arms, looked_up, value}
@@ -17,13 +18,13 @@ use Rattle.ast.specs.declared.fault.End.{End}
 use Rattle.ast.specs.declared.fault.End.TheVariants.{Done, Stopped, Fault as Faulted}
 use Rattle.ast.specs.declared.fault.Fault.{Fault}
 use Rattle.ast.specs.declared.fault.Fault.TheVariants.{ZeroStep}
+use Rattle.ast.proofs.SameNames.{same_is}
 use Rattle.dependence.specs.Plan.{PlanNode, awaits, advances, plain, loop, choose, PlanBlock, no_nodes, then_node, PlanArms, no_arms, made_else, then_arm}
 use Rattle.machine.specs.Code.{Cell}
 use Rattle.machine.specs.State.{put_cell}
 use Rattle.machine.specs.View.{failure, stop_at, is_event}
 use Rattle.expr_code.specs.Places.{Places, Home, loop_index, private_scalar, in_store, dimensions_at, home, home_of, is_loop_name, number_in, private_or_stored}
 use Rattle.expr_code.specs.Process.{answered_into, term_into}
-use Rattle.machine.proofs.Naming.{same}
 use Rattle.expr_code.proofs.Meaning.{Means, Named, on, on_all, scalar_meant, target_meant, term_meant}
 use Rattle.codegen.specs.Process as process
 use Rattle.codegen.specs.Process.{arms_into, block_into, given_into, grown_into, is_last_stop, items_into, kind_into, node_into, serial_into, set_up_into, step_into, stored_into, turns_into, variable_into}
@@ -33,6 +34,7 @@ use Rattle.codegen.proofs.IterationStanding.{Work, iteration_doing, iteration_st
 use Rattle.codegen.proofs.IterationSteps.{load, await, advance, tick, gone, cell_value}
 use Rattle.codegen.proofs.Outcomes.{Outcome, failed}
 use Rattle.codegen.proofs.Comes.{comes}
+use Rattle.codegen.proofs.IterationPaths.{set_other}
 use Rattle.plan_check.specs.GoodPlan.{stripped, stripped_arms, only_events}
 
 -- ---- the store that an iteration sees
@@ -42,7 +44,8 @@ own_or (Some (Some v)) w = v
 own_or (Some None) w = w
 own_or None w = w
 
--- the value of a cell with this home: i that of the loop's variable, ps those of the private scalars, w the store's
+-- the value of a cell with this home: i that of the loop's variable, ps those of the private
+-- scalars, w the store's
 abbrev pub held_at : Home → ℤ → List (Option ℤ) → ℕ → ℤ → ℤ
 held_at loop_index i ps zero w = i
 held_at (private_scalar x) i ps zero w = own_or (slice_get ps x) w
@@ -53,18 +56,6 @@ set_there [] x v h = absurd (omega (arith, h))
 set_there (q ∷ ps) zero v h = refl
 set_there (q ∷ ps) (suc x) v h = set_there ps x v (omega (arith, h))
 
-set_away : (ps : List (Option ℤ)) (x y : ℕ) (o : Option ℤ) → (y ≡ x → ⊥) → slice_get (slice_set ps x o) y ≡ slice_get ps y
-set_away [] x y o ne = refl
-set_away (q ∷ ps) zero zero o ne = absurd (ne refl)
-set_away (q ∷ ps) zero (suc y) o ne = refl
-set_away (q ∷ ps) (suc x) zero o ne = refl
-set_away (q ∷ ps) (suc x) (suc y) o ne = set_away ps x y o (λ e. ne (ap suc e))
-
-pub set_count : (ps : List (Option ℤ)) (x : ℕ) (o : Option ℤ) → length (slice_set ps x o) ≡ length ps
-set_count [] x o = refl
-set_count (q ∷ ps) zero o = refl
-set_count (q ∷ ps) (suc x) o = ap suc (set_count ps x o)
-
 -- the name with a number
 number_is : (n : ℕ) (name : List ℕ) (xs : List (List ℕ)) (x : ℕ) → number_in n name xs ≡ Some x → (k : ℕ) × (x ≡ n + k) × (k < length xs) × (get_or xs k [] ≡ name)
 number_is n name [] x e = cc
@@ -73,7 +64,7 @@ number_is n name (y ∷ ys) x e = by (same_name y name) refl (number_is (n + 1) 
     by : (b : Bool) → same_name y name ≡ b → (number_in (n + 1) name ys ≡ Some x → (k : ℕ) × (x ≡ n + 1 + k) × (k < length ys) × (get_or ys k [] ≡ name)) → (k : ℕ) × (x ≡ n + k) × (k < length (y ∷ ys)) × (get_or (y ∷ ys) k [] ≡ name)
     by true t more =
         let k : Some n ≡ Some x = ap (λ (c : Bool). if c then Some n else number_in (n + 1) name ys) (sym t) ∙ e in
-        let is : n ≡ x = cc in (0, omega (arith, is), omega arith, same y name t)
+        let is : n ≡ x = cc in (0, omega (arith, is), omega arith, same_is y name t)
     by false t more =
         let k : number_in (n + 1) name ys ≡ Some x = ap (λ (c : Bool). if c then Some n else number_in (n + 1) name ys) (sym t) ∙ e in
         let z = more k in let e1 = z.1 in let e2 = z.2 in (suc z.0, omega (arith, e1), omega (arith, e2), z.3)
@@ -161,7 +152,7 @@ module _ (p : Places) (index : ℤ) (fixed : Cell → Bool) (opened : StoreOf) w
           (λ ne. cell_other ρ c v d ne ∙ at.seen d ∙ other (home_of p d.name) d refl ne)
           (cases_cell d c);
       steady = at.steady;
-      count = set_count ps x (Some v) ∙ at.count;
+      count = length-set ps x (Some v) ∙ at.count;
     }
       where
         c : Cell
@@ -176,7 +167,7 @@ module _ (p : Places) (index : ℤ) (fixed : Cell → Bool) (opened : StoreOf) w
         at_place : (d : Cell) (y n : ℕ) → d.place ≡ n → (d ≡ c → ⊥) → home_of p d.name ≡ private_scalar y → held_at (private_scalar y) index ps n (cell_value σ d) ≡ held_at (private_scalar y) index qs n (cell_value σ d)
         at_place d y (suc n) e ne k = refl
         at_place d y zero e ne k =
-            ap (λ (q : Option (Option ℤ)). own_or q (cell_value σ d)) (sym (set_away ps x y (Some v) (λ i.
+            ap (λ (q : Option (Option ℤ)). own_or q (cell_value σ d)) (sym (set_other ps x y (Some v) (λ i.
             let n1 : get_or p.privates x [] ≡ d.name = ap (λ (z : ℕ). get_or p.privates z []) (sym i) ∙ (name_of d.name y k).1 in
             let n2 : d.name ≡ name = sym n1 ∙ (name_of name x h).1 in
             ne (ap (λ (z : ℕ). record { name = d.name; place = z }) e ∙ ap (λ (z : List ℕ). record { name = z; place = 0 }) n2))))
@@ -192,8 +183,8 @@ module _ (p : Places) (index : ℤ) (fixed : Cell → Bool) (opened : StoreOf) w
 
   -- ---- runs
 
-  -- where the range goes on, the iteration does, with these private scalars on some store; where it breaks
-  -- off, so does the iteration
+  -- where the range goes on, the iteration does, with these private scalars on some store; where it
+  -- breaks off, so does the iteration
   abbrev pub leads_by : End → Run → Run → Work → Outcome → Type 0
   leads_by Done before r a d = (ps : List (Option ℤ)) × (τ : StoreOf) × At r.store ps τ × (r.input ≡ before.input) × (d ≡ comes (a ps) τ r.output)
   leads_by (Stopped l) before r a d = d ≡ failed (stop_at l) r.output
@@ -248,7 +239,8 @@ module _ (p : Places) (index : ℤ) (fixed : Cell → Bool) (opened : StoreOf) w
   D = iteration_doing p.privates index fixed opened
 
   -- ---- what is known of a range: names are found, the loop's variable gets no value, a scalar that does
-  -- isn't fixed, inner variables are private, events are events, nothing is read, and no END stands in it
+  -- isn't fixed, inner variables are private, events are events, nothing is read, and no END stands
+  -- in it
 
   abbrev pub Target : Ref → Type 0
   Target r = (home_of p r.name ≡ loop_index → ⊥) × ((n : ℕ) → home_of p r.name ≡ in_store → fixed (record { name = r.name; place = n }) ≡ false)

@@ -2,7 +2,7 @@
 use Rattle.std.proofs.Common.{◌≡◌, ◌∙◌, ◌<◌, inl, inr, ℕ, zero, suc, ℤ, pos, Bool, true, false, List, [], ◌∷◌, ◌++◌, Option, Some, None, Result, Ok, Err, length, refl, sym, ap, subst, ⊎_elim, arith, append_assoc}
 use Rattle.std.specs.Prelude.{slice_get, slice_set, if◌then◌else◌}
 use Rattle.std.proofs.lemmas.Bool.{cases_eq}
-use Rattle.std.proofs.lemmas.List.{append-nil}
+use Rattle.std.proofs.lemmas.List.{append-nil, length-set}
 use Rattle.ast.specs.Exact.{value_of}
 use Rattle.ast.specs.Store.{StoreOf}
 use Rattle.ast.specs.Tree.{Ref, Terms, element, no_terms}
@@ -22,8 +22,8 @@ use Rattle.codegen.proofs.IterationStanding.{Hidden, Work, iteration_doing, own_
 use Rattle.codegen.proofs.IterationSteps.{Process, load, store, print, await, advance, tick, fault, leave, gone, In, IsKey, cell_value}
 use Rattle.codegen.proofs.Walking.{Located, home_at}
 
--- tokens that are no steps of their own: of private scalars, of the loop's variable, or of scalars to which
--- the range gives no value
+-- tokens that are no steps of their own: of private scalars, of the loop's variable, or of scalars
+-- to which the range gives no value
 abbrev pub Quiet : List Token → Type 0
 Quiet [] = Unit {0}
 Quiet (uses r ∷ ts) = Quiet ts
@@ -31,12 +31,7 @@ Quiet (defines r ∷ ts) = Quiet ts
 Quiet (awaited_at e d ∷ ts) = ⊥
 Quiet (advanced_at e ∷ ts) = ⊥
 
-set_length : (ps : List (Option ℤ)) (x : ℕ) (o : Option ℤ) → length (slice_set ps x o) ≡ length ps
-set_length [] x o = refl
-set_length (p ∷ ps) zero o = refl
-set_length (p ∷ ps) (suc x) o = ap suc (set_length ps x o)
-
-set_other : (ps : List (Option ℤ)) (x y : ℕ) (o : Option ℤ) → (y ≡ x → ⊥) → slice_get (slice_set ps x o) y ≡ slice_get ps y
+pub set_other : (ps : List (Option ℤ)) (x y : ℕ) (o : Option ℤ) → (y ≡ x → ⊥) → slice_get (slice_set ps x o) y ≡ slice_get ps y
 set_other [] x y o ne = refl
 set_other (p ∷ ps) zero zero o ne = absurd (ne refl)
 set_other (p ∷ ps) zero (suc y) o ne = refl
@@ -136,8 +131,8 @@ module _ (l : Loop) (held : ℕ → ℤ) (index : ℤ) (Stands : Ref → Terms �
       one ne (inl d) = let z : r ≡ q = cc in let w : private_scalar y ≡ private_scalar x = sym s ∙ ap (home_at p) z ∙ own in ne (let u : y ≡ x = cc in u)
       one ne (inr z) = z
 
-  -- What is known of the plan: the values that its references may have; each private scalar is defined
-  -- before it is used; its events are events.
+  -- What is known of the plan: the values that its references may have; each private scalar is
+  -- defined before it is used; its events are events.
   pub record Sound : Type 0 where
     pub steady : (r : Ref) (es : Terms) (n : ℕ) → home_at p r ≡ in_store → Located l held index Stands p.symbols r es n → fixed (record { name = r.name; place = n }) ≡ true → MayBe l held index (element r es) (cell_value opened (record { name = r.name; place = n }))
     pub any : (r : Ref) (es : Terms) (n : ℕ) (v : ℤ) → home_at p r ≡ in_store → Located l held index Stands p.symbols r es n → fixed (record { name = r.name; place = n }) ≡ false → MayBe l held index (element r es) v
@@ -179,7 +174,7 @@ module _ (l : Loop) (held : ℕ → ℤ) (index : ℤ) (Stands : Ref → Terms �
         by : (u : Result ℤ Fault) → Along (answered_into Work ((iteration_doing p.privates index fixed opened).evaluate line) u (λ w qs. tick (tick (a (slice_set qs x (Some w))))) ps) h
         by (Ok w) =
             let P = a (slice_set ps x (Some w)) in
-            goes_along (tick (tick P)) h (goes_along (tick P) h (goes_along P h (q (slice_set ps x (Some w)) (set_length ps x (Some w) ∙ len) (knows_again ps h x w k))))
+            goes_along (tick (tick P)) h (goes_along (tick P) h (goes_along P h (q (slice_set ps x (Some w)) (length-set ps x (Some w) ∙ len) (knows_again ps h x w k))))
         by (Err f) = goes_along (fault (failure f line)) h b
     again line r x m3 a h held_so b def q ps len k (Some None) e = absurd (k x e r held_so def)
     again line r x m3 a h held_so b def q ps len k None e = let c = sound.below r x held_so in absurd (past_end ps x e (omega (arith, c, len)))
@@ -199,7 +194,7 @@ module _ (l : Loop) (held : ℕ → ℤ) (index : ℤ) (Stands : Ref → Terms �
         faults = λ e h b ps len k. goes_along (fault (failure e line)) h b;
       };
       keeps = λ r es n v a h kept at q ps len k. ((kept, es, n, at, refl), q ps len (knows_kept ps h r kept k));
-      sets = λ r x v a h held_so q ps len k. (defines r ∷ [], tt, q (slice_set ps x (Some v)) (set_length ps x (Some v) ∙ len) (knows_set ps h x v r held_so k));
+      sets = λ r x v a h held_so q ps len k. (defines r ∷ [], tt, q (slice_set ps x (Some v)) (length-set ps x (Some v) ∙ len) (knows_set ps h x v r held_so k));
       says = λ bytes a h q ps len k. q ps len k;
       goes = λ a h q ps len k. goes_along (a ps) h (q ps len k);
       awaits = λ e d a h q ps len k.

@@ -21,12 +21,14 @@ use Rattle.codegen.proofs.ProgramStanding.{Stands as ProcessStands}
 use Rattle.codegen.proofs.Running.{Does}
 use Rattle.codegen.proofs.Standing.{keeps_set, with_private}
 
--- What an iteration may still do, by the values of its private scalars, None where one wasn't defined.
+-- What an iteration may still do, by the values of its private scalars, None where one wasn't
+-- defined.
 abbrev pub Work : Type 0
 Work = List (Option ℤ) → Process
 
--- names: of the private scalars; index: the value of the loop's variable; fixed: the cells of scalars to
--- which the loop's range gives no value, which keep those that they had where it was opened
+-- names: of the private scalars; index: the value of the loop's variable; fixed: the cells of
+-- scalars to which the loop's range gives no value, which keep those that they had where it was
+-- opened
 module _ (names : List (List ℕ)) (index : ℤ) (fixed : Cell → Bool) (opened : StoreOf) where
   -- the cell of a private scalar
   abbrev pub private_cell : ℕ → Cell

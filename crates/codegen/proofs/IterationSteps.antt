@@ -8,9 +8,9 @@ use Rattle.machine.specs.State.{put_cell, put_cells}
 use Rattle.machine.specs.View.{Cause}
 pub use Rattle.plan_check.proofs.Members.{In}
 
--- What an iteration may still do: by a reference a cell is read, or given a value; a record is printed; an
--- event is awaited or advanced; a local instruction; a fault or a STOP; it retires with its private
--- scalars; it has retired.
+-- What an iteration may still do: by a reference a cell is read, or given a value; a record is
+-- printed; an event is awaited or advanced; a local instruction; a fault or a STOP; it retires with
+-- its private scalars; it has retired.
 pub data Process : Type 0 where
   load : Ref → Cell → (ℤ → Process) → Process
   store : Ref → Cell → ℤ → Process → Process

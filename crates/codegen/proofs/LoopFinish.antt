@@ -4,7 +4,8 @@ use Rattle.std.proofs.lemmas.Bool.{cases_eq}
 use Rattle.ast.specs.Store.{StoreOf}
 use Rattle.machine.specs.State.{put_at}
 use Rattle.machine.specs.View.{Cause}
-use Rattle.codegen.proofs.IterationLaws.{put_same, put_other, after-snoc, with_end}
+use Rattle.machine.proofs.Puts.{put_same}
+use Rattle.codegen.proofs.IterationLaws.{put_other, after-snoc, with_end}
 use Rattle.codegen.proofs.IterationSteps.{Process, follow, after, first, run, Whole, add, going, joined, finish}
 
 going_same : (bad : Option Cause) (ds : List ℤ) (σ τ : StoreOf) (next next' : StoreOf → Whole) → next' τ ≡ next σ → going bad ds τ next' ≡ going bad ds σ next

@@ -4,7 +4,8 @@ use Rattle.std.proofs.lemmas.Bool.{cases_eq}
 use Rattle.ast.specs.Store.{StoreOf}
 use Rattle.machine.specs.Code.{Cell}
 use Rattle.machine.specs.State.{put_at, put_cell, put_cells}
-use Rattle.codegen.proofs.IterationLaws.{put_same, put_other, after-snoc, acts-snoc, after-append, acts-append, in_left, in_right, in_which, Touches, Writes, Untouched, Unwritten, run_put, run_keeps, with_end}
+use Rattle.machine.proofs.Puts.{put_same}
+use Rattle.codegen.proofs.IterationLaws.{put_other, after-snoc, acts-snoc, after-append, acts-append, in_left, in_right, in_which, Touches, Writes, Untouched, Unwritten, run_put, run_keeps, with_end}
 use Rattle.codegen.proofs.IterationSteps.{Process, load, store, print, await, advance, tick, fault, leave, gone, Act, loaded, stored, printed, awaited, advanced, ticked, left, nothing, follow, act, after, acts, In, cell_value, first, run, finish}
 use Rattle.codegen.proofs.LoopFinish.{finish_step}
 use Rattle.codegen.proofs.LoopMachine.{Inside, Possible, value_of, written, counted, lowered, effect, rest, history, Loads, Stores, HasLeft, Plan, Inv}

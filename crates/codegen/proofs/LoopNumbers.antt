@@ -1,11 +1,12 @@
 -- A loop is told by the number of its DO variable's reference.
-use Rattle.std.proofs.Common.{◌≡◌, ◌∙◌, ◌+◌, ◌≤◌, ◌<◌, inl, inr, ℕ, suc, Bool, true, false, List, [], ◌∷◌, ◌++◌, Option, Some, None, length, get_or, refl, sym, ap, subst, ⊎_elim, arith, length-append, append_assoc}
-use Rattle.std.specs.Prelude.{◌==◌, ◌&&◌, if◌then◌else◌}
+use Rattle.std.proofs.Common.{◌≡◌, ◌∙◌, ◌+◌, ◌≤◌, ◌<◌, inl, inr, ℕ, suc, Bool, true, false, List, [], ◌∷◌, ◌++◌, Option, Some, None, length, get_or, refl, sym, ap, subst, ⊎_elim, arith, length-append}
+use Rattle.std.specs.Prelude.{◌==◌, if◌then◌else◌}
 use Rattle.std.proofs.lemmas.Bool.{and_parts, eqb-true}
 use Rattle.ast.specs.Program.{ProgramTree}
-use Rattle.ast.specs.References.{are_numbered, arms_expressions, block_expressions, block_references, expressions_references, head_expressions, node_expressions, optional, term_references}
+use Rattle.ast.specs.References.{are_numbered, arms_expressions, block_expressions, block_references, expressions_references, head_expressions, node_expressions, optional}
 use Rattle.ast.specs.Tree as tree
 use Rattle.ast.specs.Tree.{Ref, Term, DoHead, Node, Block, Arms, element, no_terms}
+use Rattle.ast.proofs.References.{references_append, numbered_parts}
 use Rattle.loop_tree.specs.Loops.{Loop, arms_loops, block_loops, loop_at, loops_of, node_loops}
 use Rattle.loop_tree.specs.Occurrences.{node_lines, block_lines}
 use Rattle.machine.specs.Code.{Code}
@@ -17,23 +18,11 @@ use Rattle.codegen.specs.Program.{IsCodeOf, Planned, number_from, opened_by}
 abbrev pub size : List Term → ℕ
 size es = length (expressions_references es)
 
-pub refs_append : (es fs : List Term) → expressions_references (es ++ fs) ≡ expressions_references es ++ expressions_references fs
-refs_append [] fs = refl
-refs_append (e ∷ es) fs = ap (λ (rs : List Ref). term_references e ++ rs) (refs_append es fs) ∙ sym (append_assoc (term_references e) (expressions_references es) (expressions_references fs))
-
-numbered_parts : (xs ys : List Ref) (n : ℕ) → are_numbered n (xs ++ ys) ≡ true → (are_numbered n xs ≡ true) × (are_numbered (n + length xs) ys ≡ true)
-numbered_parts [] ys n h = let z : n ≡ n + 0 = omega arith in (refl, subst (λ (k : ℕ). are_numbered k ys ≡ true) z h)
-numbered_parts (x ∷ xs) ys n h =
-    let k = and_parts (x.id == n) (are_numbered (n + 1) (xs ++ ys)) h in
-    let m = numbered_parts xs ys (n + 1) k.1 in
-    let z : n + 1 + length xs ≡ n + length (x ∷ xs) = omega arith in
-    (ap (λ (b : Bool). b && are_numbered (n + 1) xs) k.0 ∙ m.0, subst (λ (j : ℕ). are_numbered j ys ≡ true) z m.1)
-
 pub parts : (es fs : List Term) (n : ℕ) → are_numbered n (expressions_references (es ++ fs)) ≡ true → (are_numbered n (expressions_references es) ≡ true) × (are_numbered (n + size es) (expressions_references fs) ≡ true)
-parts es fs n h = numbered_parts (expressions_references es) (expressions_references fs) n (subst (λ (rs : List Ref). are_numbered n rs ≡ true) (refs_append es fs) h)
+parts es fs n h = numbered_parts n (expressions_references es) (expressions_references fs) (subst (λ (rs : List Ref). are_numbered n rs ≡ true) (references_append es fs) h)
 
 size_append : (es fs : List Term) → size (es ++ fs) ≡ size es + size fs
-size_append es fs = ap (λ (rs : List Ref). length rs) (refs_append es fs) ∙ length-append (expressions_references es) (expressions_references fs)
+size_append es fs = ap (λ (rs : List Ref). length rs) (references_append es fs) ∙ length-append (expressions_references es) (expressions_references fs)
 
 abbrev Between : ℕ → Loop → ℕ → Type 0
 Between n l m = (n ≤ l.head.variable.id) × (l.head.variable.id < m)

@@ -81,8 +81,9 @@ module _ (m : Machine) (run : Run) where
   text_by (Stopped l) = refl
   text_by (Faulted k l) = refl
 
--- The code of a program: main's code stands in it from its beginning, with its records, a halt behind it, and
--- room; each loop that it opens is that of its number. opens: the number of the loop that a DO opens.
+-- The code of a program: main's code stands in it from its beginning, with its records, a halt
+-- behind it, and room; each loop that it opens is that of its number. opens: the number of the loop
+-- that a DO opens.
 pub record OpenCompiled (code : Code) (may : ℕ → ℤ → ℤ → Bool) (places : ℕ → Places) (bodies : ℕ → PlanBlock) (fixed : ℕ → Cell → Bool) (opens : ℕ → Option ℕ) (symbols : List Symbol) (body : Block) : Type 0 where
   pub distinct : IsDistinct same_name (names_of symbols)
   pub placed : are_placed symbols body ≡ true
@@ -188,7 +189,8 @@ module _ (code : Code) (may : ℕ → ℤ → ℤ → Bool) (places : ℕ → Pl
   mode_of s (inl e) = inl ((seq program input).store, (seq program input).output, ap (λ (d : End). told_by d (seq program input)) e)
   mode_of s (inr e) = inr (inl e)
 
-  -- where the program doesn't break off, or one iteration is open at a time, no run has more than three times the steps of one alone
+  -- where the program doesn't break off, or one iteration is open at a time, no run has more than
+  -- three times the steps of one alone
   pub bounded : (w : ℕ) → Solo code input w → (p s : ℕ) (qs : List ℕ) (m : Machine) → AreSizes p s → ((seq program input).end ≡ Done) ⊎ (s ≡ 1) → CodeRun code s p (Init code input) qs m → length qs ≤ 3 * w
   bounded w solo p s qs m sizes fine run = let is = solo_is w solo in let most = at_most p s (mode_of s fine) qs m run in omega (arith, is, most)
 

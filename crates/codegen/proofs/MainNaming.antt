@@ -1,4 +1,5 @@
--- In a program that opens loops each reference of main is found by its name, and each opened loop means what its DO does.
+-- In a program that opens loops each reference of main is found by its name, and each opened loop
+-- means what its DO does.
 use Rattle.std.proofs.Common.{◌≡◌, ℕ, ℤ, Bool, true, List, [], ◌∷◌, ◌++◌, Option, Some, None, refl}
 use Rattle.std.specs.Prelude.{map}
 use Rattle.std.specs.List.{IsDistinct, list_all}

@@ -1,5 +1,5 @@
--- The references in a program's statements reach their cells, where their code is no longer than 32 bits
--- can number.
+-- The references in a program's statements reach their cells, where their code is no longer than 32
+-- bits can number.
 use Rattle.std.proofs.Common.{◌≡◌, ◌≤◌, ◌^◌, ℕ, zero, suc, Bool, true, List, [], ◌∷◌, ◌++◌, length, refl, arith, length-append}
 use Rattle.std.specs.List.{list_all}
 use Rattle.std.proofs.lemmas.Bool.{and_parts}

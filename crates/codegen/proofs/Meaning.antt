@@ -1,11 +1,10 @@
--- What the process of a program comes to is its sequential meaning, whatever its steps are made into,
--- where each loop that is opened does what it means.
+-- What the process of a program comes to is its sequential meaning, whatever its steps are made
+-- into, where each loop that is opened does what it means.
 use Rattle.std.proofs.Common.{◌≡◌, ◌∙◌, ℕ, zero, suc, ℤ, pos, Bool, true, false, List, [], ◌∷◌, ◌++◌, Option, Some, None, Result, Ok, Err, refl, sym, ap, subst}
 use Rattle.std.specs.Prelude.{if◌then◌else◌}
 use Rattle.std.specs.List.{list_all}
 use Rattle.std.specs.Ordering.{int_eq}
 use Rattle.std.proofs.lemmas.Bool.{and_parts}
-use Rattle.std.proofs.lemmas.List.Folds.{list_all-append}
 use Rattle.ast.specs.Exact.{is_true, trips, value_of}
 use Rattle.ast.specs.Input.{taken, next_integer}
 use Rattle.ast.specs.Meaning as meaning
@@ -22,7 +21,7 @@ use Rattle.ast.specs.declared.fault.End.{End}
 use Rattle.ast.specs.declared.fault.End.TheVariants.{Done, Stopped, Fault as Faulted}
 use Rattle.ast.specs.declared.fault.Fault.{Fault}
 use Rattle.ast.specs.declared.fault.Fault.TheVariants.{ZeroStep}
-use Rattle.ast.proofs.Fitting.{Fit, RunFits, Fits, block_fits, expression_fits, grown_fits, node_fits, put_fits, then_fits}
+use Rattle.ast.proofs.Fitting.{Fit, RunFits, Fits, block_fits, expression_fits, grown_fits, node_fits, put_fits, then_fits, fit_parts}
 use Rattle.machine.specs.View.{failure}
 use Rattle.expr_code.specs.Places.{Places, Home, loop_index, private_scalar, in_store, dimensions_at, home, home_of}
 use Rattle.expr_code.specs.Process.{answered_into, term_into}
@@ -49,8 +48,8 @@ going_told _ run next = told run
 abbrev pub then_told : Run → (Run → Outcome) → Outcome
 then_told run next = going_told run.end run next
 
--- The steps' meanings. A run goes on as long as its end is Done; the list has what is left of the record
--- of the input that was taken last.
+-- The steps' meanings. A run goes on as long as its end is Done; the list has what is left of the
+-- record of the input that was taken last.
 pub record Acts (A : Type 0) (D : Doing A) (p : Places) (meant : A → List ℤ → Run → Outcome) : Type 0 where
   pub evaluates : (line : ℕ) (left : List ℤ) (run : Run) → Means A (D.evaluate line) (process.on A D p line) run.store Outcome (λ a. meant a left run) (λ e. failed e line run)
   pub keeps : (r : Ref) (n : ℕ) (v : ℤ) (a : A) (left : List ℤ) (run : Run) → home_of p r.name ≡ in_store → meant (D.keep r (record { name = r.name; place = n }) v a) left run ≡ meant a left (written run r.name n v)
@@ -63,10 +62,6 @@ pub record Acts (A : Type 0) (D : Doing A) (p : Places) (meant : A → List ℤ 
   pub stops : (line : ℕ) (left : List ℤ) (run : Run) → meant (D.stop line) left run ≡ told (record run { end = Stopped line })
 
 -- ---- laws of runs
-
--- the constants in the first of these expressions, and in the others, are 64-bit integers
-pub fit_parts : (xs ys : List Term) → Fit (xs ++ ys) → Fit xs × Fit ys
-fit_parts xs ys h = and_parts (list_all (λ e. is_fitting e) xs) (list_all (λ e. is_fitting e) ys) (sym (list_all-append (λ e. is_fitting e) xs ys) ∙ h)
 
 given_on : (r : Result ℤ Fault) (line : ℕ) (run : Run) (k : ℤ → Outcome) → on (λ e. failed e line run) r k ≡ given_told r line run k
 given_on (Ok v) line run k = refl

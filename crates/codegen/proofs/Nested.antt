@@ -1,9 +1,10 @@
--- The loop around a loop comes before it, so what is noted of loops tells whether the next one stands in
--- one that may be open.
+-- The loop around a loop comes before it, so what is noted of loops tells whether the next one
+-- stands in one that may be open.
 use Rattle.std.proofs.Common.{◌≡◌, ◌∙◌, ◌+◌, ◌<◌, ◌≤◌, ◌⊎◌, inl, inr, ℕ, zero, suc, Bool, true, false, List, [], ◌∷◌, ◌++◌, length, Option, Some, None, refl, ap, sym, subst, ⊎_elim, arith}
 use Rattle.std.specs.Prelude.{◌||◌, slice_get}
 use Rattle.std.proofs.lemmas.Option.{slice_get_within}
 use Rattle.ast.specs.Tree.{Node, plain, loop, choose, Block, no_nodes, then_node, Arms, no_arms, then_arm}
+use Rattle.ast.proofs.Lists.{one_longer}
 use Rattle.loop_tree.specs.Loops.{Loop, arms_loops, block_loops, loop_around, loop_numbered, loops_of, node_loops}
 use Rattle.loop_tree.specs.Occurrences.{block_lines, node_lines}
 use Rattle.placement.specs.Judged.{IsInside, IsPlaced}
@@ -161,10 +162,6 @@ get_last : (xs : List Bool) (b : Bool) → slice_get (xs ++ b ∷ []) (length xs
 get_last [] b = refl
 get_last (x ∷ xs) b = get_last xs b
 
-longer : (xs : List Bool) (b : Bool) → length (xs ++ b ∷ []) ≡ length xs + 1
-longer [] b = refl
-longer (x ∷ xs) b = let g = longer xs b in omega (arith, g)
-
 less_or_last : (n k : ℕ) → n < k + 1 → (n < k) ⊎ (n ≡ k)
 less_or_last zero zero h = inr refl
 less_or_last zero (suc k) h = inl (omega arith)
@@ -174,7 +171,7 @@ less_or_last (suc n) (suc k) h = ⊎_elim (λ g. inl (omega (arith, g))) (λ e. 
 pub noted_more : (all : List Loop) (noted : List Bool) (l : Loop) (b : Bool) → AreNoted all noted → loop_numbered all (length noted) ≡ Some l → IsInside (l ∷ loops_around all l) b → AreNoted all (noted ++ b ∷ [])
 noted_more all noted l b are h inside_too = record {
   none = get_before noted b 0 (slice_get_within noted 0 false are.none) ∙ are.none;
-  each = λ n m less e. by n m e (less_or_last n (length noted) (let g = longer noted b in omega (arith, g, less)));
+  each = λ n m less e. by n m e (less_or_last n (length noted) (let g = one_longer noted b in omega (arith, g, less)));
 }
   where
     by : (n : ℕ) (m : Loop) → loop_numbered all n ≡ Some m → (n < length noted) ⊎ (n ≡ length noted) → IsInside (m ∷ loops_around all m) (is_noted (noted ++ b ∷ []) (Some n))

@@ -1,17 +1,17 @@
 -- Parts of a program's statements: what is left of a list of nodes or arms, seen as plain data.
-use Rattle.std.proofs.Common.{◌≡◌, ◌∙◌, ◌+◌, ◌<◌, ℕ, false, List, length, map, drop, take, Option, ap, get_or, rules}
+use Rattle.std.proofs.Common.{◌≡◌, ◌∙◌, ◌+◌, ◌<◌, ℕ, false, List, length, map, drop, take, Option, ap, get_or}
 use Rattle.std.specs.Prelude.{◌-◌}
 use Rattle.ast.specs.Meaning.{is_last_stop_of}
-use Rattle.ast.specs.Tree as tree
 use Rattle.ast.specs.Tree.{Term, Block, then_node, then_arm, arms as arms_tree}
-use Rattle.ast.specs.View.{arm as arm_of, arm_step, block_view, node as node_of, node_step, optional_term}
+use Rattle.ast.specs.View.{arm as arm_of, block_view, node as node_of, optional_term}
 use Rattle.ast.specs.declared.expression.Expr.{Expr}
-use Rattle.ast.specs.declared.tree.Arm.{Arm, fold_out-Arm}
+use Rattle.ast.specs.declared.tree.Arm.{Arm}
 use Rattle.ast.specs.declared.tree.Node.{Node}
+use Rattle.ast.proofs.Nodes.{line_of, condition_of, body_of}
+use Rattle.ast.proofs.Lists.{item_here, part_left}
 use Rattle.dependence.specs.Plan as plan
 use Rattle.codegen.specs.Plain.{plain_arms, plain_block, plain_node}
 use Rattle.codegen.specs.Process.{is_last_stop}
-use Rattle.codegen.proofs.Emitting.{item_here, rest_of}
 use Rattle.codegen.proofs.Stops.{last_told}
 
 -- ---- nodes
@@ -21,18 +21,9 @@ node_here ns i n l e = ap (λ (ms : List Node). plain_block (block_view ms)) (it
 
 -- the nodes from this one on aren't a STOP and the END that follows it
 pub goes_on : (ns : List Node) (i : ℕ) (n : Node) → i < length ns → n ≡ get_or ns i n → false ≡ is_last_stop_of (block_view (take (length ns - i) (drop i ns))) → false ≡ is_last_stop (plain_node (node_of n)) (plain_block (block_view (drop (i + 1) ns)))
-goes_on ns i n l e h = last_told false (node_of n) (block_view (drop (i + 1) ns)) (h ∙ ap (λ (ms : List Node). is_last_stop_of (block_view ms)) (rest_of ns i ∙ item_here ns i n l e))
+goes_on ns i n l e h = last_told false (node_of n) (block_view (drop (i + 1) ns)) (h ∙ ap (λ (ms : List Node). is_last_stop_of (block_view ms)) (part_left ns i ∙ item_here ns i n l e))
 
 -- ---- an arm's parts
-
-line_of : (a : Arm) → (arm_of a).line ≡ a.line
-line_of a = ap (λ (b : tree.Arm). b.line) (fold_out-Arm tree.Node tree.Arm node_step arm_step a) ∙ search rules
-
-condition_of : (a : Arm) → (arm_of a).condition ≡ optional_term a.condition
-condition_of a = ap (λ (b : tree.Arm). b.condition) (fold_out-Arm tree.Node tree.Arm node_step arm_step a) ∙ search rules
-
-body_of : (a : Arm) → (arm_of a).body ≡ block_view a.body.items
-body_of a = ap (λ (b : tree.Arm). b.body) (fold_out-Arm tree.Node tree.Arm node_step arm_step a) ∙ search rules
 
 pub arm_here : (xs : List Arm) (i : ℕ) (a : Arm) (c : Option Expr) (ns : List Node) → i < length xs → a ≡ get_or xs i a → a.condition ≡ c → a.body.items ≡ ns
     → plain_arms (arms_tree (map arm_of (drop i xs))) ≡ plan.then_arm a.line (optional_term c) (plain_block (block_view ns)) (plain_arms (arms_tree (map arm_of (drop (i + 1) xs))))

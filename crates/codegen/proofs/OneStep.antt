@@ -1,11 +1,9 @@
 -- With one open iteration a processor has at most one next step.
 use Rattle.std.proofs.Common.{◌≡◌, ◌∙◌, ℕ, ◌+◌, ◌<◌, ◌≤◌, ℤ, List, [], Option, Some, None, ◌⊎◌, inl, inr, sym, ap, subst, arith}
+use Rattle.std.proofs.lemmas.Option.{same_Some}
 use Rattle.machine.specs.Code.{Cell}
 use Rattle.machine.specs.State.{State, Active, Wait, until_retired, Who, the_main, iteration, Choice, take_main, take_iteration, take_ticket, Reached, Move, MainMove, Takes, Turn, Step, put_at, put_cells}
 use Rattle.machine.specs.View.{View, doing, loading, storing, printing, reading, awaiting, advancing, opening, joining, leaving, breaking, halting}
-
-pub some_same : {A : Type 0} (a b : A) → Some a ≡ Some b → a ≡ b
-some_same a b e = cc
 
 module _ (F L : Type 0) (trips : L → ℕ) where
   -- no two things may be taken up: at most one iteration is open, and main waits for all of them
@@ -57,7 +55,7 @@ module _ (F L : Type 0) (view : F → View F L) (trips : L → ℕ) (begin : L �
   same_main (reading ρ φ) x y = x ∙ sym y
   same_main (opening l g) x y = x.1 ∙ sym y.1
   same_main (joining ρ φ) x y =
-      let e : x.0 ≡ y.0 = some_same x.0 y.0 (sym x.1 ∙ y.1) in
+      let e : x.0 ≡ y.0 = same_Some x.0 y.0 (sym x.1 ∙ y.1) in
       same_join ρ φ y.0 (subst (λ (l : L). Joins ρ φ l n) e x.2) y.2
   same_main (breaking c) x y = x ∙ sym y
   same_main halting x y = x ∙ sym y
@@ -101,13 +99,13 @@ module _ (F L : Type 0) (view : F → View F L) (trips : L → ℕ) (begin : L �
     same_taken (take_iteration k) take_ticket x y = absurd (full k x.0 x.1 y.3)
     same_taken take_ticket take_main x y = absurd (main_last y.0 y.1 y.2 x.0 x.1 x.2)
     same_taken take_ticket (take_iteration k) x y = absurd (full k y.0 y.1 x.3)
-    same_taken take_ticket take_ticket x y = x.4 ∙ ap ticketed (some_same x.0 y.0 (sym x.1 ∙ y.1)) ∙ sym y.4
+    same_taken take_ticket take_ticket x y = x.4 ∙ ap ticketed (same_Some x.0 y.0 (sym x.1 ∙ y.1)) ∙ sym y.4
 
     same_turn : (u : Option Who) → Turn F L view trips begin 1 u m q n → Turn F L view trips begin 1 u m q o → n ≡ o
     same_turn None x y = same_taken x.0 y.0 x.1 y.1
     same_turn (Some the_main) x y = same_main (view m.main) x y
     same_turn (Some (iteration k)) x y =
-        let e : x.0 ≡ y.0 = some_same x.0 y.0 (sym x.1 ∙ y.1) in
+        let e : x.0 ≡ y.0 = same_Some x.0 y.0 (sym x.1 ∙ y.1) in
         same_move (view (y.0).frame) y.0 k (subst (λ (a : Active F). Move (view a.frame) a m q k n) e x.2) y.2
 
     pub same_step : Step F L view trips begin 1 m q n → Step F L view trips begin 1 m q o → n ≡ o

@@ -1,6 +1,6 @@
 -- The headline of the code of a program that opens loops.
-use Rattle.std.proofs.Common.{◌≡◌, ◌∙◌, ◌≤◌, ◌<◌, ◌^◌, ℕ, zero, suc, ℤ, pos, Bool, true, false, List, [], ◌∷◌, ◌++◌, Option, Some, None, length, get_or, refl, sym, ap, subst, arith, length-append, append_assoc}
-use Rattle.std.specs.Prelude.{◌&&◌, slice_get, unwrap_or, if◌then◌else◌}
+use Rattle.std.proofs.Common.{◌≡◌, ◌∙◌, ◌≤◌, ◌<◌, ◌^◌, ℕ, zero, suc, ℤ, pos, Bool, true, List, [], ◌∷◌, ◌++◌, Option, Some, None, length, get_or, refl, sym, ap, subst, arith, length-append, append_assoc}
+use Rattle.std.specs.Prelude.{◌&&◌, slice_get, unwrap_or}
 use Rattle.std.specs.List.{IsDistinct, list_all}
 use Rattle.std.specs.Ordering.{int_eq}
 use Rattle.std.proofs.lemmas.Bool.{and_parts, eq-eqb}
@@ -43,11 +43,11 @@ use Rattle.codegen.proofs.MainStanding.{Opens}
 use Rattle.codegen.proofs.MainSteps.{Valid}
 use Rattle.codegen.proofs.ProgramStanding.{Loops}
 use Rattle.ast.specs.Regular.{is_fitting, are_fitting}
-use Rattle.ast.proofs.Fitting.{Fit, Fits}
+use Rattle.ast.proofs.Fitting.{Fit, Fits, fit_parts}
+use Rattle.ast.proofs.Lists.{none_else, both_none}
 use Rattle.codegen.proofs.LoopMeaning.{IsLoop}
 use Rattle.codegen.proofs.RangeBody.{block_known}
 use Rattle.codegen.proofs.MainHeadline.{OpenCompiled, as_alone, bounded, carried, headline, ends}
-use Rattle.codegen.proofs.Meaning.{fit_parts}
 use Rattle.codegen.proofs.OpenedLoop.{starts}
 use Rattle.codegen.proofs.MainNaming as naming
 use Rattle.codegen.proofs.MainNaming.{ArmsRight, BlockRight, LoopRight, NodeRight}
@@ -58,13 +58,6 @@ use Rattle.codegen.proofs.Opening.{agrees, may_if, may_open}
 use Rattle.codegen.specs.Program.{IsCodeOf, Planned, loop_entry, main_block, main_code, main_records, opened_by, range_places, ranges_code, ranges_records}
 
 -- a program awaits nothing in main
-none_else : {X : Type 0} (b : Bool) (xs : List X) → xs ≡ [] → (if b then [] else xs) ≡ []
-none_else true xs h = refl
-none_else false xs h = h
-
-both_none : {X : Type 0} (xs ys : List X) → xs ≡ [] → ys ≡ [] → (xs ++ ys) ≡ []
-both_none xs ys h k = ap (λ zs. zs ++ ys) h ∙ k
-
 module _ (p : Places) (opens : ℕ → Option ℕ) where
   serial_none : (o : Option ℕ) (ws : List Await) → ws ≡ [] → if_serial o ws ≡ []
   serial_none None ws h = h

@@ -1,6 +1,7 @@
 -- What reports say of the loops that are opened.
 use Rattle.std.proofs.Common.{◌≡◌, ◌∙◌, ◌<◌, ◌⊎◌, inl, inr, ℕ, zero, suc, Bool, true, false, List, [], ◌∷◌, ◌++◌, Option, Some, None, length, get_or, map, refl, sym, ap, subst, arith}
 use Rattle.std.specs.Prelude.{◌==◌, ◌+◌, if◌then◌else◌}
+use Rattle.std.proofs.lemmas.Option.{same_Some}
 use Rattle.dependence.specs.Kept.{EligibleIn, Suits}
 use Rattle.dependence.specs.Plan.{PlanTree}
 use Rattle.dependence.specs.PlanView.{plan_of}
@@ -32,9 +33,6 @@ pub record Known (all ls : List Loop) (x : Planned) : Type 0 where
   pub good : GoodPlan x.loop x.plan
   pub same : SameBody x.loop x.plan
 
-same_some : (p q : PlanTree) → Some p ≡ Some q → p ≡ q
-same_some p q e = cc
-
 some_none : (around : List Loop) → SomeEligible around → NoneSuits around → ⊥
 some_none [] s n = s
 some_none (m ∷ around) (inl e) n = n.0 ((is_outermost m around).0 e).0
@@ -50,7 +48,7 @@ module _ (all : List Loop) (lines : List ℕ) where
       by : (plan : LoopPlan) → IsPlacement all l plan → IsGood l (plan_of plan) → HasBody l (plan_of plan) → plan_of plan ≡ Some p → Known all (l ∷ ls) (record { loop = l; plan = p })
       by (Serial n) i g h e = absurd (not_none p (sym e))
       by (Body b ps rs) i g h e =
-          let is : i.1.0 ≡ p = same_some i.1.0 p (sym i.1.1 ∙ e) in
+          let is : i.1.0 ≡ p = same_Some i.1.0 p (sym i.1.1 ∙ e) in
           record { among = inl refl; eligible = i.0; placed = subst (λ (z : PlanTree). IsPlacedBody l z) is i.1.2; good = subst (λ (o : Option PlanTree). IsGood l o) e g; same = subst (λ (o : Option PlanTree). HasBody l o) e h }
 
   serial_one : (l : Loop) (r : LoopReport) → IsPlacedReport all lines l r → plan_of r.plan ≡ None → EligibleIn l (loops_around all l) → ⊥

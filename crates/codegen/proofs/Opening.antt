@@ -1,5 +1,5 @@
--- When the code of a program may open a loop: where its first two parameters are 64-bit integers, and make
--- the trips that are known. Its own meaning never comes to others.
+-- When the code of a program may open a loop: where its first two parameters are 64-bit integers,
+-- and make the trips that are known. Its own meaning never comes to others.
 use Rattle.std.specs.Prelude.{◌==◌, ◌&&◌, ℕ, ℤ, pos, Bool, true, false, List, Option, Some, None, slice_get, unwrap_or}
 use Rattle.ast.specs.Exact.{fits, trips}
 use Rattle.codegen.specs.Program.{Planned}

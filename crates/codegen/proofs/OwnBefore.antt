@@ -151,8 +151,9 @@ module _ (F L : Type 0) (view : F → View F L) (trips : L → ℕ) (begin : L �
       let R = run (start l ι j) σ in
       (goes_on R.bad R.values R.end (finish (start l ι) (λ i. []) n (suc j)) ρ τ r.bad r.end h.0, h.1)
 
-  -- where those before iteration k retire, each alone, and leave the store τ, it stands where it stands
-  -- alone on τ, with what it has printed so; and at a load the cell has the value that it has there
+  -- where those before iteration k retire, each alone, and leave the store τ, it stands where it
+  -- stands alone on τ, with what it has printed so; and at a load the cell has the value that it
+  -- has there
   pub stands_alone : (k : ℕ) (a : Active F) (τ : StoreOf) → m.iterations k ≡ Some a → Before F L view begin l k 0 ι τ → Stood F L view trips begin Hidden Fixed Named start Valid p loops origin answer l ι past before xs M m good k a τ
   stands_alone k a τ is_open b =
       let lt = (is_below F L view trips begin Hidden Fixed Named start Valid p loops origin answer l ι past before xs M m good k a is_open).1 in

@@ -1,5 +1,5 @@
--- What iterations alone come to: each retires or breaks off, and where one breaks off the sequential
--- program does.
+-- What iterations alone come to: each retires or breaks off, and where one breaks off the
+-- sequential program does.
 use Rattle.std.proofs.Common.{◌≡◌, ◌∙◌, ◌+◌, ◌≤◌, ◌<◌, ◌⊎◌, inl, inr, ℕ, zero, suc, ℤ, pos, List, [], ◌∷◌, ◌++◌, Option, Some, None, refl, sym, ap, subst, arith}
 use Rattle.ast.specs.Store.{StoreOf}
 use Rattle.machine.specs.Code.{Cell}

@@ -1,17 +1,18 @@
 -- Parts of plans: what is left of a list of statements or arms, seen as plain data.
-use Rattle.std.proofs.Common.{◌≡◌, ◌∙◌, ◌+◌, ◌<◌, ◌≤◌, ℕ, false, List, [], ◌∷◌, length, drop, take, Option, refl, ap, get_or, rules, arith}
+use Rattle.std.proofs.Common.{◌≡◌, ◌∙◌, ◌+◌, ◌<◌, ◌≤◌, ℕ, false, List, [], ◌∷◌, length, drop, take, Option, refl, ap, get_or, arith}
 use Rattle.std.specs.Prelude.{◌-◌, Vec}
 use Rattle.std.specs.Global.{Global}
 use Rattle.ast.specs.Tree.{Term}
 use Rattle.ast.specs.View.{optional_term}
 use Rattle.ast.specs.declared.expression.Expr.{Expr}
+use Rattle.ast.proofs.Lists.{item_here, part_left}
 use Rattle.dependence.specs.Plan.{PlanNode, awaits, advances, plain, loop, choose, PlanBlock, no_nodes, then_node, then_arm}
-use Rattle.dependence.specs.PlanView.{ArmOf, arm_step, arm_view, node_step, plan_block, plan_node}
-use Rattle.dependence.specs.declared.plan.PlanArm.{PlanArm, fold_out-PlanArm}
+use Rattle.dependence.specs.PlanView.{arm_view, plan_block, plan_node}
+use Rattle.dependence.specs.declared.plan.PlanArm.{PlanArm}
 use Rattle.dependence.specs.declared.plan.PlanStmt.{PlanStmt}
+use Rattle.dependence.proofs.PlanArms.{line_of, condition_of, body_of}
 use Rattle.codegen.specs.PlanParts.{arms_of, ends_with_stop}
 use Rattle.codegen.specs.Process.{is_last_stop}
-use Rattle.codegen.proofs.Emitting.{item_here, rest_of}
 
 -- ---- statements
 
@@ -20,7 +21,7 @@ statement_here ns i n l e = ap (λ (ms : List PlanStmt). plan_block ms) (item_he
 
 -- the statements from this one on aren't a STOP and the END that follows it
 pub plan_goes_on : (ns : List PlanStmt) (i : ℕ) (n : PlanStmt) → i < length ns → n ≡ get_or ns i n → false ≡ ends_with_stop (plan_block (take (length ns - i) (drop i ns))) → false ≡ is_last_stop (plan_node n) (plan_block (drop (i + 1) ns))
-plan_goes_on ns i n l e h = h ∙ ap (λ (ms : List PlanStmt). ends_with_stop (plan_block ms)) (rest_of ns i ∙ item_here ns i n l e)
+plan_goes_on ns i n l e h = h ∙ ap (λ (ms : List PlanStmt). ends_with_stop (plan_block ms)) (part_left ns i ∙ item_here ns i n l e)
 
 -- a STOP and its END are two statements
 
@@ -54,15 +55,6 @@ too_many (n ∷ m ∷ []) h = absurd (omega (arith, h))
 too_many (n ∷ m ∷ o ∷ ns) h = with_more (plan_node n) (plan_node m) (plan_node o) (plan_block ns)
 
 -- ---- an arm's parts
-
-line_of : (a : PlanArm) → (arm_view a).line ≡ a.line
-line_of a = ap (λ (b : ArmOf). b.line) (fold_out-PlanArm PlanNode ArmOf node_step arm_step a) ∙ search rules
-
-condition_of : (a : PlanArm) → (arm_view a).condition ≡ optional_term a.condition
-condition_of a = ap (λ (b : ArmOf). b.condition) (fold_out-PlanArm PlanNode ArmOf node_step arm_step a) ∙ search rules
-
-body_of : (a : PlanArm) → (arm_view a).body ≡ plan_block a.body.items
-body_of a = ap (λ (b : ArmOf). b.body) (fold_out-PlanArm PlanNode ArmOf node_step arm_step a) ∙ search rules
 
 pub plan_arm_here : (xs : List PlanArm) (i : ℕ) (a : PlanArm) (c : Option Expr) (ns : List PlanStmt) (made : Option (Vec PlanStmt Global)) → i < length xs → a ≡ get_or xs i a → a.condition ≡ c → a.body.items ≡ ns
     → arms_of (drop i xs) made ≡ then_arm a.line (optional_term c) (plan_block ns) (arms_of (drop (i + 1) xs) made)

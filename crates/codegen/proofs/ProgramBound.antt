@@ -1,8 +1,9 @@
--- How many steps a run has, where the program doesn't break off, or one iteration is open at a time, or no
--- loop is opened: those that neither park nor pick up what was parked are the same number in every run,
--- and no run has more than three times as many.
+-- How many steps a run has, where the program doesn't break off, or one iteration is open at a
+-- time, or no loop is opened: those that neither park nor pick up what was parked are the same
+-- number in every run, and no run has more than three times as many.
 use Rattle.std.proofs.Common.{◌≡◌, ◌∙◌, ℕ, zero, suc, ◌+◌, ◌*◌, ◌-◌, ◌<◌, ◌≤◌, ℤ, List, [], ◌∷◌, ◌++◌, length, Option, Some, None, ◌⊎◌, inl, inr, refl, sym, ap, subst, ⊎_elim, arith, length-append}
 use Rattle.std.proofs.lemmas.Bool.{cases_eq, cases_lt}
+use Rattle.std.proofs.lemmas.Option.{same_Some}
 use Rattle.ast.specs.Input.{records_of}
 use Rattle.ast.specs.Store.{StoreOf, zeros}
 use Rattle.ast.specs.declared.fault.End.{End}
@@ -10,10 +11,11 @@ use Rattle.machine.specs.Code.{Cell}
 use Rattle.machine.specs.Solo.{Still, Weighs, Weight}
 use Rattle.machine.specs.State.{State, Wait, until_count, until_retired, the_main, iteration, Reached, park, Step, Run, initial, put_at, put_cells, end_of}
 use Rattle.machine.specs.View.{Cause, failure, stop_at, Input, View}
-use Rattle.codegen.proofs.IterationLaws.{put_same, put_other}
+use Rattle.machine.proofs.Puts.{put_same}
+use Rattle.codegen.proofs.IterationLaws.{put_other}
 use Rattle.codegen.proofs.IterationSteps.{Process, load, await, fault, leave, gone, after, run, Whole, went, stopped, add, going, joined, finish, sequential}
 use Rattle.codegen.proofs.LoopRuns.{pasts, finished, faulted}
-use Rattle.codegen.proofs.OneStep.{IsNarrow, some_same}
+use Rattle.codegen.proofs.OneStep.{IsNarrow}
 use Rattle.codegen.proofs.ProgramGoes.{goes_on, good_init}
 use Rattle.codegen.proofs.ProgramMoves.{Change, acted, parks, picks, begins, works, opens_up, joins, main_parks, main_picked, ends_main, breaks_off, step_out}
 use Rattle.codegen.proofs.ProgramStanding.{WaitsFor, MainStands, Loops, Ghost, between, within, inner, Between, Within, Good, Final}
@@ -745,10 +747,10 @@ module _ (F L : Type 0) (view : F → View F L) (trips : L → ℕ) (begin : L �
         record {
           narrow = let z = c.narrow in omega arith;
           behind = (good.places).behind;
-          below = λ j h. subst (λ (i : L). m.ticket ≤ trips i) (some_same l j (sym W.loop ∙ h)) W.ticket;
+          below = λ j h. subst (λ (i : L). m.ticket ≤ trips i) (same_Some l j (sym W.loop ∙ h)) W.ticket;
           parked = (good.places).waits;
           within = λ k w h. (l, W.loop);
-          joined = λ w j h i r. subst (λ (x : L). trips x ≤ m.retired) (some_same l j (sym W.loop ∙ i)) (subst (Reached m) (W.waits_main w h) r);
+          joined = λ w j h i r. subst (λ (x : L). trips x ≤ m.retired) (same_Some l j (sym W.loop ∙ i)) (subst (Reached m) (W.waits_main w h) r);
         }
 
     abbrev ToEnd : State F L → Type 0
@@ -770,8 +772,8 @@ module _ (F L : Type 0) (view : F → View F L) (trips : L → ℕ) (begin : L �
             let r = on a.0 a.2 a.1 a.3 in
             (a.0 ∷ r.0, r.1, (a.2, a.1, a.3, r.2), r.3, r.4)
 
--- for a program that doesn't break off, and for every program where one iteration is open at a time, or no
--- loop is opened
+-- for a program that doesn't break off, and for every program where one iteration is open at a
+-- time, or no loop is opened
 module _ (F L : Type 0) (view : F → View F L) (trips : L → ℕ) (begin : L → ℕ → F) (slots : ℕ) (Hidden Fixed : L → Cell → Type 0) (Named : L → ℕ → Type 0) (start : L → StoreOf → ℕ → Process) (Valid : L → Type 0) (p : ℕ)
     (loops : Loops F L view trips begin Hidden Fixed Named start Valid) (M : Main L) (f : F) (input : List ℕ) (answer : Outcome) (means : (x : Outcome) → whole L trips start x M zeros (record { left = []; records = records_of input }) [] ≡ answer) (st : MainStands F L view Valid M f)
     (mode : ((τ : StoreOf) × (t : List ℕ) × (answer ≡ done τ t)) ⊎ ((slots ≡ 1) ⊎ ((l : L) → Valid l → ⊥))) where

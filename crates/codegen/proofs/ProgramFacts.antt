@@ -1,28 +1,32 @@
 -- What a program's type gives of each of its loops.
-use Rattle.std.proofs.Common.{◌≡◌, ◌∙◌, ◌+◌, ◌≤◌, inl, inr, ℕ, Bool, true, List, [], ◌∷◌, ◌++◌, Option, Some, None, length, refl, sym, ap, subst, ⊎_elim, arith}
+use Rattle.std.proofs.Common.{◌≡◌, ◌∙◌, ◌+◌, inl, inr, ℕ, Bool, true, List, [], ◌∷◌, ◌++◌, Option, Some, None, length, refl, sym, ap, subst, ⊎_elim, arith}
 use Rattle.std.specs.Prelude.{◌==◌}
 use Rattle.std.specs.List.{IsDistinct, list_all}
 use Rattle.std.proofs.lemmas.Bool.{and_parts, eqb-true}
+use Rattle.plan_check.proofs.Members.{all_in}
+use Rattle.plan_check.proofs.Sound.{least, in_any}
 use Rattle.ast.specs.Program.{ProgramTree, are_placed, is_placed}
 use Rattle.ast.specs.References.{are_numbered, arms_expressions, block_expressions, block_references, expressions_references, head_expressions, node_expressions, optional}
 use Rattle.ast.specs.Store.{same_name}
 use Rattle.ast.specs.Symbols.{Symbol, names_of}
 use Rattle.ast.specs.Tree as tree
 use Rattle.ast.specs.Tree.{Ref, Term, Node, Block, Arms}
+use Rattle.ast.proofs.Lists.{all_right}
+use Rattle.ast.proofs.SameNames.{same_itself}
+use Rattle.ast.proofs.References.{references_append}
 use Rattle.loop_tree.specs.Loops.{Loop, arms_loops, block_loops, has_cell, loops_of, node_loops, with_block}
 use Rattle.loop_tree.specs.Occurrences.{Occurrence, block_lines, block_occurrences, node_lines}
 use Rattle.loop_tree.specs.Told.{known, references}
-use Rattle.loop_tree.proofs.Known.{all_left, all_right, block_shows}
-use Rattle.loop_tree.proofs.References.{block_same, expressions_append}
+use Rattle.loop_tree.proofs.Known.{all_left, block_shows}
+use Rattle.loop_tree.proofs.References.{block_same}
 use Rattle.expr_code.specs.Places.{dimensions_at}
 use Rattle.expr_code.specs.Process.{count}
-use Rattle.machine.proofs.Naming.{same_itself}
 use Rattle.codegen.proofs.IterationLaws.{in_which}
 use Rattle.codegen.proofs.IterationSteps.{In}
 use Rattle.codegen.proofs.AssignedScalars.{assigned_at, at_block}
 use Rattle.codegen.proofs.LoopNumbers.{parts, size}
 use Rattle.codegen.proofs.RegularPlans.{Regular}
-use Rattle.codegen.proofs.RangeSound.{any_among, among_any, same_names}
+use Rattle.codegen.proofs.RangeSound.{any_among, same_names}
 use Rattle.codegen.proofs.RangeParts.{of_block}
 
 -- a loop has its range's references and assigned scalars
@@ -48,28 +52,12 @@ mutual
       let us = block_loops around k m b in
       ⊎_elim (λ j. block_shape b around k m l j) (λ j. arms_shape more around (k + length us) (m + length (block_lines b)) l j) (in_which l us (arms_loops around (k + length us) (m + length (block_lines b)) more) i)
 
--- what holds of all of a list holds of each
-pub all_at : {X : Type 0} (p : X → Bool) (xs : List X) (y : X) → list_all p xs ≡ true → In y xs → p y ≡ true
-all_at p [] y h i = absurd i
-all_at p (x ∷ xs) y h (inl e) = subst (λ z. p z ≡ true) (sym e) (and_parts (p x) (list_all p xs) h).0
-all_at p (x ∷ xs) y h (inr i) = all_at p xs y (and_parts (p x) (list_all p xs) h).1 i
-
 ref_in : (os : List Occurrence) (o : Occurrence) → In o os → In o.ref (references os)
 ref_in [] o i = i
 ref_in (x ∷ os) o (inl e) = inl (ap (λ (z : Occurrence). z.ref) e)
 ref_in (x ∷ os) o (inr i) = inr (ref_in os o i)
 
 -- numbered references stand once
-from_id : (os : List Occurrence) (n : ℕ) (o : Occurrence) → are_numbered n (references os) ≡ true → In o os → n ≤ o.ref.id
-from_id [] n o h i = absurd i
-from_id (x ∷ os) n o h (inl e) =
-    let k = and_parts (x.ref.id == n) (are_numbered (n + 1) (references os)) h in
-    let z = eqb-true x.ref.id n k.0 in
-    let y : o.ref.id ≡ x.ref.id = ap (λ (q : Occurrence). q.ref.id) e in omega (arith, z, y)
-from_id (x ∷ os) n o h (inr i) =
-    let k = and_parts (x.ref.id == n) (are_numbered (n + 1) (references os)) h in
-    let z = from_id os (n + 1) o k.1 i in omega (arith, z)
-
 one_each : (os : List Occurrence) (n : ℕ) (a b : Occurrence) → are_numbered n (references os) ≡ true → In a os → In b os → a.ref ≡ b.ref → a ≡ b
 one_each [] n a b h i j e = absurd i
 one_each (x ∷ os) n a b h (inl u) (inl v) e = u ∙ sym v
@@ -77,13 +65,13 @@ one_each (x ∷ os) n a b h (inl u) (inr j) e =
     let k = and_parts (x.ref.id == n) (are_numbered (n + 1) (references os)) h in
     let z = eqb-true x.ref.id n k.0 in
     let y : a.ref.id ≡ x.ref.id = ap (λ (q : Occurrence). q.ref.id) u in
-    let w = from_id os (n + 1) b k.1 j in
+    let w = least (n + 1) os b k.1 j in
     let v : a.ref.id ≡ b.ref.id = ap (λ (q : Ref). q.id) e in absurd (omega (arith, z, y, w, v))
 one_each (x ∷ os) n a b h (inr i) (inl u) e =
     let k = and_parts (x.ref.id == n) (are_numbered (n + 1) (references os)) h in
     let z = eqb-true x.ref.id n k.0 in
     let y : b.ref.id ≡ x.ref.id = ap (λ (q : Occurrence). q.ref.id) u in
-    let w = from_id os (n + 1) a k.1 i in
+    let w = least (n + 1) os a k.1 i in
     let v : a.ref.id ≡ b.ref.id = ap (λ (q : Ref). q.id) e in absurd (omega (arith, z, y, w, v))
 one_each (x ∷ os) n a b h (inr i) (inr j) e = one_each os (n + 1) a b (and_parts (x.ref.id == n) (are_numbered (n + 1) (references os)) h).1 i j e
 
@@ -93,7 +81,7 @@ module _ (p : Ref → Bool) where
 
   split : (es fs : List Term) → Every (es ++ fs) → Every es × Every fs
   split es fs h =
-      let k = subst (λ (rs : List Ref). list_all p rs ≡ true) (expressions_append es fs) h in
+      let k = subst (λ (rs : List Ref). list_all p rs ≡ true) (references_append es fs) h in
       (all_left p (expressions_references es) (expressions_references fs) k, all_right p (expressions_references es) (expressions_references fs) k)
 
   -- of all references of a program, of those of a loop's range
@@ -123,7 +111,7 @@ numbered_range b l i h =
 
 -- what a loop shows of a block whose references are placed is placed
 pub shown_placed : (symbols : List Symbol) (b : Block) (l : Loop) → are_placed symbols b ≡ true → In l (loops_of b) → list_all (λ r. is_placed symbols r) (known l) ≡ true
-shown_placed symbols b l placed i = all_at (λ (m : Loop). list_all (λ r. is_placed symbols r) (known m)) (loops_of b) l (block_shows (λ r. is_placed symbols r) None 0 0 b placed) i
+shown_placed symbols b l placed i = all_in (λ (m : Loop). list_all (λ r. is_placed symbols r) (known m)) (loops_of b) l (block_shows (λ r. is_placed symbols r) None 0 0 b placed) i
 
 module _ (t : ProgramTree) (distinct : IsDistinct same_name (names_of t.symbols)) (placed : are_placed t.symbols t.block ≡ true) (numbered : are_numbered 0 (block_references t.block) ≡ true) (l : Loop) (among : In l (loops_of t.block)) where
   pub shape : Shape l
@@ -138,7 +126,7 @@ module _ (t : ProgramTree) (distinct : IsDistinct same_name (names_of t.symbols)
       (k.0, all_left (λ r. is_placed t.symbols r) l.assigned (references l.references) k.1, all_right (λ r. is_placed t.symbols r) l.assigned (references l.references) k.1)
 
   pub reference_placed : (o : Occurrence) → In o l.references → is_placed t.symbols o.ref ≡ true
-  reference_placed o i = all_at (λ r. is_placed t.symbols r) (references l.references) o.ref parts_placed.2 (ref_in l.references o i)
+  reference_placed o i = all_in (λ r. is_placed t.symbols r) (references l.references) o.ref parts_placed.2 (ref_in l.references o i)
 
   -- each reference stands once
   pub unique : (a b : Occurrence) → In a l.references → In b l.references → a.ref ≡ b.ref → a ≡ b
@@ -149,7 +137,8 @@ module _ (t : ProgramTree) (distinct : IsDistinct same_name (names_of t.symbols)
   pub body_placed : list_all (λ r. is_placed t.symbols r) (expressions_references (block_expressions l.body)) ≡ true
   body_placed = in_range_too (λ r. is_placed t.symbols r) t.block l among placed
 
-  -- Of an accepted program: as many subscripts as dimensions, and the loop's variable gets no value in its range.
+  -- Of an accepted program: as many subscripts as dimensions, and the loop's variable gets no value
+  -- in its range.
   pub regular : ((o : Occurrence) → In o l.references → count o.subscripts ≡ length (dimensions_at t.symbols o.ref.cell)) → dimensions_at t.symbols l.head.variable.cell ≡ []
       → ((o : Occurrence) → In o l.references → o.defines ≡ true → o.ref.name ≡ l.head.variable.name → ⊥) → Regular t.symbols l
   regular counted scalar unassigned = record {
@@ -164,9 +153,9 @@ module _ (t : ProgramTree) (distinct : IsDistinct same_name (names_of t.symbols)
     assigns = λ o i d s.
         let h : has_cell o.ref.cell l.assigned ≡ true = ap (has_cell o.ref.cell) shape.2 ∙ at_block o d s shape.0 [] l.body (subst (λ (os : List Occurrence). In o os) shape.1 i) in
         let m = any_among l.assigned (λ (q : Ref). q.cell == o.ref.cell) h in
-        let p : is_placed t.symbols m.0 ≡ true = all_at (λ r. is_placed t.symbols r) l.assigned m.0 parts_placed.1 m.1 in
+        let p : is_placed t.symbols m.0 ≡ true = all_in (λ r. is_placed t.symbols r) l.assigned m.0 parts_placed.1 m.1 in
         let n = same_names t.symbols distinct m.0 o.ref p (reference_placed o i) (eqb-true (m.0).cell o.ref.cell m.2) in
-        among_any l.assigned (λ (q : Ref). same_name q.name o.ref.name) m.0 m.1 (subst (λ (x : List ℕ). same_name x o.ref.name ≡ true) (sym n) (same_itself o.ref.name));
+        in_any (λ (q : Ref). same_name q.name o.ref.name) l.assigned m.0 m.1 (subst (λ (x : List ℕ). same_name x o.ref.name ≡ true) (sym n) (same_itself o.ref.name));
     variable = parts_placed.0;
     variable_scalar = scalar;
     unassigned = unassigned;

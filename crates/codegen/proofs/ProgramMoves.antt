@@ -7,7 +7,8 @@ use Rattle.ast.specs.declared.fault.End.TheVariants.{Done, Stopped, Fault as Fau
 use Rattle.machine.specs.Code.{Cell}
 use Rattle.machine.specs.State.{State, Active, Wait, until_count, until_retired, Who, the_main, iteration, Choice, take_main, take_iteration, take_ticket, Reached, with_frame, park, NoneOpen, Move, MainMove, Takes, Turn, Step, put_at, put_cell, put_cells, end_of}
 use Rattle.machine.specs.View.{Cause, failure, stop_at, Input, View, doing, loading, storing, printing, awaiting, advancing}
-use Rattle.codegen.proofs.IterationLaws.{put_same, put_other, put_cases, cell_other, cells_other, after-snoc, acts-snoc}
+use Rattle.machine.proofs.Puts.{put_same}
+use Rattle.codegen.proofs.IterationLaws.{put_other, put_cases, cell_other, cells_other, after-snoc, acts-snoc}
 use Rattle.codegen.proofs.IterationSteps.{Process, load, store, print, await, advance, tick, fault, leave, gone, Whole, follow, act, after, acts, cell_value, stopped, sequential}
 use Rattle.codegen.proofs.LoopKeeps.{grows}
 use Rattle.codegen.proofs.LoopMachine.{Inside, Possible, value_of, written, counted, lowered, effect, Inv, Loads, Stores}

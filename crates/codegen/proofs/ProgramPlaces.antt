@@ -2,7 +2,8 @@
 use Rattle.std.proofs.Common.{◌≡◌, ◌∙◌, ℕ, ◌+◌, ◌<◌, ◌≤◌, Option, Some, None, ◌⊎◌, inl, inr, refl, sym, ap, subst, ⊎_elim, arith}
 use Rattle.std.proofs.lemmas.Bool.{cases_eq, cases_lt}
 use Rattle.machine.specs.State.{Wait, Who, the_main, iteration, put_at}
-use Rattle.codegen.proofs.IterationLaws.{put_same, put_other, put_cases}
+use Rattle.machine.proofs.Puts.{put_same}
+use Rattle.codegen.proofs.IterationLaws.{put_other, put_cases}
 
 module _ (A : Type 0) (p : ℕ) where
   pub record Whereabouts (retired ticket : ℕ) (iterations : ℕ → Option A) (parked : ℕ → Option Wait) (waiting : Option Wait) (held : ℕ → Option Who) : Type 0 where

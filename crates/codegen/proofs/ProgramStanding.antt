@@ -21,8 +21,8 @@ WaitsFor (fault c) k w = w ≡ until_retired k
 WaitsFor _ k w = ⊥
 
 module _ (F L : Type 0) (view : F → View F L) where
-  -- Hidden: the cells of the loop's private scalars; Fixed: those of the scalars to which its range gives no
-  -- value, which keep those that they had at its opening
+  -- Hidden: the cells of the loop's private scalars; Fixed: those of the scalars to which its range
+  -- gives no value, which keep those that they had at its opening
   module _ (Hidden Fixed : Cell → Type 0) (opened : StoreOf) where
     -- the frame does what the process does; of a private scalar's cell nothing is claimed
     abbrev pub Stands : Process → F → Type 0
@@ -82,8 +82,9 @@ module _ (F L : Type 0) (view : F → View F L) where
     pub decides : (l : L) → Valid l → (c : Cell) → Fixed l c ⊎ (Fixed l c → ⊥)
     pub begins : (l : L) → Valid l → (ι : StoreOf) (k : ℕ) → k < trips l → Stands (Hidden l) (Fixed l) ι (start l ι k) (begin l k)
 
--- What is kept beside the state: what main has left, and, of an open loop, the store at its opening, what
--- its iterations' steps were given, what was printed before it, and what its join will write.
+-- What is kept beside the state: what main has left, and, of an open loop, the store at its
+-- opening, what its iterations' steps were given, what was printed before it, and what its join
+-- will write.
 pub data Ghost (L : Type 0) : Type 0 where
   between : Main L → Ghost L
   within : (l : L) (ι : StoreOf) (past : ℕ → List ℤ) (before : List ℕ) (xs : List (Cell × ℤ)) → Main L → Ghost L

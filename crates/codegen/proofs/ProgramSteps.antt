@@ -8,8 +8,8 @@ use Rattle.codegen.proofs.IterationSteps.{Process, Whole, cell_value, sequential
 use Rattle.codegen.proofs.LoopRuns.{shown}
 use Rattle.codegen.proofs.Outcomes.{Outcome, done, failed, then_do}
 
--- What main may still do; L: what an open loop is known by. To open a loop is followed by its join, which
--- writes these cells. It never goes astray: that is what only an iteration does.
+-- What main may still do; L: what an open loop is known by. To open a loop is followed by its join,
+-- which writes these cells. It never goes astray: that is what only an iteration does.
 pub data Main (L : Type 0) : Type 0 where
   take : Cell → (ℤ → Main L) → Main L
   keep : Cell → ℤ → Main L → Main L
@@ -99,8 +99,8 @@ abbrev pub sizes : List (List ℤ) → ℕ
 sizes [] = 0
 sizes (vs ∷ ls) = length vs + sizes ls
 
--- opening, tickets, instructions and retirements, join; where an iteration breaks off, its report in the
--- place of the join
+-- opening, tickets, instructions and retirements, join; where an iteration breaks off, its report
+-- in the place of the join
 abbrev pub alone_steps : Whole → ℕ → (StoreOf → ℕ) → ℕ
 alone_steps (went ls τ) t next = 2 + t + sizes ls + next τ
 alone_steps (stopped ls c) t next = 2 + length ls + sizes ls

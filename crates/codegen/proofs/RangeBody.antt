@@ -23,8 +23,8 @@ use Rattle.codegen.proofs.IterationMeaning.{ArmsKnown, BlockKnown}
 use Rattle.codegen.proofs.RangeSound.{IsPlace, StandsIn, dims, fixed_in, is_assigned, loop_named, index_dims, is_scalar}
 use Rattle.plan_check.specs.GoodPlan.{stripped, stripped_arms, only_events}
 
--- A plan's body that reads no input; its inner DO variables are private scalars; END stands nowhere behind a
--- STOP; its events are events, and made ELSEs hold awaits and advances alone.
+-- A plan's body that reads no input; its inner DO variables are private scalars; END stands nowhere
+-- behind a STOP; its events are events, and made ELSEs hold awaits and advances alone.
 module _ (symbols : List Symbol) (pl : Places) where
   abbrev pub CalmKind : Kind → Type 0
   CalmKind (read xs) = ⊥

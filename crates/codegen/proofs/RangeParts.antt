@@ -1,11 +1,12 @@
--- What holds of a program holds of the range of each of its loops; a plan's body wants no more room than the
--- loop's range.
-use Rattle.std.proofs.Common.{◌≡◌, ◌+◌, ◌≤◌, ◌⊎◌, inl, inr, ℕ, zero, suc, Bool, true, false, List, [], ◌∷◌, ◌++◌, Option, Some, None, length, sym, subst, ⊎_elim, arith, length-append}
+-- What holds of a program holds of the range of each of its loops; a plan's body wants no more room
+-- than the loop's range.
+use Rattle.std.proofs.Common.{◌≡◌, ◌+◌, ◌≤◌, ◌⊎◌, inl, inr, ℕ, Bool, true, false, List, [], ◌∷◌, ◌++◌, Option, Some, None, length, sym, subst, ⊎_elim, arith, length-append}
 use Rattle.std.specs.Prelude.{max, if◌then◌else◌}
 use Rattle.std.proofs.lemmas.Bool.{and_parts}
 use Rattle.std.proofs.Math.Nat.{le-max_left, le-max_right, max-eq_left, max-eq_right}
 use Rattle.ast.specs.Tree as tree
 use Rattle.ast.specs.Tree.{Term, DoHead, Node, Block, Arms}
+use Rattle.ast.proofs.Numbers.{either_way}
 use Rattle.dependence.specs.Plan.{PlanNode, awaits, advances, plain, loop, choose, PlanBlock, no_nodes, then_node, PlanArms, no_arms, made_else, then_arm}
 use Rattle.loop_tree.specs.Loops.{Loop, arms_loops as loops_in_arms, block_loops as loops_in_block, node_loops as loops_in_node}
 use Rattle.loop_tree.specs.Occurrences.{node_lines, block_lines}
@@ -55,17 +56,8 @@ module _ (PB : Block → Type 0) (PN : Node → Type 0) (PA : Arms → Type 0)
 
 -- ---- room
 
-le_or : (m n : ℕ) → (m ≤ n) ⊎ (n ≤ m)
-le_or zero n = inl (omega arith)
-le_or (suc m) zero = inr (omega arith)
-le_or (suc m) (suc n) = by (le_or m n)
-  where
-    by : (m ≤ n) ⊎ (n ≤ m) → (suc m ≤ suc n) ⊎ (suc n ≤ suc m)
-    by (inl l) = inl (omega (arith, l))
-    by (inr l) = inr (omega (arith, l))
-
 most : (a b c : ℕ) → a ≤ c → b ≤ c → max a b ≤ c
-most a b c h k = by (le_or a b)
+most a b c h k = by (either_way a b)
   where
     by : (a ≤ b) ⊎ (b ≤ a) → max a b ≤ c
     by (inl l) = let e : max a b ≡ b = max-eq_right l in omega (arith, e, k)

@@ -1,5 +1,5 @@
--- What a plan's body wants of operands and serial loops is no more than there is room for in the code: its
--- range stands among the program's statements, whose room that is.
+-- What a plan's body wants of operands and serial loops is no more than there is room for in the
+-- code: its range stands among the program's statements, whose room that is.
 use Rattle.std.proofs.Common.{◌≤◌, ℕ, Option, Some, None, sym, subst, arith}
 use Rattle.std.specs.Prelude.{max}
 use Rattle.std.proofs.Math.Nat.{le-max_left, le-max_right}

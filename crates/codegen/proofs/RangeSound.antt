@@ -1,19 +1,21 @@
 -- What is known of the references of a loop that is opened.
 use Rattle.std.proofs.Common.{◌≡◌, ◌∙◌, ◌<◌, inl, inr, ℕ, zero, suc, ℤ, pos, Bool, true, false, List, [], ◌∷◌, ◌++◌, Option, Some, None, Ok, length, get_or, refl, sym, ap, subst, arith, append_assoc}
 use Rattle.std.specs.Prelude.{◌==◌, ◌&&◌, ◌||◌, not, slice_get, if◌then◌else◌}
-use Rattle.std.specs.List.{AllByRecursion, IsDistinct, list_any}
+use Rattle.std.specs.List.{IsDistinct, list_any}
 use Rattle.std.proofs.lemmas.Bool.{and_parts, eq-eqb, eqb-true}
+use Rattle.plan_check.proofs.Sound.{in_any}
 use Rattle.ast.specs.Program.{is_placed, is_variable_named, is_variable as is_variable_sort}
 use Rattle.ast.specs.Store.{StoreOf, same_name}
 use Rattle.ast.specs.Symbols.{Extent, Symbol, dimensions_in, names_of, place_of}
 use Rattle.ast.specs.Tree.{Ref, Terms, element, no_terms, then_term}
+use Rattle.ast.proofs.SameNames.{same_itself, same_is}
+use Rattle.ast.proofs.Symbols.{differs}
 use Rattle.dependence.specs.Plan.{PlanBlock, PlanPaths}
 use Rattle.loop_tree.specs.Loops.{Loop, has_cell}
 use Rattle.loop_tree.specs.Occurrences.{Occurrence}
 use Rattle.loop_tree.specs.Paths.{Token, uses, defines, await as awaited_at, advance as advanced_at}
 use Rattle.machine.specs.Code.{Cell}
 use Rattle.machine.specs.View.{is_event}
-use Rattle.machine.proofs.Naming.{same, same_itself}
 use Rattle.subscripts.specs.Forms.{is_variable, varies}
 use Rattle.subscripts.specs.Values.{MayBe, ScalarMayBe}
 use Rattle.expr_code.specs.Places.{Places, Home, loop_index, private_scalar, in_store, dimensions_at, home, number_in, private_or_stored}
@@ -26,11 +28,6 @@ use Rattle.codegen.proofs.IterationMeaning.{private_named}
 
 -- ---- names and cells
 
-private_differs : (x : List ℕ) (ss : List Symbol) (i : ℕ) (s : Symbol) → AllByRecursion (λ n. same_name x n ≡ false) (names_of ss) → slice_get ss i ≡ Some s → same_name x s.name ≡ false
-private_differs x [] i s h e = cc
-private_differs x (t ∷ ss) zero s h e = let d : t ≡ s = cc in subst (λ (z : Symbol). same_name x z.name ≡ false) d h.0
-private_differs x (t ∷ ss) (suc i) s h e = private_differs x ss i s h.1 e
-
 -- a name stands once among the symbols
 pub one_place : (ss : List Symbol) → IsDistinct same_name (names_of ss) → (i j : ℕ) (s t : Symbol) → slice_get ss i ≡ Some s → slice_get ss j ≡ Some t → s.name ≡ t.name → i ≡ j
 unfolding IsDistinct
@@ -38,12 +35,12 @@ one_place [] d i j s t e f n = cc
 one_place (u ∷ us) d zero zero s t e f n = refl
 one_place (u ∷ us) d zero (suc j) s t e f n =
     let k : u ≡ s = cc in
-    let z : same_name u.name t.name ≡ false = private_differs u.name us j t d.0 f in
+    let z : same_name u.name t.name ≡ false = differs u.name us j t d.0 f in
     let y : same_name u.name t.name ≡ true = subst (λ (m : List ℕ). same_name u.name m ≡ true) (ap (λ (q : Symbol). q.name) k ∙ n) (same_itself u.name) in
     let x : true ≡ false = sym y ∙ z in cc
 one_place (u ∷ us) d (suc i) zero s t e f n =
     let k : u ≡ t = cc in
-    let z : same_name u.name s.name ≡ false = private_differs u.name us i s d.0 e in
+    let z : same_name u.name s.name ≡ false = differs u.name us i s d.0 e in
     let y : same_name u.name s.name ≡ true = subst (λ (m : List ℕ). same_name u.name m ≡ true) (ap (λ (q : Symbol). q.name) k ∙ sym n) (same_itself u.name) in
     let x : true ≡ false = sym y ∙ z in cc
 one_place (u ∷ us) d (suc i) (suc j) s t e f n = ap suc (one_place us d.1 i j s t e f n)
@@ -55,7 +52,7 @@ symbol_at ss r h = by (slice_get ss r.cell) refl
     by None e = let d : false ≡ true = sym (ap (is_variable_named r.name) e) ∙ h in cc
     by (Some s) e =
         let k : (same_name s.name r.name && is_variable_sort s.sort) ≡ true = sym (ap (is_variable_named r.name) e) ∙ h in
-        (s, e, same s.name r.name (and_parts (same_name s.name r.name) (is_variable_sort s.sort) k).0)
+        (s, e, same_is s.name r.name (and_parts (same_name s.name r.name) (is_variable_sort s.sort) k).0)
 
 module _ (ss : List Symbol) (distinct : IsDistinct same_name (names_of ss)) (r q : Ref) (pr : is_placed ss r ≡ true) (pq : is_placed ss q ≡ true) where
   pub same_cells : r.name ≡ q.name → r.cell ≡ q.cell
@@ -85,15 +82,6 @@ any_among (r ∷ rs) f h = by (f r) refl h (any_among rs f)
     by : (b : Bool) → f r ≡ b → (b || list_any f rs) ≡ true → (list_any f rs ≡ true → (s : Ref) × In s rs × (f s ≡ true)) → (s : Ref) × In s (r ∷ rs) × (f s ≡ true)
     by true e k more = (r, inl refl, e)
     by false e k more = let m = more k in (m.0, inr m.1, m.2)
-
-pub among_any : (rs : List Ref) (f : Ref → Bool) (s : Ref) → In s rs → f s ≡ true → list_any f rs ≡ true
-among_any [] f s i e = absurd i
-among_any (r ∷ rs) f s (inl z) e = ap (λ (b : Bool). b || list_any f rs) (subst (λ (q : Ref). f q ≡ true) z e)
-among_any (r ∷ rs) f s (inr i) e = by (f r) (among_any rs f s i e)
-  where
-    by : (b : Bool) → list_any f rs ≡ true → (b || list_any f rs) ≡ true
-    by true h = refl
-    by false h = h
 
 -- ---- scalars to which a range gives no value
 
@@ -170,7 +158,7 @@ module _ (symbols : List Symbol) (l : Loop) (line : ℕ) (privates : List (List 
   assigned_named r es st h =
       let m = any_among l.assigned (λ (s : Ref). s.cell == r.cell) h in
       let n = same_names symbols w.distinct m.0 r (w.assigned m.0 m.1) (w.placed r es st) (eqb-true (m.0).cell r.cell m.2) in
-      among_any l.assigned (λ (s : Ref). same_name s.name r.name) m.0 m.1 (subst (λ (x : List ℕ). same_name x r.name ≡ true) (sym n) (same_itself r.name))
+      in_any (λ (s : Ref). same_name s.name r.name) l.assigned m.0 m.1 (subst (λ (x : List ℕ). same_name x r.name ≡ true) (sym n) (same_itself r.name))
 
   scalar_dims : (ds : List Extent) → is_scalar ds ≡ true → ds ≡ []
   scalar_dims [] e = refl
@@ -213,7 +201,7 @@ module _ (symbols : List Symbol) (l : Loop) (line : ℕ) (privates : List (List 
         let d : dimensions_at symbols r.cell ≡ [] = none_long (dimensions_at symbols r.cell) (w.counted r no_terms st) in
         let a : is_assigned l r.name ≡ true = assigned_then (is_assigned l r.name) (ap (λ (ds : List Extent). is_scalar ds && not (is_assigned l r.name)) (sym (dims r no_terms st ∙ d)) ∙ f) in
         let m = any_among l.assigned (λ (s : Ref). same_name s.name r.name) a in
-        may_vary r v (not_index r no_terms in_store st d h (λ z. cc)) (varies_named r no_terms m.0 st m.1 (same (m.0).name r.name m.2))
+        may_vary r v (not_index r no_terms in_store st d h (λ z. cc)) (varies_named r no_terms m.0 st m.1 (same_is (m.0).name r.name m.2))
       where
         assigned_then : (b : Bool) → (true && not b) ≡ false → b ≡ true
         assigned_then true e = refl
@@ -245,7 +233,7 @@ module _ (symbols : List Symbol) (l : Loop) (line : ℕ) (privates : List (List 
         stored (Some x) q = cc
 
         by : (b : Bool) → same_name l.head.variable.name name ≡ b → (if b then loop_index else private_or_stored (number_in 0 name privates)) ≡ loop_index → l.head.variable.name ≡ name
-        by true k q = same l.head.variable.name name k
+        by true k q = same_is l.head.variable.name name k
         by false k q = absurd (stored (number_in 0 name privates) q)
 
     index_may : (r : Ref) (es : Terms) → home_at pl r ≡ loop_index → Located l (held_by symbols ι) index (StandsIn l) symbols r es 0 → May r no_terms index

@@ -11,13 +11,14 @@ use Rattle.ast.specs.Store.{same_name}
 use Rattle.ast.specs.Symbols.{Extent, Symbol, dimensions_in, names_of}
 use Rattle.ast.specs.Tree as tree
 use Rattle.ast.specs.Tree.{Ref, Terms, no_terms, then_term, DoHead, Kind, assign, print, read, stop, program, integer, dimension, parameters, do_loop, go_on, block_if, else_if, else_arm, end_if, logical_if, end, Block}
+use Rattle.ast.proofs.Lists.{any_parts}
+use Rattle.ast.proofs.SameNames.{same_itself, same_is}
 use Rattle.dependence.specs.Kept.{IsNonzero, arms_kinds, block_kinds, block_reads, is_read}
 use Rattle.dependence.specs.Plan.{awaits, advances, plain, loop, choose, PlanBlock, no_nodes, then_node, PlanArms, no_arms, made_else, then_arm, PlanPaths}
 use Rattle.loop_tree.specs.Loops.{Loop, arms_loops, block_loops, loop_at, loops_of}
 use Rattle.loop_tree.specs.Occurrences.{Occurrence, block_lines, block_occurrences, node_lines}
 use Rattle.loop_tree.specs.Paths.{Token, uses, defines, await, advance, Ending}
 use Rattle.machine.specs.View.{is_event}
-use Rattle.machine.proofs.Naming.{same, same_itself}
 use Rattle.expr_code.specs.Places.{loop_index, private_scalar, dimensions_at, home, home_of, is_loop_name, number_in, private_or_stored}
 use Rattle.expr_code.specs.Process.{count}
 use Rattle.expr_code.proofs.Finding.{dimensions_same}
@@ -101,19 +102,12 @@ tree_last s (then_node (plain u) b) w = by (stripped b)
     by tree.no_nodes = not_last_kind s.kind u.kind w.0
     by (tree.then_node n x) = refl
 
-any_parts : {X : Type 0} (f : X → Bool) (xs ys : List X) → list_any f (xs ++ ys) ≡ false → (list_any f xs ≡ false) × (list_any f ys ≡ false)
-any_parts f [] ys h = (refl, h)
-any_parts f (x ∷ xs) ys h = by (f x) refl h (any_parts f xs ys)
-  where
-    by : (b : Bool) → f x ≡ b → (b || list_any f (xs ++ ys)) ≡ false → (list_any f (xs ++ ys) ≡ false → (list_any f xs ≡ false) × (list_any f ys ≡ false)) → ((f x || list_any f xs) ≡ false) × (list_any f ys ≡ false)
-    by true e k more = cc
-    by false e k more = let m = more k in (ap (λ (c : Bool). c || list_any f xs) e ∙ m.0, m.1)
-
 event_is : (e : ℕ) → 1 ≤ e → e ≤ 64 → is_event e ≡ true
 event_is e a b = ap (λ (c : Bool). c && nat_le e 64) (lt-ltb 0 e (omega (arith, a))) ∙ le-leb e 64 b
 
 module _ (symbols : List Symbol) (x : Planned) (g : GoodPlan x.loop x.plan) (same_body : SameBody x.loop x.plan) (r : Regular symbols x.loop) (no_end : NoEnd x.plan.body)
-    -- each private name stands once, and inner DO variables' references are those of the loops inside
+    -- each private name stands once, and inner DO variables' references are those of the loops
+    -- inside
     (once : (i j : ℕ) → i < length x.plan.privates → j < length x.plan.privates → get_or x.plan.privates i [] ≡ get_or x.plan.privates j [] → i ≡ j) where
   abbrev l : Loop
   l = x.loop
@@ -185,7 +179,7 @@ module _ (symbols : List Symbol) (x : Planned) (g : GoodPlan x.loop x.plan) (sam
   numbered n (suc i) (y ∷ ys) h one = by (same_name y (get_or ys i [])) refl (numbered (n + 1) i ys (omega (arith, h)) (λ a b k m e. let z : suc a ≡ suc b = one (suc a) (suc b) (omega (arith, k)) (omega (arith, m)) e in omega (arith, z)))
     where
       by : (b : Bool) → same_name y (get_or ys i []) ≡ b → number_in (n + 1) (get_or ys i []) ys ≡ Some (n + 1 + i) → (if b then Some n else number_in (n + 1) (get_or ys i []) ys) ≡ Some (n + suc i)
-      by true e m = let z : 0 ≡ suc i = one 0 (suc i) (omega arith) h (same y (get_or ys i []) e) in absurd (omega (arith, z))
+      by true e m = let z : 0 ≡ suc i = one 0 (suc i) (omega arith) h (same_is y (get_or ys i []) e) in absurd (omega (arith, z))
       by false e m = m ∙ ap (λ (k : ℕ). Some k) (more n i)
         where
           more : (n i : ℕ) → n + 1 + i ≡ n + suc i
@@ -195,7 +189,7 @@ module _ (symbols : List Symbol) (x : Planned) (g : GoodPlan x.loop x.plan) (sam
   no_variable name h = by (same_name x.loop.head.variable.name name) refl
     where
       by : (b : Bool) → same_name x.loop.head.variable.name name ≡ b → b ≡ false
-      by true e = absurd (h (sym (same x.loop.head.variable.name name e)))
+      by true e = absurd (h (sym (same_is x.loop.head.variable.name name e)))
       by false e = refl
 
   homes : (i : ℕ) → i < length x.plan.privates → home_of (range_places symbols x) (get_or x.plan.privates i []) ≡ private_scalar i
@@ -225,7 +219,7 @@ module _ (symbols : List Symbol) (x : Planned) (g : GoodPlan x.loop x.plan) (sam
       stored (Some y) q = cc
 
       chosen : (b : Bool) → same_name x.loop.head.variable.name name ≡ b → (if b then loop_index else private_or_stored (number_in 0 name x.plan.privates)) ≡ loop_index → name ≡ x.loop.head.variable.name
-      chosen true h q = sym (same x.loop.head.variable.name name h)
+      chosen true h q = sym (same_is x.loop.head.variable.name name h)
       chosen false h q = absurd (stored (number_in 0 name x.plan.privates) q)
 
       by : (ds : List Extent) → home (range_places symbols x) ds name ≡ loop_index → name ≡ x.loop.head.variable.name

@@ -1,10 +1,10 @@
 -- Frames from statement to statement.
-use Rattle.std.proofs.Common.{◌≡◌, ◌∙◌, ◌<◌, ◌≤◌, ◌+◌, ℕ, zero, suc, ℤ, Bool, List, [], ◌∷◌, ◌++◌, Option, Some, None, length, drop, take, refl, sym, ap, arith, append_assoc}
+use Rattle.std.proofs.Common.{◌≡◌, ◌∙◌, ◌<◌, ◌≤◌, ◌+◌, ℕ, ℤ, Bool, List, [], ◌∷◌, ◌++◌, Option, Some, None, length, drop, take, refl, sym, ap, arith, append_assoc}
 use Rattle.std.specs.Prelude.{reverse, slice_get, slice_set, if◌then◌else◌}
 use Rattle.std.proofs.Math.Seq.{take-append_seam}
 use Rattle.std.proofs.lemmas.Bool.{le-leb, lt-ltb}
 use Rattle.std.proofs.lemmas.Grind.{reverse_onto}
-use Rattle.std.proofs.lemmas.List.{length-reverse, reverse-reverse}
+use Rattle.std.proofs.lemmas.List.{length-reverse, reverse-reverse, length-set}
 use Rattle.ast.specs.Record.{record_of}
 use Rattle.machine.specs.Code.{Code, Part}
 use Rattle.machine.specs.Frame.{Frame}
@@ -32,13 +32,8 @@ keeps_same f = record { index = refl; privates = refl; room = refl; counters = r
 pub keeps_on : (f g h : Frame) → Keeps f g → Keeps g h → Keeps f h
 keeps_on f g h a b = record { index = b.index ∙ a.index; privates = b.privates ∙ a.privates; room = b.room ∙ a.room; counters = b.counters ∙ a.counters }
 
-set_length : (ps : List (Option ℤ)) (x : ℕ) (o : Option ℤ) → length (slice_set ps x o) ≡ length ps
-set_length [] x o = refl
-set_length (p ∷ ps) zero o = refl
-set_length (p ∷ ps) (suc x) o = ap suc (set_length ps x o)
-
 pub keeps_set : (f : Frame) (x : ℕ) (v : ℤ) → Keeps f (with_private f x v)
-keeps_set f x v = record { index = refl; privates = set_length f.privates x (Some v); room = refl; counters = refl }
+keeps_set f x v = record { index = refl; privates = length-set f.privates x (Some v); room = refl; counters = refl }
 
 onto_is : (vs st : List ℤ) → onto vs st ≡ reverse vs ++ st
 onto_is [] st = refl

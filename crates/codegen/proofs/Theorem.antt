@@ -41,8 +41,8 @@ use Rattle.codegen.proofs.Opening.{agrees, may_if}
 use Rattle.codegen.specs.Program.{IsCodeOf, Planned, range_places}
 use Rattle.codegen.specs.States.{AreAsAlone}
 
--- What is known of a loop that is opened: its plan is good and is the loop's body; the loop is one of an
--- accepted program.
+-- What is known of a loop that is opened: its plan is good and is the loop's body; the loop is one
+-- of an accepted program.
 pub record Opens (symbols : List Symbol) (x : Planned) : Type 0 where
   pub good : GoodPlan x.loop x.plan
   pub same : SameBody x.loop x.plan

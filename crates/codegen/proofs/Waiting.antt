@@ -1,18 +1,11 @@
 -- A program awaits nothing, whichever of its loops are opened.
-use Rattle.std.proofs.Common.{◌≡◌, ◌∙◌, ℕ, Bool, true, false, List, [], ◌++◌, Option, Some, None, refl, ap}
-use Rattle.std.specs.Prelude.{if◌then◌else◌}
+use Rattle.std.proofs.Common.{◌≡◌, ℕ, List, [], ◌++◌, Option, Some, None, refl}
 use Rattle.ast.specs.Tree.{Node, plain, loop, choose, Block, no_nodes, then_node, Arms, no_arms, then_arm}
+use Rattle.ast.proofs.Lists.{none_else, both_none}
 use Rattle.expr_code.specs.Places.{Places}
 use Rattle.codegen.specs.Emitted.{arms_awaits, block_awaits, if_serial, node_awaits}
 use Rattle.codegen.specs.Plain.{plain_arms, plain_block, plain_node}
 use Rattle.codegen.specs.Process.{is_last_stop}
-
-none_else : {X : Type 0} (b : Bool) (xs : List X) → xs ≡ [] → (if b then [] else xs) ≡ []
-none_else true xs h = refl
-none_else false xs h = h
-
-both_none : {X : Type 0} (xs ys : List X) → xs ≡ [] → ys ≡ [] → (xs ++ ys) ≡ []
-both_none xs ys h k = ap (λ zs. zs ++ ys) h ∙ k
 
 serial_none : {X : Type 0} (o : Option ℕ) (xs : List X) → xs ≡ [] → if_serial o xs ≡ []
 serial_none None xs h = h

@@ -1,13 +1,11 @@
--- What the process of an expression does goes along its references, with the values that they may have,
--- whatever the steps are made into.
-use Rattle.std.proofs.Common.{◌≡◌, ◌∙◌, ◌+◌, ◌*◌, ℕ, zero, suc, ℤ, pos, Bool, true, false, List, [], ◌∷◌, ◌++◌, Result, Ok, Err, length, refl, sym, ap, subst, append_assoc}
-use Rattle.std.specs.Prelude.{◌==◌, ◌-ℤ◌, unsigned_abs, if◌then◌else◌}
-use Rattle.std.proofs.lemmas.Bool.{eqb-true}
+-- What the process of an expression does goes along its references, with the values that they may
+-- have, whatever the steps are made into.
+use Rattle.std.proofs.Common.{◌≡◌, ◌∙◌, ℕ, zero, suc, ℤ, pos, Bool, true, false, List, [], ◌∷◌, ◌++◌, Result, Ok, Err, length, refl, sym, ap, subst, append_assoc}
+use Rattle.std.specs.Prelude.{◌==◌, if◌then◌else◌}
 use Rattle.std.proofs.lemmas.List.{append-nil}
 use Rattle.ast.specs.Exact.{greater, greatest, intrinsic_value, least, less, prefixed_value, truth_value, value_of}
 use Rattle.ast.specs.References.{term_references, terms_references}
-use Rattle.ast.specs.Results.{◌>>=◌}
-use Rattle.ast.specs.Symbols.{Extent, Symbol, is_within, place_of, width}
+use Rattle.ast.specs.Symbols.{Extent, Symbol, is_within, place_of}
 use Rattle.ast.specs.Tree.{Ref, Term, constant, truth, parameter, element, call, parentheses, unary, binary, Terms, no_terms, then_term}
 use Rattle.ast.specs.declared.expression.Intrinsic.{Intrinsic}
 use Rattle.ast.specs.declared.expression.Intrinsic.TheVariants.{Abs, Iabs, Max, Max0, Min, Min0, Mod}
@@ -15,64 +13,18 @@ use Rattle.ast.specs.declared.fault.Fault.{Fault}
 use Rattle.ast.specs.declared.fault.Fault.TheVariants.{Index as BadIndex}
 use Rattle.loop_tree.specs.Loops.{Loop}
 use Rattle.loop_tree.specs.Paths.{Token, uses, used}
+use Rattle.loop_tree.proofs.References.{used_append}
 use Rattle.subscripts.specs.Values.{MayBe, AllMayBe}
 use Rattle.expr_code.specs.Places.{Places, Home, loop_index, private_scalar, in_store, dimensions_at, home}
 use Rattle.expr_code.specs.Process.{Steps, answered_into, at_place, checked_into, chosen_into, count, further_into, just, locals_into, located_into, place_into, reached_into, scalar_into, target_into, term_into, terms_into}
-
-pub used-append : (xs ys : List Ref) → used (xs ++ ys) ≡ used xs ++ used ys
-used-append [] ys = refl
-used-append (x ∷ xs) ys = ap (λ (ts : List Token). uses x ∷ ts) (used-append xs ys)
+use Rattle.expr_code.proofs.Meaning.{front, front_none, place_front, by_front, not_two, abs_none, iabs_none}
 
 -- what holds a variable's value
 abbrev pub home_at : Places → Ref → Home
 home_at p r = home p (dimensions_at p.symbols r.cell) r.name
 
--- ---- the first of some values
-
-abbrev front : ℕ → List ℤ → List ℤ
-front n [] = []
-front zero (x ∷ xs) = []
-front (suc n) (x ∷ xs) = x ∷ front n xs
-
-front_none : (xs : List ℤ) → front 0 xs ≡ []
-front_none [] = refl
-front_none (x ∷ xs) = refl
-
-front_all : (xs : List ℤ) → front (length xs) xs ≡ xs
-front_all [] = refl
-front_all (x ∷ xs) = ap (λ (ys : List ℤ). x ∷ ys) (front_all xs)
-
-place_front : (ds : List Extent) (xs : List ℤ) → place_of ds (front (length ds) xs) ≡ place_of ds xs
-place_front [] xs = refl
-place_front (d ∷ ds) [] = refl
-place_front (d ∷ ds) (x ∷ xs) = ap (λ (r : Result ℕ Fault). if is_within d x then (r >>= λ n. Ok (unsigned_abs (x -ℤ d.lower) + width d * n)) else Err BadIndex) (place_front ds xs)
-
--- a function on just so many values, or on another number of them, as on none
-by_front : (g : Intrinsic) (n m : ℕ) (xs : List ℤ) → length xs ≡ m → ((m == n) ≡ false → intrinsic_value g [] ≡ intrinsic_value g xs) → intrinsic_value g (front (just n m) xs) ≡ intrinsic_value g xs
-by_front g n m xs len other = by (m == n) refl
-  where
-    by : (b : Bool) → (m == n) ≡ b → intrinsic_value g (front (if b then n else 0) xs) ≡ intrinsic_value g xs
-    by true e = ap (λ (k : ℕ). intrinsic_value g (front k xs)) (sym (eqb-true m n e) ∙ sym len) ∙ ap (λ (ys : List ℤ). intrinsic_value g ys) (front_all xs)
-    by false e = ap (λ (ys : List ℤ). intrinsic_value g ys) (front_none xs) ∙ other e
-
-not_two : (xs : List ℤ) → (length xs == 2) ≡ false → intrinsic_value Mod [] ≡ intrinsic_value Mod xs
-not_two [] h = refl
-not_two (x ∷ []) h = refl
-not_two (x ∷ y ∷ []) h = cc
-not_two (x ∷ y ∷ z ∷ xs) h = refl
-
-not_one : (xs : List ℤ) → (length xs == 1) ≡ false → intrinsic_value Abs [] ≡ intrinsic_value Abs xs
-not_one [] h = refl
-not_one (x ∷ []) h = cc
-not_one (x ∷ y ∷ xs) h = refl
-
-not_one_more : (xs : List ℤ) → (length xs == 1) ≡ false → intrinsic_value Iabs [] ≡ intrinsic_value Iabs xs
-not_one_more [] h = refl
-not_one_more (x ∷ []) h = cc
-not_one_more (x ∷ y ∷ xs) h = refl
-
--- l: the loop; held: what the scalars hold to which its range gives no value; i: the value of its variable
--- Stands: which references stand with which subscripts
+-- l: the loop; held: what the scalars hold to which its range gives no value; i: the value of its
+-- variable Stands: which references stand with which subscripts
 module _ (Stands : Ref → Terms → Type 0) where
   abbrev mutual
     pub Known : Term → Type 0
@@ -102,10 +54,9 @@ module _ (l : Loop) (held : ℕ → ℤ) (i : ℤ) (Stands : Ref → Terms → T
   counted no_terms vs h = ap (λ (xs : List ℤ). length xs) h
   counted (then_term e es) vs h = ap (λ (xs : List ℤ). length xs) h.2 ∙ ap suc (counted es h.1 h.4)
 
-  -- homes: what holds a variable's value.
-  -- Q a h: a may still be done behind the tokens h of a path; Begun h: some path begins so. The steps'
-  -- rules: a reference that is read is a token, and has a value that it may have; a fault is allowed
-  -- wherever a path has begun.
+  -- homes: what holds a variable's value. Q a h: a may still be done behind the tokens h of a path;
+  -- Begun h: some path begins so. The steps' rules: a reference that is read is a token, and has a
+  -- value that it may have; a fault is allowed wherever a path has begun.
   pub record WalksTerms (A : Type 0) (S : Steps A) (symbols : List Symbol) (homes : Ref → Home) (Q : A → List Token → Type 0) (Begun : List Token → Type 0) : Type 0 where
     pub loads : (r : Ref) (es : Terms) (n : ℕ) (κ : ℤ → A) (h : List Token) → homes r ≡ in_store → Located symbols r es n → ((v : ℤ) → May (element r es) v → Q (κ v) (h ++ uses r ∷ [])) → Q (S.load r (record { name = r.name; place = n }) κ) h
     pub owns : (r : Ref) (es : Terms) (x : ℕ) (κ : ℤ → A) (h : List Token) → homes r ≡ private_scalar x → Located symbols r es 0 → ((v : ℤ) → May (element r no_terms) v → Q (κ v) (h ++ uses r ∷ [])) → Q (S.own r x κ) h
@@ -116,7 +67,7 @@ module _ (l : Loop) (held : ℕ → ℤ) (i : ℤ) (Stands : Ref → Terms → T
   module _ (A : Type 0) (S : Steps A) (p : Places) (Q : A → List Token → Type 0) (Begun : List Token → Type 0) (shorter : (h t : List Token) → Begun (h ++ t) → Begun h) (W : WalksTerms A S p.symbols (home_at p) Q Begun) where
     -- what follows two lists of references follows them both
     twice : (h : List Token) (xs ys : List Ref) → h ++ used (xs ++ ys) ≡ (h ++ used xs) ++ used ys
-    twice h xs ys = ap (λ (t : List Token). h ++ t) (used-append xs ys) ∙ sym (append_assoc h (used xs) (used ys))
+    twice h xs ys = ap (λ (t : List Token). h ++ t) (used_append xs ys) ∙ sym (append_assoc h (used xs) (used ys))
 
     both : (a : A) (h : List Token) (xs ys : List Ref) → Q a (h ++ used (xs ++ ys)) → Q a ((h ++ used xs) ++ used ys)
     both a h xs ys q = subst (λ (t : List Token). Q a t) (twice h xs ys) q
@@ -195,8 +146,8 @@ module _ (l : Loop) (held : ℕ → ℤ) (i : ℤ) (Stands : Ref → Terms → T
               place_walks d ds (front (length (d ∷ ds)) vs) (λ n. S.load r (record { name = r.name; place = n }) κ) k b (λ n is.
               W.loads r es n κ k (ap (λ (fs : List Extent). home p fs r.name) e) (vs, w.0, may, ap (λ (fs : List Extent). place_of fs vs) e ∙ sym (place_front (d ∷ ds) vs) ∙ is) next)
       term_walks (call Mod es) w κ h b next = applied Mod 2 es κ h b (λ vs len. by_front Mod 2 (count es) vs len (λ o. not_two vs (ap (λ (k : ℕ). k == 2) len ∙ o))) next (λ k. terms_walk es w (just 2 (count es)) (λ xs. answered_into A S (intrinsic_value Mod xs) κ) h b k)
-      term_walks (call Abs es) w κ h b next = applied Abs 1 es κ h b (λ vs len. by_front Abs 1 (count es) vs len (λ o. not_one vs (ap (λ (k : ℕ). k == 1) len ∙ o))) next (λ k. terms_walk es w (just 1 (count es)) (λ xs. answered_into A S (intrinsic_value Abs xs) κ) h b k)
-      term_walks (call Iabs es) w κ h b next = applied Iabs 1 es κ h b (λ vs len. by_front Iabs 1 (count es) vs len (λ o. not_one_more vs (ap (λ (k : ℕ). k == 1) len ∙ o))) next (λ k. terms_walk es w (just 1 (count es)) (λ xs. answered_into A S (intrinsic_value Iabs xs) κ) h b k)
+      term_walks (call Abs es) w κ h b next = applied Abs 1 es κ h b (λ vs len. by_front Abs 1 (count es) vs len (λ o. abs_none vs (ap (λ (k : ℕ). k == 1) len ∙ o))) next (λ k. terms_walk es w (just 1 (count es)) (λ xs. answered_into A S (intrinsic_value Abs xs) κ) h b k)
+      term_walks (call Iabs es) w κ h b next = applied Iabs 1 es κ h b (λ vs len. by_front Iabs 1 (count es) vs len (λ o. iabs_none vs (ap (λ (k : ℕ). k == 1) len ∙ o))) next (λ k. terms_walk es w (just 1 (count es)) (λ xs. answered_into A S (intrinsic_value Iabs xs) κ) h b k)
       term_walks (call Max es) w κ h b next = chosen_walks es w greater Max greatest refl (λ best xs. refl) (λ best. refl) (λ best x xs. refl) κ h b next
       term_walks (call Max0 es) w κ h b next = chosen_walks es w greater Max0 greatest refl (λ best xs. refl) (λ best. refl) (λ best x xs. refl) κ h b next
       term_walks (call Min es) w κ h b next = chosen_walks es w less Min least refl (λ best xs. refl) (λ best. refl) (λ best x xs. refl) κ h b next

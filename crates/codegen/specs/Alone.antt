@@ -1,5 +1,6 @@
--- What goes alone: the run with one processor and one open iteration, and, within a loop, an iteration on
--- the store that those before it have left. States of other runs are compared with these.
+-- What goes alone: the run with one processor and one open iteration, and, within a loop, an
+-- iteration on the store that those before it have left. States of other runs are compared with
+-- these.
 use Rattle.std.specs.Prelude.{◌≡◌, ◌<◌, ℕ, zero, suc, ℤ, List, [], ◌++◌}
 use Rattle.ast.specs.Store.{StoreOf}
 use Rattle.machine.specs.Code.{Code, Cell}
@@ -17,8 +18,8 @@ pub record Own (F : Type 0) : Type 0 where
   pub out : List ℕ
 
 module _ (F L : Type 0) (view : F → View F L) where
-  -- One step of it. Awaits and advances are passed, as there is none to wait for; where it would retire or
-  -- break off it stays.
+  -- One step of it. Awaits and advances are passed, as there is none to wait for; where it would
+  -- retire or break off it stays.
   abbrev pub own_by : View F L → Own F → Own F
   own_by (doing g) x = record x { frame = g }
   own_by (loading c φ) x = record x { frame = φ (x.store c.name c.place) }
@@ -28,6 +29,7 @@ module _ (F L : Type 0) (view : F → View F L) where
   own_by (advancing e g) x = record x { frame = g }
   own_by _ x = x
 
+  -- so many steps of it
   abbrev pub own_after : ℕ → Own F → Own F
   own_after zero x = x
   own_after (suc n) x = own_after n (own_by (view x.frame) x)
@@ -37,8 +39,8 @@ module _ (F L : Type 0) (view : F → View F L) where
     abbrev pub begun : ℕ → StoreOf → Own F
     begun k σ = record { frame = begin l k; store = σ; out = [] }
 
-    -- Iterations j, j+1, .., n of them, one after another, each alone until it retires, lead from one store
-    -- to another.
+    -- Iterations j, j+1, .., n of them, one after another, each alone until it retires, lead from
+    -- one store to another.
     abbrev pub Before : (n j : ℕ) → StoreOf → StoreOf → Type 0
     Before zero j σ τ = σ ≡ τ
     Before (suc n) j σ τ =

@@ -39,8 +39,8 @@ module _ (opens : ℕ → Option ℕ) (p : Places) where
 abbrev pub begun_code : Places → DoHead → List Instr
 begun_code p h = term_code p h.first ++ (term_code p h.last ++ (step_code p h.step ++ (instr p.line acts.SetUp ∷ variable_code p h.variable)))
 
--- Code ends with a trip that begins at a place: the variable grows, and the trip goes back; how many
--- instructions it has is filled in where it begins.
+-- Code ends with a trip that begins at a place: the variable grows, and the trip goes back; how
+-- many instructions it has is filled in where it begins.
 abbrev pub trip_ended : Places → Ref → ℕ → List Instr → List Instr
 trip_ended p r start is =
     set ((is ++ grown_code p r) ++ instr p.line (acts.Back (short (length (is ++ grown_code p r) - start))) ∷ []) start (instr p.line (acts.CountDown (short (length (is ++ grown_code p r) - start))))

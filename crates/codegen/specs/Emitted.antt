@@ -11,19 +11,23 @@ use Rattle.expr_code.specs.Emitted.{given_act, instr, scalar_act, short, target_
 use Rattle.expr_code.specs.Places.{Places, dimensions_at, home}
 use Rattle.codegen.specs.Process.{is_last_stop}
 
+-- a value that was pushed goes to an element
 abbrev pub stored_code : Places → Access → List Instr
 stored_code p x = target_code p x.ref x.subscripts ++ instr p.line (given_act (dimensions_at p.symbols x.ref.cell) (home p (dimensions_at p.symbols x.ref.cell) x.ref.name) x.ref.cell) ∷ []
 
+-- the values of a PRINT's items are pushed, one after another
 abbrev pub items_code : Places → List PrintItem → List Instr
 items_code p [] = []
 items_code p (value_item e ∷ items) = term_code p e ++ items_code p items
 items_code p (text_item t ∷ items) = items_code p items
 
+-- the parts of the record of these items
 abbrev pub parts_of : List PrintItem → List Part
 parts_of [] = []
 parts_of (value_item e ∷ items) = operand ∷ parts_of items
 parts_of (text_item t ∷ items) = text_as t ∷ parts_of items
 
+-- the elements of a READ get values, one after another
 abbrev pub elements_code : Places → List Access → List Instr
 elements_code p [] = []
 elements_code p (x ∷ more) = instr p.line acts.TakeValue ∷ (stored_code p x ++ elements_code p more)
@@ -41,13 +45,16 @@ kind_code p n (read elements) = instr p.line acts.TakeRecord ∷ (elements_code 
 kind_code p n stop = instr p.line acts.Stop ∷ []
 kind_code p n _ = []
 
+-- the step of a DO is pushed, 1 where it is absent
 abbrev pub step_code : Places → Option Term → List Instr
 step_code p None = instr p.line (acts.Constant (pos 1)) ∷ []
 step_code p (Some e) = term_code p e
 
+-- the variable of a DO gets the value on top
 abbrev pub variable_code : Places → Ref → List Instr
 variable_code p r = instr p.line (given_act [] (home p [] r.name) r.cell) ∷ []
 
+-- the variable of a DO grows by the step
 abbrev pub grown_code : Places → Ref → List Instr
 grown_code p r = instr p.line (scalar_act (home p [] r.name) r.cell) ∷ instr p.line acts.Step ∷ instr p.line (acts.Binary Add) ∷ variable_code p r
 

@@ -1,7 +1,7 @@
--- The headline: whatever processors move, a run of a program's code that ends has printed and stored what
--- the sequential program does, or, where that program faults or stops, has printed its output so far and
--- reports that fault or stop; and no run that hasn't ended is without a next step, nor is any activity that
--- a processor holds there.
+-- The headline: whatever processors move, a run of a program's code that ends has printed and
+-- stored what the sequential program does, or, where that program faults or stops, has printed its
+-- output so far and reports that fault or stop; and no run that hasn't ended is without a next
+-- step, nor is any activity that a processor holds there.
 use Rattle.std.specs.Prelude.{◌≡◌, ◌<◌, ◌≤◌, ◌+◌, ◌*◌, ◌⊎◌, ℕ, List, ◌++◌, length, Some, None}
 use Rattle.ast.specs.Meaning.{seq}
 use Rattle.ast.specs.Program.{ProgramTree}
@@ -15,9 +15,9 @@ use Rattle.machine.specs.State.{Machine, Who, AreSizes, CodeStep, CodeRun, Init,
 abbrev pub IsBeginning : List ℕ → List ℕ → Type 0
 IsBeginning xs ys = (more : List ℕ) × (ys ≡ xs ++ more)
 
--- A state of a run has printed a beginning of what the sequential program prints; if it has ended, its
--- answer is the sequential program's; if it hasn't, some processor has a step, and each that holds an
--- activity has one: what it holds can go on, or be parked.
+-- A state of a run has printed a beginning of what the sequential program prints; if it has ended,
+-- its answer is the sequential program's; if it hasn't, some processor has a step, and each that
+-- holds an activity has one: what it holds can go on, or be parked.
 pub record Agrees (code : Code) (program : ProgramTree) (input : List ℕ) (p s : ℕ) (m : Machine) : Type 0 where
   pub beginning : IsBeginning m.output (seq program input).output
   pub answer : (e : End) → m.ended ≡ Some e → Ended m (seq program input).output (seq program input).end (seq program input).store
@@ -42,13 +42,13 @@ HasOneStep code input =
 abbrev pub Ends : Code → Type 0
 Ends code = (input : List ℕ) → HasOneStep code input × (w : ℕ) × Solo code input w × ((v : ℕ) → Solo code input v → v ≡ w)
 
--- the sequential program comes to its end, without a fault or a STOP before it, or one iteration is open at
--- a time: else iterations behind one that breaks off may go on for as long as they like
+-- the sequential program comes to its end, without a fault or a STOP before it, or one iteration is
+-- open at a time: else iterations behind one that breaks off may go on for as long as they like
 abbrev pub NoneBehindABreak : ProgramTree → List ℕ → ℕ → Type 0
 NoneBehindABreak program input s = ((seq program input).end ≡ Done) ⊎ (s ≡ 1)
 
--- No run, ended or not, has more than three times the steps of one alone: an instruction costs at most a
--- park, a pick and itself.
+-- No run, ended or not, has more than three times the steps of one alone: an instruction costs at
+-- most a park, a pick and itself.
 abbrev pub Bounded : Code → ProgramTree → Type 0
 Bounded code program =
     (input : List ℕ) (w : ℕ) → Solo code input w → (p s : ℕ) (qs : List ℕ) (m : Machine) → AreSizes p s → NoneBehindABreak program input s → CodeRun code s p (Init code input) qs m

@@ -24,6 +24,7 @@ pub record Made : Type 0 where
   pub awaits : List Await
   pub loops : List machine.Loop
 
+-- what a `Made` of the code stands for
 abbrev pub made_of : declared.Made → Made
 made_of m = record { instructions = m.instructions.items; records = records_of m.records; awaits = m.awaits.items; loops = map loop_of m.loops.items }
 
@@ -36,11 +37,13 @@ with_range symbols x m = record {
   loops = m.loops ++ loop_entry symbols (length m.instructions) x ∷ [];
 }
 
+-- with the ranges of several loops, one after another
 abbrev pub with_ranges : List Symbol → List Planned → Made → Made
 with_ranges symbols [] m = m
 with_ranges symbols (x ∷ xs) m = with_ranges symbols xs (with_range symbols x m)
 
--- a loop with a plan of this body and these private names; what the plan claims tells nothing of its code
+-- a loop with a plan of this body and these private names; what the plan claims tells nothing of
+-- its code
 abbrev pub bare_plan : Loop → PlanBlock → List (List ℕ) → Planned
 bare_plan l body names = record { loop = l; plan = record { body = body; privates = names; relations = [] } }
 

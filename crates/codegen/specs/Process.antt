@@ -1,6 +1,6 @@
--- What statements do, one step after another, over any kind of steps: of main or of an iteration. Their
--- code does these steps. A program is a plan that awaits and advances nothing; the loops whose iterations
--- are run at once are told by their DO variables' references.
+-- What statements do, one step after another, over any kind of steps: of main or of an iteration.
+-- Their code does these steps. A program is a plan that awaits and advances nothing; the loops
+-- whose iterations are run at once are told by their DO variables' references.
 use Rattle.std.specs.Prelude.{ℕ, ℤ, zero, suc, pos, if◌then◌else◌, Bool, false, List, [], ◌∷◌, Option, Some, None}
 use Rattle.std.specs.Ordering.{int_eq}
 use Rattle.ast.specs.Exact.{is_true, trips, value_of}
@@ -14,9 +14,10 @@ use Rattle.machine.specs.Code.{Cell}
 use Rattle.expr_code.specs.Places.{Places, Home, loop_index, private_scalar, in_store, home, dimensions_at}
 use Rattle.expr_code.specs.Process.{Steps, answered_into, scalar_into, target_into, term_into}
 
--- The steps of statements: those of an expression of a line; a cell or a private scalar is given a value;
--- a record is printed; a record of the input is taken, a value of it, and the rest of it dropped; a local
--- instruction; an event is awaited or advanced; a loop is opened and joined; a STOP.
+-- The steps of statements: those of an expression of a line; a cell or a private scalar is given a
+-- value; a record is printed; a record of the input is taken, a value of it, and the rest of it
+-- dropped; a local instruction; an event is awaited or advanced; a loop is opened and joined; a
+-- STOP.
 pub record Doing (A : Type 0) : Type 0 where
   pub evaluate : ℕ → Steps A
   pub keep : Ref → Cell → ℤ → A → A

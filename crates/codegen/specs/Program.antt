@@ -1,5 +1,5 @@
--- The code of a whole program: main's, a Halt behind it, and then, of each loop that is opened, the code of
--- one iteration, a Retire behind it.
+-- The code of a whole program: main's, a Halt behind it, and then, of each loop that is opened, the
+-- code of one iteration, a Retire behind it.
 use Rattle.std.specs.Prelude.{max, ◌≡◌, ◌<◌, ◌≤◌, ◌^◌, ◌⊎◌, ◌+◌, ◌-◌, ◌==◌, ⊤, ℕ, pos, true, if◌then◌else◌, List, [], ◌∷◌, ◌++◌, length, map, Option, Some, None, unwrap_or}
 use Rattle.ast.specs.Program.{ProgramTree}
 use Rattle.ast.specs.Store.{same_name}
@@ -30,8 +30,8 @@ pub record Planned : Type 0 where
   pub loop : Loop
   pub plan : PlanTree
 
--- Of these loops, among all of a program, those that may be open are opened, in order, each with the plan
--- that placement gives it.
+-- Of these loops, among all of a program, those that may be open are opened, in order, each with
+-- the plan that placement gives it.
 abbrev pub AreOpenedOf : List Loop → List Loop → List Planned → Type 0
 AreOpenedOf all [] xs = xs ≡ []
 AreOpenedOf all (l ∷ ls) xs =
@@ -47,6 +47,7 @@ abbrev pub number_from : ℕ → List Planned → ℕ → Option ℕ
 number_from n [] id = None
 number_from n (x ∷ xs) id = if x.loop.head.variable.id == id then Some n else number_from (n + 1) xs id
 
+-- the number of the loop that a DO opens, that of the first being 0; none where it opens none
 abbrev pub opened_by : List Planned → ℕ → Option ℕ
 opened_by xs id = number_from 0 xs id
 
@@ -60,12 +61,15 @@ none_open n = None
 abbrev pub main_places : List Symbol → Places
 main_places symbols = record { symbols = symbols; privates = []; loop_name = None; line = 0 }
 
+-- the instructions of main's statements; xs: the loops that are opened, with their plans
 abbrev pub main_block : ProgramTree → List Planned → List Instr
 main_block t xs = block_code (main_places t.symbols) (opened_by xs) 0 0 (plain_block t.block)
 
+-- the code of main, behind whose statements the run halts
 abbrev pub main_code : ProgramTree → List Planned → List Instr
 main_code t xs = main_block t xs ++ instr 0 Halt ∷ []
 
+-- the records of main's PRINTs
 abbrev pub main_records : ProgramTree → List Planned → List (List Part)
 main_records t xs = block_records (main_places t.symbols) (opened_by xs) (plain_block t.block)
 
@@ -75,9 +79,11 @@ main_records t xs = block_records (main_places t.symbols) (opened_by xs) (plain_
 abbrev pub range_places : List Symbol → Planned → Places
 range_places symbols x = record { symbols = symbols; privates = x.plan.privates; loop_name = Some x.loop.head.variable.name; line = x.loop.line }
 
+-- the records of the PRINTs in a range
 abbrev pub range_records : List Symbol → Planned → List (List Part)
 range_records symbols x = block_records (range_places symbols x) none_open x.plan.body
 
+-- the awaits in a range
 abbrev pub range_awaits : List Symbol → Planned → List Await
 range_awaits symbols x = block_awaits (range_places symbols x) none_open x.plan.body
 
@@ -99,22 +105,27 @@ entry_of symbols place l names = record {
   privates = map (λ name. short (place_of_name 0 symbols name)) names;
 }
 
+-- what code tells of a loop that is opened
 abbrev pub loop_entry : List Symbol → ℕ → Planned → machine.Loop
 loop_entry symbols place x = entry_of symbols place x.loop x.plan.privates
 
 module _ (symbols : List Symbol) where
+  -- the code of an iteration of each of these loops, the first of which is loop n
   abbrev pub ranges_code : (n r w : ℕ) → List Planned → List Instr
   ranges_code n r w [] = []
   ranges_code n r w (x ∷ xs) = range_code symbols n r w x ++ ranges_code (n + 1) (r + length (range_records symbols x)) (w + length (range_awaits symbols x)) xs
 
+  -- the records that they print
   abbrev pub ranges_records : List Planned → List (List Part)
   ranges_records [] = []
   ranges_records (x ∷ xs) = range_records symbols x ++ ranges_records xs
 
+  -- what they await
   abbrev pub ranges_awaits : List Planned → List Await
   ranges_awaits [] = []
   ranges_awaits (x ∷ xs) = range_awaits symbols x ++ ranges_awaits xs
 
+  -- what code tells of them; place: where the code of the first begins
   abbrev pub ranges_loops : (place n r w : ℕ) → List Planned → List machine.Loop
   ranges_loops place n r w [] = []
   ranges_loops place n r w (x ∷ xs) =
@@ -122,9 +133,11 @@ module _ (symbols : List Symbol) where
 
 -- ---- the whole
 
+-- the instructions of a program's code: main, and then an iteration of each loop that is opened
 abbrev pub all_code : ProgramTree → List Planned → List Instr
 all_code t xs = main_code t xs ++ ranges_code t.symbols 0 (length (main_records t xs)) 0 xs
 
+-- its records, in the same order
 abbrev pub all_records : ProgramTree → List Planned → List (List Part)
 all_records t xs = main_records t xs ++ ranges_records t.symbols xs
 
@@ -132,6 +145,7 @@ all_records t xs = main_records t xs ++ ranges_records t.symbols xs
 abbrev pub most_instructions : ℕ
 most_instructions = 1048576
 
+-- a program that has code has at most so many symbols
 abbrev pub most_symbols : ℕ
 most_symbols = 2 ^ 32
 
@@ -143,8 +157,8 @@ most_room = 2 ^ 32 - 1
 abbrev pub room_of : ProgramTree → ℕ
 room_of t = max (block_room (plain_block t.block)) (block_loops (plain_block t.block))
 
--- the code of a program would be too long: it has more instructions or wants more room, or the program has
--- more symbols
+-- the code of a program would be too long: it has more instructions or wants more room, or the
+-- program has more symbols
 abbrev pub IsTooLong : ProgramTree → List Planned → Type 0
 IsTooLong t xs = (most_instructions < length (all_code t xs)) ⊎ ((most_room ≤ room_of t) ⊎ (most_symbols < length t.symbols))
 

@@ -7,7 +7,8 @@ use Rattle.codegen.specs.Reports.{opened_of}
 use Rattle.codegen.specs.States.{AreAsAlone}
 use Rattle.codegen.specs.declared.programs.Compiled.{Compiled}
 
--- it is the program's, with the loops opened whose reports have a plan with a body: those that may be open
+-- it is the program's, with the loops opened whose reports have a plan with a body: those that may
+-- be open
 abbrev pub IsOpened : ProgramTree → Compiled → Type 0
 IsOpened t c = AreOpened t (opened_of t c.reports.items) × IsCodeOf t (opened_of t c.reports.items) (code_of c.code)
 

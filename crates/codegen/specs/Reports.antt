@@ -13,6 +13,7 @@ use Rattle.plan_check.specs.Checks.{HasBody, IsGood}
 use Rattle.codegen.specs.Program.{Planned}
 use Rattle.codegen.specs.declared.reports.LoopReport.{LoopReport}
 
+-- a line, 0 where there is none
 abbrev pub line_or_none : Option ℕ → ℕ
 line_or_none None = 0
 line_or_none (Some line) = line
@@ -37,7 +38,8 @@ pub record IsReport (lines : List ℕ) (line : ℕ) (placed : Placed) (report : 
   pub sources_are : report.sources.items ≡ map (line_at lines) placed.sources.items
   pub kept_are : report.kept.items ≡ map (kept_line lines placed.sources.items) placed.kept.items
 
--- A report of what placement gives for a loop of a program with these loops; the check of plans accepts it.
+-- A report of what placement gives for a loop of a program with these loops; the check of plans
+-- accepts it.
 pub record IsPlacedReport (all : List Loop) (lines : List ℕ) (l : Loop) (report : LoopReport) : Type 0 where
   pub inside : Bool
   pub is_inside : IsInside (loops_around all l) inside
@@ -59,6 +61,7 @@ abbrev pub planned_by : Loop → Option PlanTree → List Planned
 planned_by l None = []
 planned_by l (Some p) = record { loop = l; plan = p } ∷ []
 
+-- of several loops with their reports
 abbrev pub planned_in : List Loop → List LoopReport → List Planned
 planned_in [] rs = []
 planned_in (l ∷ ls) [] = []

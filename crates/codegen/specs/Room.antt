@@ -1,4 +1,5 @@
--- How much room statements want. What stands behind an ELSE counts as well: a loop there may be opened.
+-- How much room statements want. What stands behind an ELSE counts as well: a loop there may be
+-- opened.
 use Rattle.std.specs.Prelude.{ℕ, ◌+◌, max, List, [], ◌∷◌, Option, Some, None}
 use Rattle.ast.specs.Tree.{Term, Access, accessed, PrintItem, value_item, text_item, DoHead, Kind, assign, print, read}
 use Rattle.dependence.specs.Plan.{PlanNode, plain, loop, choose, PlanBlock, no_nodes, then_node, PlanArms, no_arms, made_else, then_arm}
@@ -13,6 +14,7 @@ abbrev pub elements_room : List Access → ℕ
 elements_room [] = 0
 elements_room (x ∷ more) = max (operands (accessed x) + 1) (elements_room more)
 
+-- operands of a statement that holds no others
 abbrev pub kind_room : Kind → ℕ
 kind_room (assign x e) = max (operands e) (operands (accessed x) + 1)
 kind_room (print items) = items_room items

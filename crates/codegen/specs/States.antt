@@ -1,5 +1,5 @@
--- What holds in every state of every run of a program's code: it stands where the run alone stands, but
--- that iterations of an open loop are under way at once.
+-- What holds in every state of every run of a program's code: it stands where the run alone stands,
+-- but that iterations of an open loop are under way at once.
 use Rattle.std.specs.Prelude.{◌≡◌, ◌≤◌, ◌⊎◌, ℕ, ℤ, List, slice_get, Some, None}
 use Rattle.ast.specs.Meaning.{seq}
 use Rattle.ast.specs.Program.{ProgramTree}
@@ -13,8 +13,8 @@ use Rattle.plan_check.specs.GoodPlan.{Names}
 use Rattle.codegen.specs.Alone.{AllRetire, Alone, Before, BreaksOff, Own, begun, own_after}
 use Rattle.codegen.specs.Program.{Planned}
 
--- No loop is open: main stands where it stands in a state of the run alone, on the same store, with the same
--- input and output. So it is directly after a join, too.
+-- No loop is open: main stands where it stands in a state of the run alone, on the same store, with
+-- the same input and output. So it is directly after a join, too.
 pub record IsAlone (code : Code) (input : List ℕ) (m : Machine) : Type 0 where
   pub other : Machine
   pub alone : Alone code input other
@@ -25,8 +25,8 @@ pub record IsAlone (code : Code) (input : List ℕ) (m : Machine) : Type 0 where
   pub output : other.output ≡ m.output
   pub ended : other.ended ≡ m.ended
 
--- Iteration k stands where it stands alone, on the store that those before it leave, and has printed the
--- same; where what it does next is a load, its cell holds what is loaded alone.
+-- Iteration k stands where it stands alone, on the store that those before it leave, and has
+-- printed the same; where what it does next is a load, its cell holds what is loaded alone.
 pub record StandsAlone (code : Code) (l : Open) (k : ℕ) (σ : StoreOf) (a : Active Frame) (m : Machine) : Type 0 where
   pub steps : ℕ
   pub own : Own Frame
@@ -43,8 +43,8 @@ pub record IsWithin (t : ProgramTree) (code : Code) (xs : List Planned) (input :
   pub first : (opening.retired ≡ 0) × (opening.ticket ≡ 0)
   pub main : opening.main ≡ m.main
   pub unread : opening.input ≡ m.input
-  -- Of the first iterations all retire, one after another, or one is the first that breaks off; then the
-  -- sequential program ends so.
+  -- Of the first iterations all retire, one after another, or one is the first that breaks off;
+  -- then the sequential program ends so.
   pub fates : (n : ℕ) → n ≤ l.trips → AllRetire Frame Open (view code) (begin code) l n opening.store ⊎ ((b : Cause) × BreaksOff Frame Open (view code) (begin code) l n opening.store b × ((seq t input).end ≡ end_of b))
   -- each open iteration up to that one
   pub iterations : (k : ℕ) (a : Active Frame) (σ : StoreOf) → m.iterations k ≡ Some a → Before Frame Open (view code) (begin code) l k 0 opening.store σ → StandsAlone code l k σ a m
@@ -53,10 +53,12 @@ pub record IsWithin (t : ProgramTree) (code : Code) (xs : List Planned) (input :
   -- since the count of each event that the body names has reached its number
   pub counts : (x : Planned) (e d : ℕ) → slice_get xs l.number ≡ Some x → Names x.plan e d → m.retired ≤ m.counts e
 
+-- What holds of a state of a run, by whether a loop is open in it.
 pub record AsAlone (t : ProgramTree) (code : Code) (xs : List Planned) (input : List ℕ) (m : Machine) : Type 0 where
   pub outside : m.loop ≡ None → IsAlone code input m
   pub inside : (l : Open) → m.loop ≡ Some l → IsWithin t code xs input l m
 
--- For all inputs, processors, open iterations and runs; xs: the loops that are opened, with their plans.
+-- For all inputs, processors, open iterations and runs; xs: the loops that are opened, with their
+-- plans.
 abbrev pub AreAsAlone : ProgramTree → Code → List Planned → Type 0
 AreAsAlone t code xs = (input : List ℕ) (p s : ℕ) (qs : List ℕ) (m : Machine) → AreSizes p s → CodeRun code s p (Init code input) qs m → AsAlone t code xs input m

@@ -185,6 +185,10 @@ fn emit_node(
 
 /// Appends the code of nodes, and the records that they print. A STOP that END follows has none: it
 /// does what END does.
+///
+/// # Errors
+///
+/// `AllocError` where memory is refused; a part may have been appended then.
 #[cycle(nodes)]
 pub fn emit_block(
     alloc: Global,

@@ -257,6 +257,10 @@ fn emit_statement(
 /// Appends the code of a plan's body, the records that it prints, and what it awaits. Awaits and
 /// advances are told to stand in the line of the places. A STOP that END follows has no code: it
 /// does what END does.
+///
+/// # Errors
+///
+/// `AllocError` where memory is refused; a part may have been appended then.
 #[cycle(plans)]
 pub fn emit_plan(
     alloc: Global,

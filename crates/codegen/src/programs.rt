@@ -29,10 +29,10 @@ use loop_tree::{LoopTree, ScalarSet, loops};
 use machine::{Act, Code, Parts, Variable};
 use std::alloc::{AllocError, Global};
 
-/// Code may have so many instructions,
+/// The most instructions that code may have.
 const MOST_INSTRUCTIONS: usize = 1_048_576;
 
-/// and be of a program with so many symbols, which its instructions have numbers for.
+/// The most symbols that a program with code may have: as many as 32 bits number.
 const MOST_SYMBOLS: usize = 4_294_967_296;
 
 /// The program's code would be too long; no line is at fault.
@@ -167,8 +167,9 @@ pub struct Compiled {
 ///
 /// # Errors
 ///
-/// 61 at line 0 where the code would have more than 1,048,576 instructions or want more room than
-/// 32 bits count, or the program has more than 4,294,967,296 symbols; and want of memory.
+/// 61 at line 0 where the code would have more than 1,048,576 instructions or want room for
+/// 4,294,967,295 values or more, or the program has more than 4,294,967,296 symbols; and want of
+/// memory.
 pub fn compile(alloc: Global, program: &Program) -> Result<Compiled, Refusal>
     ensures code { IfOk result (λ c. IsCompiled (program_of program.now) (code_of c.code)) }
     ensures opened { IfOk result (λ c. IsOpened (program_of program.now) c) }

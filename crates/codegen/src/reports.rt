@@ -169,6 +169,10 @@ fn next_report(
 }
 
 /// The reports of a program's loops, in order.
+///
+/// # Errors
+///
+/// `AllocError` where memory is refused.
 pub fn reports(alloc: Global, tree: &LoopTree<'_>) -> Result<Vec<LoopReport>, AllocError>
     requires whole { AreWhole (loops_seen tree.now) }
     requires nested { AreNested (loops_seen tree.now) }

@@ -12,6 +12,8 @@ use Rattle.command_line.specs.declared.command.Command.{Command}
 use Rattle.command_line.specs.declared.command.Command.TheVariants.{Check, ListLoops, ShowCode, Seq, Run, Replay, Upgrade, Draw, Timeline, Explain, ExplainSerial}
 use Rattle.command_line.specs.declared.matches.LineFault.{LineFault}
 use Rattle.command_line.specs.declared.matches.LineFault.TheVariants.{Help, Mistake, NoCommand, NoSuchNumber, NoSize, NoPortion, Memory}
+use Rattle.command_line.specs.declared.command.Drawing.{Drawing}
+use Rattle.command_line.specs.declared.command.TextFiles.{TextFiles}
 use Rattle.command_line.specs.declared.command.Threaded.{Threaded}
 
 -- an argument that can't be done without
@@ -24,7 +26,7 @@ optional id = record (new_rule id) { action = Some Set }
 
 -- an option with a word behind it
 abbrev pub named_option : Text → Rule
-named_option id = record (new_rule id) { long = Some id; action = Some Set }
+named_option id = record (new_rule id) { long = Some id; action = Some Set; value_names = 1 }
 
 -- one with nothing behind it
 abbrev pub flag : Text → Rule
@@ -32,7 +34,7 @@ flag id = record (new_rule id) { long = Some id; action = Some SetTrue }
 
 -- one of a letter, with a number behind it
 abbrev pub letter : Text → ℕ → Rule
-letter id short = record (new_rule id) { short = Some short; action = Some Set }
+letter id short = record (new_rule id) { short = Some short; action = Some Set; value_names = 1 }
 
 -- F, the file of the source
 abbrev pub source : Rule
@@ -92,34 +94,44 @@ number = optional (codes "N")
 abbrev pub reason : Rule
 reason = optional (codes "REASON")
 
+-- check F
 abbrev pub check : App
 check = with_rule (new_app (codes "check")) source
 
+-- list F, with --why
 abbrev pub list : App
 list = with_rule (with_rule (new_app (codes "list")) source) why
 
+-- seq F INPUT, with --store
 abbrev pub seq : App
 seq = with_rule (with_rule (with_rule (new_app (codes "seq")) source) input) store
 
+-- run F INPUT, with -p, -s, --schedule, --store and --tally
 abbrev pub run : App
 run =
     with_rule (with_rule (with_rule (with_rule (with_rule (with_rule (with_rule (new_app (codes "run")) source) input) processors) slots) schedule_out) store) tally
 
+-- replay F INPUT SCHEDULE
 abbrev pub replay : App
 replay = with_rule (with_rule (with_rule (new_app (codes "replay")) source) whole_input) schedule
 
+-- upgrade F INPUT SCHEDULE OUT
 abbrev pub upgrade : App
 upgrade = with_rule (with_rule (with_rule (with_rule (new_app (codes "upgrade")) source) whole_input) schedule) out
 
+-- code F
 abbrev pub code : App
 code = with_rule (new_app (codes "code")) source
 
+-- draw F OUT, with --loop and --iterations
 abbrev pub draw : App
 draw = with_rule (with_rule (with_rule (with_rule (new_app (codes "draw")) source) out) loop_number) iterations
 
+-- timeline F INPUT SCHEDULE OUT
 abbrev pub timeline : App
 timeline = with_rule (with_rule (with_rule (with_rule (new_app (codes "timeline")) source) whole_input) schedule) out
 
+-- explain N REASON
 abbrev pub explain : App
 explain = with_rule (with_rule (new_app (codes "explain")) number) reason
 
@@ -132,6 +144,7 @@ abbrev pub with_subcommands : List App → App → App
 with_subcommands [] a = a
 with_subcommands (x ∷ xs) a = with_subcommand (with_subcommands xs a) x.top
 
+-- the program, with its subcommands
 abbrev pub doac : App
 doac =
     with_subcommands (explain ∷ code ∷ timeline ∷ draw ∷ upgrade ∷ replay ∷ run ∷ seq ∷ list ∷ check ∷ [])
@@ -197,6 +210,29 @@ pub record HoldsRun (values : List Row) (t : Threaded) : Type 0 where
   pub store : IsFlag t.store (one_of (codes "store") values)
   pub tally : IsFlag t.tally (one_of (codes "tally") values)
 
+-- one of these has no value
+abbrev pub LacksOne : List Text → List Row → Type 0
+LacksOne [] values = ⊥
+LacksOne (x ∷ xs) values = (first_of x values ≡ None) ⊎ LacksOne xs values
+
+-- the values of the arguments are the files of a replay
+pub record HoldsTexts (values : List Row) (files : TextFiles) : Type 0 where
+  pub source : first_of (codes "F") values ≡ Some files.source.now
+  pub input : first_of (codes "INPUT") values ≡ Some files.input.now
+  pub schedule : first_of (codes "SCHEDULE") values ≡ Some files.schedule.now
+
+-- the same, or else one of them has none
+abbrev pub NamesTexts : Option TextFiles → List Row → Type 0
+NamesTexts None values = LacksOne (codes "F" ∷ codes "INPUT" ∷ codes "SCHEDULE" ∷ []) values
+NamesTexts (Some files) values = HoldsTexts values files
+
+-- the values of the arguments are those of a picture of a loop
+pub record HoldsDrawing (values : List Row) (d : Drawing) : Type 0 where
+  pub source : first_of (codes "F") values ≡ Some d.source.now
+  pub out : first_of (codes "OUT") values ≡ Some d.out.now
+  pub number : IsSizeOf (first_of (codes "loop") values) 1 d.number
+  pub iterations : IsCountOf (first_of (codes "iterations") values) d.iterations
+
 -- the subcommand's name and the values of its arguments are a command's
 abbrev pub Holds : Text → List Row → Command → Type 0
 Holds name values (Check source) = (name ≡ codes "check") × (first_of (codes "F") values ≡ Some source.now)
@@ -207,20 +243,12 @@ Holds name values (Seq source input store) =
     (name ≡ codes "seq") × (first_of (codes "F") values ≡ Some source.now)
     × (first_of (codes "INPUT") values ≡ option_map (λ i. i.now) input) × IsFlag store (one_of (codes "store") values)
 Holds name values (Run t) = (name ≡ codes "run") × HoldsRun values t
-Holds name values (Replay source input schedule) =
-    (name ≡ codes "replay") × (first_of (codes "F") values ≡ Some source.now)
-    × (first_of (codes "INPUT") values ≡ Some input.now) × (first_of (codes "SCHEDULE") values ≡ Some schedule.now)
-Holds name values (Upgrade source input schedule out) =
-    (name ≡ codes "upgrade") × (first_of (codes "F") values ≡ Some source.now)
-    × (first_of (codes "INPUT") values ≡ Some input.now) × (first_of (codes "SCHEDULE") values ≡ Some schedule.now)
-    × (first_of (codes "OUT") values ≡ Some out.now)
-Holds name values (Draw source out number iterations) =
-    (name ≡ codes "draw") × (first_of (codes "F") values ≡ Some source.now) × (first_of (codes "OUT") values ≡ Some out.now)
-    × IsSizeOf (first_of (codes "loop") values) 1 number × IsCountOf (first_of (codes "iterations") values) iterations
-Holds name values (Timeline source input schedule out) =
-    (name ≡ codes "timeline") × (first_of (codes "F") values ≡ Some source.now)
-    × (first_of (codes "INPUT") values ≡ Some input.now) × (first_of (codes "SCHEDULE") values ≡ Some schedule.now)
-    × (first_of (codes "OUT") values ≡ Some out.now)
+Holds name values (Replay files) = (name ≡ codes "replay") × HoldsTexts values files
+Holds name values (Upgrade files out) =
+    (name ≡ codes "upgrade") × HoldsTexts values files × (first_of (codes "OUT") values ≡ Some out.now)
+Holds name values (Draw drawing) = (name ≡ codes "draw") × HoldsDrawing values drawing
+Holds name values (Timeline files out) =
+    (name ≡ codes "timeline") × HoldsTexts values files × (first_of (codes "OUT") values ≡ Some out.now)
 Holds name values (Explain None) = (name ≡ codes "explain") × (first_of (codes "N") values ≡ None)
 Holds name values (Explain (Some number)) =
     (name ≡ codes "explain") × (text : Text) × (first_of (codes "N") values ≡ Some text) × IsNumber number text × (first_of (codes "REASON") values ≡ None)
@@ -237,11 +265,6 @@ HeldIn (Some found) command = Holds found.0 found.1 command
 abbrev pub Names : List Text → Command → Type 0
 Names words command = (fault_of doac words ≡ []) × HeldIn (subcommand_of doac words) command
 
--- one of these has no value
-abbrev pub LacksOne : List Text → List Row → Type 0
-LacksOne [] values = ⊥
-LacksOne (x ∷ xs) values = (first_of x values ≡ None) ⊎ LacksOne xs values
-
 -- the subcommand is none of the program's, or lacks a file that it can't do without
 abbrev pub Lacks : Text → List Row → Type 0
 Lacks name values =
@@ -252,7 +275,8 @@ Lacks name values =
     × (name ≡ codes "timeline" → LacksOne (codes "F" ∷ codes "INPUT" ∷ codes "SCHEDULE" ∷ codes "OUT" ∷ []) values)
     × (name ≡ codes "explain" → ⊥)
 
--- the words behind `explain` name nothing that is explained: one alone no explained number, two no reason
+-- the words behind `explain` name nothing that is explained: one alone no explained number, two no
+-- reason
 abbrev pub NamesNothing : Text → Option Text → Type 0
 NamesNothing word None = (n : ℕ) → IsNumber n word → ⊥
 NamesNothing word (Some text) = word ≡ codes "serial" → (n : ℕ) → IsReason n text → ⊥

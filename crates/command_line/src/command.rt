@@ -19,6 +19,30 @@ pub struct Threaded<'a> {
     pub tally: bool,
 }
 
+/// The files of a replay.
+#[derive(Clone, Copy)]
+pub struct TextFiles<'a> {
+    /// The file of the source.
+    pub source: &'a str,
+    /// The file of the input.
+    pub input: &'a str,
+    /// The file of the schedule.
+    pub schedule: &'a str,
+}
+
+/// What the command line asks for of a picture of a loop.
+#[derive(Clone, Copy)]
+pub struct Drawing<'a> {
+    /// The file of the source.
+    pub source: &'a str,
+    /// The file that gets the picture.
+    pub out: &'a str,
+    /// The loop's number, 1 where none is named.
+    pub number: u64,
+    /// How many iterations are drawn, 1 to 64, and 8 where no number is named.
+    pub iterations: u64,
+}
+
 /// What the command line asks for.
 #[derive(Clone, Copy)]
 pub enum Command<'a> {
@@ -43,36 +67,15 @@ pub enum Command<'a> {
     /// source in threads.
     Run(Threaded<'a>),
     /// `replay F INPUT SCHEDULE`: the run of the code of a source that a schedule describes.
-    Replay {
-        source: &'a str,
-        input: &'a str,
-        schedule: &'a str,
-    },
+    Replay(TextFiles<'a>),
     /// `upgrade F INPUT SCHEDULE OUT`: the schedule with its picks named, written to a file.
-    Upgrade {
-        source: &'a str,
-        input: &'a str,
-        schedule: &'a str,
-        out: &'a str,
-    },
+    Upgrade(TextFiles<'a>, &'a str),
     /// `draw F OUT [--loop N] [--iterations K]`: the picture of a loop of the source of a file,
     /// written to a file.
-    Draw {
-        source: &'a str,
-        out: &'a str,
-        /// The loop's number, 1 where none is named.
-        number: u64,
-        /// How many iterations are drawn, 1 to 64, and 8 where no number is named.
-        iterations: u64,
-    },
+    Draw(Drawing<'a>),
     /// `timeline F INPUT SCHEDULE OUT`: the picture of the run that a schedule describes, written
     /// to a file.
-    Timeline {
-        source: &'a str,
-        input: &'a str,
-        schedule: &'a str,
-        out: &'a str,
-    },
+    Timeline(TextFiles<'a>, &'a str),
     /// `explain [N]`: what this refusal or fault means; without a number, which numbers there are.
     Explain(Option<u8>),
     /// `explain serial N`: for what this reason a loop stays serial.

@@ -6,6 +6,6 @@ mod help;
 mod matches;
 mod parser;
 
-pub use command::{Command, Threaded};
+pub use command::{Command, Drawing, TextFiles, Threaded};
 pub use matches::LineFault;
 pub use parser::read;

@@ -4,11 +4,11 @@ ghost use Rattle.std.specs.Prelude.{◌≡◌, IfErr, IfOk, codes, option_map, �
 ghost use Rattle.clap.specs.Words.{first_of, found_of, one_of, rows_of, subcommand_rows_of};
 ghost use Rattle.command_line.specs.CommandLine.{HasNoCount, HasNoSize, HeldIn, HeldInNone};
 ghost use Rattle.command_line.specs.CommandLine.{HoldsNone, Holds, IsCountOf, IsFlag, IsNumber};
-ghost use Rattle.command_line.specs.CommandLine.{IsReason, IsSizeOf, MadeOf};
+ghost use Rattle.command_line.specs.CommandLine.{IsReason, IsSizeOf, MadeOf, NamesTexts};
 ghost use Rattle.command_line.specs.declared.matches.LineFault.TheVariants.{Memory, NoPortion};
 ghost use Rattle.command_line.specs.declared.matches.LineFault.TheVariants.{NoSize, NoSuchNumber};
 
-use crate::command::{Command, Threaded};
+use crate::command::{Command, Drawing, TextFiles, Threaded};
 use clap::ArgMatches;
 use clap::error::ErrorKind;
 use explanations::explain::{is_explained, is_reason};
@@ -29,10 +29,10 @@ pub enum LineFault {
     NoCommand,
     /// They ask to explain a number that is no refusal's and no fault's, or, of a serial loop, no
     /// reason's.
-    #[error("error: nothing has this number\n\nUsage: doac explain [N]\n       doac explain serial <REASON>\n\nFor more information, try '--help'.\n")]
+    #[error("error: nothing has this number; behind serial stands one from 1 to 6\n\nUsage: doac explain [N]\n       doac explain serial <REASON>\n\nFor more information, try '--help'.\n")]
     NoSuchNumber,
     /// They name no whole number of 64 bits where one is wanted.
-    #[error("error: no whole number that 64 bits hold\n\nUsage: doac run [-p <N>] [-s <N>] <F> [INPUT]\n\nFor more information, try '--help'.\n")]
+    #[error("error: -p and -s take a whole number that 64 bits hold\n\nUsage: doac run [-p <N>] [-s <N>] <F> [INPUT]\n\nFor more information, try '--help'.\n")]
     NoSize,
     /// They ask for a picture by no whole number of 64 bits, or of no 1 to 64 iterations.
     #[error("error: --loop takes a whole number, and --iterations one from 1 to 64\n\nUsage: doac draw [--loop <N>] [--iterations <K>] <F> <OUT>\n\nFor more information, try '--help'.\n")]
@@ -84,6 +84,11 @@ impl From<clap::Error> for LineFault {
 }
 
 /// The command that the matches of a command line hold.
+///
+/// # Errors
+///
+/// `NoCommand` where they hold none, or one without what it needs; `NoSuchNumber`, `NoSize` or
+/// `NoPortion` where a number in it isn't one that it takes.
 pub fn held<'a>(matches: &ArgMatches<'a>) -> Result<Command<'a>, LineFault>
     ensures found { IfOk result (HeldIn (subcommand_rows_of matches.now)) }
     ensures refused { IfErr result (HeldInNone (subcommand_rows_of matches.now)) }
@@ -207,21 +212,27 @@ fn threading<'a>(given: &ArgMatches<'a>) -> Result<Command<'a>, LineFault>
     }))
 }
 
+/// The files of a replay, if all are named.
+fn text_files<'a>(given: &ArgMatches<'a>) -> Option<TextFiles<'a>>
+    ensures { NamesTexts result (rows_of (found_of given.now)) }
+{
+    let source = text(given, "F")?;
+    let input = text(given, "INPUT")?;
+    let schedule = text(given, "SCHEDULE")?;
+    Some(TextFiles {
+        source,
+        input,
+        schedule,
+    })
+}
+
 fn replaying<'a>(given: &ArgMatches<'a>) -> Result<Command<'a>, LineFault>
     ensures found { IfOk result (Holds (codes "replay") (rows_of (found_of given.now))) }
     ensures refused { IfErr result (HoldsNone (codes "replay") (rows_of (found_of given.now))) }
 {
-    match (
-        text(given, "F"),
-        text(given, "INPUT"),
-        text(given, "SCHEDULE"),
-    ) {
-        (Some(source), Some(input), Some(schedule)) => Ok(Command::Replay {
-            source,
-            input,
-            schedule,
-        }),
-        _ => Err(LineFault::NoCommand),
+    match text_files(given) {
+        Some(names) => Ok(Command::Replay(names)),
+        None => Err(LineFault::NoCommand),
     }
 }
 
@@ -229,18 +240,8 @@ fn upgrading<'a>(given: &ArgMatches<'a>) -> Result<Command<'a>, LineFault>
     ensures found { IfOk result (Holds (codes "upgrade") (rows_of (found_of given.now))) }
     ensures refused { IfErr result (HoldsNone (codes "upgrade") (rows_of (found_of given.now))) }
 {
-    match (
-        text(given, "F"),
-        text(given, "INPUT"),
-        text(given, "SCHEDULE"),
-        text(given, "OUT"),
-    ) {
-        (Some(source), Some(input), Some(schedule), Some(out)) => Ok(Command::Upgrade {
-            source,
-            input,
-            schedule,
-            out,
-        }),
+    match (text_files(given), text(given, "OUT")) {
+        (Some(names), Some(out)) => Ok(Command::Upgrade(names, out)),
         _ => Err(LineFault::NoCommand),
     }
 }
@@ -281,30 +282,20 @@ fn drawing<'a>(given: &ArgMatches<'a>) -> Result<Command<'a>, LineFault>
     };
     let number = loop_number(text(given, "loop"))?;
     let iterations = iterations(text(given, "iterations"))?;
-    Ok(Command::Draw {
+    Ok(Command::Draw(Drawing {
         source,
         out,
         number,
         iterations,
-    })
+    }))
 }
 
 fn timing<'a>(given: &ArgMatches<'a>) -> Result<Command<'a>, LineFault>
     ensures found { IfOk result (Holds (codes "timeline") (rows_of (found_of given.now))) }
     ensures refused { IfErr result (HoldsNone (codes "timeline") (rows_of (found_of given.now))) }
 {
-    match (
-        text(given, "F"),
-        text(given, "INPUT"),
-        text(given, "SCHEDULE"),
-        text(given, "OUT"),
-    ) {
-        (Some(source), Some(input), Some(schedule), Some(out)) => Ok(Command::Timeline {
-            source,
-            input,
-            schedule,
-            out,
-        }),
+    match (text_files(given), text(given, "OUT")) {
+        (Some(names), Some(out)) => Ok(Command::Timeline(names, out)),
         _ => Err(LineFault::NoCommand),
     }
 }

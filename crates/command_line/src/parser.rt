@@ -36,14 +36,15 @@ fn optional<'a>(alloc: Global, id: &'a str, help: &'a str) -> Arg<'a>
     Arg::new(alloc, id).action(ArgAction::Set).help(help)
 }
 
-/// An option with a word behind it.
-fn option<'a>(alloc: Global, id: &'a str, help: &'a str) -> Arg<'a>
+/// An option with a word behind it, which help calls a value.
+fn option<'a>(alloc: Global, id: &'a str, value: &'a str, help: &'a str) -> Arg<'a>
     ensures rule { rule_of result ≡ named_option id.entry.now }
     ensures local { result.global ≡ false }
 {
     Arg::new(alloc, id)
         .long(id)
         .action(ArgAction::Set)
+        .value_name(value)
         .help(help)
 }
 
@@ -66,6 +67,7 @@ fn letter<'a>(alloc: Global, id: &'a str, short: char, help: &'a str) -> Arg<'a>
     Arg::new(alloc, id)
         .short(short)
         .action(ArgAction::Set)
+        .value_name("N")
         .help(help)
 }
 
@@ -73,7 +75,11 @@ fn source<'a>(alloc: Global) -> Arg<'a>
     ensures rule { rule_of result ≡ source }
     ensures local { result.global ≡ false }
 {
-    needed(alloc, "F", "The file of the FORTRAN 77 source")
+    needed(
+        alloc,
+        "F",
+        "The file of the FORTRAN 77 source, - for standard input",
+    )
 }
 
 fn input<'a>(alloc: Global) -> Arg<'a>
@@ -83,7 +89,7 @@ fn input<'a>(alloc: Global) -> Arg<'a>
     optional(
         alloc,
         "INPUT",
-        "The file of the input; without it the input is empty",
+        "The file of the input, - for standard input; without it the input is empty",
     )
 }
 
@@ -91,14 +97,22 @@ fn whole_input<'a>(alloc: Global) -> Arg<'a>
     ensures rule { rule_of result ≡ whole_input }
     ensures local { result.global ≡ false }
 {
-    needed(alloc, "INPUT", "The file of the input")
+    needed(
+        alloc,
+        "INPUT",
+        "The file of the input, - for standard input",
+    )
 }
 
 fn schedule<'a>(alloc: Global) -> Arg<'a>
     ensures rule { rule_of result ≡ schedule }
     ensures local { result.global ≡ false }
 {
-    needed(alloc, "SCHEDULE", "The file of the schedule")
+    needed(
+        alloc,
+        "SCHEDULE",
+        "The file of the schedule, - for standard input",
+    )
 }
 
 fn out<'a>(alloc: Global) -> Arg<'a>
@@ -126,6 +140,7 @@ fn loop_number<'a>(alloc: Global) -> Arg<'a>
     option(
         alloc,
         "loop",
+        "N",
         "The number of the loop, as list has it; without it 1",
     )
 }
@@ -137,6 +152,7 @@ fn iterations<'a>(alloc: Global) -> Arg<'a>
     option(
         alloc,
         "iterations",
+        "K",
         "How many iterations are drawn, 1 to 64; without it 8",
     )
 }
@@ -194,6 +210,7 @@ fn schedule_out<'a>(alloc: Global) -> Arg<'a>
     option(
         alloc,
         "schedule",
+        "OUT",
         "The file that gets the schedule, by which replay repeats the run",
     )
 }
@@ -468,6 +485,14 @@ fn parser<'a>(alloc: Global) -> Result<clap::Command<'a>, AllocError>
 }
 
 /// Reads a command line, of which the first word is the program's name.
+///
+/// # Errors
+///
+/// `Help` where the words ask for help or for the version, and `Mistake` where clap finds anything
+/// else wrong with them. Where it finds nothing wrong: `NoCommand` where they hold no command,
+/// `NoSuchNumber` where they ask to explain a number that nothing has, `NoSize` where a number of
+/// processors or of open iterations doesn't fit 64 bits, `NoPortion` where that of a loop doesn't,
+/// or that of iterations isn't from 1 to 64. `Memory` where memory is refused.
 pub fn read<'a, S: AsStr>(alloc: Global, words: &'a [S]) -> Result<Command<'a>, LineFault>
     ensures found { IfOk result (Names (map S.text words.entry.now)) }
     ensures refused { IfErr result (NamesNone (map S.text words.entry.now)) }

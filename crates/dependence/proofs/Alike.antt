@@ -5,6 +5,7 @@ use Rattle.std.proofs.lemmas.Bool.Decides.{Decides-eqb}
 use Rattle.std.proofs.Math.IntN.{zero-*ℤ}
 use Rattle.std.specs.Prelude.{ℤ, pos, ◌+ℤ◌, ◌*ℤ◌, unsigned_abs, Bool, true, false, not, ◌&&◌, ◌||◌, if◌then◌else◌}
 use Rattle.std.specs.List.{list_all}
+use Rattle.std.proofs.lemmas.Bool.{not-true}
 use Rattle.loop_tree.specs.Loops.{Loop}
 use Rattle.subscripts.specs.Forms.{Form, Share, factor_in, others, varies}
 use Rattle.subscripts.specs.Values.{Agree, sum_of}
@@ -20,10 +21,6 @@ first_of_both false b e = absurd (true≢false (sym e))
 pub second_of_both : (a b : Bool) → (a && b) ≡ true → b ≡ true
 second_of_both true b e = e
 second_of_both false b e = absurd (true≢false (sym e))
-
-pub isnt : (b : Bool) → not b ≡ true → b ≡ false
-isnt true e = absurd (true≢false (sym e))
-isnt false e = refl
 
 first_not : (a b : Bool) → (a || b) ≡ false → a ≡ false
 first_not true b e = absurd (true≢false e)
@@ -62,9 +59,9 @@ no_sum x (s ∷ os) e =
 
 pub alike_sums : (l : Loop) (f g : Form) (held x y : ℕ → ℤ) → are_alike l f g ≡ true → Once f.shares → Once g.shares → Agree l held x → Agree l held y → sum_of x f.shares ≡ sum_of y g.shares
 alike_sums l f g held x y e o p a b =
-    let not_f = isnt (vary l f.shares) (first_of_both (not (vary l f.shares)) (not (vary l g.shares) && (no_gaps l f.shares g.shares && no_others l f.shares g.shares)) e) in
+    let not_f = not-true (vary l f.shares) (first_of_both (not (vary l f.shares)) (not (vary l g.shares) && (no_gaps l f.shares g.shares && no_others l f.shares g.shares)) e) in
     let rest = second_of_both (not (vary l f.shares)) (not (vary l g.shares) && (no_gaps l f.shares g.shares && no_others l f.shares g.shares)) e in
-    let not_g = isnt (vary l g.shares) (first_of_both (not (vary l g.shares)) (no_gaps l f.shares g.shares && no_others l f.shares g.shares) rest) in
+    let not_g = not-true (vary l g.shares) (first_of_both (not (vary l g.shares)) (no_gaps l f.shares g.shares && no_others l f.shares g.shares) rest) in
     let last = second_of_both (not (vary l g.shares)) (no_gaps l f.shares g.shares && no_others l f.shares g.shares) rest in
     let often : list_all is_nothing (gaps f.shares g.shares) ≡ true = sym (ap (λ ss. list_all is_nothing (gaps ss g.shares)) (all_steady l f.shares not_f)) ∙ first_of_both (no_gaps l f.shares g.shares) (no_others l f.shares g.shares) last in
     let none : list_all is_nothing (sizes (others f.shares g.shares)) ≡ true = sym (ap (λ ss. list_all is_nothing (sizes (others f.shares ss))) (all_steady l g.shares not_g)) ∙ second_of_both (no_gaps l f.shares g.shares) (no_others l f.shares g.shares) last in

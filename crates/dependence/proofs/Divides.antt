@@ -5,6 +5,7 @@ use Rattle.std.proofs.lemmas.Bool.Decides.{Decides-eqb}
 use Rattle.std.proofs.Math.IntN.{zero-*ℤ, *ℤ_comm, pos-*ℤ-pos}
 use Rattle.std.proofs.Math.Nat.{mod-lt, div-add-mod, mul-mod_left}
 use Rattle.std.specs.Prelude.{ℤ, pos, negsuc, zero, suc, ◌*◌, ◌/◌, ◌%◌, ◌++◌, ◌==◌, ◌+ℤ◌, ◌-ℤ◌, ◌*ℤ◌, unsigned_abs, Bool, true, false, not, ◌||◌, if◌then◌else◌, ⊤}
+use Rattle.std.proofs.lemmas.Bool.{not-true}
 use Rattle.loop_tree.specs.Loops.{Loop}
 use Rattle.subscripts.specs.Forms.{Form, Share, factor_in, has_share, others, varies}
 use Rattle.subscripts.specs.Values.{sum_of}
@@ -12,7 +13,7 @@ use Rattle.subscripts.proofs.Products.{times_sum, times_difference, times_assoc}
 use Rattle.subscripts.specs.Proper.{Once}
 use Rattle.subscripts.proofs.Sums.{once_kept, split, taken}
 use Rattle.dependence.specs.Tests.{by_divisor, divided, gap, gaps, gcd, gcd_of, gcd_with, gcd_within, sizes, steady, vary, varying}
-use Rattle.dependence.proofs.Alike.{by_steady, second_of_both, isnt}
+use Rattle.dependence.proofs.Alike.{by_steady, second_of_both}
 use Rattle.dependence.proofs.Divisors.{positive}
 use Rattle.dependence.proofs.Meeting.{Equal}
 
@@ -223,4 +224,4 @@ pub not_divided : (l : Loop) (held : ℕ → ℤ) (i j : ℤ) (f g : Form) → b
 not_divided l held i j f g e q =
     let d = gcd_of (divided l f g) in
     let r = gap f.constant g.constant % d in
-    true≢false (sym ((Decides-eqb r 0).1 (no_rest d (f.constant -ℤ g.constant) (difference_is l held i j f g q))) ∙ isnt (r == 0) (second_of_both (not (d == 0)) (not (r == 0)) e))
+    true≢false (sym ((Decides-eqb r 0).1 (no_rest d (f.constant -ℤ g.constant) (difference_is l held i j f g q))) ∙ not-true (r == 0) (second_of_both (not (d == 0)) (not (r == 0)) e))

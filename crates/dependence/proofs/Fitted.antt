@@ -2,6 +2,7 @@
 use Rattle.std.proofs.Common.{◌≡◌, ◌∙◌, ap, sym, refl, ℕ, List, [], ◌∷◌}
 use Rattle.std.specs.Prelude.{◌+◌, ◌++◌, ◌&&◌, ◌||◌, length, map, Bool, true, false, Option, Some, None}
 use Rattle.std.specs.List.{list_all, list_any}
+use Rattle.std.proofs.Math.Bool.{or-false}
 use Rattle.ast.specs.Tree.{Ref, Node, plain, loop, choose, Block, no_nodes, then_node, Arms, no_arms, then_arm}
 use Rattle.dependence.specs.Kept.{is_read, node_kinds, block_kinds, arms_kinds, block_reads, block_variables}
 use Rattle.loop_tree.specs.Loops.{Loop, node_loops, block_loops, arms_loops}
@@ -25,13 +26,9 @@ all_of_two p (x ∷ xs) ys = by (p x) (all_of_two p xs ys)
     by true h = h
     by false h = refl
 
-or_nothing : (b : Bool) → (b || false) ≡ b
-or_nothing true = refl
-or_nothing false = refl
-
 mutual
   node_read : (n : Node) → list_any is_read (node_kinds n) ≡ node_reads n
-  node_read (plain s) = or_nothing (is_read s.kind)
+  node_read (plain s) = or-false (is_read s.kind)
   node_read (loop l h b) = block_read b
   node_read (choose a) = arms_are_read a
 

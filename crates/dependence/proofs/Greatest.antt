@@ -5,10 +5,12 @@ use Rattle.std.proofs.lemmas.Nat.Gcd.{IsGcd-from_mod, IsGcd-from_zero, dvd_refl,
 use Rattle.std.proofs.Math.Nat.{eq-zero_of_zero-dvd, mod-lt}
 use Rattle.std.specs.Int.{IsGcd, ◌∣◌}
 use Rattle.std.specs.List.{list_all}
-use Rattle.std.specs.Prelude.{zero, suc, ◌%◌, ◌==◌, ◌&&◌, Bool, true, false, not, if◌then◌else◌}
+use Rattle.std.specs.Prelude.{zero, suc, ◌%◌, ◌==◌, Bool, true, false, not, if◌then◌else◌}
+use Rattle.std.proofs.lemmas.Bool.{not-true, and_from, false_from_ne_true}
+use Rattle.ast.proofs.Bools.{not_from_never}
 use Rattle.dependence.specs.Divisors.{DividesEach, HasDivisor, IsByDivisor, IsGreatest, IsGreatestDivisor}
 use Rattle.dependence.specs.Tests.{divided, gap, gcd, gcd_of, gcd_with, gcd_within, is_nothing, leaves_rest}
-use Rattle.dependence.proofs.Alike.{first_of_both, isnt, second_of_both}
+use Rattle.dependence.proofs.Alike.{first_of_both, second_of_both}
 use Rattle.dependence.proofs.Divisors.{positive}
 
 euclid : (n a b : ℕ) → b < n → IsGcd a b (gcd_within n a b)
@@ -44,20 +46,8 @@ greatest ns =
 
 -- ---- the test
 
-both_hold : (a b : Bool) → a ≡ true → b ≡ true → (a && b) ≡ true
-both_hold true b e f = f
-both_hold false b e f = e
-
-is_not : (b : Bool) → (b ≡ true → ⊥) → not b ≡ true
-is_not true h = absurd (h refl)
-is_not false h = refl
-
-is_false : (b : Bool) → (b ≡ true → ⊥) → b ≡ false
-is_false true h = absurd (h refl)
-is_false false h = refl
-
 never : (b : Bool) → not b ≡ true → b ≡ true → ⊥
-never b e f = true≢false (sym f ∙ isnt b e)
+never b e f = true≢false (sym f ∙ not-true b e)
 
 zeros_divided : (ns : List ℕ) → list_all is_nothing ns ≡ true → DividesEach 0 ns
 zeros_divided [] e = tt
@@ -70,7 +60,7 @@ are_zeros : (ns : List ℕ) → DividesEach 0 ns → list_all is_nothing ns ≡ 
 are_zeros [] h = refl
 are_zeros (n ∷ ns) h =
     let zero_n = (Decides-eqb n 0).1 (eq-zero_of_zero-dvd h.0) in
-    both_hold (is_nothing n) (list_all is_nothing ns) zero_n (are_zeros ns h.1)
+    and_from (is_nothing n) (list_all is_nothing ns) zero_n (are_zeros ns h.1)
 
 has_divisor : (ns : List ℕ) (n : ℕ) → leaves_rest (gcd_of ns) n ≡ true → HasDivisor ns n
 has_divisor ns n e =
@@ -80,7 +70,7 @@ has_divisor ns n e =
     let rest = second_of_both (not (g == 0)) (not (n % g == 0)) e in
     let no_zero = λ (divides : 0 ∣ g). never (g == 0) some ((Decides-eqb g 0).1 (eq-zero_of_zero-dvd divides)) in
     record {
-      some = is_false (list_all is_nothing ns) (λ zeros. no_zero (is.greatest 0 (zeros_divided ns zeros)));
+      some = false_from_ne_true (list_all is_nothing ns) (λ zeros. no_zero (is.greatest 0 (zeros_divided ns zeros)));
       divisor = g;
       divides = is.divides;
       not_n = λ divides. never (n % g == 0) rest ((Decides-eqb (n % g) 0).1 (mod-eq-zero_of_dvd g divides));
@@ -93,9 +83,9 @@ leaves ns n h =
     let zeros = λ (e : (g == 0) ≡ true). are_zeros ns (subst (λ m. DividesEach m ns) ((Decides-eqb g 0).0 e) is.divides) in
     let divides = λ (e : (n % g == 0) ≡ true). dvd_of_mod-eq-zero g ((Decides-eqb (n % g) 0).0 e) in
     let smaller = is.greatest h.divisor h.divides in
-    both_hold (not (g == 0)) (not (n % g == 0))
-    (is_not (g == 0) (λ e. true≢false (sym (zeros e) ∙ h.some)))
-    (is_not (n % g == 0) (λ e. h.not_n (dvd_trans h.divisor smaller (divides e))))
+    and_from (not (g == 0)) (not (n % g == 0))
+    (not_from_never (g == 0) (λ e. true≢false (sym (zeros e) ∙ h.some)))
+    (not_from_never (n % g == 0) (λ e. h.not_n (dvd_trans h.divisor smaller (divides e))))
 
 pub is_by_divisor : IsByDivisor
 is_by_divisor l f g =

@@ -6,6 +6,7 @@ pub mod Divisors
 pub mod Fitted
 pub mod Greatest
 pub mod Meeting
+pub mod PlanArms
 pub mod Promise
 pub mod Reformed
 pub mod Runs

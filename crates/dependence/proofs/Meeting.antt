@@ -5,6 +5,7 @@ use Rattle.std.proofs.lemmas.Bool.Decides.{Decides-int_eq}
 use Rattle.std.proofs.Math.IntN.{zero-*ℤ, *ℤ-zero, *ℤ_comm}
 use Rattle.std.specs.Prelude.{ℤ, pos, ◌-◌, ◌+ℤ◌, ◌-ℤ◌, ◌*ℤ◌, ◌⊎◌, Bool, true, false, not, ◌&&◌, if◌then◌else◌, Option, Some, None}
 use Rattle.std.specs.Ordering.{int_eq}
+use Rattle.std.proofs.lemmas.Bool.{not-true}
 use Rattle.loop_tree.specs.Loops.{Loop}
 use Rattle.subscripts.specs.Forms.{Form}
 use Rattle.subscripts.specs.Values.{Agree, form_value}
@@ -13,7 +14,7 @@ use Rattle.subscripts.specs.Proper.{Once}
 use Rattle.dependence.specs.Meets.{IsStep}
 use Rattle.dependence.specs.Tests.{are_alike, at_step, by_constant, by_distance, by_stride, difference, is_zero}
 use Rattle.dependence.specs.declared.relation.Found.TheVariants.{Nothing, Only}
-use Rattle.dependence.proofs.Alike.{alike_sums, first_of_both, second_of_both, isnt}
+use Rattle.dependence.proofs.Alike.{alike_sums, first_of_both, second_of_both}
 use Rattle.dependence.proofs.Distances.{found_only, zero_stride}
 
 -- Forms have equal values, the one where the loop's variable is i, the other where it is j.
@@ -39,7 +40,7 @@ not_constant l held i j f g e q =
     let none_g : g.coefficient *ℤ j ≡ pos 0 = ap (λ n. n *ℤ j) zero_g ∙ zero-*ℤ j in
     let all = q.same in
     let constants : f.constant ≡ g.constant = omega (arith, ints, sums, none_f, none_g, all) in
-    true≢false (sym ((Decides-int_eq f.constant g.constant).1 constants) ∙ isnt (int_eq f.constant g.constant) (second_of_both (is_zero g.coefficient) differ last))
+    true≢false (sym ((Decides-int_eq f.constant g.constant).1 constants) ∙ not-true (int_eq f.constant g.constant) (second_of_both (is_zero g.coefficient) differ last))
 
 -- a coefficient times so many steps
 strides : (c n s : ℤ) → c *ℤ (n *ℤ s) ≡ n *ℤ (c *ℤ s)

@@ -3,13 +3,14 @@ use Rattle.std.proofs.Common.{◌≡◌, ◌∙◌, ap, sym, refl, ℕ, subst, a
 use Rattle.std.proofs.lemmas.Bool.{leb-true}
 use Rattle.std.proofs.lemmas.Bool.Decides.{Decides-eqb}
 use Rattle.std.specs.Prelude.{ℤ, pos, zero, suc, ◌-◌, ◌+ℤ◌, ◌*ℤ◌, ◌⊎◌, Bool, true, false, Option, Some, None}
+use Rattle.std.proofs.lemmas.Option.{none-some, same_Some}
 use Rattle.ast.specs.Tree.{Term, Terms, no_terms, then_term}
 use Rattle.loop_tree.specs.Loops.{Loop}
 use Rattle.loop_tree.specs.Occurrences.{Occurrence}
 use Rattle.loop_tree.specs.Constants.{if_some}
 use Rattle.subscripts.specs.Forms.{Form, form_of}
 use Rattle.subscripts.specs.Values.{MayBe}
-use Rattle.subscripts.proofs.Meaning.{meant, none_some}
+use Rattle.subscripts.proofs.Meaning.{meant}
 use Rattle.dependence.specs.Meets.{IfYes, IsStep, IsWithin, MayAgree, Meets, Promises, PromisesIf}
 use Rattle.dependence.specs.Tests.{by_distance, form_at, found_beyond, is_beyond, is_nowhere, is_only, is_verified, is_verified_if, nth_term, on_forms, says_apart}
 use Rattle.dependence.specs.declared.relation.Found.TheVariants.{Nothing, Only}
@@ -20,22 +21,6 @@ use Rattle.dependence.specs.declared.relation.Relation.TheVariants.{Apart, Dista
 use Rattle.dependence.proofs.Divides.{not_divided}
 use Rattle.dependence.proofs.Meeting.{Equal, distance_is, not_constant}
 
-term_or : Term → Option Term → Term
-term_or d None = d
-term_or d (Some e) = e
-
-same_term : (e f : Term) → Some e ≡ Some f → e ≡ f
-unfolding term_or
-same_term e f h = ap (λ o. term_or e o) h
-
-is_some_term : Option Term → Type 0
-is_some_term None = ⊥
-is_some_term (Some e) = Unit {0}
-
-no_term : (e : Term) → None ≡ Some e → ⊥
-unfolding is_some_term
-no_term e h = subst (λ o. is_some_term o) (sym h) tt
-
 -- ---- the subscripts of a dimension
 
 record Agreeing (l : Loop) (held : ℕ → ℤ) (i j : ℤ) (e f : Term) : Type 0 where
@@ -44,13 +29,13 @@ record Agreeing (l : Loop) (held : ℕ → ℤ) (i j : ℤ) (e f : Term) : Type 
   right : MayBe l held j f value
 
 nth_agree : (l : Loop) (held : ℕ → ℤ) (i j : ℤ) (es fs : Terms) (n : ℕ) (e f : Term) → MayAgree l held i j es fs → nth_term es n ≡ Some e → nth_term fs n ≡ Some f → Agreeing l held i j e f
-nth_agree l held i j no_terms fs n e f m p q = absurd (no_term e p)
-nth_agree l held i j (then_term a es) no_terms n e f m p q = absurd (no_term f q)
-nth_agree l held i j (then_term a es) (then_term b fs) zero e f m p q = absurd (no_term e p)
+nth_agree l held i j no_terms fs n e f m p q = absurd (none-some e p)
+nth_agree l held i j (then_term a es) no_terms n e f m p q = absurd (none-some f q)
+nth_agree l held i j (then_term a es) (then_term b fs) zero e f m p q = absurd (none-some e p)
 nth_agree l held i j (then_term a es) (then_term b fs) (suc zero) e f m p q = record {
   value = m.0;
-  left = subst (λ t. MayBe l held i t m.0) (same_term a e p) m.1;
-  right = subst (λ t. MayBe l held j t m.0) (same_term b f q) m.2;
+  left = subst (λ t. MayBe l held i t m.0) (same_Some a e p) m.1;
+  right = subst (λ t. MayBe l held j t m.0) (same_Some b f q) m.2;
 }
 nth_agree l held i j (then_term a es) (then_term b fs) (suc (suc n)) e f m p q = nth_agree l held i j es fs (suc n) e f m.3 p q
 
@@ -60,7 +45,7 @@ record AtTerm (l : Loop) (r : Option Term) (h : Form) : Type 0 where
   form : form_of l term ≡ Some h
 
 at_term : (l : Loop) (r : Option Term) (h : Form) → if_some r (λ e. form_of l e) ≡ Some h → AtTerm l r h
-at_term l None h e = absurd (none_some h e)
+at_term l None h e = absurd (none-some h e)
 at_term l (Some t) h e = record { term = t; is = refl; form = e }
 
 record AtForms (r s : Option Form) (test : Form → Form → Bool) : Type 0 where

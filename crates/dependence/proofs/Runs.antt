@@ -1,8 +1,9 @@
 -- Runs with one pair more.
-use Rattle.std.proofs.Common.{◌≡◌, ◌∙◌, ◌+◌, ◌*◌, ◌<◌, ◌≤◌, ℕ, zero, suc, Bool, true, false, ◌&&◌, List, [], ◌∷◌, ◌++◌, ap, append_assoc, append-nil, arith, length, refl, subst, sym}
+use Rattle.std.proofs.Common.{◌≡◌, ◌∙◌, ◌+◌, ◌*◌, ◌≤◌, ℕ, zero, suc, true, ◌&&◌, List, [], ◌∷◌, ◌++◌, ap, append_assoc, append-nil, arith, length, refl, subst, sym}
 use Rattle.std.specs.Prelude.{nat_lt}
 use Rattle.std.proofs.lemmas.Bool.Decides.{nat_tests}
 use Rattle.std.proofs.lemmas.List.{get_or_append_left}
+use Rattle.std.proofs.lemmas.Bool.{and_parts, ltb-true}
 use Rattle.dependence.specs.Runs.{are_numbered, relation_at, run, runs, stepped}
 use Rattle.dependence.specs.declared.relation.Relation.{Relation}
 use Rattle.dependence.specs.declared.relation.Relation.TheVariants.{Any}
@@ -38,25 +39,18 @@ last_run ks rs new old ps e =
 
 -- ---- runs, and one relation more that they may have
 
-both_hold : (a b : Bool) → (a && b) ≡ true → (a ≡ true) × (b ≡ true)
-both_hold true b e = (refl, e)
-both_hold false b e = cc
-
-below : (a b : ℕ) → nat_lt a b ≡ true → a < b
-below a b e = grind (arith, nat_tests, e)
-
 still_below : (a n m : ℕ) → n ≤ m → nat_lt a n ≡ true → nat_lt a m ≡ true
 still_below a n m l e = grind (arith, nat_tests, l, e)
 
 pub still_numbered : (n m : ℕ) (rs : List Run) → n ≤ m → are_numbered n rs ≡ true → are_numbered m rs ≡ true
 still_numbered n m [] l e = refl
 still_numbered n m (r ∷ rs) l e =
-    let two = both_hold (nat_lt r.relation n) (are_numbered n rs) e in
+    let two = and_parts (nat_lt r.relation n) (are_numbered n rs) e in
     ap (λ b. b && are_numbered m rs) (still_below r.relation n m l two.0) ∙ still_numbered n m rs l two.1
 
 pub runs_kept : (ks : List Relation) (k : Relation) (rs : List Run) → are_numbered (length ks) rs ≡ true → runs (ks ++ k ∷ []) rs ≡ runs ks rs
 runs_kept ks k [] e = refl
 runs_kept ks k (r ∷ rs) e =
-    let two = both_hold (nat_lt r.relation (length ks)) (are_numbered (length ks) rs) e in
-    ap (λ q. stepped r.first r.second r.step r.count q ++ runs (ks ++ k ∷ []) rs) (get_or_append_left ks (k ∷ []) Any r.relation (below r.relation (length ks) two.0))
+    let two = and_parts (nat_lt r.relation (length ks)) (are_numbered (length ks) rs) e in
+    ap (λ q. stepped r.first r.second r.step r.count q ++ runs (ks ++ k ∷ []) rs) (get_or_append_left ks (k ∷ []) Any r.relation (ltb-true r.relation (length ks) two.0))
     ∙ ap (λ ps. run ks r ++ ps) (runs_kept ks k rs two.1)

@@ -27,8 +27,8 @@ pub record HasDivisor (ns : List ℕ) (n : ℕ) : Type 0 where
   pub divides : DividesEach divisor ns
   pub not_n : divisor ∣ n → ⊥
 
--- The divisor test says so exactly where some number divides all but the constants, and not their
--- difference.
+-- The divisor test says so exactly where all but the constants are not all 0, and some number
+-- divides each of them, but not the constants' difference.
 abbrev pub IsByDivisor : Type 0
 IsByDivisor =
     (l : Loop) (f g : Form)

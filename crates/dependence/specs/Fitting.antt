@@ -1,5 +1,5 @@
--- An account of the code: whether there is a READ in a range, and whether the variables of the loops
--- inside are among names.
+-- An account of the code: whether there is a READ in a range, and whether the variables of the
+-- loops inside are among names.
 use Rattle.std.specs.Prelude.{Bool, true, false, ◌&&◌, ◌||◌, ℕ, List}
 use Rattle.ast.specs.Tree.{Node, plain, loop, choose, Block, no_nodes, then_node, Arms, no_arms, then_arm}
 use Rattle.dependence.specs.Hiding.{has_name}

@@ -17,8 +17,8 @@ KeptAt (Apart n reason) d = ⊥
 KeptAt (Distance n e) d = d ≡ e
 KeptAt Any d = d ≡ 1
 
--- A reference and one in a later iteration are looked at: they have one name, which isn't the loop's
--- variable, and one of them gives it a value.
+-- A reference and one in a later iteration are looked at: they have one name, which isn't the
+-- loop's variable, and one of them gives it a value.
 pub record LookedAt (l : Loop) (a b : Occurrence) : Type 0 where
   pub a_in : Contains l.references a
   pub b_in : Contains l.references b
@@ -44,9 +44,12 @@ pub record PrivateName (l : Loop) (name : List ℕ) : Type 0 where
   pub is : ref.name ≡ name
   pub private : Private l ref.cell
 
+-- From statement s to statement t there is a dependence at distance d that the tests leave; private
+-- scalars don't count.
 abbrev pub Kept : Loop → ℕ → ℕ → ℕ → Type 0
 Kept l s t d = KeptBut (PrivateName l) l s t d
 
+-- a READ
 abbrev pub is_read : Kind → Bool
 is_read (read elements) = true
 is_read _ = false
@@ -66,6 +69,7 @@ abbrev mutual
   arms_kinds no_arms = []
   arms_kinds (then_arm l c b more) = block_kinds b ++ arms_kinds more
 
+-- whether a READ stands among statements, at any depth
 abbrev pub block_reads : Block → Bool
 block_reads b = list_any is_read (block_kinds b)
 
@@ -73,9 +77,11 @@ block_reads b = list_any is_read (block_kinds b)
 abbrev pub block_variables : Block → List Ref
 block_variables b = map (λ (l : Loop). l.head.variable) (loops_of b)
 
+-- a plan has at most so many events
 abbrev pub most_events : ℕ
 most_events = 64
 
+-- a step that is known and isn't 0
 abbrev pub IsNonzero : Option ℤ → Type 0
 IsNonzero None = ⊥
 IsNonzero (Some s) = int_eq s (pos 0) ≡ false
@@ -90,8 +96,8 @@ pub record Suits (l : Loop) : Type 0 where
   pub few : length sources ≤ most_events
   pub all : (s t d : ℕ) → Kept l s t d → Contains sources s
 
--- A loop may be open: it suits, and no loop around it may be. The loops around it are given from the
--- innermost on.
+-- A loop may be open: it suits, and no loop around it may be. The loops around it are given from
+-- the innermost on.
 abbrev mutual
   pub EligibleIn : Loop → List Loop → Type 0
   EligibleIn l [] = Suits l

@@ -11,11 +11,13 @@ use Rattle.dependence.specs.declared.plan.PlanArm.{PlanArm, fold-PlanArm}
 use Rattle.dependence.specs.declared.plan.PlanStmt.{PlanStmt, fold-PlanStmt}
 use Rattle.dependence.specs.declared.plan.PlanStmt.TheOpen.{PlanStmt-F, PlanArm-F}
 
+-- an arm of an IF: its line, its condition if it is no ELSE, and its body
 pub record ArmOf : Type 0 where
   pub line : ℕ
   pub condition : Option Term
   pub body : PlanBlock
 
+-- the block of a list of nodes
 abbrev pub block : List PlanNode → PlanBlock
 block [] = no_nodes
 block (n ∷ ns) = then_node n (block ns)
@@ -42,9 +44,11 @@ node_step (PlanStmt-F.Choice a made) = plan.choose (arms a.items (last_arm (node
 abbrev pub arm_step : PlanArm-F PlanNode ArmOf → ArmOf
 arm_step a = record { line = a.line; condition = optional_term a.condition; body = block a.body.items }
 
+-- a statement of a plan
 abbrev pub plan_node : PlanStmt → PlanNode
 plan_node = fold-PlanStmt PlanNode ArmOf node_step arm_step
 
+-- an arm of a plan's IF
 abbrev pub arm_view : PlanArm → ArmOf
 arm_view = fold-PlanArm PlanNode ArmOf node_step arm_step
 

@@ -1,4 +1,5 @@
--- Relations of pairs that stand in runs, each of which has a relation by its number among different ones.
+-- Relations of pairs that stand in runs, each of which has a relation by its number among different
+-- ones.
 use Rattle.std.specs.Prelude.{ℕ, zero, suc, ◌+◌, ◌*◌, nat_lt, Bool, List, [], ◌∷◌, ◌++◌, slice_index_or}
 use Rattle.std.specs.List.{list_all}
 use Rattle.dependence.specs.declared.relation.Relation.{Relation}
@@ -14,9 +15,11 @@ abbrev pub stepped : (first second step : ℕ) → (n : ℕ) → Relation → Li
 stepped a b step zero r = []
 stepped a b step (suc n) r = (a, b, r) ∷ stepped a (b + step) step n r
 
+-- the claims of a run: two references by their numbers, and the relation of them
 abbrev pub run : List Relation → Run → List (ℕ × ℕ × Relation)
 run different r = stepped r.first r.second r.step r.count (relation_at different r.relation)
 
+-- those of runs, one after another
 abbrev pub runs : List Relation → List Run → List (ℕ × ℕ × Relation)
 runs different [] = []
 runs different (r ∷ rs) = run different r ++ runs different rs

@@ -40,8 +40,8 @@ fn gap(share: Share, second: &[Share]) -> u64
     share.factor.abs_diff(factor_in(second, share.cell))
 }
 
-/// The same of the differences between the first's factors and the second's, of scalars that the
-/// range gives no values.
+/// The greatest common divisor of a number and of the differences between the first's factors and
+/// the second's of the same scalars, for those scalars of the first that the range gives no values.
 pub fn with_gaps(view: &LoopView<'_, '_>, number: u64, first: &[Share], second: &[Share]) -> u64
     ensures { result ≡ spec.gcd_with number
         (spec.gaps (spec.steady (seen view.now) (map share_of first.now))
@@ -56,7 +56,8 @@ pub fn with_gaps(view: &LoopView<'_, '_>, number: u64, first: &[Share], second: 
     divisor
 }
 
-/// The same of the second's factors of scalars that the first lacks.
+/// The greatest common divisor of a number and of the second's factors of scalars that the range
+/// gives no values and the first lacks.
 pub fn with_others(view: &LoopView<'_, '_>, number: u64, first: &[Share], second: &[Share]) -> u64
     ensures { result ≡ spec.gcd_with number
         (spec.sizes

@@ -17,6 +17,10 @@ use std::alloc::{AllocError, Global};
 use subscripts::{Affine, Form, affine};
 
 /// The affine forms of a reference's subscripts, dimension by dimension; none of a scalar.
+///
+/// # Errors
+///
+/// `AllocError` where memory is refused.
 pub fn forms(
     alloc: Global,
     view: &LoopView<'_, '_>,

@@ -7,8 +7,8 @@ pub fn greatest_divisor()
     ensures { IsGreatest }
 {}
 
-/// The divisor test says so exactly where some number divides all but the constants, and not their
-/// difference.
+/// The divisor test says so exactly where all but the constants are not all 0, and some number
+/// divides each of them, but not the constants' difference.
 #[tactic(auto, using(crate::proofs::Greatest::is_by_divisor))]
 pub fn divisor_test()
     ensures { IsByDivisor }

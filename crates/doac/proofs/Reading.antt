@@ -57,7 +57,8 @@ pub read_three_last : (source input schedule : List ℕ) (before mid : Option (L
 read_three_last source input schedule before mid old new status made r is rest =
     read_three source input schedule before mid mid old new status (λ done text given picks. (mid ≡ done) × made text given picks) r is (stay r mid old new status made rest)
 
--- a name was compared with those of files that are read, and what is done where it is none goes on from there
+-- a name was compared with those of files that are read, and what is done where it is none goes on
+-- from there
 pub compared : (name : List ℕ) (others : List (List ℕ)) (before mid after : Option (List Deed)) (old new : Option (List ℕ)) (status : ℕ) (made : Option (List Deed) → Type 0) (is_one : Bool)
     → mid ≡ noted before (Compares name others is_one) → AfterCompare is_one mid after old new status (made mid) → UnlessRead name others before after old new status made
 compared name others before mid after old new status made is_one is rest =

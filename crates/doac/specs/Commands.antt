@@ -1,4 +1,5 @@
--- What each command does: which files it reads, in which order, what it writes where, and its exit status.
+-- What each command does: which files it reads, in which order, what it writes where, and its exit
+-- status.
 use Rattle.std.specs.Prelude.{◌≡◌, ℕ, List, [], ◌∷◌, Option, Some, None, option_map}
 use Rattle.pages.specs.declared.outcomes.Outcome.{Outcome}
 use Rattle.engines.specs.Coded.{ShowsCode}
@@ -36,16 +37,20 @@ Upgrades source input schedule out before after old new status =
     UnlessRead out (source ∷ input ∷ schedule ∷ []) before after old new status (λ told.
     ReadsTexts source input schedule told after old new status (λ done text given picks. EndsUpgrade out text given picks done after old new status))
 
--- a program is run in threads, where the file for the schedule, if one is named, is none of those that are
--- read, as is found out first
+-- a program is run in threads, where the file for the schedule, if one is named, is none of those
+-- that are read, as is found out first
 abbrev pub RunsUnless : (onto : Option (List ℕ)) → Threaded → (before after : Option (List Deed)) → (old new : Option (List ℕ)) → ℕ → Type 0
 RunsUnless None t before after old new status = RunsRead t before after old new status
 RunsUnless (Some onto) t before after old new status =
     UnlessRead onto (t.source.now ∷ named (option_map (λ i. i.now) t.input)) before after old new status (λ told. RunsRead t told after old new status)
 
+-- the same, where the file for the schedule is the one that the command names, if it names one
 abbrev pub RunsFiles : Threaded → (before after : Option (List Deed)) → (old new : Option (List ℕ)) → ℕ → Type 0
 RunsFiles t before after old new status = RunsUnless (option_map (λ o. o.now) t.schedule) t before after old new status
 
+-- What a command does. What had been done with files is `before`, and in the end `after`; standard
+-- output had `old`, and in the end has `new`; the last number is the exit status. `explain` does
+-- nothing with files.
 abbrev pub Obeys : Command → (before after : Option (List Deed)) → (old new : Option (List ℕ)) → ℕ → Type 0
 Obeys (Check source) before after old new status = OnSource Checks source.now before after old new status
 Obeys (ListLoops source why) before after old new status = OnSource (ListsAs why) source.now before after old new status
@@ -53,13 +58,12 @@ Obeys (ShowCode source) before after old new status = OnSource ShowsCode source.
 Obeys (Seq source input store) before after old new status =
     OnInput (EndsSeq store) source.now (option_map (λ i. i.now) input) before after old new status
 Obeys (Run t) before after old new status = RunsFiles t before after old new status
-Obeys (Replay source input schedule) before after old new status =
-    OnTexts Replaying source.now input.now schedule.now before after old new status
-Obeys (Upgrade source input schedule out) before after old new status =
-    Upgrades source.now input.now schedule.now out.now before after old new status
-Obeys (Draw source out number iterations) before after old new status =
-    DrawsFile (record { number = number; columns = iterations }) source.now out.now before after old new status
-Obeys (Timeline source input schedule out) before after old new status =
-    TimesFiles source.now input.now schedule.now out.now before after old new status
+Obeys (Replay files) before after old new status =
+    OnTexts Replaying files.source.now files.input.now files.schedule.now before after old new status
+Obeys (Upgrade files out) before after old new status =
+    Upgrades files.source.now files.input.now files.schedule.now out.now before after old new status
+Obeys (Draw drawing) before after old new status = DrawsFile drawing before after old new status
+Obeys (Timeline files out) before after old new status =
+    TimesFiles files.source.now files.input.now files.schedule.now out.now before after old new status
 Obeys (Explain number) before after old new status = (after ≡ before) × OfPrint status
 Obeys (ExplainSerial reason) before after old new status = (after ≡ before) × OfPrint status

@@ -20,8 +20,8 @@ OfWrite (Some error) status = OfError error 4 status
 -- ---- What follows says of a command what it does with files, which had done `before` and in the end
 -- `after`; standard output had the bytes `old` and in the end `new`; and its exit status.
 
--- Where a file's bytes can't be had nothing more is done and nothing is written, and the status is the
--- fault's. Otherwise `made` says what is made of them.
+-- Where a file's bytes can't be had nothing more is done and nothing is written, and the status is
+-- the fault's. Otherwise `made` says what is made of them.
 abbrev pub AfterFile : Result (List ℕ) FileFault → (before after : Option (List Deed)) → (old new : Option (List ℕ)) → ℕ → (List ℕ → Type 0) → Type 0
 AfterFile (Err fault) before after old new status made = (after ≡ before) × (new ≡ old) × (status ≡ file_status fault)
 AfterFile (Ok text) before after old new status made = made text
@@ -48,13 +48,14 @@ abbrev pub AfterTexts : Result Texts Unread → (before after : Option (List Dee
 AfterTexts (Err file) before after old new status made = (after ≡ before) × (new ≡ old) × (status ≡ file_status file.fault)
 AfterTexts (Ok texts) before after old new status made = made texts.source.items texts.input.items texts.schedule.items
 
--- A file that is to be written may be none of those that are read: then nothing more is done and nothing is
--- written, and the status is 4.
+-- A file that is to be written may be none of those that are read: then nothing more is done and
+-- nothing is written, and the status is 4.
 abbrev pub AfterCompare : Bool → (before after : Option (List Deed)) → (old new : Option (List ℕ)) → ℕ → Type 0 → Type 0
 AfterCompare true before after old new status rest = (after ≡ before) × (new ≡ old) × (status ≡ 4)
 AfterCompare false before after old new status rest = rest
 
--- a name is compared with those of files that are read, and only where it is none of theirs the rest is done
+-- a name is compared with those of files that are read, and only where it is none of theirs the
+-- rest is done
 pub record UnlessRead (name : List ℕ) (others : List (List ℕ)) (before after : Option (List Deed)) (old new : Option (List ℕ)) (status : ℕ) (made : Option (List Deed) → Type 0) : Type 0 where
   pub is_one : Bool
   pub rest : AfterCompare is_one (noted before (Compares name others is_one)) after old new status (made (noted before (Compares name others is_one)))

@@ -1,5 +1,6 @@
 -- What the commands that make a picture do.
 use Rattle.std.specs.Prelude.{◌≡◌, ◌⊎◌, ℕ, List, [], ◌∷◌, Option}
+use Rattle.command_line.specs.declared.command.Drawing.{Drawing}
 use Rattle.engines.specs.Drawing.{Draws}
 use Rattle.engines.specs.Timeline.{Times}
 use Rattle.engines.specs.declared.drawing.Portion.{Portion}
@@ -9,8 +10,8 @@ use Rattle.files.specs.Deeds.{Deed}
 use Rattle.doac.specs.Deeds.{GivesFile, ReadsFile, ReadsTexts, UnlessRead}
 use Rattle.doac.specs.Statuses.{Ends, IsPage}
 
--- what drawing comes to is written: a picture to OUT alone, why there is none to standard output alone;
--- where there is no such loop nothing is
+-- what drawing comes to is written: a picture to OUT alone, why there is none to standard output
+-- alone; where there is no such loop nothing is
 abbrev pub Delivers : (out : List ℕ) → Drawn → (before after : Option (List Deed)) → (old new : Option (List ℕ)) → ℕ → Type 0
 Delivers out (Picture text) before after old new status = GivesFile out text.items before after status × (new ≡ old)
 Delivers out (Shown page) before after old new status = (after ≡ before) × Ends (IsPage page) old new status
@@ -22,11 +23,16 @@ EndsDrawing allows out before after old new status =
     ((after ≡ before) × (new ≡ old) × (status ≡ 5))
     ⊎ ((came : Drawn) × allows came × Delivers out came before after old new status)
 
+-- how much of which loop is to be drawn
+abbrev pub portion : Drawing → Portion
+portion d = record { number = d.number; columns = d.iterations }
+
 -- a source is read and a loop of it drawn, where OUT isn't the source's file, as is found out first
-abbrev pub DrawsFile : Portion → (source out : List ℕ) → (before after : Option (List Deed)) → (old new : Option (List ℕ)) → ℕ → Type 0
-DrawsFile p source out before after old new status =
-    UnlessRead out (source ∷ []) before after old new status (λ told.
-    ReadsFile source told after old new status (λ done text. EndsDrawing (Draws text p) out done after old new status))
+abbrev pub DrawsFile : Drawing → (before after : Option (List Deed)) → (old new : Option (List ℕ)) → ℕ → Type 0
+DrawsFile d before after old new status =
+    UnlessRead d.out.now (d.source.now ∷ []) before after old new status (λ told.
+    ReadsFile d.source.now told after old new status (λ done text.
+    EndsDrawing (Draws text (portion d)) d.out.now done after old new status))
 
 -- a source, an input and a schedule are read, and their run is drawn, where OUT is none of them
 abbrev pub TimesFiles : (source input schedule out : List ℕ) → (before after : Option (List Deed)) → (old new : Option (List ℕ)) → ℕ → Type 0

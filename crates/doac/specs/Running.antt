@@ -26,8 +26,8 @@ abbrev pub schedule_of : Ran → Option (List ℕ)
 schedule_of (ran.Whole whole) = text_of whole.schedule
 schedule_of _ = None
 
--- What came of a run is shown on standard output: of one that was given up for want of memory the records
--- that had gone out, and of one that there isn't nothing.
+-- What came of a run is shown on standard output: of one that was given up for want of memory the
+-- records that had gone out, and of one that there isn't nothing.
 abbrev pub ShowsRan : Ran → (old new : Option (List ℕ)) → Result Outcome EngineFault → Type 0
 ShowsRan (ran.Refused page) old new result = WritesText page.text.items (Ok page.outcome) old new result
 ShowsRan (ran.Whole whole) old new result = WritesText whole.page.text.items (Ok whole.page.outcome) old new result
@@ -48,6 +48,8 @@ WritesFirst (Some onto) (Some schedule) before after old new status rest = Gives
 WritesFirst (Some onto) None before after old new status rest = (after ≡ before) × rest
 WritesFirst None schedule before after old new status rest = (after ≡ before) × rest
 
+-- The schedule of what came of a run goes to its file, if there are both; only where it went there
+-- is what came of the run shown.
 abbrev pub WritesRun : (onto : Option (List ℕ)) → Ran → (before after : Option (List Deed)) → (old new : Option (List ℕ)) → ℕ → Type 0
 WritesRun onto came before after old new status =
     WritesFirst onto (schedule_of came) before after old new status (Shown came old new status)

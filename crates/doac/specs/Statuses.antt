@@ -16,15 +16,16 @@ abbrev pub exit_of : Result Outcome EngineFault → ℕ
 exit_of (Ok outcome) = status_of outcome
 exit_of (Err fault) = fault_status fault
 
--- Work on texts wrote to standard output what its definition says, a beginning of that where writing
--- failed, or nothing for want of memory; and the status is that of what it came to.
+-- Work on texts wrote to standard output what its definition says, a beginning of that where
+-- writing failed, or nothing for want of memory; and the status is that of what it came to.
 pub record Ends (allows : Outcome → List ℕ → Type 0) (old new : Option (List ℕ)) (status : ℕ) : Type 0 where
   pub came : Result Outcome EngineFault
   pub works : Works allows old new came
   pub is : status ≡ exit_of came
 
--- `seq` wrote its records to standard output while it ran, and then what follows them, or a beginning of
--- that where writing failed or memory was refused; and the status is that of what it came to
+-- `seq` wrote its records to standard output while it ran, and then what follows them, or a
+-- beginning of that where writing failed or memory was refused; and the status is that of what it
+-- came to
 pub record EndsSeq (store : Bool) (source input : List ℕ) (old new : Option (List ℕ)) (status : ℕ) : Type 0 where
   pub came : Result Outcome EngineFault
   pub streams : Streaming store source input old new came
@@ -34,8 +35,8 @@ pub record EndsSeq (store : Bool) (source input : List ℕ) (old new : Option (L
 abbrev pub IsPage : Page → Outcome → List ℕ → Type 0
 IsPage page outcome text = (outcome ≡ page.outcome) × (text ≡ page.text.items)
 
--- what an upgrade comes to is written: the text of a schedule to OUT alone, and why there is none to
--- standard output alone
+-- what an upgrade comes to is written: the text of a schedule to OUT alone, and why there is none
+-- to standard output alone
 abbrev pub Delivers : (out : List ℕ) → Upgraded → (before after : Option (List Deed)) → (old new : Option (List ℕ)) → ℕ → Type 0
 Delivers out (Text text) before after old new status = GivesFile out text.items before after status × (new ≡ old)
 Delivers out (Shown page) before after old new status = (after ≡ before) × Ends (IsPage page) old new status

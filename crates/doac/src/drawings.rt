@@ -9,26 +9,37 @@ ghost use Rattle.doac.specs.Pictures.{DrawsFile, EndsDrawing, TimesFiles};
 ghost use Rattle.doac.specs.Statuses.{Ends, IsPage};
 
 use crate::told::{give_file, refuse_file, refuse_out, show_page, tell, tell_of};
+use command_line::{Drawing, TextFiles};
 use engines::{Drawn, Portion, draw_text, timeline_texts};
-use files::{FileFault, NamedFiles, Names, Unread, read_texts};
+use files::{FileFault, NamedFiles, Unread, read_texts};
 use pages::{EngineFault, Page, Texts};
 use remarks::Place;
 use std::io::Write;
 
-/// Draws a loop of the source of a file to the file `onto`, if that is another one.
+/// Draws a loop of the source of a file to another file, if that is another one.
 pub fn draw_file<R: Eprint + AllocGlobal, F: NamedFiles, W: Write>(
     rt: &R,
     files: &mut F,
     out: &mut W,
-    source: &str,
-    onto: &str,
-    portion: Portion,
+    drawing: Drawing<'_>,
 ) -> u8
-    ensures { DrawsFile portion source.now onto.now
+    ensures { DrawsFile drawing.entry
         (F.done files.old) (F.done files.new) (W.contents out.old) (W.contents out.new) result }
 {
-    let is_read = files.is_one_of(onto, &[source]);
-    draw_unless(rt, files, out, source, onto, portion, is_read)
+    let portion = Portion {
+        number: drawing.number as usize,
+        columns: drawing.iterations,
+    };
+    let is_read = files.is_one_of(drawing.out, &[drawing.source]);
+    draw_unless(
+        rt,
+        files,
+        out,
+        drawing.source,
+        drawing.out,
+        portion,
+        is_read,
+    )
 }
 
 /// The same, where it is known whether the file `onto` is read.
@@ -136,7 +147,7 @@ pub fn timeline_files<R: Eprint + AllocGlobal, F: NamedFiles, W: Write>(
     rt: &R,
     files: &mut F,
     out: &mut W,
-    names: Names<'_>,
+    names: TextFiles<'_>,
     onto: &str,
 ) -> u8
     ensures { TimesFiles names.entry.source.now names.entry.input.now names.entry.schedule.now onto.now
@@ -151,7 +162,7 @@ fn timeline_unless<R: Eprint + AllocGlobal, F: NamedFiles, W: Write>(
     rt: &R,
     files: &mut F,
     out: &mut W,
-    names: Names<'_>,
+    names: TextFiles<'_>,
     onto: &str,
     is_read: bool,
 ) -> u8
@@ -165,7 +176,7 @@ fn timeline_unless<R: Eprint + AllocGlobal, F: NamedFiles, W: Write>(
     if is_read {
         return refuse_out(rt, onto);
     }
-    let texts = read_texts(files, names);
+    let texts = read_texts(files, names.source, names.input, names.schedule);
     timeline_given(rt, files, out, names, onto, texts)
 }
 
@@ -174,7 +185,7 @@ fn timeline_given<R: Eprint + AllocGlobal, F: NamedFiles, W: Write>(
     rt: &R,
     files: &mut F,
     out: &mut W,
-    names: Names<'_>,
+    names: TextFiles<'_>,
     onto: &str,
     texts: Result<Texts, Unread<'_>>,
 ) -> u8
@@ -194,7 +205,7 @@ fn timeline_read<R: Eprint + AllocGlobal, F: NamedFiles, W: Write>(
     rt: &R,
     files: &mut F,
     out: &mut W,
-    names: Names<'_>,
+    names: TextFiles<'_>,
     onto: &str,
     texts: &Texts,
 ) -> u8

@@ -9,9 +9,8 @@ use crate::sources::{check_file, list_file, seq_files};
 use crate::threads::run_files;
 use crate::told::status_of_print;
 use command_line::Command;
-use engines::Portion;
 use explanations::explain;
-use files::{NamedFiles, Names};
+use files::NamedFiles;
 use std::io::Write;
 use std::sync::Wait;
 use std::thread::Threads;
@@ -40,69 +39,10 @@ pub fn obey<R: Print + Eprint + AllocGlobal + Threads + Wait + Sync, F: NamedFil
             store,
         } => seq_files(rt, files, out, source, input, store, most),
         Command::Run(asked) => run_files(rt, files, out, nowhere, asked),
-        Command::Replay {
-            source,
-            input,
-            schedule,
-        } => replay_files(
-            rt,
-            files,
-            out,
-            nowhere,
-            Names {
-                source,
-                input,
-                schedule,
-            },
-        ),
-        Command::Upgrade {
-            source,
-            input,
-            schedule,
-            out: onto,
-        } => upgrade_files(
-            rt,
-            files,
-            out,
-            Names {
-                source,
-                input,
-                schedule,
-            },
-            onto,
-        ),
-        Command::Draw {
-            source,
-            out: onto,
-            number,
-            iterations,
-        } => draw_file(
-            rt,
-            files,
-            out,
-            source,
-            onto,
-            Portion {
-                number: number as usize,
-                columns: iterations,
-            },
-        ),
-        Command::Timeline {
-            source,
-            input,
-            schedule,
-            out: onto,
-        } => timeline_files(
-            rt,
-            files,
-            out,
-            Names {
-                source,
-                input,
-                schedule,
-            },
-            onto,
-        ),
+        Command::Replay(names) => replay_files(rt, files, out, nowhere, names),
+        Command::Upgrade(names, onto) => upgrade_files(rt, files, out, names, onto),
+        Command::Draw(drawing) => draw_file(rt, files, out, drawing),
+        Command::Timeline(names, onto) => timeline_files(rt, files, out, names, onto),
         Command::Explain(Some(number)) => status_of_print(rt, explain::explain(rt, number)),
         Command::Explain(None) => status_of_print(rt, explain::list(rt)),
         Command::ExplainSerial(reason) => status_of_print(rt, explain::explain_serial(rt, reason)),

@@ -8,8 +8,9 @@ ghost use Rattle.doac.specs.Statuses.{Ends, EndsUpgrade};
 use crate::told::{
     give_file, refuse_file, refuse_out, show_page, tell_of, tell_replay, warn_of_run,
 };
+use command_line::TextFiles;
 use engines::{Upgraded, replay_texts, upgrade_texts};
-use files::{NamedFiles, Names, Unread, read_texts};
+use files::{NamedFiles, Unread, read_texts};
 use pages::{EngineFault, Texts};
 use std::io::Write;
 
@@ -20,13 +21,13 @@ pub fn replay_files<R: Eprint + AllocGlobal, F: NamedFiles, W: Write>(
     files: &mut F,
     out: &mut W,
     nowhere: &mut W,
-    names: Names<'_>,
+    names: TextFiles<'_>,
 ) -> u8
     ensures { OnTexts Replaying
         names.entry.source.now names.entry.input.now names.entry.schedule.now
         (F.done files.old) (F.done files.new) (W.contents out.old) (W.contents out.new) result }
 {
-    let texts = read_texts(files, names);
+    let texts = read_texts(files, names.source, names.input, names.schedule);
     replay_given(rt, out, nowhere, names, texts)
 }
 
@@ -35,7 +36,7 @@ fn replay_given<R: Eprint + AllocGlobal, W: Write>(
     rt: &R,
     out: &mut W,
     nowhere: &mut W,
-    names: Names<'_>,
+    names: TextFiles<'_>,
     texts: Result<Texts, Unread<'_>>,
 ) -> u8
     ensures { (done : _) → AfterTexts texts.entry done done
@@ -54,7 +55,7 @@ fn replay_read<R: Eprint + AllocGlobal, W: Write>(
     rt: &R,
     out: &mut W,
     nowhere: &mut W,
-    names: Names<'_>,
+    names: TextFiles<'_>,
     texts: &Texts,
 ) -> u8
     ensures { Ends
@@ -78,7 +79,7 @@ pub fn upgrade_files<R: Eprint + AllocGlobal, F: NamedFiles, W: Write>(
     rt: &R,
     files: &mut F,
     out: &mut W,
-    names: Names<'_>,
+    names: TextFiles<'_>,
     onto: &str,
 ) -> u8
     ensures { Upgrades
@@ -94,7 +95,7 @@ fn upgrade_unless<R: Eprint + AllocGlobal, F: NamedFiles, W: Write>(
     rt: &R,
     files: &mut F,
     out: &mut W,
-    names: Names<'_>,
+    names: TextFiles<'_>,
     onto: &str,
     is_read: bool,
 ) -> u8
@@ -108,7 +109,7 @@ fn upgrade_unless<R: Eprint + AllocGlobal, F: NamedFiles, W: Write>(
     if is_read {
         return refuse_out(rt, onto);
     }
-    let texts = read_texts(files, names);
+    let texts = read_texts(files, names.source, names.input, names.schedule);
     upgrade_given(rt, files, out, names, onto, texts)
 }
 
@@ -117,7 +118,7 @@ fn upgrade_given<R: Eprint + AllocGlobal, F: NamedFiles, W: Write>(
     rt: &R,
     files: &mut F,
     out: &mut W,
-    names: Names<'_>,
+    names: TextFiles<'_>,
     onto: &str,
     texts: Result<Texts, Unread<'_>>,
 ) -> u8
@@ -138,7 +139,7 @@ fn upgrade_read<R: Eprint + AllocGlobal, F: NamedFiles, W: Write>(
     rt: &R,
     files: &mut F,
     out: &mut W,
-    names: Names<'_>,
+    names: TextFiles<'_>,
     onto: &str,
     texts: &Texts,
 ) -> u8

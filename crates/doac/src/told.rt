@@ -5,11 +5,12 @@ ghost use Rattle.files.specs.Deeds.{file_status, unput};
 ghost use Rattle.doac.specs.Deeds.{GivesFile, OfError, OfWrite};
 ghost use Rattle.doac.specs.Statuses.{Ends, IsPage, OfPrint, exit_of};
 
+use command_line::TextFiles;
 use engines::{Note, Sequential, known_of};
-use files::{FileFault, NamedFiles, Names};
+use files::{FileFault, NamedFiles};
 use messages::{LastRecord, Message};
 use pages::{EngineFault, Outcome, Page, Texts};
-use reasons::Met;
+use reasons::MetObstacle;
 use remarks::{Place, warn_of_columns};
 use std::io::{self, Write};
 
@@ -61,7 +62,7 @@ pub fn status_of_write<R: Eprint>(rt: &R, name: &str, written: io::Result<()>) -
     }
 }
 
-/// Gives a file its text: a schedule, or a picture.
+/// Gives a file its text, a schedule or a picture, and gives the exit status.
 pub fn give_file<R: Eprint, F: NamedFiles>(rt: &R, files: &mut F, onto: &str, text: &[u8]) -> u8
     ensures { GivesFile onto.now text.now (F.done files.old) (F.done files.new) result }
 {
@@ -127,7 +128,8 @@ pub fn tell<R: Eprint + AllocGlobal>(
     tell_noted(rt, name, text, outcome, None)
 }
 
-/// The same, with what is known beside the line.
+/// Says on standard error what is wrong with a file's text, or what failed, with what is known
+/// beside the line, if something is, and gives the exit status.
 pub fn tell_noted<R: Eprint + AllocGlobal>(
     rt: &R,
     name: &str,
@@ -151,8 +153,9 @@ pub fn tell_noted<R: Eprint + AllocGlobal>(
     }
 }
 
-/// The same of a run on an input, which is that of a file if one is given; at a fault of the input
-/// standard error also has the record.
+/// Says on standard error what is wrong with a source, or how its run failed, and gives the exit
+/// status. The input is that of the file `given`, if one is; at a fault of the input the record
+/// that it was at is told too.
 pub fn tell_run<R: Eprint + AllocGlobal>(
     rt: &R,
     name: &str,
@@ -172,8 +175,9 @@ pub fn tell_run<R: Eprint + AllocGlobal>(
     status
 }
 
-/// The same of a run in threads, or a replay, whose answer is written: where the sequential run
-/// tells more of its fault it is made, with its records onto `nowhere`.
+/// Says on standard error what is wrong with a source, or how a run in threads or a replay failed
+/// whose answer is written, and gives the exit status. Where the sequential run tells more of the
+/// fault it is made, with its records onto `nowhere`.
 pub fn tell_known<R: Eprint + AllocGlobal, W: Write>(
     rt: &R,
     nowhere: &mut W,
@@ -197,7 +201,7 @@ fn obstacle<R: AllocGlobal>(rt: &R, texts: &Texts, number: u8, line: usize) -> O
         schedule,
     } = texts;
     match number {
-        54 | 56 => Met::of(rt.alloc(), source, input, schedule, line).map(Note::Obstacle),
+        54 | 56 => MetObstacle::of(rt.alloc(), source, input, schedule, line).map(Note::Obstacle),
         _ => None,
     }
 }
@@ -205,7 +209,7 @@ fn obstacle<R: AllocGlobal>(rt: &R, texts: &Texts, number: u8, line: usize) -> O
 /// Says on standard error what is wrong with a schedule's text, or with its source's.
 pub fn tell_of<R: Eprint + AllocGlobal>(
     rt: &R,
-    names: Names<'_>,
+    names: TextFiles<'_>,
     texts: &Texts,
     outcome: Result<Outcome, EngineFault>,
 ) -> u8
@@ -221,11 +225,12 @@ pub fn tell_of<R: Eprint + AllocGlobal>(
     }
 }
 
-/// The same of a replay, with what is known of its fault beside the line.
+/// Says on standard error what is wrong with a schedule's text or with its source's, or at which
+/// fault its replay ended, with what is known of that, and gives the exit status.
 pub fn tell_replay<R: Eprint + AllocGlobal, W: Write>(
     rt: &R,
     nowhere: &mut W,
-    names: Names<'_>,
+    names: TextFiles<'_>,
     texts: &Texts,
     outcome: Result<Outcome, EngineFault>,
 ) -> u8
@@ -245,11 +250,12 @@ pub fn tell_replay<R: Eprint + AllocGlobal, W: Write>(
     }
 }
 
-/// Writes what is shown of texts that have no schedule or picture to give.
+/// Writes what is shown of texts that have no schedule or picture to give, tells of it on standard
+/// error, and gives the exit status.
 pub fn show_page<R: Eprint + AllocGlobal, W: Write>(
     rt: &R,
     out: &mut W,
-    names: Names<'_>,
+    names: TextFiles<'_>,
     texts: &Texts,
     page: &Page,
 ) -> u8

@@ -56,10 +56,6 @@ waiters-none : (m : ℕ) → map (λ xs. map waiter xs) (replicate m []) ≡ rep
 waiters-none zero = refl
 waiters-none (suc m) = ap (λ a. [] ∷ a) (waiters-none m)
 
-pub places-none : (s m : ℕ) → places_in s (replicate m []) ≡ 0
-places-none s zero = refl
-places-none s (suc m) = omega (arith, places-none s m)
-
 -- all is new
 pub made : (x y : Lists) (counts : List ℕ) (slots events : ℕ) → x ≡ record { slots = slots; lists = replicate (2 + events) [] } → counts ≡ replicate events 0 → IsLinked y → y ≡ with_list x 1 (list_at x 1 ++ in_turn slots) → IsLeft y counts 0 (new_kernel slots events)
 made x y counts slots events xe ce linked ye =

@@ -233,7 +233,7 @@ free_gone x y counts ticket o h oe linked ye =
     subst (λ a. IfSome o (StandsNowhere a)) (sym is)
     (gone o k (record k { free = drop 1 k.free }) k.free (kernel x counts ticket h) (oe ∙ first-slots (list_at x 1)) refl (λ s. omega arith) (λ s. omega arith))
 
-times-without : (s : ℕ) (xs : List ℕ) → times s (without s xs) ≡ 0
+pub times-without : (s : ℕ) (xs : List ℕ) → times s (without s xs) ≡ 0
 times-without s [] = refl
 times-without s (x ∷ xs) = let r = times-without s xs in grind (arith, nat_tests)
 

@@ -11,6 +11,7 @@ use Rattle.ec_kernel.specs.View.{View}
 abbrev pub waiter : ℕ × ℕ → ℕ × ℕ
 waiter x = (x.1, x.0)
 
+-- the slots of a list
 abbrev pub slots_of : List (ℕ × ℕ) → List ℕ
 slots_of xs = map (λ x. x.0) xs
 
@@ -30,6 +31,7 @@ abbrev pub ValuesAbove : ℕ → List (ℕ × ℕ) → Type 0
 ValuesAbove count [] = Unit {0}
 ValuesAbove count (x ∷ xs) = (count < x.1) × ValuesAbove count xs
 
+-- What holds of the lists of a kernel: they are linked, and a waiter's value is above its count.
 pub record IsKept (x : Lists) (counts : List ℕ) : Type 0 where
   pub lists : length x.lists ≡ 2 + length counts
   pub linked : IsLinked x
@@ -39,6 +41,7 @@ pub record IsKept (x : Lists) (counts : List ℕ) : Type 0 where
 abbrev pub at_end : ℕ × ℕ → ℕ × ℕ
 at_end x = (x.0, LAST)
 
+-- a count has reached the value of a slot
 abbrev pub is_reached : ℕ → ℕ × ℕ → Bool
 is_reached count x = nat_le x.1 count
 

@@ -17,9 +17,11 @@ pub record View : Type 0 where
   -- the slots that may be taken
   pub free : List ℕ
 
+-- the count of an event
 abbrev pub count_at : View → ℕ → ℕ
 count_at k e = get_or k.counts e 0
 
+-- the waiters of an event
 abbrev pub waiters_at : View → ℕ → List (ℕ × ℕ)
 waiters_at k e = get_or k.waiters e []
 
@@ -62,6 +64,7 @@ abbrev pub queued : ℕ × ℕ → List (ℕ × ℕ) → List (ℕ × ℕ)
 queued w [] = w ∷ []
 queued w (x ∷ xs) = if nat_le x.0 w.0 then x ∷ queued w xs else w ∷ (x ∷ xs)
 
+-- slot s waits for event e to reach the value v
 abbrev pub parked : View → ℕ → ℕ → ℕ → View
 parked k e v s = record k { waiters = set k.waiters e (queued (v, s) (waiters_at k e)) }
 
@@ -85,6 +88,7 @@ advanced k e = record k {
 abbrev pub restarted : View → View
 restarted k = record k { counts = replicate (length k.counts) 0; ticket = 0 }
 
+-- the slot at the front of a list, if there is one
 abbrev pub first_of : List ℕ → Option ℕ
 first_of [] = None
 first_of (x ∷ xs) = Some x

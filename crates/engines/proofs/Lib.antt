@@ -1,5 +1,4 @@
 pub mod Counts
-pub mod Drawings
 pub mod Listings
 pub mod Pages
 pub mod Replayed

@@ -1,5 +1,6 @@
 -- What is shown of a replay is what the sequential program prints, and how it ends.
-use Rattle.std.proofs.Common.{◌≡◌, ◌∙◌, false, List, [], ℕ, ◌++◌, Some, ap, map, subst, sym}
+use Rattle.std.proofs.Common.{◌≡◌, ◌∙◌, false, List, [], ℕ, ◌++◌, ap, map, subst, sym}
+use Rattle.std.proofs.lemmas.Option.{same_Some}
 use Rattle.ast.specs.Meaning.{seq}
 use Rattle.ast.specs.Program.{ProgramTree}
 use Rattle.ast.specs.ProgramView.{program as program_of}
@@ -29,9 +30,6 @@ by_end tree code input schedule outcome text Done h w = subst (λ (o : Outcome).
 by_end tree code input schedule outcome text (Stopped line) h w = subst (λ (o : Outcome). IsReplayed tree code input schedule o text → ShowsReplay tree code input schedule o text) (sym h) (λ z. z) w
 by_end tree code input schedule outcome text (FaultedAt fault line) h w = subst (λ (o : Outcome). IsReplayed tree code input schedule o text → ShowsReplay tree code input schedule o text) (sym h) (λ z. z) w
 
-same_some : (a b : End) → Some a ≡ Some b → a ≡ b
-same_some a b h = cc
-
 pub replayed_shown : (p : Program) (code : Code) (input : List ℕ) (x : Schedule) (schedule : List ℕ) (answer : Answer) (outcome : Outcome) (text : List ℕ) → Headline code (program_of p) → SchedText x schedule → IsReplay code input x answer
     → outcome ≡ outcome_of answer.end → Extends (EndShown false [] answer.end) answer.output.items text → ShowsReplay (program_of p) code input schedule outcome text
 replayed_shown p code input x schedule answer outcome text headline spelled r ended more =
@@ -39,7 +37,7 @@ replayed_shown p code input x schedule answer outcome text headline spelled r en
     let run = is_run code input x r.point spelled.schedule r.replays in
     let agrees = headline input x.processors x.slots run.0 r.point.machine spelled.schedule.0 run.1 in
     let end = agrees.answer answer.end r.is.end in
-    let same : answer.end ≡ (seq tree input).end = same_some answer.end (seq tree input).end (sym r.is.end ∙ end.is) in
+    let same : answer.end ≡ (seq tree input).end = same_Some answer.end (seq tree input).end (sym r.is.end ∙ end.is) in
     let outcome_is : outcome ≡ outcome_of (seq tree input).end = ended ∙ ap outcome_of same in
     let rows = map (row_of (seq tree input).store) tree.symbols in
     by_end tree code input schedule outcome text (seq tree input).end outcome_is (record {

@@ -21,8 +21,8 @@ moved here (plain s) = Behind s.line
 moved here (loop line h range) = Behind line
 moved here (choose a) = Behind (first_line a)
 
--- Each advance in source order: its event and its spot, which is behind the last statement before it or,
--- where there is none, at the beginning of its arm or made ELSE.
+-- Each advance in source order: its event and its spot, which is behind the last statement before
+-- it or, where there is none, at the beginning of its arm or made ELSE.
 abbrev mutual
   pub spots : Spot → PlanBlock → List (ℕ × Spot)
   spots here no_nodes = []

@@ -2,10 +2,7 @@
 use Rattle.std.specs.Prelude.{ℕ, ℤ, pos, ◌+◌, ◌-◌, ◌+ℤ◌, ◌-ℤ◌, nat_le, Bool, true, false, if◌then◌else◌, codes, decimal, List, [], ◌∷◌, ◌++◌, Option, Some, None, slice_get}
 use Rattle.std.specs.Fmt.{signed_decimal}
 use Rattle.ast.specs.Name.{trimmed}
-use Rattle.ast.specs.declared.expression.Operator.{Operator}
-use Rattle.ast.specs.declared.expression.Operator.TheVariants as operators
-use Rattle.ast.specs.declared.expression.Prefix.{Prefix}
-use Rattle.ast.specs.declared.expression.Prefix.TheVariants as prefixes
+use Rattle.ast.specs.Spelling.{prefix_spelling, spelling}
 use Rattle.machine.specs.Code.{Code, Loop, Part, operand, text_as}
 use Rattle.machine.specs.Next.{is_own}
 use Rattle.machine.specs.declared.code.Await.{Await}
@@ -79,29 +76,9 @@ forward place skips = codes " TO " ++ decimal (place + 1 + skips)
 abbrev pub back : ℕ → ℕ → List ℕ
 back place n = codes " TO " ++ decimal (place - n)
 
-abbrev pub operator_word : Operator → List ℕ
-operator_word operators.Add = codes "+"
-operator_word operators.Subtract = codes "-"
-operator_word operators.Multiply = codes "*"
-operator_word operators.Divide = codes "/"
-operator_word operators.Less = codes ".LT."
-operator_word operators.LessOrEqual = codes ".LE."
-operator_word operators.Equal = codes ".EQ."
-operator_word operators.NotEqual = codes ".NE."
-operator_word operators.Greater = codes ".GT."
-operator_word operators.GreaterOrEqual = codes ".GE."
-operator_word operators.And = codes ".AND."
-operator_word operators.Or = codes ".OR."
-operator_word operators.Equivalent = codes ".EQV."
-operator_word operators.NotEquivalent = codes ".NEQV."
-
-abbrev pub prefix_word : Prefix → List ℕ
-prefix_word prefixes.Plus = codes "+"
-prefix_word prefixes.Minus = codes "-"
-prefix_word prefixes.Not = codes ".NOT."
-
 -- ---- instructions
 
+-- the name of an instruction
 abbrev pub act_word : Act → List ℕ
 act_word (acts.Constant n) = codes "Constant"
 act_word (acts.Private k) = codes "Private"
@@ -141,8 +118,8 @@ abbrev pub act_operands : Code → ℕ → Act → List ℕ
 act_operands code place (acts.Constant n) = 32 ∷ signed_decimal n
 act_operands code place (acts.Private k) = 32 ∷ private_word code.variables (privates_at [] code.loops place) k
 act_operands code place (acts.SetPrivate k) = 32 ∷ private_word code.variables (privates_at [] code.loops place) k
-act_operands code place (acts.Binary o) = 32 ∷ operator_word o
-act_operands code place (acts.Unary p) = 32 ∷ prefix_word p
+act_operands code place (acts.Binary o) = 32 ∷ spelling o
+act_operands code place (acts.Unary p) = 32 ∷ prefix_spelling p
 act_operands code place (acts.Check k d) = 32 ∷ decimal k ++ 32 ∷ axis_words d
 act_operands code place (acts.Skip n) = forward place n
 act_operands code place (acts.SkipUnless n) = forward place n

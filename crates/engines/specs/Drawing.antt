@@ -24,7 +24,8 @@ kept_of r (Body body privates relations) = r.kept.items
 abbrev pub report_of : List LoopReport → ℕ → Option LoopReport
 report_of reports n = if n == 0 then None else slice_get reports (n - 1)
 
--- The text is a picture of so many iterations of the loop, with the arrows of what its report says is kept.
+-- The text is a picture of so many iterations of the loop, with the arrows of what its report says
+-- is kept.
 pub record IsLoopPicture (p : Portion) (r : LoopReport) (text : List ℕ) : Type 0 where
   pub picture : LoopPicture
   pub number : picture.number ≡ p.number

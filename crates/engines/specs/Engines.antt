@@ -160,8 +160,8 @@ abbrev pub engine_fault : RunFault → EngineFault
 engine_fault run_faults.Memory = Memory
 engine_fault (run_faults.Writing e) = Writing e
 
--- the source reads as a program, and the writer's bytes grew by what is so much of what its run on the
--- input prints
+-- the source reads as a program, and the writer's bytes grew by what is so much of what its run on
+-- the input prints
 pub record Grew (So : List ℕ → List ℕ → Type 0) (source input : List ℕ) (old new : Option (List ℕ)) : Type 0 where
   pub tree : ProgramTree
   pub reads : Reads source tree
@@ -173,12 +173,13 @@ pub record Grew (So : List ℕ → List ℕ → Type 0) (source input : List ℕ
 abbrev pub Began : List ℕ → List ℕ → Option (List ℕ) → Option (List ℕ) → Type 0
 Began = Grew Begins
 
+-- by a beginning of the records, of which something is missing
 abbrev pub FellShort : List ℕ → List ℕ → Option (List ℕ) → Option (List ℕ) → Type 0
 FellShort = Grew FallsShort
 
--- What `seq` comes to, whose records are written while the program runs: an outcome with an allowed text
--- written; where writing failed part of one, or not all of the records; where memory was refused
--- nothing, or a beginning of the records. No fault of reading comes of it.
+-- What `seq` comes to, whose records are written while the program runs: an outcome with an allowed
+-- text written; where writing failed part of one, or not all of the records; where memory was
+-- refused nothing, or a beginning of the records. No fault of reading comes of it.
 abbrev pub Streaming : Bool → List ℕ → List ℕ → Option (List ℕ) → Option (List ℕ) → Result Outcome EngineFault → Type 0
 Streaming store source input old new (Ok outcome) = Wrote (Runs store source input) old new outcome
 Streaming store source input old new (Err (Writing e)) = WrotePart (Runs store source input) old new ⊎ FellShort source input old new
@@ -197,8 +198,9 @@ StreamingWith input store source old new (Err OutOfRange) = ⊥
 StreamingWith input store source old new (Err NotStarted) = ⊥
 StreamingWith input store source old new (Err Stuck) = ⊥
 
--- what a fault of `seq` leaves: part of an allowed text or not all of the records where writing failed;
--- nothing or a beginning of the records where memory was refused; nothing where reading failed
+-- what a fault of `seq` leaves: part of an allowed text or not all of the records where writing
+-- failed; nothing or a beginning of the records where memory was refused; nothing where reading
+-- failed
 abbrev pub LeavesSeq : EngineFault → Option (List ℕ) → Option (List ℕ) → (part began : Type 0) → Type 0
 LeavesSeq (Source e) old new part began = Keeps old new
 LeavesSeq (Input e) old new part began = Keeps old new
@@ -222,9 +224,34 @@ AfterGiven source old new (Err (Input e)) = ⊤
 AfterGiven source old new (Err Memory) = ⊤
 AfterGiven source old new (Err _) = ⊥
 
--- the sequential run tells more of what a run came to: which subscript, or which record of the input
+-- the sequential run tells more of what a run came to: which subscript, or which record of the
+-- input
 abbrev pub wants_run : Result Outcome EngineFault → Bool
 wants_run (Ok (Faulted kinds.Index line)) = true
 wants_run (Ok (Faulted kinds.EndOfInput line)) = true
 wants_run (Ok (Faulted kinds.BadInput line)) = true
 wants_run _ = false
+
+-- ---- engines over readers: a source is read, or a source and an input, whose readers have these
+-- bytes left, and a writer's bytes go from `old` to `new`
+
+-- an engine of a source ends with this status: what is allowed of the text is written
+abbrev pub EndsOfSource : (List ℕ → Outcome → List ℕ → Type 0) → (source old new : Option (List ℕ)) → ℕ → Type 0
+EndsOfSource allows source old new status = OfText source (λ text. WroteAs (allows text) old new status)
+
+-- or with this fault
+abbrev pub FailsOfSource : (List ℕ → Outcome → List ℕ → Type 0) → (source old new : Option (List ℕ)) → EngineFault → Type 0
+FailsOfSource allows source old new fault =
+    LeavesOfSource fault old new (OfText source (λ text. WrotePart (allows text) old new))
+
+-- `seq` ends with this status
+abbrev pub SeqEnds : (store : Bool) → (source input old new : Option (List ℕ)) → ℕ → Type 0
+SeqEnds store source input old new status =
+    OfText source (λ text. OfText input (λ given. WroteAs (Runs store text given) old new status))
+
+-- or with this fault
+abbrev pub SeqFails : (store : Bool) → (source input old new : Option (List ℕ)) → EngineFault → Type 0
+SeqFails store source input old new fault =
+    LeavesSeq fault old new
+    (OfText source (λ text. OfText input (λ given. WrotePart (Runs store text given) old new ⊎ FellShort text given old new)))
+    (OfText source (λ text. OfText input (λ given. Began text given old new)))

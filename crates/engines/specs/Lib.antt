@@ -2,7 +2,6 @@ pub mod Advanced
 pub mod CodeLines
 pub mod Coded
 pub mod Drawing
-pub mod Drawn
 pub mod Engines
 pub mod Listing
 pub mod Lists

@@ -89,6 +89,7 @@ LinesOf n r (Body body privates relations) text =
     (names : List (List ℕ)) × InByteOrder (map letters privates.names.items) names
     × (text ≡ open_lines n r.line names r.sources.items r.kept.items (spots (Behind r.line) (plan_block body.items)))
 
+-- the lines of loop n, by its report
 abbrev pub Lines : ℕ → LoopReport → List ℕ → Type 0
 Lines n r text = LinesOf n r r.plan text
 
@@ -102,5 +103,6 @@ ListingOf lines n [] text = text ≡ []
 ListingOf lines n (r ∷ rs) text =
     (first : List ℕ) × (rest : List ℕ) × lines n r first × ListingOf lines (n + 1) rs rest × (text ≡ first ++ rest)
 
+-- the lines of loops, one after another, the first of which is loop n
 abbrev pub Listing : ℕ → List LoopReport → List ℕ → Type 0
 Listing = ListingOf Lines

@@ -56,22 +56,24 @@ ListsBy lines source (Refused number line) text = IsNoCode source number line te
 ListsBy lines source (Faulted fault line) text = ⊥
 ListsBy lines source (NoSchedule number line) text = ⊥
 
--- without `--why`
+-- what `list` may write of a survey without `--why`
 abbrev pub TellsLoops : Survey → Outcome → List ℕ → Type 0
 TellsLoops = TellsBy Lines
 
+-- what `list` may write of a source text without `--why`
 abbrev pub Lists : List ℕ → Outcome → List ℕ → Type 0
 Lists = ListsBy Lines
 
--- with it
+-- what `list` may write of a survey with `--why`
 abbrev pub TellsWhy : Survey → Outcome → List ℕ → Type 0
 TellsWhy = TellsBy LinesWhy
 
--- as it is wanted
+-- what `list` may write of a survey, with `--why` or without
 abbrev pub TellsAs : (why : Bool) → Survey → Outcome → List ℕ → Type 0
 TellsAs true = TellsWhy
 TellsAs false = TellsLoops
 
+-- what `list` may write of a source text, with `--why` or without
 abbrev pub ListsAs : (why : Bool) → List ℕ → Outcome → List ℕ → Type 0
 ListsAs true = ListsBy LinesWhy
 ListsAs false = Lists

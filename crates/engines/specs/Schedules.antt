@@ -13,12 +13,13 @@ use Rattle.schedules.specs.Refusals.{Refuses}
 use Rattle.schedules.specs.Schedules.{SchedText, Schedule}
 use Rattle.handing.specs.Handing.{AppendsPart}
 use Rattle.pages.specs.Outcomes.{status_of}
+use Rattle.pages.specs.Reading.{OfTexts}
 use Rattle.pages.specs.Shown.{no_schedule, refused}
 use Rattle.pages.specs.declared.fault.EngineFault.{EngineFault}
 use Rattle.pages.specs.declared.fault.EngineFault.TheVariants.{Memory, Writing}
 use Rattle.pages.specs.declared.outcomes.Outcome.{Outcome}
 use Rattle.pages.specs.declared.outcomes.Outcome.TheVariants.{Completed, Refused, Faulted, NoSchedule}
-use Rattle.engines.specs.Engines.{IsRefused, ShowsRun}
+use Rattle.engines.specs.Engines.{IsRefused, Leaves, ShowsRun, WroteAs, WrotePart}
 use Rattle.engines.specs.declared.replays.Upgraded.{Upgraded}
 use Rattle.engines.specs.declared.replays.Upgraded.TheVariants.{Text, Shown}
 
@@ -48,12 +49,13 @@ IsNoCode source number line text = IsRefused source number line text ⊎ IsLong 
 abbrev pub RefusesText : (Code → List ℕ → Schedule → ℕ → ℕ → Type 0) → Code → List ℕ → List ℕ → ℕ → ℕ → Type 0
 RefusesText why code input schedule number line = Refuses schedule number line ⊎ ((x : Schedule) × SchedText x schedule × why code input x number line)
 
+-- A schedule's text is refused so, and this is the line that says it.
 pub record IsNoSchedule (why : Code → List ℕ → Schedule → ℕ → ℕ → Type 0) (code : Code) (input schedule : List ℕ) (number line : ℕ) (text : List ℕ) : Type 0 where
   pub cause : RefusesText why code input schedule number line
   pub shown : text ≡ no_schedule number line
 
--- The text is a schedule's, which leads the code to its end on the input, and what is shown is what the
--- sequential program prints and how it ends.
+-- The text is a schedule's, which leads the code to its end on the input, and what is shown is what
+-- the sequential program prints and how it ends.
 pub record IsReplayed (tree : ProgramTree) (code : Code) (input schedule : List ℕ) (outcome : Outcome) (text : List ℕ) : Type 0 where
   pub old : Schedule
   pub spelled : SchedText old schedule
@@ -76,8 +78,8 @@ Replaying source input schedule (Refused number line) text = IsNoCode source num
 Replaying source input schedule (Faulted fault line) text = WithCode source (λ tree code. ShowsReplay tree code input schedule (Faulted fault line) text)
 Replaying source input schedule (NoSchedule number line) text = WithCode source (λ tree code. ShowsReplay tree code input schedule (NoSchedule number line) text)
 
--- The text is that of a schedule in which each pick is named, and which leads the code where the one
--- that is given leads it.
+-- The text is that of a schedule in which each pick is named, and which leads the code where the
+-- one that is given leads it.
 pub record IsUpgraded (code : Code) (input schedule text : List ℕ) : Type 0 where
   pub old : Schedule
   pub spelled : SchedText old schedule
@@ -94,6 +96,8 @@ Upgrades code input schedule (Shown page) = IsRefusedSchedule page.outcome
     IsRefusedSchedule (NoSchedule number line) = IsNoSchedule HasStop code input schedule number line page.text.items
     IsRefusedSchedule _ = ⊥
 
+-- What `upgrade` may come to, of a source text: a schedule's text, or a page that says why there is
+-- none, by the source or by the schedule.
 abbrev pub Upgrading : (source input schedule : List ℕ) → Upgraded → Type 0
 Upgrading source input schedule (Text text) = WithCode source (λ tree code. IsUpgraded code input schedule text.items)
 Upgrading source input schedule (Shown page) = IsRefusedPage page.outcome
@@ -108,8 +112,9 @@ abbrev pub upgrade_status : Upgraded → ℕ
 upgrade_status (Text text) = 0
 upgrade_status (Shown page) = status_of page.outcome
 
--- Two writers grew by what `upgrade` comes to, the first one's bytes from `old` to `new`, the other's
--- from `before` to `after`: this one by a schedule's text, or the first by a page, and the other not.
+-- Two writers grew by what `upgrade` comes to, the first one's bytes from `old` to `new`, the
+-- other's from `before` to `after`: this one by a schedule's text, or the first by a page, and the
+-- other not.
 abbrev pub WritesUpgraded : Upgraded → (old new before after : Option (List ℕ)) → Type 0
 WritesUpgraded (Text text) old new before after = (new ≡ old) × Appends before after text.items
 WritesUpgraded (Shown page) old new before after = Appends old new page.text.items × (after ≡ before)
@@ -132,16 +137,42 @@ pub record WroteUpgradedPart (allows : Upgraded → Type 0) (old new before afte
   pub allowed : allows upgraded
   pub written : WritesPart upgraded old new before after
 
--- What upgrading texts that were read comes to: a status with what is allowed written; part of it where
--- writing failed; nothing where memory was refused. No fault of reading comes of it.
+-- What upgrading texts that were read comes to: a status with what is allowed written; part of it
+-- where writing failed; nothing where memory was refused. No fault of reading comes of it.
 abbrev pub UpgradeWorks : (Upgraded → Type 0) → (old new before after : Option (List ℕ)) → Result ℕ EngineFault → Type 0
 UpgradeWorks allows old new before after (Ok status) = WroteUpgraded allows old new before after status
 UpgradeWorks allows old new before after (Err (Writing e)) = WroteUpgradedPart allows old new before after
 UpgradeWorks allows old new before after (Err Memory) = (new ≡ old) × (after ≡ before)
 UpgradeWorks allows old new before after (Err _) = ⊥
 
--- what a fault leaves of two writers: part of what is allowed where writing failed, and otherwise both
--- as they were
+-- what a fault leaves of two writers: part of what is allowed where writing failed, and otherwise
+-- both as they were
 abbrev pub LeavesBoth : EngineFault → (old new before after : Option (List ℕ)) → Type 0 → Type 0
 LeavesBoth (Writing e) old new before after part = part
 LeavesBoth fault old new before after part = (new ≡ old) × (after ≡ before)
+
+-- ---- engines over readers of a source, an input and a schedule
+
+-- `replay` ends with this status
+abbrev pub ReplayEnds : (source input schedule old new : Option (List ℕ)) → ℕ → Type 0
+ReplayEnds source input schedule old new status =
+    OfTexts source input schedule (λ text given picks. WroteAs (Replaying text given picks) old new status)
+
+-- or with this fault
+abbrev pub ReplayFails : (source input schedule old new : Option (List ℕ)) → EngineFault → Type 0
+ReplayFails source input schedule old new fault =
+    Leaves fault old new
+    (OfTexts source input schedule (λ text given picks. WrotePart (Replaying text given picks) old new))
+
+-- `upgrade`, which has a writer more, whose bytes go from `before` to `after`, ends with this status
+abbrev pub UpgradeEnds : (source input schedule old new before after : Option (List ℕ)) → ℕ → Type 0
+UpgradeEnds source input schedule old new before after status =
+    OfTexts source input schedule (λ text given picks.
+    WroteUpgraded (Upgrading text given picks) old new before after status)
+
+-- or with this fault
+abbrev pub UpgradeFails : (source input schedule old new before after : Option (List ℕ)) → EngineFault → Type 0
+UpgradeFails source input schedule old new before after fault =
+    LeavesBoth fault old new before after
+    (OfTexts source input schedule (λ text given picks.
+    WroteUpgradedPart (Upgrading text given picks) old new before after))

@@ -21,8 +21,8 @@ pub record IsTimed (tree : ProgramTree) (code : Code) (input schedule : List ℕ
   pub replays : Replays code input run point
   pub ended : point.machine.ended ≡ Some (seq tree input).end
 
--- what `timeline` comes to with code: a picture for OUT, where the schedule leads to the end of a run, or
--- what standard output has
+-- what `timeline` comes to with code: a picture for OUT, where the schedule leads to the end of a
+-- run, or what standard output has
 abbrev pub ShowsTimeline : ProgramTree → Code → (input schedule : List ℕ) → Drawn → Type 0
 ShowsTimeline tree code input schedule (Picture text) = IsTimed tree code input schedule
 ShowsTimeline tree code input schedule (Shown page) = IsRefusedSchedule page.outcome

@@ -6,7 +6,6 @@ ghost use Rattle.machine.specs.CodeView.{code_of, loop_of, part};
 ghost use Rattle.machine.specs.Next.{is_own};
 ghost use Rattle.engines.specs.CodeLines as spec;
 
-use ast::{Operator, Prefix};
 use explanations::append_number;
 use machine::{Act, Await, Axis, Code, Instr, Loop, Piece, Variable};
 use pages::append_line;
@@ -40,37 +39,6 @@ fn sort_word(is_local: bool) -> &'static [u8]
     ensures { result.now ≡ spec.sort_word is_local }
 {
     if is_local { b" LOCAL " } else { b" SHARED " }
-}
-
-fn operator_word(operator: Operator) -> &'static [u8]
-    ensures { result.now ≡ spec.operator_word operator }
-{
-    match operator {
-        Operator::Add => b"+",
-        Operator::Subtract => b"-",
-        Operator::Multiply => b"*",
-        Operator::Divide => b"/",
-        Operator::Less => b".LT.",
-        Operator::LessOrEqual => b".LE.",
-        Operator::Equal => b".EQ.",
-        Operator::NotEqual => b".NE.",
-        Operator::Greater => b".GT.",
-        Operator::GreaterOrEqual => b".GE.",
-        Operator::And => b".AND.",
-        Operator::Or => b".OR.",
-        Operator::Equivalent => b".EQV.",
-        Operator::NotEquivalent => b".NEQV.",
-    }
-}
-
-fn prefix_word(prefix: Prefix) -> &'static [u8]
-    ensures { result.now ≡ spec.prefix_word prefix }
-{
-    match prefix {
-        Prefix::Plus => b"+",
-        Prefix::Minus => b"-",
-        Prefix::Not => b".NOT.",
-    }
 }
 
 fn act_word(act: Act) -> &'static [u8]
@@ -306,8 +274,8 @@ fn append_operands(out: &mut Vec<u8>, code: &Code, place: usize, act: Act) -> Re
             append_number(out, n)
         }
         Act::Private(k) | Act::SetPrivate(k) => append_private(out, code, place, k),
-        Act::Binary(operator) => append_word(out, operator_word(operator)),
-        Act::Unary(prefix) => append_word(out, prefix_word(prefix)),
+        Act::Binary(operator) => append_word(out, operator.spelling()),
+        Act::Unary(prefix) => append_word(out, prefix.spelling()),
         Act::Check(k, axis) => {
             append_plain(out, k)?;
             out.push(b' ')?;

@@ -1,17 +1,16 @@
 //! The engines, over any readers and writers: they read to the end, work over values, and write
 //! what came of it.
 
-ghost use Rattle.std.specs.Prelude.{◌≡◌, ◌⊎◌, IfOk, IfErr};
+ghost use Rattle.std.specs.Prelude.{◌≡◌, IfOk, IfErr};
 ghost use Rattle.pages.specs.Outcomes.{of_input, of_source};
-ghost use Rattle.pages.specs.Reading.{LeavesThree, OfText, OfTexts};
+ghost use Rattle.pages.specs.Reading.{LeavesThree};
 ghost use Rattle.engines.specs.Coded.{ShowsCode};
-ghost use Rattle.engines.specs.Engines.{AfterRead, Began, Checks, FellShort, IsJudged, Leaves};
-ghost use Rattle.engines.specs.Engines.{LeavesOfSource, LeavesSeq, LeavesReader, LeavesReaders};
-ghost use Rattle.engines.specs.Engines.{Runs, Streaming, StreamingWith, Tells, Works, WroteAs};
-ghost use Rattle.engines.specs.Engines.{WrotePart};
+ghost use Rattle.engines.specs.Engines.{AfterRead, Checks, EndsOfSource, FailsOfSource, IsJudged};
+ghost use Rattle.engines.specs.Engines.{LeavesReader, LeavesReaders, SeqEnds, SeqFails, Streaming};
+ghost use Rattle.engines.specs.Engines.{StreamingWith, Tells, Works};
 ghost use Rattle.engines.specs.Lists.{Lists, TellsAs, TellsLoops, TellsWhy};
-ghost use Rattle.engines.specs.Schedules.{LeavesBoth, Replaying, UpgradeWorks, Upgrading};
-ghost use Rattle.engines.specs.Schedules.{WroteUpgraded, WroteUpgradedPart};
+ghost use Rattle.engines.specs.Schedules.{ReplayEnds, ReplayFails, Replaying, UpgradeEnds};
+ghost use Rattle.engines.specs.Schedules.{UpgradeFails, UpgradeWorks, Upgrading};
 
 use crate::coded::coded;
 use crate::replays::{replayed, upgrade_texts};
@@ -41,11 +40,7 @@ pub fn tell_verdict<W: Write>(
 }
 
 /// Checks a text and writes its line. The errors are those of [`tell_verdict`].
-pub fn check_text<W: Write>(
-    alloc: Global,
-    source: &[u8],
-    out: &mut W,
-) -> Result<Outcome, EngineFault>
+fn check_text<W: Write>(alloc: Global, source: &[u8], out: &mut W) -> Result<Outcome, EngineFault>
     ensures { Works (Checks source.now) (W.contents out.old) (W.contents out.new) result }
 {
     let verdict = judged(alloc, source)?;
@@ -58,7 +53,7 @@ pub fn check_text<W: Write>(
 ///
 /// A fault of the writer, with a beginning of the lines written; or of memory, with nothing
 /// written.
-pub fn tell_survey<W: Write>(
+fn tell_survey<W: Write>(
     alloc: Global,
     survey: &Survey,
     out: &mut W,
@@ -99,11 +94,7 @@ fn tell_reasons<W: Write>(
 }
 
 /// Writes the lines of a text's loops. The errors are those of [`tell_survey`].
-pub fn list_text<W: Write>(
-    alloc: Global,
-    source: &[u8],
-    out: &mut W,
-) -> Result<Outcome, EngineFault>
+fn list_text<W: Write>(alloc: Global, source: &[u8], out: &mut W) -> Result<Outcome, EngineFault>
     ensures { Works (Lists source.now) (W.contents out.old) (W.contents out.new) result }
 {
     let survey = surveyed(alloc, source)?;
@@ -190,19 +181,6 @@ fn list_read<W: Write>(
     list_text(alloc, &source, out)
 }
 
-/// What `code` makes of its read.
-fn code_read<W: Write>(
-    alloc: Global,
-    source: Result<Vec<u8>, ReadFault>,
-    out: &mut W,
-) -> Result<Outcome, EngineFault>
-    ensures { AfterRead source of_source (W.contents out.old) (W.contents out.new) result
-        (λ text. Works (ShowsCode text) (W.contents out.old) (W.contents out.new) result) }
-{
-    let source = source.map_err(EngineFault::of_source)?;
-    code_text(alloc, &source, out)
-}
-
 /// What `seq` makes of the read of its input, the source's having succeeded.
 fn seq_given<W: Write>(
     alloc: Global,
@@ -213,7 +191,8 @@ fn seq_given<W: Write>(
     out: &mut W,
 ) -> Result<Outcome, EngineFault>
     ensures { AfterRead input of_input (W.contents out.old) (W.contents out.new) result
-        (λ given. Streaming store source.now given (W.contents out.old) (W.contents out.new) result) }
+        (λ given. Streaming store source.now given (W.contents out.old) (W.contents out.new)
+        result) }
 {
     let input = input.map_err(EngineFault::of_input)?;
     seq_texts(alloc, source, &input, store, most, out)
@@ -229,7 +208,8 @@ fn seq_read<I: Read, W: Write>(
     out: &mut W,
 ) -> Result<Outcome, EngineFault>
     ensures work { AfterRead source of_source (W.contents out.old) (W.contents out.new) result
-        (λ text. StreamingWith (I.remaining input.old) store text (W.contents out.old) (W.contents out.new) result) }
+        (λ text. StreamingWith (I.remaining input.old) store text (W.contents out.old)
+        (W.contents out.new) result) }
     ensures untouched { IfErr source (λ _. I.remaining input.new ≡ I.remaining input.old) }
     ensures readers { IfOk source (λ _.
         IfErr result (λ fault. LeavesReader fault (I.remaining input.new))) }
@@ -251,10 +231,10 @@ pub fn check<R: Read, W: Write>(
     source: &mut R,
     out: &mut W,
 ) -> Result<u8, EngineFault>
-    ensures ok { IfOk result (λ status. OfText (R.remaining source.old) (λ text.
-        WroteAs (Checks text) (W.contents out.old) (W.contents out.new) status)) }
-    ensures err { IfErr result (λ fault. LeavesOfSource fault (W.contents out.old) (W.contents out.new)
-        (OfText (R.remaining source.old) (λ text. WrotePart (Checks text) (W.contents out.old) (W.contents out.new)))) }
+    ensures ok { IfOk result (EndsOfSource Checks (R.remaining source.old) (W.contents out.old)
+        (W.contents out.new)) }
+    ensures err { IfErr result (FailsOfSource Checks (R.remaining source.old) (W.contents out.old)
+        (W.contents out.new)) }
     ensures readers { IfErr result (λ fault. LeavesReader fault (R.remaining source.new)) }
 {
     let read = read_all(alloc, source);
@@ -274,37 +254,14 @@ pub fn list<R: Read, W: Write>(
     source: &mut R,
     out: &mut W,
 ) -> Result<u8, EngineFault>
-    ensures ok { IfOk result (λ status. OfText (R.remaining source.old) (λ text.
-        WroteAs (Lists text) (W.contents out.old) (W.contents out.new) status)) }
-    ensures err { IfErr result (λ fault. LeavesOfSource fault (W.contents out.old) (W.contents out.new)
-        (OfText (R.remaining source.old) (λ text. WrotePart (Lists text) (W.contents out.old) (W.contents out.new)))) }
+    ensures ok { IfOk result (EndsOfSource Lists (R.remaining source.old) (W.contents out.old)
+        (W.contents out.new)) }
+    ensures err { IfErr result (FailsOfSource Lists (R.remaining source.old) (W.contents out.old)
+        (W.contents out.new)) }
     ensures readers { IfErr result (λ fault. LeavesReader fault (R.remaining source.new)) }
 {
     let read = read_all(alloc, source);
     let outcome = list_read(alloc, read, out)?;
-    Ok(outcome.status())
-}
-
-/// Writes the lines of the code of a source and gives the exit status: 0, or 1 for a source that is
-/// refused, by its text or for its code.
-///
-/// # Errors
-///
-/// A fault of the source's reader, with nothing written; of the writer, with a beginning of the
-/// lines written; or of memory, with nothing written.
-pub fn code<R: Read, W: Write>(
-    alloc: Global,
-    source: &mut R,
-    out: &mut W,
-) -> Result<u8, EngineFault>
-    ensures ok { IfOk result (λ status. OfText (R.remaining source.old) (λ text.
-        WroteAs (ShowsCode text) (W.contents out.old) (W.contents out.new) status)) }
-    ensures err { IfErr result (λ fault. LeavesOfSource fault (W.contents out.old) (W.contents out.new)
-        (OfText (R.remaining source.old) (λ text. WrotePart (ShowsCode text) (W.contents out.old) (W.contents out.new)))) }
-    ensures readers { IfErr result (λ fault. LeavesReader fault (R.remaining source.new)) }
-{
-    let read = read_all(alloc, source);
-    let outcome = code_read(alloc, read, out)?;
     Ok(outcome.status())
 }
 
@@ -326,14 +283,10 @@ pub fn seq<R: Read, I: Read, W: Write>(
     most: usize,
     out: &mut W,
 ) -> Result<u8, EngineFault>
-    ensures ok { IfOk result (λ status. OfText (R.remaining source.old) (λ text. OfText (I.remaining input.old) (λ given.
-        WroteAs (Runs store text given) (W.contents out.old) (W.contents out.new) status))) }
-    ensures err { IfErr result (λ fault. LeavesSeq fault (W.contents out.old) (W.contents out.new)
-        (OfText (R.remaining source.old) (λ text. OfText (I.remaining input.old) (λ given.
-        WrotePart (Runs store text given) (W.contents out.old) (W.contents out.new)
-        ⊎ FellShort text given (W.contents out.old) (W.contents out.new))))
-        (OfText (R.remaining source.old) (λ text. OfText (I.remaining input.old) (λ given.
-        Began text given (W.contents out.old) (W.contents out.new))))) }
+    ensures ok { IfOk result (SeqEnds store (R.remaining source.old) (I.remaining input.old)
+        (W.contents out.old) (W.contents out.new)) }
+    ensures err { IfErr result (SeqFails store (R.remaining source.old) (I.remaining input.old)
+        (W.contents out.old) (W.contents out.new)) }
     ensures readers { IfErr result (λ fault.
         LeavesReaders fault (R.remaining source.new) (I.remaining input.old)
         (I.remaining input.new)) }
@@ -358,13 +311,13 @@ pub fn replay<R: Read, I: Read, S: Read, W: Write>(
     schedule: &mut S,
     out: &mut W,
 ) -> Result<u8, EngineFault>
-    ensures ok { IfOk result (λ status. OfTexts (R.remaining source.old) (I.remaining input.old) (S.remaining schedule.old) (λ text given picks.
-        WroteAs (Replaying text given picks) (W.contents out.old) (W.contents out.new) status)) }
-    ensures err { IfErr result (λ fault. Leaves fault (W.contents out.old) (W.contents out.new)
-        (OfTexts (R.remaining source.old) (I.remaining input.old) (S.remaining schedule.old) (λ text given picks.
-        WrotePart (Replaying text given picks) (W.contents out.old) (W.contents out.new)))) }
+    ensures ok { IfOk result (ReplayEnds (R.remaining source.old) (I.remaining input.old)
+        (S.remaining schedule.old) (W.contents out.old) (W.contents out.new)) }
+    ensures err { IfErr result (ReplayFails (R.remaining source.old) (I.remaining input.old)
+        (S.remaining schedule.old) (W.contents out.old) (W.contents out.new)) }
     ensures readers { IfErr result (λ fault.
-        LeavesThree fault (R.remaining source.new) (I.remaining input.old) (I.remaining input.new) (S.remaining schedule.old) (S.remaining schedule.new)) }
+        LeavesThree fault (R.remaining source.new) (I.remaining input.old)
+        (I.remaining input.new) (S.remaining schedule.old) (S.remaining schedule.new)) }
 {
     let texts = read_three(alloc, source, input, schedule)?;
     let outcome = replay_texts(alloc, &texts.source, &texts.input, &texts.schedule, out)?;
@@ -388,13 +341,15 @@ pub fn upgrade<R: Read, I: Read, S: Read, W: Write, V: Write>(
     out: &mut W,
     upgraded: &mut V,
 ) -> Result<u8, EngineFault>
-    ensures ok { IfOk result (λ status. OfTexts (R.remaining source.old) (I.remaining input.old) (S.remaining schedule.old) (λ text given picks.
-        WroteUpgraded (Upgrading text given picks) (W.contents out.old) (W.contents out.new) (V.contents upgraded.old) (V.contents upgraded.new) status)) }
-    ensures err { IfErr result (λ fault. LeavesBoth fault (W.contents out.old) (W.contents out.new) (V.contents upgraded.old) (V.contents upgraded.new)
-        (OfTexts (R.remaining source.old) (I.remaining input.old) (S.remaining schedule.old) (λ text given picks.
-        WroteUpgradedPart (Upgrading text given picks) (W.contents out.old) (W.contents out.new) (V.contents upgraded.old) (V.contents upgraded.new)))) }
+    ensures ok { IfOk result (UpgradeEnds (R.remaining source.old) (I.remaining input.old)
+        (S.remaining schedule.old) (W.contents out.old) (W.contents out.new)
+        (V.contents upgraded.old) (V.contents upgraded.new)) }
+    ensures err { IfErr result (UpgradeFails (R.remaining source.old) (I.remaining input.old)
+        (S.remaining schedule.old) (W.contents out.old) (W.contents out.new)
+        (V.contents upgraded.old) (V.contents upgraded.new)) }
     ensures readers { IfErr result (λ fault.
-        LeavesThree fault (R.remaining source.new) (I.remaining input.old) (I.remaining input.new) (S.remaining schedule.old) (S.remaining schedule.new)) }
+        LeavesThree fault (R.remaining source.new) (I.remaining input.old)
+        (I.remaining input.new) (S.remaining schedule.old) (S.remaining schedule.new)) }
 {
     let texts = read_three(alloc, source, input, schedule)?;
     upgrade_given(

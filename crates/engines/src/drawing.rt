@@ -1,15 +1,11 @@
 //! Pictures of a program's loops.
 
-ghost use Rattle.std.specs.Prelude.{◌≡◌, [], IfOk, IfErr, option_map};
+ghost use Rattle.std.specs.Prelude.{◌≡◌, [], IfOk, option_map};
 ghost use Rattle.ast.specs.ProgramView.{program as program_of};
 ghost use Rattle.pictures.specs.Dependences.{AreArrows};
-ghost use Rattle.pages.specs.Reading.{OfText};
 ghost use Rattle.engines.specs.Drawing as spec;
 ghost use Rattle.engines.specs.Drawing.{Draws, IsLoopPicture, kept_of};
-ghost use Rattle.engines.specs.Drawn.{AfterSource, DrawWorks, WroteDrawn, WroteDrawnPart};
-ghost use Rattle.engines.specs.Engines.{LeavesReader};
 ghost use Rattle.engines.specs.Lists.{IsReported, IsSurvey};
-ghost use Rattle.engines.specs.Schedules.{LeavesBoth};
 
 use crate::drawn::Drawn;
 use crate::survey::{Survey, surveyed};
@@ -17,14 +13,13 @@ use ast::{Node, Program};
 use codegen::LoopReport;
 use dependence::{LoopPlan, PlanStmt};
 use loop_tree::{LoopTree, ScalarSet, loops};
-use pages::{EngineFault, ReadFault, read_all, refused};
+use pages::refused;
 use pictures::{
     Frame, LoopPicture, OpenLoop, SerialLoop, draw as draw_loop, lines_of, open_picture,
     serial_picture,
 };
 use reasons::{Hindrance, hindrance_of};
 use std::alloc::{AllocError, Global};
-use std::io::{Read, Write};
 
 /// Which loop of a program is drawn, and how much of it.
 #[derive(Clone, Copy)]
@@ -205,71 +200,13 @@ fn drawn_survey(
 }
 
 /// What drawing one of a source's loops comes to.
+///
+/// # Errors
+///
+/// `AllocError` where memory is refused.
 pub fn draw_text(alloc: Global, source: &[u8], portion: Portion) -> Result<Drawn, AllocError>
     ensures { IfOk result (Draws source.now portion) }
 {
     let survey = surveyed(alloc, source)?;
     drawn_survey(alloc, source, &survey, portion)
-}
-
-/// Draws one of a text's loops: writes the picture to `picture`, or where the text is refused the
-/// line that says why to `out`, and gives the exit status.
-fn draw_given<W: Write, V: Write>(
-    alloc: Global,
-    source: &[u8],
-    portion: Portion,
-    out: &mut W,
-    picture: &mut V,
-) -> Result<u8, EngineFault>
-    ensures { DrawWorks (Draws source.now portion) (W.contents out.old) (W.contents out.new)
-        (V.contents picture.old) (V.contents picture.new) result }
-{
-    let drawn = draw_text(alloc, source, portion)?;
-    drawn.write(out, picture)
-}
-
-/// What `draw` makes of its read.
-fn draw_read<W: Write, V: Write>(
-    alloc: Global,
-    source: Result<Vec<u8>, ReadFault>,
-    portion: Portion,
-    out: &mut W,
-    picture: &mut V,
-) -> Result<u8, EngineFault>
-    ensures { AfterSource source (W.contents out.old) (W.contents out.new) (V.contents picture.old)
-        (V.contents picture.new) result
-        (λ text. DrawWorks (Draws text portion) (W.contents out.old) (W.contents out.new)
-        (V.contents picture.old) (V.contents picture.new) result) }
-{
-    let source = source.map_err(EngineFault::of_source)?;
-    draw_given(alloc, &source, portion, out, picture)
-}
-
-/// Draws one of a source's loops: writes the picture to `picture`, or where the source is refused
-/// the line that says why to `out`, and gives the exit status: 0, 1 for a source that is refused,
-/// by its text or for its code, 3 where it has no such loop, of which nothing is written.
-///
-/// # Errors
-///
-/// A fault of the source's reader, with nothing written; of one of the writers, with a beginning of
-/// its text written and nothing to the other; or of memory, with nothing written.
-pub fn draw<R: Read, W: Write, V: Write>(
-    alloc: Global,
-    source: &mut R,
-    portion: Portion,
-    out: &mut W,
-    picture: &mut V,
-) -> Result<u8, EngineFault>
-    ensures ok { IfOk result (λ status. OfText (R.remaining source.old) (λ text.
-        WroteDrawn (Draws text portion) (W.contents out.old) (W.contents out.new)
-        (V.contents picture.old) (V.contents picture.new) status)) }
-    ensures err { IfErr result (λ fault. LeavesBoth fault (W.contents out.old) (W.contents out.new)
-        (V.contents picture.old) (V.contents picture.new)
-        (OfText (R.remaining source.old) (λ text.
-        WroteDrawnPart (Draws text portion) (W.contents out.old) (W.contents out.new)
-        (V.contents picture.old) (V.contents picture.new)))) }
-    ensures readers { IfErr result (λ fault. LeavesReader fault (R.remaining source.new)) }
-{
-    let read = read_all(alloc, source);
-    draw_read(alloc, read, portion, out, picture)
 }

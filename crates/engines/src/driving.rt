@@ -5,6 +5,7 @@ ghost use Rattle.activities.specs.Activities.{AreActivities};
 
 use machine::{Code, stands_local};
 use replay::Activities;
+use schedules::{MOST_PROCESSORS, MOST_SLOTS};
 use std::alloc::{AllocError, Global};
 
 /// The activities at the beginning of a run of so many processors with so many open iterations;
@@ -18,7 +19,8 @@ pub fn begun<'c>(
 ) -> Result<Option<Activities<'c>>, AllocError>
     ensures stand { IfOk result (λ o. IfSome o AreActivities) }
 {
-    if processors < 1 || processors > 64 || slots < 1 || slots > 256 {
+    let most = usize::from(MOST_PROCESSORS);
+    if processors < 1 || processors > most || slots < 1 || slots > usize::from(MOST_SLOTS) {
         return Ok(None);
     }
     Ok(Some(Activities::new(alloc, code, input, processors, slots)?))

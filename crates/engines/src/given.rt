@@ -71,7 +71,8 @@ pub fn read_given<R: Read, I: Read>(
     ensures ends { OnOk result (IsAtEnd (R.remaining source.new)
         × IsAtEnd (I.remaining input.new)) }
     ensures readers { IfErr result (λ fault. IsReading fault
-        × LeavesReaders fault (R.remaining source.new) (I.remaining input.old) (I.remaining input.new)) }
+        × LeavesReaders fault (R.remaining source.new) (I.remaining input.old)
+        (I.remaining input.new)) }
 {
     let read = read_all(alloc, source);
     source_read(alloc, read, input)

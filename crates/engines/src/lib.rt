@@ -21,15 +21,14 @@ mod verdict;
 mod watching;
 
 pub use commands::{
-    check, check_text, code, code_text, list, list_text, replay, replay_texts, seq, tell_loops,
-    tell_survey, tell_verdict, upgrade,
+    check, code_text, list, replay, replay_texts, seq, tell_loops, tell_verdict, upgrade,
 };
-pub use drawing::{Portion, draw, draw_text};
+pub use drawing::{Portion, draw_text};
 pub use drawn::Drawn;
 pub use given::{Given, Wants, read_given};
 pub use note::Note;
 pub use replays::{Upgraded, upgrade_texts};
-pub use sequential::{Sequential, known_of, seq_noted, seq_texts};
+pub use sequential::{Sequential, known_of, seq_noted};
 pub use survey::{Survey, surveyed};
-pub use timing::{timeline, timeline_texts};
+pub use timing::timeline_texts;
 pub use verdict::{Verdict, judged};

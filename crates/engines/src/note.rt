@@ -1,6 +1,6 @@
 //! What is known of a fault or of a refused schedule beside its line.
 
-use reasons::Met;
+use reasons::MetObstacle;
 use remarks::Beyond;
 use std::fmt::{Display, Formatter, Result as FmtResult, Write};
 
@@ -10,7 +10,7 @@ pub enum Note {
     /// Which subscript an INDEX was of.
     Subscript(Beyond),
     /// Why an entry of a schedule can't be made.
-    Obstacle(Met),
+    Obstacle(MetObstacle),
 }
 
 impl Display for Note {

@@ -47,9 +47,11 @@ impl Upgraded {
         upgraded: &mut V,
     ) -> Result<u8, EngineFault>
         ensures ok { IfOk result (λ status. (status ≡ upgrade_status self.now)
-            × WritesUpgraded self.now (W.contents out.old) (W.contents out.new) (V.contents upgraded.old) (V.contents upgraded.new)) }
+            × WritesUpgraded self.now (W.contents out.old) (W.contents out.new)
+            (V.contents upgraded.old) (V.contents upgraded.new)) }
         ensures err { IfErr result (λ fault. IsWriting fault
-            × WritesPart self.now (W.contents out.old) (W.contents out.new) (V.contents upgraded.old) (V.contents upgraded.new)) }
+            × WritesPart self.now (W.contents out.old) (W.contents out.new)
+            (V.contents upgraded.old) (V.contents upgraded.new)) }
     {
         match self {
             Upgraded::Text(text) => match write_all(upgraded, text) {
@@ -220,6 +222,10 @@ fn upgraded_program(
 }
 
 /// What `upgrade` comes to with a source, an input and the text of a schedule.
+///
+/// # Errors
+///
+/// `AllocError` where memory is refused.
 pub fn upgrade_texts(
     alloc: Global,
     source: &[u8],

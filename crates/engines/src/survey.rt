@@ -47,6 +47,10 @@ fn reported(alloc: Global, program: Program) -> Result<Survey, AllocError>
 }
 
 /// What is to be said of a source's loops.
+///
+/// # Errors
+///
+/// `AllocError` where memory is refused.
 pub fn surveyed(alloc: Global, source: &[u8]) -> Result<Survey, AllocError>
     ensures { IfOk result (λ survey. IsSurvey source.now survey) }
 {

@@ -1,14 +1,11 @@
 //! Pictures of runs.
 
-ghost use Rattle.std.specs.Prelude.{IfOk, IfErr, List, ℕ};
+ghost use Rattle.std.specs.Prelude.{IfOk, List, ℕ};
 ghost use Rattle.ast.specs.ProgramView.{program as program_of};
 ghost use Rattle.codegen.specs.Headline.{Headline};
 ghost use Rattle.machine.specs.CodeView.{code_of};
 ghost use Rattle.profile_check.specs.Reads.{Reads};
 ghost use Rattle.schedules.specs.Schedules.{SchedText};
-ghost use Rattle.pages.specs.Reading.{LeavesThree, OfTexts};
-ghost use Rattle.engines.specs.Drawn.{DrawWorks, WroteDrawn, WroteDrawnPart};
-ghost use Rattle.engines.specs.Schedules.{LeavesBoth};
 ghost use Rattle.engines.specs.Timeline.{ShowsTimeline, Times};
 
 use crate::drawn::Drawn;
@@ -20,12 +17,11 @@ use ast::{End, Program};
 use bstr::ByteSlice;
 use codegen::{CompileRefusal, compile};
 use machine::Code;
-use pages::{EngineFault, append_end, read_three, refused};
+use pages::{append_end, refused};
 use pictures::{Ending, Gathered, timeline as draw_run};
 use replay::replay;
 use schedules::{ReplayRefusal, Schedule};
 use std::alloc::{AllocError, Global};
-use std::io::{Read, Write};
 
 /// How a run ended, in words, by the line that says so, if one does.
 fn words_of(alloc: Global, told: &[u8]) -> Result<Vec<u8>, AllocError> {
@@ -146,6 +142,10 @@ fn drawn_program(
 }
 
 /// What drawing a run comes to, by a source, an input and the text of a schedule.
+///
+/// # Errors
+///
+/// `AllocError` where memory is refused.
 pub fn timeline_texts(
     alloc: Global,
     source: &[u8],
@@ -158,63 +158,4 @@ pub fn timeline_texts(
         Verdict::Accepted(program) => drawn_program(alloc, &program, input, schedule),
         Verdict::Refused { number, line } => Ok(Drawn::Shown(refused(alloc, number, line)?)),
     }
-}
-
-/// Draws a run: writes the picture to `picture`, or where there is none the line that says why to
-/// `out`, and gives the exit status.
-fn timeline_given<W: Write, V: Write>(
-    alloc: Global,
-    source: &[u8],
-    input: &[u8],
-    schedule: &[u8],
-    out: &mut W,
-    picture: &mut V,
-) -> Result<u8, EngineFault>
-    ensures { DrawWorks (Times source.now input.now schedule.now) (W.contents out.old)
-        (W.contents out.new) (V.contents picture.old) (V.contents picture.new) result }
-{
-    let drawn = timeline_texts(alloc, source, input, schedule)?;
-    drawn.write(out, picture)
-}
-
-/// Draws the run of a source on an input that a schedule describes: writes the picture to
-/// `picture`, or where there is none the line that says why to `out`, and gives the exit status: 0,
-/// also of a run that comes to a fault, 1 for a source that is refused, by its text or for its
-/// code, 6 for a schedule that is refused. The readers are read as by [`replay`](crate::replay).
-///
-/// # Errors
-///
-/// A fault of one of the readers, with nothing written; of one of the writers, with a beginning of
-/// its text written and nothing to the other; or of memory, with nothing written.
-pub fn timeline<R: Read, I: Read, S: Read, W: Write, V: Write>(
-    alloc: Global,
-    source: &mut R,
-    input: &mut I,
-    schedule: &mut S,
-    out: &mut W,
-    picture: &mut V,
-) -> Result<u8, EngineFault>
-    ensures ok { IfOk result (λ status. OfTexts (R.remaining source.old) (I.remaining input.old)
-        (S.remaining schedule.old) (λ text given picks.
-        WroteDrawn (Times text given picks) (W.contents out.old) (W.contents out.new)
-        (V.contents picture.old) (V.contents picture.new) status)) }
-    ensures err { IfErr result (λ fault. LeavesBoth fault (W.contents out.old) (W.contents out.new)
-        (V.contents picture.old) (V.contents picture.new)
-        (OfTexts (R.remaining source.old) (I.remaining input.old) (S.remaining schedule.old)
-        (λ text given picks.
-        WroteDrawnPart (Times text given picks) (W.contents out.old) (W.contents out.new)
-        (V.contents picture.old) (V.contents picture.new)))) }
-    ensures readers { IfErr result (λ fault.
-        LeavesThree fault (R.remaining source.new) (I.remaining input.old) (I.remaining input.new)
-        (S.remaining schedule.old) (S.remaining schedule.new)) }
-{
-    let texts = read_three(alloc, source, input, schedule)?;
-    timeline_given(
-        alloc,
-        &texts.source,
-        &texts.input,
-        &texts.schedule,
-        out,
-        picture,
-    )
 }

@@ -17,6 +17,10 @@ pub enum Verdict {
 }
 
 /// Judges a source.
+///
+/// # Errors
+///
+/// `AllocError` where memory is refused.
 pub fn judged(alloc: Global, source: &[u8]) -> Result<Verdict, AllocError>
     ensures { IfOk result (λ verdict. IsVerdict source.now verdict) }
 {

@@ -167,14 +167,36 @@ pub fn explain_serial<P: Print>(rt: &P, number: u8) -> io::Result<()> {
     Ok(())
 }
 
-/// Prints the numbers, each with its sentence.
+/// Prints the numbers of refusals, of faults and of reasons, each with its sentence.
 pub fn list<P: Print>(rt: &P) -> io::Result<()> {
+    list_refusals(rt)?;
+    list_faults(rt)?;
+    list_reasons(rt)
+}
+
+fn list_refusals<P: Print>(rt: &P) -> io::Result<()> {
     for number in 0..=GREATEST {
         if let Some(explanation) = &refusal(number) {
             println!(rt; "{}", Heading { explanation })?;
         }
     }
-    list_faults(rt)
+    Ok(())
+}
+
+fn list_reasons<P: Print>(rt: &P) -> io::Result<()> {
+    for number in 0..=GREATEST {
+        if let Some(
+            Reason {
+                number,
+                sentence,
+                ..
+            },
+        ) = serial_reason(number)
+        {
+            println!(rt; "SERIAL {number}: {sentence}")?;
+        }
+    }
+    Ok(())
 }
 
 fn list_faults<P: Print>(rt: &P) -> io::Result<()> {

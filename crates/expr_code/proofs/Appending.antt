@@ -1,6 +1,6 @@
 -- Code that is appended piece by piece.
-use Rattle.std.proofs.Common.{◌≡◌, ◌∙◌, ◌+◌, ◌<◌, ◌≤◌, inl, inr, ℕ, suc, pos, List, [], ◌∷◌, ◌++◌, Result, Ok, Err, ap, sym, refl, subst, length, drop, get_or, map, arith, append_assoc, append-nil}
-use Rattle.std.specs.Prelude.{◌⊎◌, IsErr, OnOk}
+use Rattle.std.proofs.Common.{◌≡◌, ◌∙◌, ◌+◌, ◌<◌, ◌≤◌, inl, inr, ℕ, suc, pos, List, [], ◌∷◌, ◌++◌, Result, ap, sym, refl, subst, length, drop, get_or, map, arith, append_assoc, append-nil}
+use Rattle.std.specs.Prelude.{◌⊎◌, OnOk}
 use Rattle.std.proofs.lemmas.List.{drop_all, drop_more}
 use Rattle.ast.specs.Symbols.{Extent}
 use Rattle.ast.specs.Tree.{Ref, Term, Terms, call, terms}
@@ -15,26 +15,12 @@ use Rattle.expr_code.specs.Emitted.{applied_act, applied_code, chosen_code, elem
 use Rattle.expr_code.specs.Places.{Places, dimensions_at}
 use Rattle.expr_code.specs.Process.{count, fewer, just}
 
--- a call that failed says nothing
-pub no_answer : {X E : Type 0} (r : Result X E) (P : Type 0) → IsErr r → OnOk r P
-no_answer (Ok x) P h = absurd cc
-no_answer (Err e) P h = tt
-
 -- code that is the same
 pub same_code : {X E : Type 0} (r : Result X E) (new old code other : List Instr) → other ≡ code → OnOk r (new ≡ old ++ code) → OnOk r (new ≡ old ++ other)
 same_code r new old code other is h = subst (λ (l : List Instr). OnOk r (new ≡ old ++ l)) (sym is) h
 
 pub of_tree : {X E : Type 0} (r : Result X E) (new old : List Instr) (p : Places) (t u : Term) → t ≡ u → OnOk r (new ≡ old ++ term_code p u) → OnOk r (new ≡ old ++ term_code p t)
 of_tree r new old p t u is h = same_code r new old (term_code p u) (term_code p t) (ap (term_code p) is) h
-
--- some code, and other code behind it
-pub behind : {X E : Type 0} (r : Result X E) (old mid new some others all : List Instr) → mid ≡ old ++ some → all ≡ some ++ others → OnOk r (new ≡ mid ++ others) → OnOk r (new ≡ old ++ all)
-behind (Ok x) old mid new some others all one is h =
-    h ∙ ap (λ (l : List Instr). l ++ others) one ∙ append_assoc old some others ∙ ap (λ (l : List Instr). old ++ l) (sym is)
-behind (Err e) old mid new some others all one is h = tt
-
-pub behind_two : {X E : Type 0} (r : Result X E) (old mid next new some more others all : List Instr) → mid ≡ old ++ some → next ≡ mid ++ more → all ≡ some ++ (more ++ others) → OnOk r (new ≡ next ++ others) → OnOk r (new ≡ old ++ all)
-behind_two r old mid next new some more others all one two is h = behind r old mid new some (more ++ others) all one is (behind r mid next new more others (more ++ others) two refl h)
 
 -- the code of a call, by what is called
 pub of_call : {X E : Type 0} (r : Result X E) (new old : List Instr) (p : Places) (es : Terms) (f g : Intrinsic) → f ≡ g → OnOk r (new ≡ old ++ term_code p (call g es)) → OnOk r (new ≡ old ++ term_code p (call f es))

@@ -1,5 +1,5 @@
 -- Run alone, the code of an expression leaves its value, or its fault.
-use Rattle.std.proofs.Common.{◌≡◌, ◌∙◌, ◌≤◌, ◌+◌, ◌^◌, ℕ, suc, ℤ, Bool, true, List, [], ◌∷◌, ◌++◌, Option, Some, None, Result, Ok, Err, length, refl, sym, ap, subst, arith}
+use Rattle.std.proofs.Common.{◌≡◌, ◌∙◌, ◌≤◌, ◌+◌, ◌^◌, ℕ, suc, ℤ, true, List, [], ◌∷◌, ◌++◌, Option, Some, None, Result, Ok, Err, length, refl, sym, ap, subst, arith}
 use Rattle.std.specs.Prelude.{max}
 use Rattle.std.specs.List.{IsDistinct, list_all}
 use Rattle.std.proofs.Math.Nat.{le-max_left, le-max_right}
@@ -13,6 +13,7 @@ use Rattle.ast.specs.Symbols.{Extent, dimensions_in, is_sized, names_of}
 use Rattle.ast.specs.Tree.{Ref, Access, accessed, Term, constant, truth, parameter, element, call, parentheses, unary, binary, Terms, no_terms, then_term}
 use Rattle.ast.specs.declared.expression.Intrinsic.TheVariants.{Abs, Iabs, Max, Max0, Min, Min0, Mod}
 use Rattle.ast.specs.declared.fault.Fault.{Fault}
+use Rattle.ast.proofs.Lists.{all_parts}
 use Rattle.machine.specs.Code.{Code}
 use Rattle.machine.specs.Frame.{Frame, with_items}
 use Rattle.machine.specs.Local.{and_then, defined, faulted}
@@ -30,13 +31,6 @@ use Rattle.expr_code.proofs.Standing.{HasAt, at, has_here}
 
 -- ---- what holds of each part of an expression
 
-both : (q : Ref → Bool) (xs ys : List Ref) → list_all q (xs ++ ys) ≡ true → (list_all q xs ≡ true) × (list_all q ys ≡ true)
-both q [] ys h = (refl, h)
-both q (x ∷ xs) ys h =
-    let k = and_parts (q x) (list_all q (xs ++ ys)) h in
-    let l = both q xs ys k.1 in
-    (rw (k.0, l.0) refl, l.1)
-
 counts_kept : (es : Terms) → count es ≤ operands_kept es
 counts_kept no_terms = omega arith
 counts_kept (then_term e es) = let k = counts_kept es in let l = le-max_right (operands e) (operands_kept es + 1) in omega (arith, k, l)
@@ -48,19 +42,19 @@ module _ (p : Places) (distinct : IsDistinct same_name (names_of p.symbols)) (si
   mutual
     named : (e : Term) → all_placed (term_references e) → Named p e
     named (element r es) h =
-        let k = both (λ r. is_placed p.symbols r) (terms_references es) (r ∷ []) h in
+        let k = all_parts (λ r. is_placed p.symbols r) (terms_references es) (r ∷ []) h in
         (dimensions_same p.symbols r distinct (and_parts (is_placed p.symbols r) true k.1).0, all_named es k.0)
     named (call g es) h = all_named es h
     named (parentheses e) h = named e h
     named (unary o e) h = named e h
-    named (binary o a b) h = let k = both (λ r. is_placed p.symbols r) (term_references a) (term_references b) h in (named a k.0, named b k.1)
+    named (binary o a b) h = let k = all_parts (λ r. is_placed p.symbols r) (term_references a) (term_references b) h in (named a k.0, named b k.1)
     named (constant n) h = tt
     named (truth b) h = tt
     named (parameter x n) h = tt
 
     all_named : (es : Terms) → all_placed (terms_references es) → AllNamed p es
     all_named no_terms h = tt
-    all_named (then_term e es) h = let k = both (λ r. is_placed p.symbols r) (term_references e) (terms_references es) h in (named e k.0, all_named es k.1)
+    all_named (then_term e es) h = let k = all_parts (λ r. is_placed p.symbols r) (term_references e) (terms_references es) h in (named e k.0, all_named es k.1)
 
   module _ (code : Code) (variables : HasVariables code p.symbols) (few : length p.symbols ≤ 2 ^ 32) where
     left_few : (a b : ℕ) → max a b ≤ 2 ^ 32 → a ≤ 2 ^ 32
@@ -75,7 +69,7 @@ module _ (p : Places) (distinct : IsDistinct same_name (names_of p.symbols)) (si
     mutual
       reaches : (e : Term) → all_placed (term_references e) → operands e ≤ 2 ^ 32 → Reaches code p e
       reaches (element r es) h s =
-          let k = both (λ r. is_placed p.symbols r) (terms_references es) (r ∷ []) h in
+          let k = all_parts (λ r. is_placed p.symbols r) (terms_references es) (r ∷ []) h in
           let kept = right_few 1 (operands_kept es) s in
           (reach code.variables p.symbols r variables sized few (and_parts (is_placed p.symbols r) true k.1).0, omega (arith, kept, counts_kept es), all_reach es k.0 kept)
       reaches (call Mod es) h s = all_reach es h (right_few 1 (operands_kept es) s)
@@ -88,7 +82,7 @@ module _ (p : Places) (distinct : IsDistinct same_name (names_of p.symbols)) (si
       reaches (parentheses e) h s = reaches e h s
       reaches (unary o e) h s = reaches e h s
       reaches (binary o a b) h s =
-          let k = both (λ r. is_placed p.symbols r) (term_references a) (term_references b) h in
+          let k = all_parts (λ r. is_placed p.symbols r) (term_references a) (term_references b) h in
           (reaches a k.0 (left_few (operands a) (operands b + 1) s), reaches b k.1 (next_few (operands b) (right_few (operands a) (operands b + 1) s)))
       reaches (constant n) h s = tt
       reaches (truth b) h s = tt
@@ -97,19 +91,19 @@ module _ (p : Places) (distinct : IsDistinct same_name (names_of p.symbols)) (si
       all_reach : (es : Terms) → all_placed (terms_references es) → operands_kept es ≤ 2 ^ 32 → AllReach code p es
       all_reach no_terms h s = tt
       all_reach (then_term e es) h s =
-          let k = both (λ r. is_placed p.symbols r) (term_references e) (terms_references es) h in
+          let k = all_parts (λ r. is_placed p.symbols r) (term_references e) (terms_references es) h in
           (reaches e k.0 (left_few (operands e) (operands_kept es + 1) s), all_reach es k.1 (next_few (operands_kept es) (right_few (operands e) (operands_kept es + 1) s)))
 
       chosen_reach : (es : Terms) → all_placed (terms_references es) → operands_chosen es ≤ 2 ^ 32 → AllReach code p es
       chosen_reach no_terms h s = tt
       chosen_reach (then_term e es) h s =
-          let k = both (λ r. is_placed p.symbols r) (term_references e) (terms_references es) h in
+          let k = all_parts (λ r. is_placed p.symbols r) (term_references e) (terms_references es) h in
           (reaches e k.0 (left_few (operands e) (operands_further es) s), further_reach es k.1 (right_few (operands e) (operands_further es) s))
 
       further_reach : (es : Terms) → all_placed (terms_references es) → operands_further es ≤ 2 ^ 32 → AllReach code p es
       further_reach no_terms h s = tt
       further_reach (then_term e es) h s =
-          let k = both (λ r. is_placed p.symbols r) (term_references e) (terms_references es) h in
+          let k = all_parts (λ r. is_placed p.symbols r) (term_references e) (terms_references es) h in
           (reaches e k.0 (next_few (operands e) (left_few (operands e + 1) (operands_further es) s)), further_reach es k.1 (right_few (operands e + 1) (operands_further es) s))
 
 -- ---- steps alone on a store

@@ -7,6 +7,7 @@ use Rattle.ast.specs.Tree.{Terms, terms}
 use Rattle.ast.specs.View.{access as access_of, term}
 use Rattle.ast.specs.declared.expression.Access.{Access}
 use Rattle.ast.specs.declared.expression.Expr.{Expr}
+use Rattle.ast.proofs.Numbers.{either_way}
 use Rattle.expr_code.specs.Computes.{operands_further, operands_kept}
 use Rattle.expr_code.specs.Emitted.{short}
 use Rattle.expr_code.proofs.Accesses.{subscripts_of}
@@ -45,15 +46,8 @@ more_law n m l e = more_by n m (n + 1) e (inl (l, refl))
 pub most_law : (n m : ℕ) → 4294967295 ≤ n → n ≡ short m → n ≡ short (m + 1)
 most_law n m l e = more_by n m n e (inr (l, refl))
 
-le_or : (m n : ℕ) → (m ≤ n) ⊎ (n ≤ m)
-le_or m n = by (nat_lt m n) refl
-  where
-    by : (b : Bool) → nat_lt m n ≡ b → (m ≤ n) ⊎ (n ≤ m)
-    by true e = let k = ltb-true m n e in inl (omega (arith, k))
-    by false e = inr (ltb-false m n e)
-
 pub greater_law : (a b m n r : ℕ) → a ≡ short m → b ≡ short n → ((a < b) × (r ≡ b)) ⊎ ((b ≤ a) × (r ≡ a)) → r ≡ short (max m n)
-greater_law a b m n r e f h = by (le_or m n) h
+greater_law a b m n r e f h = by (either_way m n) h
   where
     by : (m ≤ n) ⊎ (n ≤ m) → ((a < b) × (r ≡ b)) ⊎ ((b ≤ a) × (r ≡ a)) → r ≡ short (max m n)
     by (inl l) (inl c) = c.1 ∙ f ∙ ap short (sym (max-eq_right l))

@@ -1,74 +1,26 @@
 -- What is found at the place of a name among the symbols, and among the variables of code.
 use Rattle.std.proofs.Common.{◌≡◌, ◌∙◌, ◌+◌, ◌<◌, ◌≤◌, ◌^◌, ℕ, zero, suc, Bool, true, false, List, [], ◌∷◌, Option, Some, None, length, refl, sym, ap, subst, arith}
-use Rattle.std.specs.Prelude.{◌&&◌, slice_get, int_lt, not, nat_le, if◌then◌else◌}
-use Rattle.std.specs.List.{AllByRecursion, IsDistinct, list_all}
-use Rattle.std.specs.Cmp.Lexicographic.{same_text}
+use Rattle.std.specs.Prelude.{slice_get, int_lt, not, nat_le, if◌then◌else◌}
+use Rattle.std.specs.List.{IsDistinct, list_all}
 use Rattle.std.proofs.lemmas.Bool.{and_parts, leb-true, lt-ltb}
-use Rattle.std.proofs.lemmas.Cmp.{nat_list_eq_equiv}
 use Rattle.std.proofs.lemmas.Option.{slice_get_within}
-use Rattle.ast.specs.Program.{is_variable, is_variable_named, is_placed}
+use Rattle.ast.specs.Program.{is_placed}
 use Rattle.ast.specs.Store.{same_name}
-use Rattle.ast.specs.Symbols.{Extent, Sort, variable, fixed, Symbol, names_of, dimensions_in, dimensions_of, elements, size, is_sized, most_elements}
+use Rattle.ast.specs.Symbols.{Extent, Symbol, names_of, dimensions_in, dimensions_of, elements, size, is_sized, most_elements}
 use Rattle.ast.specs.Tree.{Ref}
+use Rattle.ast.proofs.Symbols.{found, dimensions_told, sized_at, size_of_variable}
+use Rattle.ast.proofs.Places.{Open}
 use Rattle.machine.specs.Code.{Cell, cell_at}
 use Rattle.machine.specs.declared.code.Variable.{Variable}
 use Rattle.expr_code.specs.Computes.{variables_in, variables_for}
 use Rattle.expr_code.specs.Emitted.{short}
 use Rattle.expr_code.specs.Places.{dimensions_at, dimensions_found, number_in}
 
-pub same_itself : (x : List ℕ) → same_name x x ≡ true
-same_itself x = nat_list_eq_equiv.refl x
-
-same : (x y : List ℕ) → same_name x y ≡ true → x ≡ y
-same x y h = same_text x y (sym h)
-
-record Found (ss : List Symbol) (cell : ℕ) (name : List ℕ) : Type 0 where
-  pub symbol : Symbol
-  pub at : slice_get ss cell ≡ Some symbol
-  pub named : symbol.name ≡ name
-  pub is_variable : is_variable symbol.sort ≡ true
-
-found : (ss : List Symbol) (r : Ref) → is_placed ss r ≡ true → Found ss r.cell r.name
-found ss r h = by (slice_get ss r.cell) refl
-  where
-    by : (o : Option Symbol) → slice_get ss r.cell ≡ o → Found ss r.cell r.name
-    by None e = absurd (let d : false ≡ true = sym (ap (is_variable_named r.name) e) ∙ h in cc)
-    by (Some s) e =
-        let k : (same_name s.name r.name && is_variable s.sort) ≡ true = sym (ap (is_variable_named r.name) e) ∙ h in
-        let p = and_parts (same_name s.name r.name) (is_variable s.sort) k in
-        record { symbol = s; at = e; named = same s.name r.name p.0; is_variable = p.1 }
-
--- a name at a place isn't one from which all names differ
-differs : (x : List ℕ) (ss : List Symbol) (i : ℕ) (s : Symbol) → AllByRecursion (λ n. same_name x n ≡ false) (names_of ss) → slice_get ss i ≡ Some s → same_name x s.name ≡ false
-differs x [] i s h e = cc
-differs x (t ∷ ss) zero s h e = let d : t ≡ s = cc in subst (λ (z : Symbol). same_name x z.name ≡ false) d h.0
-differs x (t ∷ ss) (suc i) s h e = differs x ss i s h.1 e
-
-dimensions_told : (ss : List Symbol) (i : ℕ) (s : Symbol) → IsDistinct same_name (names_of ss) → slice_get ss i ≡ Some s → dimensions_in ss s.name ≡ dimensions_of s.sort
-unfolding IsDistinct
-dimensions_told [] i s h e = cc
-dimensions_told (t ∷ ss) zero s h e =
-    let d : t ≡ s = cc in
-    let k : same_name t.name s.name ≡ true = subst (λ (z : Symbol). same_name t.name z.name ≡ true) d (same_itself t.name) in
-    rw k (ap (λ (z : Symbol). dimensions_of z.sort) d)
-dimensions_told (t ∷ ss) (suc i) s h e =
-    let k : same_name t.name s.name ≡ false = differs t.name ss i s h.0 e in
-    rw k (dimensions_told ss i s h.1 e)
-
 -- the dimensions at a reference's place are those of its name
 pub dimensions_same : (ss : List Symbol) (r : Ref) → IsDistinct same_name (names_of ss) → is_placed ss r ≡ true → dimensions_in ss r.name ≡ dimensions_at ss r.cell
 dimensions_same ss r d h =
     let f = found ss r h in
     ap (dimensions_in ss) (sym f.named) ∙ dimensions_told ss r.cell f.symbol d f.at ∙ sym (ap dimensions_found f.at)
-
-sized_at : (ss : List Symbol) (i : ℕ) (s : Symbol) → list_all is_sized ss ≡ true → slice_get ss i ≡ Some s → is_sized s ≡ true
-sized_at [] i s h e = cc
-sized_at (t ∷ ss) zero s h e = let d : t ≡ s = cc in subst (λ (z : Symbol). is_sized z ≡ true) d (and_parts (is_sized t) (list_all is_sized ss) h).0
-sized_at (t ∷ ss) (suc i) s h e = sized_at ss i s (and_parts (is_sized t) (list_all is_sized ss) h).1 e
-
-size_of_variable : (s : Sort) → is_variable s ≡ true → size s ≡ elements (dimensions_of s)
-size_of_variable (variable ds) h = refl
-size_of_variable (fixed n) h = absurd (let d : false ≡ true = h in cc)
 
 -- the variable with the name and the size of a symbol
 variable_at : (xs : List Variable) (ss : List Symbol) (i : ℕ) (s : Symbol) → variables_in xs ≡ variables_for ss → slice_get ss i ≡ Some s → (x : Variable) × (slice_get xs i ≡ Some x) × (x.name.letters ≡ s.name) × (x.size ≡ size s.sort)
@@ -83,9 +35,6 @@ variable_at (x ∷ xs) (t ∷ ss) zero s h e =
       ap (λ (p : List ℕ × ℕ). p.1) first ∙ ap (λ (z : Symbol). size z.sort) d,
     )
 variable_at (x ∷ xs) (t ∷ ss) (suc i) s h e = let rest : variables_in xs ≡ variables_for ss = cc in variable_at xs ss i s rest e
-
-abbrev pub Open : List Extent → Type 0
-Open ds = list_all (λ d. not (int_lt d.upper d.lower)) ds ≡ true
 
 -- how a reference with these dimensions reaches its cells
 pub record Reach (xs : List Variable) (r : Ref) (ds : List Extent) : Type 0 where

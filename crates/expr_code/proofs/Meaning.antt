@@ -35,17 +35,17 @@ pub record Means (A : Type 0) (S : Steps A) (p : Places) (store : StoreOf) (X : 
   pub faults : (e : Fault) → meant (S.fails e) ≡ bad e
 
 -- the first n of a list
-abbrev front : ℕ → List ℤ → List ℤ
+abbrev pub front : ℕ → List ℤ → List ℤ
 front n [] = []
 front zero (x ∷ xs) = []
 front (suc n) (x ∷ xs) = x ∷ front n xs
 
-place_front : (ds : List Extent) (xs : List ℤ) → place_of ds (front (length ds) xs) ≡ place_of ds xs
+pub place_front : (ds : List Extent) (xs : List ℤ) → place_of ds (front (length ds) xs) ≡ place_of ds xs
 place_front [] xs = refl
 place_front (d ∷ ds) [] = refl
 place_front (d ∷ ds) (x ∷ xs) = ap (λ (r : Result ℕ Fault). if is_within d x then (r >>= λ n. Ok (unsigned_abs (x -ℤ d.lower) + width d * n)) else Err BadIndex) (place_front ds xs)
 
-front_none : (xs : List ℤ) → front 0 xs ≡ []
+pub front_none : (xs : List ℤ) → front 0 xs ≡ []
 front_none [] = refl
 front_none (x ∷ xs) = refl
 
@@ -86,18 +86,18 @@ counted look (then_term e es) xs h = by (value look e) (values look es) h (count
     by (Err f) us k ih = cc
 
 -- a list of just so many, or of another length, on which the function is as on none
-front_all : (xs : List ℤ) → front (length xs) xs ≡ xs
+pub front_all : (xs : List ℤ) → front (length xs) xs ≡ xs
 front_all [] = refl
 front_all (x ∷ xs) = ap (λ (ys : List ℤ). x ∷ ys) (front_all xs)
 
-by_front : (g : Intrinsic) (n m : ℕ) (xs : List ℤ) → length xs ≡ m → ((m == n) ≡ false → intrinsic_value g [] ≡ intrinsic_value g xs) → intrinsic_value g (front (just n m) xs) ≡ intrinsic_value g xs
+pub by_front : (g : Intrinsic) (n m : ℕ) (xs : List ℤ) → length xs ≡ m → ((m == n) ≡ false → intrinsic_value g [] ≡ intrinsic_value g xs) → intrinsic_value g (front (just n m) xs) ≡ intrinsic_value g xs
 by_front g n m xs len other = by (m == n) refl
   where
     by : (b : Bool) → (m == n) ≡ b → intrinsic_value g (front (if b then n else 0) xs) ≡ intrinsic_value g xs
     by true e = ap (λ (k : ℕ). intrinsic_value g (front k xs)) (sym (eqb-true m n e) ∙ sym len) ∙ ap (λ (ys : List ℤ). intrinsic_value g ys) (front_all xs)
     by false e = ap (λ (ys : List ℤ). intrinsic_value g ys) (front_none xs) ∙ other e
 
-not_two : (xs : List ℤ) → (length xs == 2) ≡ false → intrinsic_value Mod [] ≡ intrinsic_value Mod xs
+pub not_two : (xs : List ℤ) → (length xs == 2) ≡ false → intrinsic_value Mod [] ≡ intrinsic_value Mod xs
 not_two [] h = refl
 not_two (x ∷ []) h = refl
 not_two (x ∷ y ∷ []) h = cc
@@ -106,12 +106,12 @@ not_two (x ∷ y ∷ z ∷ xs) h = refl
 modulo_front : (m : ℕ) (xs : List ℤ) → length xs ≡ m → intrinsic_value Mod (front (just 2 m) xs) ≡ intrinsic_value Mod xs
 modulo_front m xs len = by_front Mod 2 m xs len (λ h. not_two xs (ap (λ (k : ℕ). k == 2) len ∙ h))
 
-abs_none : (xs : List ℤ) → (length xs == 1) ≡ false → intrinsic_value Abs [] ≡ intrinsic_value Abs xs
+pub abs_none : (xs : List ℤ) → (length xs == 1) ≡ false → intrinsic_value Abs [] ≡ intrinsic_value Abs xs
 abs_none [] h = refl
 abs_none (x ∷ []) h = cc
 abs_none (x ∷ y ∷ xs) h = refl
 
-iabs_none : (xs : List ℤ) → (length xs == 1) ≡ false → intrinsic_value Iabs [] ≡ intrinsic_value Iabs xs
+pub iabs_none : (xs : List ℤ) → (length xs == 1) ≡ false → intrinsic_value Iabs [] ≡ intrinsic_value Iabs xs
 iabs_none [] h = refl
 iabs_none (x ∷ []) h = cc
 iabs_none (x ∷ y ∷ xs) h = refl

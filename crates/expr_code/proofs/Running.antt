@@ -15,6 +15,7 @@ use Rattle.ast.specs.declared.expression.Operator.TheVariants.{Add}
 use Rattle.ast.specs.declared.expression.Prefix.{Prefix}
 use Rattle.ast.specs.declared.fault.Fault.{Fault}
 use Rattle.ast.specs.declared.fault.Fault.TheVariants.{Index as BadIndex}
+use Rattle.ast.proofs.Places.{Open, rest_open, others_few, longer_positive, place_below}
 use Rattle.machine.specs.Code.{Code, Cell, cell_at}
 use Rattle.machine.specs.Frame.{Frame}
 use Rattle.machine.specs.Local.{answered, answered_at, defined, faulted, if_replaced, made_at, part_of, with_operands}
@@ -28,8 +29,8 @@ use Rattle.expr_code.specs.Computes.{operands, operands_kept, operands_chosen, o
 use Rattle.expr_code.specs.Emitted.{axis, applied_to, checks_code, chosen_code, dropping, further_code, instr, located_code, next_stride, nowhere, place_code, reached_code, scalar_act, short, sums_code, target_code, term_code, terms_code}
 use Rattle.expr_code.specs.Places.{Places, Home, loop_index, private_scalar, in_store, dimensions_at, home, is_loop_name, number_in, private_or_stored}
 use Rattle.expr_code.specs.Process.{Steps, answered_into, at_place, checked_into, chosen_into, count, fewer, further_into, just, locals_into, located_into, place_into, reached_into, scalar_into, target_into, term_into, terms_into}
-use Rattle.expr_code.proofs.Checking.{rest_open, others_few, longer_positive, stride_is, part_within, part_outside, part_nowhere, place_below, total, one_more}
-use Rattle.expr_code.proofs.Finding.{Open, Reach, cell_law, number_below, short_is}
+use Rattle.expr_code.proofs.Checking.{stride_is, part_within, part_outside, part_nowhere, total, one_more}
+use Rattle.expr_code.proofs.Finding.{Reach, cell_law, number_below, short_is}
 use Rattle.expr_code.proofs.Standing.{HasAt, has_front, has_back, onto, get_onto, set_onto, at, seen, constant_seen, index_seen, private_seen, dropped_seen}
 
 -- The steps' rules: A: what an activity may still do, St: a frame stands where it may do that.

@@ -72,9 +72,9 @@ abbrev pub Leaves : {X : Type 0} → (X → List ℤ → List ℤ) → ℕ → C
 Leaves put line code store f n (Ok v) = alone code store n f ≡ Some (record f { place = f.place + n; operands = with_items (put v f.operands.items) f.operands })
 Leaves put line code store f n (Err e) = (k : ℕ) × (g : Frame) × (k ≤ n) × (alone code store k f ≡ Some g) × (g.fault ≡ Some (e, line))
 
--- Wherever these instructions stand in a program's code, run alone from their beginning they leave the
--- expression's value on the operands, or its fault, with the frame's private scalars and its value of
--- the open loop's variable in the place of the store's.
+-- Wherever these instructions stand in a program's code, run alone from their beginning they leave
+-- the expression's value on the operands, or its fault, with the frame's private scalars and its
+-- value of the open loop's variable in the place of the store's.
 abbrev pub Computes : Places → Term → List Instr → Type 0
 Computes p e is =
     Encodable p e → (code : Code) (before after : List Instr) (f : Frame) (store : StoreOf)

@@ -51,8 +51,8 @@ held_or loop_index f v = f.index
 held_or (private_scalar x) f v = private_value f x
 held_or in_store f v = v
 
--- the store with the frame's private scalars, and its value of the open loop's variable, in the place
--- of the store's
+-- the store with the frame's private scalars, and its value of the open loop's variable, in the
+-- place of the store's
 abbrev pub seen_from : Places → Frame → StoreOf → StoreOf
 seen_from p f store = λ name place. held_or (home_of p name) f (store name place)
 

@@ -1,5 +1,6 @@
--- What an expression does, one step after another, each going on with what it gives: the one order of
--- evaluation, over any kind of steps. Its code does these steps, and its value is what they come to.
+-- What an expression does, one step after another, each going on with what it gives: the one order
+-- of evaluation, over any kind of steps. Its code does these steps, and its value is what they come
+-- to.
 use Rattle.std.specs.Prelude.{ℕ, ℤ, zero, suc, pos, ◌==◌, if◌then◌else◌, List, [], ◌∷◌, length, Result, Ok, Err}
 use Rattle.ast.specs.Exact.{greater, intrinsic_value, less, prefixed_value, truth_value, value_of}
 use Rattle.ast.specs.Symbols.{Extent, is_within, place_of}
@@ -10,8 +11,8 @@ use Rattle.ast.specs.declared.fault.Fault.TheVariants.{Index as BadIndex}
 use Rattle.machine.specs.Code.{Cell}
 use Rattle.expr_code.specs.Places.{Places, Home, loop_index, private_scalar, in_store, home, dimensions_at}
 
--- The steps of an expression: a reference reads a cell, a private scalar, by its number, or the open
--- loop's variable, and what follows goes by the value; a local instruction; one that faults.
+-- The steps of an expression: a reference reads a cell, a private scalar, by its number, or the
+-- open loop's variable, and what follows goes by the value; a local instruction; one that faults.
 pub record Steps (A : Type 0) : Type 0 where
   pub load : Ref → Cell → (ℤ → A) → A
   pub own : Ref → ℕ → (ℤ → A) → A

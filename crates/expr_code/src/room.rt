@@ -47,7 +47,8 @@ pub fn operands(expression: &Expr) -> u32
     }
 }
 
-/// The same of the code of a variable's place, or of the variable.
+/// How many operands the code of a variable's place, or of the variable, has on the stack at most;
+/// 4,294,967,295 where 32 bits can't hold the number.
 #[cycle(operands)]
 #[tactic(auto, using(crate::proofs::Counting::kept_law))]
 pub fn operands_of_place(access: &Access) -> u32

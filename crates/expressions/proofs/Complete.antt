@@ -12,7 +12,8 @@ use Rattle.ast.specs.declared.expression.Operator.TheVariants.{Add, Less, LessOr
 use Rattle.ast.specs.declared.expression.Prefix.{Prefix}
 use Rattle.ast.specs.declared.expression.Prefix.TheVariants.{Plus, Minus, Not}
 use Rattle.expressions.specs.Characters.{is_digit, is_alphanumeric, begins_digit, begins_letter, after, value, constant_limit, longest_name}
-use Rattle.expressions.specs.Levels.{top, relation, spelling, level_of, left_level, right_level, prefix_spelling, prefix_level, operand_level, truth_spelling}
+use Rattle.ast.specs.Spelling.{prefix_spelling, spelling}
+use Rattle.expressions.specs.Levels.{top, relation, level_of, left_level, right_level, prefix_level, operand_level, truth_spelling}
 use Rattle.expressions.specs.Real.{continues_real, begins_fraction, begins_real}
 use Rattle.expressions.specs.Grammar.{IsConstant, IsName, IsReference, IsAccess, reference_to, Spells, AreSubscripts, AreFurther}
 use Rattle.expressions.specs.Reading.{constant_at, name_at, literal_at, operator_at, prefix_at, with_prefix, ended, closed_at, level_at, chain_at, primary_at, operand_at, access_at, subscripts_at, list_at, further_at, front_at, element_at, whole_at}
@@ -81,8 +82,8 @@ no_literal line (c ∷ cs) rest h =
 
 -- ---- the levels
 
--- 12 * length u + level is room enough. Where a chain of operators may go on, reading arrives at its
--- state with this tree.
+-- 12 * length u + level is room enough. Where a chain of operators may go on, reading arrives at
+-- its state with this tree.
 abbrev pub Reads : ℕ → ℕ → Term → List ℕ → Type 0
 Reads line level e u = (n : ℕ) (rest : List ℕ) → 12 * length u + level ≤ n → Stops level rest → level_at line n level (u ++ rest) ≡ Ok (e, rest)
 
@@ -271,7 +272,7 @@ subscripts_follow : (es : Terms) (v rest : List ℕ) → AreSubscripts es v → 
 subscripts_follow no_terms v rest h f = rw h f.letters
 subscripts_follow (then_term e es) v rest h f = rw h.2 refl
 
-letter_some : (u : List ℕ) → begins_letter u ≡ true → 0 < length u
+pub letter_some : (u : List ℕ) → begins_letter u ≡ true → 0 < length u
 letter_some [] h = absurd cc
 letter_some (c ∷ cs) h = omega arith
 

@@ -10,7 +10,8 @@ use Rattle.ast.specs.declared.expression.Operator.TheVariants.{Add, Subtract, Mu
 use Rattle.ast.specs.declared.expression.Prefix.{Prefix}
 use Rattle.ast.specs.declared.expression.Prefix.TheVariants.{Plus, Minus, Not}
 use Rattle.expressions.specs.Characters.{is_digit, is_alphanumeric, begins_letter, after}
-use Rattle.expressions.specs.Levels.{top, spelling, level_of, left_level, prefix_spelling, prefix_level, truth_spelling}
+use Rattle.ast.specs.Spelling.{prefix_spelling, spelling}
+use Rattle.expressions.specs.Levels.{top, level_of, left_level, prefix_level, truth_spelling}
 use Rattle.expressions.specs.Real.{begins_operator, continues_real}
 use Rattle.expressions.specs.Grammar.{Spells, AreFurther}
 use Rattle.expressions.specs.Reading.{operators_of, first_operator, first_prefix, operator_at, prefix_at}
@@ -185,8 +186,8 @@ left_low Greater level h = omega (arith, h)
 left_low GreaterOrEqual level h = omega (arith, h)
 left_low o level h = h
 
--- What holds of each text that begins with a digit, a letter, a logical constant, a parenthesis or a
--- prefix up to the level holds where an expression of the level begins the text.
+-- What holds of each text that begins with a digit, a letter, a logical constant, a parenthesis or
+-- a prefix up to the level holds where an expression of the level begins the text.
 pub record Begin (level : ℕ) (P : List ℕ → Type 0) : Type 1 where
   pub digit : (c : ℕ) (cs : List ℕ) → 48 ≤ c → c ≤ 57 → P (c ∷ cs)
   pub letter : (c : ℕ) (cs : List ℕ) → 65 ≤ c → c ≤ 90 → P (c ∷ cs)

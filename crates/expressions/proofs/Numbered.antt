@@ -1,5 +1,5 @@
--- Each fault that reading gives is at the line and has a refusal's number: with the room that it has,
--- reading comes to an end.
+-- Each fault that reading gives is at the line and has a refusal's number: with the room that it
+-- has, reading comes to an end.
 use Rattle.std.proofs.Common.{◌≡◌, ℕ, zero, suc, pos, ◌+◌, ◌-◌, ◌*◌, ◌<◌, ◌≤◌, Bool, true, false, cond, eqb, leb, ltb, List, [], ◌∷◌, ◌++◌, length, take, drop, Option, Some, None, Result, Ok, Err, refl, ap, subst, arith}
 use Rattle.std.specs.Prelude.{codes}
 use Rattle.std.specs.List.{prefix_len}
@@ -13,7 +13,8 @@ use Rattle.ast.specs.declared.expression.Operator.{Operator}
 use Rattle.ast.specs.declared.expression.Prefix.{Prefix}
 use Rattle.expressions.specs.Answers.{refuse}
 use Rattle.expressions.specs.Characters.{is_digit, is_alphanumeric, begins_digit, begins_letter, after, value, constant_limit, longest_name}
-use Rattle.expressions.specs.Levels.{relation, spelling, prefix_spelling}
+use Rattle.ast.specs.Spelling.{prefix_spelling, spelling}
+use Rattle.expressions.specs.Levels.{relation}
 use Rattle.expressions.specs.Grammar.{reference_to, depth_limit}
 use Rattle.expressions.specs.Real.{begins_real}
 use Rattle.expressions.specs.Reading.{misplaced, constant_at, name_at, truth_at, literal_at, operator_at, prefix_at, with_prefix, wanted_at, end_at, ended, closed_at, level_at, chain_at, primary_at, operand_at, access_at, subscripts_at, list_at, further_at, front_at, element_at, whole_at, shallow, expression_at}

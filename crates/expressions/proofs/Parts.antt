@@ -1,5 +1,5 @@
 -- What a call of the parser gives, by what the calls in it gave.
-use Rattle.std.proofs.Common.{◌≡◌, ◌∙◌, ◌-◌, ℕ, suc, Bool, true, false, List, [], ◌∷◌, ◌++◌, Option, Some, None, Result, Ok, Err, sym, ap, subst, arith, map, rules}
+use Rattle.std.proofs.Common.{◌≡◌, ◌∙◌, ◌-◌, ℕ, suc, Bool, true, false, List, [], ◌∷◌, ◌++◌, Option, Some, None, Result, Ok, Err, sym, ap, subst, arith, map}
 use Rattle.std.specs.Prelude.{◌==◌, if◌then◌else◌, codes}
 use Rattle.std.specs.Result.{IsErrAnd}
 use Rattle.ast.specs.Answers.{Break, Fails, Gives}
@@ -7,13 +7,14 @@ use Rattle.ast.specs.Results.{◌>>=◌}
 use Rattle.ast.specs.Tree as tree
 use Rattle.ast.specs.Tree.{Term, accessed, binary, terms}
 use Rattle.ast.specs.View.{access, access_step, ref, term, term_step}
-use Rattle.ast.specs.declared.expression.Access.{Access, fold_out-Access}
+use Rattle.ast.specs.declared.expression.Access.{Access}
 use Rattle.ast.specs.declared.expression.Expr.{Expr-F, fold-roll-Expr}
 use Rattle.ast.specs.declared.expression.Expr.TheVariants.{Element, rolls-Element}
 use Rattle.ast.specs.declared.expression.Operator.{Operator}
 use Rattle.ast.specs.declared.expression.Prefix.{Prefix}
 use Rattle.ast.specs.declared.refusal.Refusal.{Refusal}
 use Rattle.ast.specs.declared.refusal.Refusal.TheVariants.{Memory, Refused}
+use Rattle.ast.proofs.Terms.{access_of}
 use Rattle.expressions.specs.Answers.{refuse}
 use Rattle.expressions.specs.Characters.{after}
 use Rattle.expressions.specs.Grammar.{reference_to}
@@ -43,10 +44,6 @@ goes_on {Z = Z} part x next meant is whole = whole ∙ ap (λ (p : Result Z Brea
 -- and gives what is left of it
 pub gives_rest : {X Y : Type 0} (view : X → Y) (r : Result X Refusal) (rest meant : Result Y Break) → meant ≡ rest → Gives view r rest → Gives view r meant
 gives_rest {Y = Y} view r rest meant whole given = subst (λ (m : Result Y Break). Gives view r m) (sym whole) given
-
--- an access, seen as a tree
-tree_of : (a : Access) → access a ≡ record { ref = ref a.reference; subscripts = terms (map term a.subscripts.items) }
-tree_of a = fold_out-Access Term tree.Access term_step access_step a ∙ search rules
 
 element_of : (a : Access) → term (Element a) ≡ accessed (access a)
 element_of a = ap term (sym (rolls-Element a)) ∙ fold-roll-Expr Term tree.Access term_step access_step (Expr-F.Element a)
@@ -137,7 +134,7 @@ module _ (line room : ℕ) (some : room ≡ 0 → ⊥) where
   access_read a t name rest others read inside is =
       goes_on _ _ _ _ inside (access_subscripts t name rest read)
       ∙ ap (λ (r : tree.Ref). Ok (record { ref = r; subscripts = terms (map term a.subscripts.items) }, others)) (sym is)
-      ∙ ap (λ (x : tree.Access). Ok (x, others)) (sym (tree_of a))
+      ∙ ap (λ (x : tree.Access). Ok (x, others)) (sym (access_of a))
 
   pub subscripts_none : (es : List Term) (t : List ℕ) → None ≡ after (codes "(") t → es ≡ [] → subscripts_at line room t ≡ Ok (es, t)
   subscripts_none es t none is =

@@ -14,7 +14,8 @@ use Rattle.ast.specs.declared.expression.Prefix.{Prefix}
 use Rattle.ast.specs.declared.expression.Prefix.TheVariants.{Plus, Minus, Not}
 use Rattle.expressions.specs.Answers.{refuse}
 use Rattle.expressions.specs.Characters.{is_digit, is_letter, is_alphanumeric, begins_digit, begins_letter, after, value, constant_limit, longest_name}
-use Rattle.expressions.specs.Levels.{top, relation, spelling, level_of, left_level, right_level, prefix_spelling, prefix_level, operand_level, truth_spelling}
+use Rattle.ast.specs.Spelling.{prefix_spelling, spelling}
+use Rattle.expressions.specs.Levels.{top, relation, level_of, left_level, right_level, prefix_level, operand_level, truth_spelling}
 use Rattle.expressions.specs.Real.{begins_real}
 use Rattle.expressions.specs.Grammar.{IsName, IsAccess, reference_to, Spells, AreSubscripts, AreFurther}
 use Rattle.expressions.specs.Reading.{misplaced, constant_at, name_at, truth_at, literal_at, operators_of, prefixes_of, first_operator, first_prefix, operator_at, prefix_at, with_prefix, wanted_at, end_at, ended, closed_at, level_at, chain_at, primary_at, operand_at, access_at, subscripts_at, list_at, further_at, front_at, element_at, whole_at}

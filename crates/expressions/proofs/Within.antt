@@ -1,16 +1,9 @@
 -- A turn of the loop that looks how deep the next tree is.
-use Rattle.std.proofs.Common.{◌≡◌, ◌∙◌, ◌+◌, ◌<◌, ℕ, suc, Bool, true, false, leb, List, ◌∷◌, arith, length, drop, get_or, map, sym, ap, add-one, drop-cons}
-use Rattle.std.proofs.lemmas.Grind.{common_steps}
-use Rattle.std.specs.Prelude.{max}
+use Rattle.std.proofs.Common.{◌≡◌, ◌∙◌, ◌+◌, ◌<◌, ℕ, suc, Bool, true, false, leb, List, ◌∷◌, length, drop, get_or, map, sym, ap, add-one, drop-cons}
 use Rattle.ast.specs.Tree.{deepest, depth, terms}
 use Rattle.ast.specs.View.{term}
 use Rattle.ast.specs.declared.expression.Expr.{Expr}
-
-within : (d rest room : ℕ) → leb d room ≡ true → leb rest room ≡ leb (max d rest) room
-within d rest room h = grind (arith, common_steps)
-
-beyond : (d rest room : ℕ) → leb d room ≡ false → false ≡ leb (max d rest) room
-beyond d rest room h = grind (arith, common_steps)
+use Rattle.ast.proofs.Numbers.{depth_within, depth_beyond}
 
 module _ (trees : List Expr) (i : ℕ) (tree : Expr) (room : ℕ) (target : Bool) where
   next_tree : i < length trees → tree ≡ get_or trees i tree → map term (drop i trees) ≡ term tree ∷ map term (drop (i + 1) trees)
@@ -22,13 +15,13 @@ module _ (trees : List Expr) (i : ℕ) (tree : Expr) (room : ℕ) (target : Bool
   pub within_on : i < length trees → tree ≡ get_or trees i tree → leb (depth (term tree)) room ≡ true
       → leb (deepest (terms (map term (drop i trees)))) room ≡ target → leb (deepest (terms (map term (drop (i + 1) trees)))) room ≡ target
   within_on h is fits w =
-      within (depth (term tree)) (deepest (terms (map term (drop (i + 1) trees)))) room fits
+      depth_within (depth (term tree)) (deepest (terms (map term (drop (i + 1) trees)))) room fits
       ∙ ap (λ ts. leb (deepest (terms ts)) room) (sym (next_tree h is))
       ∙ w
 
   pub too_deep : i < length trees → tree ≡ get_or trees i tree → leb (depth (term tree)) room ≡ false
       → leb (deepest (terms (map term (drop i trees)))) room ≡ target → false ≡ target
   too_deep h is deep w =
-      beyond (depth (term tree)) (deepest (terms (map term (drop (i + 1) trees)))) room deep
+      depth_beyond (depth (term tree)) (deepest (terms (map term (drop (i + 1) trees)))) room deep
       ∙ ap (λ ts. leb (deepest (terms ts)) room) (sym (next_tree h is))
       ∙ w

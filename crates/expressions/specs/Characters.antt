@@ -33,6 +33,7 @@ abbrev pub value_after : ℕ → List ℕ → ℕ
 value_after n [] = n
 value_after n (d ∷ ds) = value_after (10 * n + (d - 48)) ds
 
+-- the whole number that digits write
 abbrev pub value : List ℕ → ℕ
 value ds = value_after 0 ds
 

@@ -1,23 +1,24 @@
--- The grammar of expressions, by the levels of precedence:
---   equivalence = disjunction {(.EQV.|.NEQV.) disjunction}, disjunction = conjunction {.OR. conjunction},
---   conjunction = factor {.AND. factor}, factor = [.NOT.] relation,
---   relation = sum [(.LT.|.LE.|.EQ.|.NE.|.GT.|.GE.) sum], sum = [+|-] product {(+|-) product},
---   product = primary {(*|/) primary}, primary = a constant, .TRUE., .FALSE., a name, a name with a
---   list of expressions in parentheses, or an expression in parentheses.
--- All operators go from the left.
+-- The grammar of expressions, by the levels of precedence: equivalence = disjunction
+-- {(.EQV.|.NEQV.) disjunction}, disjunction = conjunction {.OR. conjunction}, conjunction = factor
+-- {.AND. factor}, factor = [.NOT.] relation, relation = sum [(.LT.|.LE.|.EQ.|.NE.|.GT.|.GE.) sum],
+-- sum = [+|-] product {(+|-) product}, product = primary {(*|/) primary}, primary = a constant,
+-- .TRUE., .FALSE., a name, a name with a list of expressions in parentheses, or an expression in
+-- parentheses. All operators go from the left.
 use Rattle.std.specs.Prelude.{◌≡◌, ℕ, ℤ, pos, ◌<◌, ◌≤◌, true, List, [], ◌++◌, length, codes}
 use Rattle.std.specs.List.{list_all}
 use Rattle.ast.specs.Name.{padded}
 use Rattle.ast.specs.Program.{greatest_depth}
 use Rattle.ast.specs.Tree.{Ref, Term, constant, truth, parameter, element, call, parentheses, unary, binary, Terms, no_terms, then_term, Access, accessed, depth}
 use Rattle.expressions.specs.Characters.{is_digit, is_alphanumeric, begins_letter, value, constant_limit, longest_name}
-use Rattle.expressions.specs.Levels.{primary, top, spelling, level_of, left_level, right_level, prefix_spelling, prefix_level, operand_level, truth_spelling}
+use Rattle.ast.specs.Spelling.{prefix_spelling, spelling}
+use Rattle.expressions.specs.Levels.{primary, top, level_of, left_level, right_level, prefix_level, operand_level, truth_spelling}
 
 -- a constant: digits, by value below the limit
 abbrev pub IsConstant : ℤ → List ℕ → Type 0
 IsConstant n t = (0 < length t) × (list_all is_digit t ≡ true) × (value t < constant_limit) × (n ≡ pos (value t))
 
--- a name: letters and digits, the first a letter, no more than the longest name has; x is its six characters
+-- a name: letters and digits, the first a letter, no more than the longest name has; x is its six
+-- characters
 abbrev pub IsName : List ℕ → List ℕ → Type 0
 IsName x t = (begins_letter t ≡ true) × (list_all is_alphanumeric t ≡ true) × (length t ≤ longest_name) × (x ≡ padded t)
 

@@ -1,53 +1,46 @@
--- The levels of precedence, from a primary up to a whole expression, and where each operator stands.
+-- The levels of precedence, from a primary up to a whole expression, and where each operator
+-- stands.
 use Rattle.std.specs.Prelude.{ℕ, List, Bool, true, false, codes}
 use Rattle.ast.specs.declared.expression.Operator.{Operator}
 use Rattle.ast.specs.declared.expression.Operator.TheVariants.{Add, Subtract, Multiply, Divide, Less, LessOrEqual, Equal, NotEqual, Greater, GreaterOrEqual, And, Or, Equivalent, NotEquivalent}
 use Rattle.ast.specs.declared.expression.Prefix.{Prefix}
 use Rattle.ast.specs.declared.expression.Prefix.TheVariants.{Plus, Minus, Not}
 
+-- a constant, a name, an element, a call, or an expression in parentheses
 abbrev pub primary : ℕ
 primary = 0
 
+-- `*` and `/`
 abbrev pub product : ℕ
 product = 1
 
+-- `+` and `-`
 abbrev pub sum : ℕ
 sum = 2
 
+-- comparisons
 abbrev pub relation : ℕ
 relation = 3
 
+-- `.NOT.`
 abbrev pub factor : ℕ
 factor = 4
 
+-- `.AND.`
 abbrev pub conjunction : ℕ
 conjunction = 5
 
+-- `.OR.`
 abbrev pub disjunction : ℕ
 disjunction = 6
 
+-- `.EQV.` and `.NEQV.`
 abbrev pub equivalence : ℕ
 equivalence = 7
 
 -- the level of a whole expression
 abbrev pub top : ℕ
 top = equivalence
-
-abbrev pub spelling : Operator → List ℕ
-spelling Add = codes "+"
-spelling Subtract = codes "-"
-spelling Multiply = codes "*"
-spelling Divide = codes "/"
-spelling Less = codes ".LT."
-spelling LessOrEqual = codes ".LE."
-spelling Equal = codes ".EQ."
-spelling NotEqual = codes ".NE."
-spelling Greater = codes ".GT."
-spelling GreaterOrEqual = codes ".GE."
-spelling And = codes ".AND."
-spelling Or = codes ".OR."
-spelling Equivalent = codes ".EQV."
-spelling NotEquivalent = codes ".NEQV."
 
 abbrev pub level_of : Operator → ℕ
 level_of Add = sum
@@ -83,11 +76,6 @@ right_level Or = conjunction
 right_level Equivalent = disjunction
 right_level NotEquivalent = disjunction
 right_level _ = sum
-
-abbrev pub prefix_spelling : Prefix → List ℕ
-prefix_spelling Plus = codes "+"
-prefix_spelling Minus = codes "-"
-prefix_spelling Not = codes ".NOT."
 
 -- the level at which a prefix stands: a sign applies to the first term of its sum
 abbrev pub prefix_level : Prefix → ℕ

@@ -12,7 +12,8 @@ use Rattle.ast.specs.declared.expression.Prefix.TheVariants.{Plus, Minus, Not}
 use Rattle.expressions.specs.Answers.{refuse}
 use Rattle.expressions.specs.Characters.{is_digit, is_alphanumeric, begins_digit, begins_letter, after, value, constant_limit, longest_name}
 use Rattle.expressions.specs.Grammar.{reference_to, depth_limit}
-use Rattle.expressions.specs.Levels.{relation, top, spelling, prefix_spelling, truth_spelling}
+use Rattle.ast.specs.Spelling.{prefix_spelling, spelling}
+use Rattle.expressions.specs.Levels.{relation, top, truth_spelling}
 use Rattle.expressions.specs.Real.{begins_real}
 
 -- what stands after an operand, a name, an item or a parenthesis, where it may not stand

@@ -8,6 +8,11 @@ ghost use Rattle.expressions.specs.Reading.{with_prefix};
 use ast::{Expr, Operator, Prefix};
 use std::alloc::{AllocError, Global};
 
+/// An operator with its two operands.
+///
+/// # Errors
+///
+/// `AllocError` where memory is refused.
 pub fn binary(
     alloc: Global,
     operator: Operator,
@@ -21,6 +26,11 @@ pub fn binary(
     Ok(Expr::Binary(operator, left, right))
 }
 
+/// An expression in parentheses.
+///
+/// # Errors
+///
+/// `AllocError` where memory is refused.
 pub fn parentheses(alloc: Global, inner: Expr) -> Result<Expr, AllocError>
     ensures { IfOk result (λ e. term e ≡ parentheses (term inner)) }
 {
@@ -28,6 +38,10 @@ pub fn parentheses(alloc: Global, inner: Expr) -> Result<Expr, AllocError>
 }
 
 /// The operand with its prefix, if there is one.
+///
+/// # Errors
+///
+/// `AllocError` where memory is refused.
 pub fn with_prefix(alloc: Global, prefix: Option<Prefix>, operand: Expr) -> Result<Expr, AllocError>
     ensures { IfOk result (λ e. term e ≡ with_prefix prefix (term operand)) }
 {
@@ -37,6 +51,11 @@ pub fn with_prefix(alloc: Global, prefix: Option<Prefix>, operand: Expr) -> Resu
     }
 }
 
+/// Expressions, with one more behind them.
+///
+/// # Errors
+///
+/// `AllocError` where memory is refused.
 pub fn with_further(mut expressions: Vec<Expr>, next: Expr) -> Result<Vec<Expr>, AllocError>
     ensures { IfOk result (λ v. map term v.items ≡ map term expressions.items ++ term next ∷ []) }
 {

@@ -1,7 +1,7 @@
 //! Levels of precedence, with the operators and prefixes of each.
 
 ghost use Rattle.std.specs.Prelude.{◌≡◌, ◌==◌, option_map};
-ghost use Rattle.expressions.specs.Levels.{spelling, prefix_spelling, relation};
+ghost use Rattle.expressions.specs.Levels.{relation};
 ghost use Rattle.expressions.specs.Ranks.{rank};
 ghost use Rattle.expressions.specs.Reading.{operators_of, prefixes_of, first_operator};
 ghost use Rattle.expressions.specs.Reading.{first_prefix, operator_at, prefix_at};
@@ -36,6 +36,7 @@ impl Level {
     ghost use Rattle.expressions.specs.Ranks.{rank};
     ghost use Rattle.expressions.specs.Reading.{operators_of, prefixes_of};
 
+    /// The level below this one; a primary has none, and stays.
     pub fn below(self) -> Level
         ensures { rank result ≡ rank self - 1 }
     {
@@ -51,12 +52,14 @@ impl Level {
         }
     }
 
+    /// Whether this is the level of primaries, the lowest.
     pub fn is_primary(self) -> bool
         ensures { result ≡ (rank self == 0) }
     {
         matches!(self, Level::Primary)
     }
 
+    /// Whether this is the level of relations, which don't chain.
     pub fn is_relation(self) -> bool
         ensures { result ≡ (rank self == relation) }
     {
@@ -95,42 +98,11 @@ impl Level {
     }
 }
 
-fn spelling(operator: Operator) -> &'static [u8]
-    ensures { result.now ≡ spelling operator }
-{
-    match operator {
-        Operator::Add => b"+",
-        Operator::Subtract => b"-",
-        Operator::Multiply => b"*",
-        Operator::Divide => b"/",
-        Operator::Less => b".LT.",
-        Operator::LessOrEqual => b".LE.",
-        Operator::Equal => b".EQ.",
-        Operator::NotEqual => b".NE.",
-        Operator::Greater => b".GT.",
-        Operator::GreaterOrEqual => b".GE.",
-        Operator::And => b".AND.",
-        Operator::Or => b".OR.",
-        Operator::Equivalent => b".EQV.",
-        Operator::NotEquivalent => b".NEQV.",
-    }
-}
-
-fn prefix_spelling(prefix: Prefix) -> &'static [u8]
-    ensures { result.now ≡ prefix_spelling prefix }
-{
-    match prefix {
-        Prefix::Plus => b"+",
-        Prefix::Minus => b"-",
-        Prefix::Not => b".NOT.",
-    }
-}
-
 fn first_operator<'a>(operators: &[Operator], text: &'a [u8]) -> Option<(Operator, &'a [u8])>
     ensures { option_map (λ x. (x.0, x.1.now)) result ≡ first_operator operators.now text.now }
 {
     for operator in operators {
-        if let Some(rest) = after(text, spelling(*operator)) {
+        if let Some(rest) = after(text, operator.spelling()) {
             return Some((*operator, rest));
         }
     }
@@ -141,7 +113,7 @@ fn first_prefix<'a>(prefixes: &[Prefix], text: &'a [u8]) -> (Option<Prefix>, &'a
     ensures { (result.0, result.1.now) ≡ first_prefix prefixes.now text.now }
 {
     for prefix in prefixes {
-        if let Some(rest) = after(text, prefix_spelling(*prefix)) {
+        if let Some(rest) = after(text, prefix.spelling()) {
             return (Some(*prefix), rest);
         }
     }

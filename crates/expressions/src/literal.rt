@@ -14,10 +14,7 @@ ghost use Rattle.expressions.specs.Real.{continues_real, begins_fraction, begins
 ghost use Rattle.ast.specs.declared.refusal.Refusal.TheVariants.{Refused};
 
 use crate::scan::{after, begins_digit, begins_letter, begins_with, digits, letters_and_digits};
-use ast::{Expr, Line, Name, RefId, Reference, Refusal};
-
-/// The greatest number of characters of a name.
-const LONGEST_NAME: usize = 6;
+use ast::{Expr, LONGEST_NAME, Line, Name, RefId, Reference, Refusal};
 
 /// The least constant that is too large.
 const CONSTANT_LIMIT: u128 = 1 << 63;

@@ -5,6 +5,7 @@ ghost use Rattle.std.specs.List.{prefix_len};
 ghost use Rattle.expressions.specs.Characters.{is_digit, is_letter, is_alphanumeric, begins_with};
 ghost use Rattle.expressions.specs.Characters.{begins_digit, begins_letter, after};
 
+/// Whether a mark is a digit.
 pub fn is_digit(mark: u8) -> bool
     ensures { result ≡ is_digit mark }
 {

@@ -9,8 +9,8 @@ use Rattle.files.specs.declared.fault.FileFault.{FileFault}
 use Rattle.files.specs.declared.fault.FileFault.TheVariants.{Opening, Reading, Memory}
 use Rattle.files.specs.declared.files.Unread.{Unread}
 
--- A name is compared with those of other files, whether it is one of theirs; a file is read, and its bytes
--- were had or not; a file is given bytes, all of them or, by an error, none.
+-- A name is compared with those of other files, whether it is one of theirs; a file is read, and
+-- its bytes were had or not; a file is given bytes, all of them or, by an error, none.
 pub data Deed : Type 0 where
   Compares : (name : List ℕ) → (others : List (List ℕ)) → Bool → Deed
   Reads : (name : List ℕ) → Result (List ℕ) FileFault → Deed
@@ -40,6 +40,7 @@ abbrev pub of_read : ReadFault → FileFault
 of_read (reading.Reader e) = Reading e
 of_read reading.Memory = Memory
 
+-- the bytes of an opened file, or what a failed read comes to
 abbrev pub of_reads : Result (Vec ℕ Global) ReadFault → Result (Vec ℕ Global) FileFault
 of_reads (Ok bytes) = Ok bytes
 of_reads (Err fault) = Err (of_read fault)

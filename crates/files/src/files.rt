@@ -30,14 +30,6 @@ pub trait NamedFiles {
             (Replaces name.now bytes.now (unput result)) };
 }
 
-/// The names of the files that a replay takes.
-#[derive(Clone, Copy)]
-pub struct Names<'a> {
-    pub source: &'a str,
-    pub input: &'a str,
-    pub schedule: &'a str,
-}
-
 /// A file whose bytes couldn't be had.
 #[derive(Drop)]
 pub struct Unread<'a> {
@@ -65,13 +57,22 @@ fn read_named<'a, F: NamedFiles>(files: &mut F, name: &'a str) -> Result<Vec<u8>
 
 /// All bytes of the files that a replay takes, read in this order, each only where those before
 /// it were had.
-pub fn read_texts<'a, F: NamedFiles>(files: &mut F, names: Names<'a>) -> Result<Texts, Unread<'a>>
-    ensures { HasRead names.entry.source.now names.entry.input.now names.entry.schedule.now
+///
+/// # Errors
+///
+/// The name of the first file whose bytes can't be had, and why.
+pub fn read_texts<'a, F: NamedFiles>(
+    files: &mut F,
+    source: &'a str,
+    input: &'a str,
+    schedule: &'a str,
+) -> Result<Texts, Unread<'a>>
+    ensures { HasRead source.now input.now schedule.now
         (F.done files.old) (F.done files.new) result }
 {
-    let source = read_named(files, names.source)?;
-    let input = read_named(files, names.input)?;
-    let schedule = read_named(files, names.schedule)?;
+    let source = read_named(files, source)?;
+    let input = read_named(files, input)?;
+    let schedule = read_named(files, schedule)?;
     Ok(Texts {
         source,
         input,

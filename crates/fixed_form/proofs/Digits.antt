@@ -1,11 +1,11 @@
 -- Reading a label digit by digit.
 use Rattle.std.proofs.Common.{◌≡◌, ℕ, zero, suc, ◌+◌, ◌-◌, ◌*◌, ◌^◌, ◌<◌, ◌≤◌, Bool, true, false, List, [], ◌∷◌, refl, ap, ◌∙◌, arith, add-one, lit≤}
-use Rattle.std.specs.Prelude.{if◌then◌else◌, cond, ◌&&◌, nat_lt, nat_le}
+use Rattle.std.specs.Prelude.{if◌then◌else◌, ◌&&◌, nat_lt}
 use Rattle.std.specs.List.{list_all}
 use Rattle.std.specs.Char.{is_ascii_digit, digit_value}
 use Rattle.std.specs.Str.Parse.{digits_value_after}
 use Rattle.std.proofs.Math.Nat.{pow-suc}
-use Rattle.std.proofs.lemmas.Bool.{lt-ltb, le-ltb, leb-true, and_parts}
+use Rattle.ast.proofs.Digits.{digit_is}
 use Rattle.fixed_form.specs.declared.label.LabelField.{LabelField}
 use Rattle.fixed_form.specs.declared.label.LabelField.TheVariants.{Blank, Label, Malformed}
 use Rattle.fixed_form.specs.Steps.{field_of}
@@ -18,18 +18,8 @@ field_from blank n (c ∷ cs) = if is_ascii_digit c then field_from false (10 * 
 abbrev labelled : Bool → ℕ → LabelField
 labelled digits n = if digits && nat_lt 0 n then Label n else Malformed
 
-shown : (low high : Bool) (k v : ℕ) → low ≡ false → high ≡ true → cond low 36 (cond high v k) ≡ v
-shown false true k v e f = refl
-shown true high k v e f = absurd (let d : true ≡ false = e in cc)
-shown false false k v e f = absurd (let d : false ≡ true = f in cc)
-
-digit_shown : (c : ℕ) → is_ascii_digit c ≡ true → digit_value c ≡ c - 48
-digit_shown c h =
-    let b = and_parts (nat_le 48 c) (nat_le c 57) h in
-    shown (nat_lt c 48) (nat_lt c 58) _ (c - 48) (le-ltb c 48 (leb-true 48 c b.0)) (lt-ltb c 58 (omega (arith, leb-true c 57 b.1)))
-
 one_more : (n c : ℕ) → is_ascii_digit c ≡ true → 10 * n + (c - 48) ≡ n * 10 + digit_value c
-one_more n c h = omega (arith, digit_shown c h)
+one_more n c h = omega (arith, digit_is c h)
 
 digits_from : (n : ℕ) (cs : List ℕ) → field_from false n cs ≡ labelled (list_all is_ascii_digit cs) (digits_value_after 10 n cs)
 digits_from n [] = refl

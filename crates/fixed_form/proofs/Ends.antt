@@ -1,4 +1,5 @@
--- What the statements of a text are like: the last one alone is END, and they stand on later and later lines.
+-- What the statements of a text are like: the last one alone is END, and they stand on later and
+-- later lines.
 use Rattle.std.proofs.Common.{◌≡◌, ℕ, zero, suc, ◌+◌, ◌<◌, ◌≤◌, Bool, true, false, List, [], ◌∷◌, ◌++◌, length, take, Some, None, Result, Ok, Err, refl, sym, ap, subst, ◌∙◌, arith, append_assoc}
 use Rattle.std.specs.Prelude.{not, ◌&&◌, ◌||◌, nat_lt, nat_le, map, reverse, IfOk}
 use Rattle.std.specs.List.{list_all, list_any, flat_map, prefix_len}
@@ -12,6 +13,7 @@ use Rattle.fixed_form.proofs.Facts.{width_of_part}
 use Rattle.fixed_form.proofs.Snoc.{snoc}
 use Rattle.fixed_form.proofs.Groups.{card_if, cards_from-append, alone, last_cards, last_statement, lone_text}
 use Rattle.fixed_form.proofs.Laws.{ended_after, verdict}
+use Rattle.fixed_form.proofs.Splits.{heads}
 
 -- ---- the END line
 
@@ -64,9 +66,6 @@ record IsSplit (cs : List Card) (c : Card) (gs : List Group) : Type 0 where
 record AreSame (xs ys : List Card) (x y : Card) : Type 0 where
   fronts : xs ≡ ys
   lasts : x ≡ y
-
-heads : (c d : Card) (cs ds : List Card) → c ∷ cs ≡ d ∷ ds → (c ≡ d) × (cs ≡ ds)
-heads c d cs ds e = (cc, cc)
 
 last_two : (x y : Card) (d : Card) (ys : List Card) → x ∷ [] ≡ d ∷ (ys ++ y ∷ []) → ⊥
 last_two x y d [] e = let f : x ∷ [] ≡ d ∷ y ∷ [] = e in cc

@@ -1,4 +1,5 @@
--- What is so of every labelled statement: its label has one to five digits, and its text is that of 1 to 20 lines.
+-- What is so of every labelled statement: its label has one to five digits, and its text is that of
+-- 1 to 20 lines.
 use Rattle.std.proofs.Common.{◌≡◌, ℕ, zero, suc, ◌+◌, ◌-◌, ◌%◌, ◌<◌, ◌≤◌, Bool, true, false, List, [], ◌∷◌, ◌++◌, length, Option, Some, None, Result, Ok, Err, refl, sym, ap, subst, ◌∙◌, arith, length-append}
 use Rattle.std.specs.Prelude.{not, cond, nat_lt, if◌then◌else◌, drop, OnOk, OnErr}
 use Rattle.std.specs.List.{list_all}

@@ -2,19 +2,16 @@
 use Rattle.std.proofs.Common.{◌≡◌, ℕ, ◌+◌, ◌*◌, Bool, true, false, List, [], ◌∷◌, ◌++◌, length, refl, sym, ap, subst, ◌∙◌, arith, append_assoc, length-append}
 use Rattle.std.specs.Prelude.{not, ◌&&◌, if◌then◌else◌, reverse}
 use Rattle.std.specs.List.{list_all, flat_map, prefix_len}
-use Rattle.std.proofs.lemmas.Bool.{and_parts, not-true}
+use Rattle.std.proofs.lemmas.Bool.{and_parts, not-true, and_from, not_from_false}
 use Rattle.std.proofs.lemmas.List.{append-nil, reverse-append, length-reverse}
 use Rattle.std.proofs.lemmas.List.Folds.{list_all-append}
 use Rattle.std.proofs.lemmas.List.Concat.{flat_map-append}
 use Rattle.fixed_form.specs.Line.{is_comment, part_of}
 use Rattle.fixed_form.specs.Lines.{Card, cards_from, cards, continues, Group, cards_of, is_statement, AreGrouped, statement_of}
 use Rattle.fixed_form.proofs.Facts.{width_of_part}
+use Rattle.fixed_form.proofs.Splits.{heads}
 
 -- ---- lists
-
-both : (a b : Bool) → a ≡ true → b ≡ true → (a && b) ≡ true
-both true b h k = k
-both false b h k = absurd (let d : false ≡ true = h in cc)
 
 list_all-reverse : {X : Type 0} (p : X → Bool) (xs : List X) → list_all p xs ≡ true → list_all p (reverse xs) ≡ true
 list_all-reverse p [] h = refl
@@ -22,7 +19,7 @@ list_all-reverse {X} p (x ∷ xs) h =
     let b = and_parts (p x) (list_all p xs) h in
     ap (λ (l : List X). list_all p l) (reverse-append (x ∷ []) xs)
     ∙ list_all-append p (reverse xs) (x ∷ [])
-    ∙ both (list_all p (reverse xs)) (p x && true) (list_all-reverse p xs b.1) (both (p x) true b.0 refl)
+    ∙ and_from (list_all p (reverse xs)) (p x && true) (list_all-reverse p xs b.1) (and_from (p x) true b.0 refl)
 
 prefix_len-all : {X : Type 0} (p : X → Bool) (xs : List X) (y : X) (ys : List X) → list_all p xs ≡ true → p y ≡ false → prefix_len p (xs ++ y ∷ ys) ≡ length xs
 prefix_len-all p [] y ys h k = rw k refl
@@ -69,17 +66,13 @@ alone c = record { head = c; others = [] }
 abbrev pub longer_by : Group → Card → Group
 longer_by g c = record { head = g.head; others = g.others ++ c ∷ [] }
 
-negated : (b : Bool) → b ≡ false → not b ≡ true
-negated false h = refl
-negated true h = absurd (let d : true ≡ false = h in cc)
-
 pub none_grouped : AreGrouped [] []
 none_grouped = record { whole = refl; each = refl }
 
 pub begun_by : (cs : List Card) (gs : List Group) (c : Card) → AreGrouped cs gs → continues c ≡ false → AreGrouped (cs ++ c ∷ []) (gs ++ alone c ∷ [])
 begun_by cs gs c a h = record {
   whole = ap (λ (l : List Card). l ++ c ∷ []) a.whole ∙ sym (flat_map-append cards_of gs (alone c ∷ []));
-  each = list_all-append is_statement gs (alone c ∷ []) ∙ both (list_all is_statement gs) (is_statement (alone c) && true) a.each (both (is_statement (alone c)) true (both (not (continues c)) true (negated (continues c) h) refl) refl);
+  each = list_all-append is_statement gs (alone c ∷ []) ∙ and_from (list_all is_statement gs) (is_statement (alone c) && true) a.each (and_from (is_statement (alone c)) true (and_from (not (continues c)) true (not_from_false (continues c) h) refl) refl);
 }
 
 -- the cards of statements of which the last is g
@@ -103,7 +96,7 @@ continued_by cs gs g c a h =
     let l = last_statement gs g a.each in
     record {
       whole = ap (λ (l : List Card). l ++ c ∷ []) (a.whole ∙ last_cards gs g) ∙ append_assoc (flat_map cards_of gs) (cards_of g) (c ∷ []) ∙ sym (last_cards gs (longer_by g c));
-      each = list_all-append is_statement gs (longer_by g c ∷ []) ∙ both (list_all is_statement gs) (is_statement (longer_by g c) && true) l.before (both (is_statement (longer_by g c)) true (both (not (continues g.head)) (list_all continues (g.others ++ c ∷ [])) (negated (continues g.head) l.head) (list_all-append continues g.others (c ∷ []) ∙ both (list_all continues g.others) (continues c && true) l.others (both (continues c) true h refl))) refl);
+      each = list_all-append is_statement gs (longer_by g c ∷ []) ∙ and_from (list_all is_statement gs) (is_statement (longer_by g c) && true) l.before (and_from (is_statement (longer_by g c)) true (and_from (not (continues g.head)) (list_all continues (g.others ++ c ∷ [])) (not_from_false (continues g.head) l.head) (list_all-append continues g.others (c ∷ []) ∙ and_from (list_all continues g.others) (continues c && true) l.others (and_from (continues c) true h refl))) refl);
     }
 
 -- ---- the continuation lines before a card
@@ -166,9 +159,6 @@ record AreOne (a b r s : List Card) : Type 0 where
 
 no_stop : (c : Card) → continues c ≡ true → not (continues c) ≡ true → ⊥
 no_stop c h k = let e : true ≡ false = sym h ∙ not-true (continues c) k in cc
-
-heads : (c d : Card) (cs ds : List Card) → c ∷ cs ≡ d ∷ ds → (c ≡ d) × (cs ≡ ds)
-heads c d cs ds e = (cc, cc)
 
 same_others : (a b r s : List Card) → list_all continues a ≡ true → list_all continues b ≡ true → stops r ≡ true → stops s ≡ true → a ++ r ≡ b ++ s → AreOne a b r s
 same_others [] [] r s h k m n e = record { others = refl; rest = e }

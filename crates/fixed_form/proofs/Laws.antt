@@ -9,6 +9,7 @@ use Rattle.std.proofs.lemmas.List.Folds.{list_any-append}
 use Rattle.ast.specs.declared.refusal.Refusal.{Refusal}
 use Rattle.ast.specs.declared.refusal.Refusal.TheVariants.{Memory, Refused}
 use Rattle.ast.specs.Answers.{Break, Gives, Says}
+use Rattle.ast.proofs.Lists.{not_empty, one_longer}
 use Rattle.fixed_form.specs.declared.label.LabelField.TheVariants.{Blank, Label, Malformed}
 use Rattle.fixed_form.specs.declared.line.Class.{Class}
 use Rattle.fixed_form.specs.declared.line.Class.TheVariants as class
@@ -175,9 +176,6 @@ or_none false false = refl
 pub ended_after : (front : List (List ℕ)) (line : List ℕ) → list_any is_end_line (front ++ line ∷ []) ≡ (list_any is_end_line front || is_end_line line)
 ended_after front line = list_any-append is_end_line front (line ∷ []) ∙ or_none (list_any is_end_line front) (is_end_line line)
 
-length_after : (front : List (List ℕ)) (line : List ℕ) → length (front ++ line ∷ []) ≡ length front + 1
-length_after front line = omega (arith, length-append front (line ∷ []))
-
 abbrev step_of : List (List ℕ) → List ℕ → List Entry → Result (List Entry × Bool) Break
 step_of front line es = stepped (nat_lt 65535 (length front + 1)) (class_from (is_comment line) (is_readable line) (is_continuation line) (is_empty (label_field line)) (is_label (label_field line)) (digits_value 10 (label_field line))) es (list_any is_end_line front) (length front + 1) line
 
@@ -225,12 +223,8 @@ took front line es s = by (first_broken rules front line) refl (steps (nat_lt 65
 
 -- ---- all lines
 
-no_cut : (front : List (List ℕ)) (line : List ℕ) (back : List (List ℕ)) → [] ≡ front ++ line ∷ back → ⊥
-no_cut [] line back e = cc
-no_cut (x ∷ front) line back e = cc
-
 unbroken_none : AreUnbroken []
-unbroken_none = record { each = λ front line back e. absurd (no_cut front line back e) }
+unbroken_none = record { each = λ front line back e. absurd (not_empty front line back e) }
 
 not_longer : (front : List (List ℕ)) (line : List ℕ) (more back : List (List ℕ)) (x : List ℕ) → front ++ line ∷ [] ≡ (front ++ line ∷ more) ++ x ∷ back → ⊥
 not_longer front line more back x e = omega (arith, length-append front (line ∷ []), length-append (front ++ line ∷ more) (x ∷ back), length-append front (line ∷ more), ap length e)
@@ -265,7 +259,7 @@ reads front (line ∷ lines) es u s = next (λ fs v t. reads (front ++ line ∷ 
     next : ((fs : List Entry) → AreUnbroken (front ++ line ∷ []) → Stands (front ++ line ∷ []) fs → Answers ((front ++ line ∷ []) ++ lines) (read_on fs (length (front ++ line ∷ [])) (list_any is_end_line (front ++ line ∷ [])) lines)) → (o : Option ℕ) → first_broken rules front line ≡ o → Took front line es o → Answers (front ++ line ∷ lines) (step_of front line es >>= after_step (length front + 1) lines)
     next more None e t =
         let r = more t.after (unbroken_more front line u e) t.stands in
-        let r2 = subst (λ (n : ℕ). Answers ((front ++ line ∷ []) ++ lines) (read_on t.after n (list_any is_end_line (front ++ line ∷ [])) lines)) (length_after front line) r in
+        let r2 = subst (λ (n : ℕ). Answers ((front ++ line ∷ []) ++ lines) (read_on t.after n (list_any is_end_line (front ++ line ∷ [])) lines)) (one_longer front line) r in
         let r3 = subst (λ (ls : List (List ℕ)). Answers ls (read_on t.after (length front + 1) (list_any is_end_line (front ++ line ∷ [])) lines)) (append_assoc front (line ∷ []) lines) r2 in
         subst (λ (q : Result (List Entry × Bool) Break). Answers (front ++ line ∷ lines) (q >>= after_step (length front + 1) lines)) (sym t.gives) r3
     next more (Some rule) e t = subst (λ (q : Result (List Entry × Bool) Break). Answers (front ++ line ∷ lines) (q >>= after_step (length front + 1) lines)) (sym t) (inl (record { front = front; line = line; back = lines; cut = refl; unbroken = u; broken = e; place = refl }))

@@ -18,7 +18,7 @@ further z a c x y (inl s) = inl (record { fronts = ap (λ l. z ∷ l) s.fronts; 
 further z a c x y (inr (inl s)) = inr (inl (record { between = s.between; longer = ap (λ l. z ∷ l) s.longer }))
 further z a c x y (inr (inr s)) = inr (inr (record { between = s.between; longer = ap (λ l. z ∷ l) s.longer }))
 
-heads : {X : Type 0} (z w : X) (a c : List X) → z ∷ a ≡ w ∷ c → (z ≡ w) × (a ≡ c)
+pub heads : {X : Type 0} (z w : X) (a c : List X) → z ∷ a ≡ w ∷ c → (z ≡ w) × (a ≡ c)
 heads z w a c e = (cc, cc)
 
 pub places : {X : Type 0} (a b c d : List X) (x y : X) → a ++ x ∷ b ≡ c ++ y ∷ d → Places a c x y

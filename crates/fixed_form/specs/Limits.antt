@@ -1,4 +1,5 @@
--- The limits of the fixed form, by the standard (ANSI X3.9-1978, 3.1 to 3.4); the greatest line is the profile's.
+-- The limits of the fixed form, by the standard (ANSI X3.9-1978, 3.1 to 3.4); the greatest line is
+-- the profile's.
 use Rattle.std.specs.Prelude.{ℕ, ◌+◌, ◌-◌, ◌*◌, Bool, true, ◌&&◌, nat_le, Option, Some, None}
 
 -- A label stands in columns 1 to 5.

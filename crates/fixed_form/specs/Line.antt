@@ -1,4 +1,5 @@
--- One line of a source: its columns, and what they say. By the standard (ANSI X3.9-1978, 3.1 to 3.4) where nothing else is said.
+-- One line of a source: its columns, and what they say. By the standard (ANSI X3.9-1978, 3.1 to
+-- 3.4) where nothing else is said.
 use Rattle.std.specs.Prelude.{ℕ, zero, suc, ◌+◌, ◌-◌, Bool, true, false, not, ◌&&◌, ◌||◌, nat_eq, nat_lt, nat_le, ◌==◌, if◌then◌else◌, List, [], ◌∷◌, Option, Some, None, drop, map, slice_index_or, codes}
 use Rattle.std.specs.List.{filter, list_all, list_any}
 use Rattle.std.specs.Char.{is_ascii_digit, to_ascii_uppercase}
@@ -45,7 +46,8 @@ is_printable c = nat_le 32 c && nat_le c 126
 abbrev pub is_readable : List ℕ → Bool
 is_readable line = list_all is_printable (columns 1 last_column line)
 
--- A line that is no comment is a continuation line where column 6 is neither blank nor 0, and an initial line elsewhere.
+-- A line that is no comment is a continuation line where column 6 is neither blank nor 0, and an
+-- initial line elsewhere.
 abbrev pub is_continuation : List ℕ → Bool
 is_continuation line = not (is_among (codes " 0") (column continuation_column line))
 
@@ -65,6 +67,7 @@ is_empty (c ∷ cs) = false
 abbrev pub is_label : List ℕ → Bool
 is_label field = list_all is_ascii_digit field && nat_lt 0 (digits_value 10 field)
 
+-- the label of a line, if its label field has one
 abbrev pub label_of : List ℕ → Option ℕ
 label_of line = if is_label (label_field line) then Some (digits_value 10 (label_field line)) else None
 

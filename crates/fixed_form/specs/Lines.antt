@@ -1,11 +1,13 @@
--- The labelled statements of a source text, and the rules of its lines, by the standard (ANSI X3.9-1978, 3.2 to 3.5) and the profile.
+-- The labelled statements of a source text, and the rules of its lines, by the standard (ANSI
+-- X3.9-1978, 3.2 to 3.5) and the profile.
 use Rattle.std.specs.Prelude.{◌≡◌, ◌⊎◌, ⊤, ℕ, ◌+◌, ◌<◌, Bool, true, false, not, ◌&&◌, nat_lt, nat_le, if◌then◌else◌, List, [], ◌∷◌, ◌++◌, Option, Some, None, length, take, reverse, map}
 use Rattle.std.specs.List.{list_any, list_all, flat_map, prefix_len}
 use Rattle.bstr.specs.Text.{lines_of, without_terminator}
 use Rattle.fixed_form.specs.Limits.{text_width, most_continuations, greatest_line}
 use Rattle.fixed_form.specs.Line.{part_of, is_comment, is_readable, is_continuation, is_empty, is_label, label_field, label_of, is_end, is_end_line}
 
--- The lines of a text are cut at LF, and one CR before an LF is left out; what stands after the last LF is a line if it isn't empty.
+-- The lines of a text are cut at LF, and one CR before an LF is left out; what stands after the
+-- last LF is a line if it isn't empty.
 abbrev pub lines_in : List ℕ → List (List ℕ)
 lines_in text = map without_terminator (lines_of text)
 
@@ -25,7 +27,8 @@ cards lines = cards_from 1 lines
 abbrev pub continues : Card → Bool
 continues c = is_continuation c.line
 
--- A rule of lines, by the number of its refusal: whether a line that stands after the lines of a front breaks it.
+-- A rule of lines, by the number of its refusal: whether a line that stands after the lines of a
+-- front breaks it.
 pub record Rule : Type 0 where
   pub number : ℕ
   pub is_broken : List (List ℕ) → List ℕ → Bool

@@ -1,4 +1,5 @@
--- Reading line by line: what the private functions answer. The laws of proofs/ join it to the relations of `Lines`.
+-- Reading line by line: what the private functions answer. The laws of proofs/ join it to the
+-- relations of `Lines`.
 use Rattle.std.specs.Prelude.{ℕ, ◌+◌, Bool, false, not, nat_lt, nat_le, if◌then◌else◌, List, [], ◌∷◌, ◌++◌, Option, Some, None, length, Result, Ok, Err}
 use Rattle.std.specs.Str.Parse.{digits_value}
 use Rattle.ast.specs.Answers.{Break}

@@ -9,5 +9,5 @@ mod reading;
 
 pub use ast::Refusal as LineRefusal;
 pub use labelled::Labelled;
-pub use line::{TEXT_WIDTH, is_end};
+pub use line::{LAST_COLUMN, LAST_LABEL_COLUMN, TEXT_WIDTH, is_end};
 pub use reading::statements;

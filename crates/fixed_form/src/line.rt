@@ -10,13 +10,13 @@ use crate::label::{LabelField, read_label};
 use std::alloc::AllocError;
 
 /// The last column of a label.
-const LAST_LABEL_COLUMN: usize = 5;
+pub const LAST_LABEL_COLUMN: usize = 5;
 
 /// The column that tells a continuation line. The statement's text stands behind it.
 const CONTINUATION_COLUMN: usize = 6;
 
 /// The last column that is read.
-const LAST_COLUMN: usize = 72;
+pub const LAST_COLUMN: usize = 72;
 
 /// The columns of a statement's text on one line.
 pub const TEXT_WIDTH: usize = LAST_COLUMN - CONTINUATION_COLUMN;

@@ -36,6 +36,10 @@ pub fn write_all<W: Write>(writer: &mut W, text: &[u8]) -> Result<()>
 }
 
 /// Hands on what is pending. Nothing is then pending, also where the writer failed.
+///
+/// # Errors
+///
+/// The writer's error, with a beginning of what was pending written, not all of it.
 pub fn hand_on<W: Write>(pending: &mut Vec<u8>, writer: &mut W) -> Result<()>
     ensures ok { OnOk result
         (Appends (W.contents writer.old) (W.contents writer.new) pending.old.items) }

@@ -9,8 +9,8 @@ use Rattle.ast.specs.Program.{ProgramTree}
 use Rattle.ast.specs.Store.{StoreOf, same_name, value_at, values_from}
 use Rattle.ast.specs.Symbols.{Symbol, size, cells_of}
 use Rattle.ast.specs.declared.answer.Answer.{Answer}
+use Rattle.ast.proofs.SameNames.{same_is}
 use Rattle.tree_run.specs.Answers.{IsAnswer}
-use Rattle.tree_run.proofs.Finding.{same}
 use Rattle.interpreter.specs.Answers.{HoldsValues, element_value}
 
 value_listed : (f : ℕ → ℤ) (k n p : ℕ) → slice_get (values_from f k n) p ≡ (if nat_lt p n then Some (f (k + p)) else None)
@@ -29,7 +29,7 @@ element_held (s ∷ ss) store x p = by (same_name s.name x) refl (element_held s
     by true e h =
         value_listed (store s.name) 0 (size s.sort) p
         ∙ ap (λ (i : ℕ). if nat_lt p (size s.sort) then Some (store s.name i) else None) (omega arith)
-        ∙ ap (λ (n : List ℕ). if nat_lt p (size s.sort) then Some (store n p) else None) (same s.name x e)
+        ∙ ap (λ (n : List ℕ). if nat_lt p (size s.sort) then Some (store n p) else None) (same_is s.name x e)
     by false e h = h
 
 values_told : (program : ProgramTree) (input : List ℕ) (answer : Answer) → IsAnswer program input answer → HoldsValues program input answer

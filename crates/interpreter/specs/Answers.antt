@@ -17,13 +17,15 @@ use Rattle.interpreter.specs.declared.run_end.RunEnd.{RunEnd}
 use Rattle.interpreter.specs.declared.run_end.RunFault.{RunFault}
 use Rattle.interpreter.specs.declared.run_end.RunFault.TheVariants as faults
 
--- what a store has for a name at a place, where one of the symbols has that name and such an element
+-- what a store has for a name at a place, where one of the symbols has that name and such an
+-- element
 abbrev pub element_value : List Symbol → StoreOf → List ℕ → ℕ → Option ℤ
 element_value [] store name place = None
 element_value (s ∷ symbols) store name place =
     if same_name s.name name then (if nat_lt place (size s.sort) then Some (store name place) else None) else element_value symbols store name place
 
--- The store of the answer holds, for each name at each place, what the program's meaning leaves there.
+-- The store of the answer holds, for each name at each place, what the program's meaning leaves
+-- there.
 abbrev pub HoldsValues : ProgramTree → List ℕ → Answer → Type 0
 HoldsValues program input answer =
     (name : List ℕ) (place : ℕ) → value_at (cells answer.store) name place ≡ element_value program.symbols (seq program input).store name place
@@ -36,8 +38,8 @@ ended (Err (Fails f l)) = Ok (Faulted f l)
 ended (Err (Stops l)) = Ok (Stopped l)
 
 -- A writer's known bytes grew by the output of a run, and the ending is that of the run; or by a
--- beginning of its output, where there was no memory, and where the writer failed one of which something
--- is missing.
+-- beginning of its output, where there was no memory, and where the writer failed one of which
+-- something is missing.
 abbrev pub Came : List Symbol → Run → Option (List ℕ) → Option (List ℕ) → Result RunEnd RunFault → Type 0
 Came symbols run old new (Ok ending) = Appends old new run.output × (ending.end ≡ run.end) × (cells ending.store ≡ cells_of symbols run.store)
 Came symbols run old new (Err faults.Memory) = (got : List ℕ) × Appends old new got × Begins got run.output

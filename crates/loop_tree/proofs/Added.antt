@@ -5,9 +5,10 @@ use Rattle.ast.specs.Tree.{Arms, Block, DoHead, Term, arms as arms_of, choose, l
 use Rattle.ast.specs.View.{arm as arm_of, block_view, optional_term}
 use Rattle.ast.specs.declared.tree.Arm.{Arm}
 use Rattle.ast.specs.declared.tree.Node.{Node}
+use Rattle.ast.proofs.Nodes.{condition_of}
 use Rattle.loop_tree.specs.Collecting.{Collected, after_arms, after_block, after_node, begun, ended, with_line}
 use Rattle.loop_tree.specs.Occurrences.{Occurrence, first_line, optional_occurrences}
-use Rattle.loop_tree.proofs.Nodes.{body_of, condition_of}
+use Rattle.loop_tree.proofs.Nodes.{body_of}
 use Rattle.loop_tree.proofs.Passing.{next}
 
 -- a loop, whose place is the number of those before it

@@ -1,16 +1,17 @@
 -- What is collected on the way through a program are its lines, its references and its loops.
 use Rattle.std.proofs.Common.{◌≡◌, ◌∙◌, ap, sym, refl, ℕ, List, [], ◌∷◌, map, length, arith}
 use Rattle.std.proofs.lemmas.Bool.{le-leb}
-use Rattle.std.proofs.lemmas.List.{append_assoc, length-append, length-map, map-append}
+use Rattle.std.proofs.lemmas.List.{append_assoc, length-append, length-map, map-append, append-nil}
 use Rattle.std.proofs.Math.Seq.{take-append_seam, drop-append_seam}
 use Rattle.std.specs.Prelude.{◌+◌, ◌-◌, ◌++◌, take, drop, Bool, true, nat_le, ◌&&◌, if◌then◌else◌, Option, Some, None}
 use Rattle.ast.specs.Tree.{DoHead, Node, plain, loop, choose, Block, no_nodes, then_node, Arms, no_arms, then_arm}
+use Rattle.ast.proofs.Lists.{one_longer}
 use Rattle.loop_tree.specs.Collecting.{Span, Collected, span_at, begun, with_end, ended_at, ended, after_node, after_block, after_arms, no_collected, part, loop_by, loops_in}
 use Rattle.loop_tree.specs.Loops.{Loop, loop_at, node_loops, block_loops, arms_loops, loops_of}
 use Rattle.loop_tree.specs.Occurrences.{Occurrence, first_line, head_occurrences, kind_occurrences, optional_occurrences, node_lines, block_lines, arms_lines, node_occurrences, block_occurrences, arms_occurrences}
 
--- The loops of statements that are numbered from n on, by the places of their references; k loops and
--- f references come before.
+-- The loops of statements that are numbered from n on, by the places of their references; k loops
+-- and f references come before.
 abbrev mutual
   node_spans : Option ℕ → ℕ → ℕ → ℕ → Node → List Span
   node_spans around k n f (plain s) = []
@@ -42,10 +43,6 @@ same {ls} {ms} {rs} {os} {ss} {ts} p q r = ap (λ x. collected_of x rs ss) p ∙
 
 twice : (c : Collected) (ls ms : List ℕ) (rs os : List Occurrence) (ss ts : List Span) → grown (grown c ls rs ss) ms os ts ≡ grown c (ls ++ ms) (rs ++ os) (ss ++ ts)
 twice c ls ms rs os ss ts = same (append_assoc c.lines ls ms) (append_assoc c.references rs os) (append_assoc c.spans ss ts)
-
-nothing_more : {X : Type 0} (xs : List X) → xs ++ [] ≡ xs
-nothing_more [] = refl
-nothing_more (x ∷ xs) = ap (λ ys. x ∷ ys) (nothing_more xs)
 
 -- ---- what a part adds
 
@@ -86,12 +83,9 @@ range_added around l h b c ls rs ss =
     ∙ ap (λ n. c.spans ++ with_end n (span_at around (length c.lines) l h b g) ∷ ss) (length-append (c.references ++ hs) rs)
     ∙ ap (λ n. c.spans ++ with_end (n + length rs) (span_at around (length c.lines) l h b n) ∷ ss) (length-append c.references hs))
 
-one_longer : {X : Type 0} (xs : List X) (x : X) → length (xs ++ x ∷ []) ≡ length xs + 1
-one_longer xs x = length-append xs (x ∷ [])
-
 mutual
   node_gathered : (around : Option ℕ) (x : Node) (c : Collected) → after_node around x c ≡ with_node_from around (length c.spans) (length c.lines) (length c.references) x c
-  node_gathered around (plain s) c = ap (λ ss. collected_of (c.lines ++ s.line ∷ []) (c.references ++ kind_occurrences (length c.lines) s.kind) ss) (sym (nothing_more c.spans))
+  node_gathered around (plain s) c = ap (λ ss. collected_of (c.lines ++ s.line ∷ []) (c.references ++ kind_occurrences (length c.lines) s.kind) ss) (sym (append-nil c.spans))
   node_gathered around (loop l h b) c =
       let hs = head_occurrences (length c.lines) h in
       let d = begun around l h b c in
@@ -106,7 +100,7 @@ mutual
       ∙ same (append_assoc c.lines (first_line a ∷ []) (arms_lines a)) refl refl
 
   block_gathered : (around : Option ℕ) (b : Block) (c : Collected) → after_block around b c ≡ with_block_from around (length c.spans) (length c.lines) (length c.references) b c
-  block_gathered around no_nodes c = sym (same (nothing_more c.lines) (nothing_more c.references) (nothing_more c.spans))
+  block_gathered around no_nodes c = sym (same (append-nil c.lines) (append-nil c.references) (append-nil c.spans))
   block_gathered around (then_node x b) c =
       let ls = node_lines x in
       let rs = node_occurrences (length c.lines) x in
@@ -118,7 +112,7 @@ mutual
       ∙ twice c ls (block_lines b) rs (block_occurrences (length c.lines + length ls) b) ss (block_spans around (length c.spans + length ss) (length c.lines + length ls) (length c.references + length rs) b)
 
   arms_gathered : (around : Option ℕ) (i : ℕ) (a : Arms) (c : Collected) → after_arms around i a c ≡ with_arms_from around (length c.spans) i (length c.lines) (length c.references) a c
-  arms_gathered around i no_arms c = sym (same (nothing_more c.lines) (nothing_more c.references) (nothing_more c.spans))
+  arms_gathered around i no_arms c = sym (same (append-nil c.lines) (append-nil c.references) (append-nil c.spans))
   arms_gathered around i (then_arm l e b more) c =
       let os = optional_occurrences i e in
       let c' = collected_of c.lines (c.references ++ os) c.spans in
@@ -229,4 +223,4 @@ lines_gathered c b e = ap (λ (x : Collected). x.lines) (e ∙ block_gathered No
 pub loops_gathered : (c : Collected) (b : Block) → c ≡ after_block None b no_collected → loops_in c ≡ loops_of b
 loops_gathered c b e =
     ap (λ (x : Collected). loops_in x) (e ∙ block_gathered None b no_collected)
-    ∙ block_shown None 0 0 0 b (block_occurrences 0 b) (record { front = []; back = []; is = sym (nothing_more (block_occurrences 0 b)); at = refl })
+    ∙ block_shown None 0 0 0 b (block_occurrences 0 b) (record { front = []; back = []; is = sym (append-nil (block_occurrences 0 b)); at = refl })

@@ -1,27 +1,20 @@
 -- What holds of all references of statements holds of those that their loops show.
-use Rattle.std.proofs.Common.{◌≡◌, ◌∙◌, ap, sym, refl, ℕ, List, [], ◌∷◌, subst}
-use Rattle.std.proofs.lemmas.Bool.{and_parts}
+use Rattle.std.proofs.Common.{◌≡◌, ◌∙◌, sym, refl, ℕ, List, [], ◌∷◌, subst}
+use Rattle.std.proofs.lemmas.Bool.{and_parts, and_from}
 use Rattle.std.proofs.lemmas.List.Folds.{list_all-append}
-use Rattle.std.specs.Prelude.{◌+◌, ◌++◌, length, Bool, true, false, ◌&&◌, if◌then◌else◌, Option, Some, None}
+use Rattle.std.specs.Prelude.{◌+◌, ◌++◌, length, Bool, true, false, if◌then◌else◌, Option, Some, None}
 use Rattle.std.specs.List.{list_all}
 use Rattle.ast.specs.References.{term_references, terms_references, optional, kind_expressions, head_expressions, node_expressions, block_expressions, arms_expressions, expressions_references, block_references}
 use Rattle.ast.specs.Tree.{Ref, Term, Terms, element, no_terms, then_term, Access, accessed, DoHead, Kind, program, integer, dimension, parameters, assign, do_loop, go_on, block_if, else_if, else_arm, end_if, logical_if, print, read, stop, end, Node, plain, loop, choose, Block, no_nodes, then_node, Arms, no_arms, then_arm}
+use Rattle.ast.proofs.Lists.{all_joined, all_right, all_weaker}
+use Rattle.ast.proofs.References.{references_append}
 use Rattle.loop_tree.specs.Loops.{Loop, has_cell, with_scalar, with_named, with_target, with_targets, with_kind, with_node, with_block, with_arms, loop_at, node_loops, block_loops, arms_loops}
 use Rattle.loop_tree.specs.Occurrences.{node_lines, block_lines, block_occurrences}
 use Rattle.loop_tree.specs.Told.{references, is_told, are_told, known}
-use Rattle.loop_tree.proofs.References.{block_same, expressions_append}
-
-true_both : (b c : Bool) → b ≡ true → c ≡ true → (b && c) ≡ true
-true_both b c h k = ap (λ (x : Bool). x && c) h ∙ k
+use Rattle.loop_tree.proofs.References.{block_same}
 
 pub all_left : {X : Type 0} (p : X → Bool) (xs ys : List X) → list_all p (xs ++ ys) ≡ true → list_all p xs ≡ true
 all_left p xs ys h = (and_parts (list_all p xs) (list_all p ys) (sym (list_all-append p xs ys) ∙ h)).0
-
-pub all_right : {X : Type 0} (p : X → Bool) (xs ys : List X) → list_all p (xs ++ ys) ≡ true → list_all p ys ≡ true
-all_right p xs ys h = (and_parts (list_all p xs) (list_all p ys) (sym (list_all-append p xs ys) ∙ h)).1
-
-pub all_both : {X : Type 0} (p : X → Bool) (xs ys : List X) → list_all p xs ≡ true → list_all p ys ≡ true → list_all p (xs ++ ys) ≡ true
-all_both p xs ys h k = list_all-append p xs ys ∙ true_both (list_all p xs) (list_all p ys) h k
 
 -- ---- scalars that are given values
 
@@ -32,14 +25,14 @@ abbrev HoldsIn : (Ref → Bool) → List Term → Type 0
 HoldsIn p es = list_all p (expressions_references es) ≡ true
 
 only : (p : Ref → Bool) (r : Ref) → p r ≡ true → Holds p (r ∷ [])
-only p r h = true_both (p r) true h refl
+only p r h = and_from (p r) true h refl
 
 with_one : (p : Ref → Bool) (rs : List Ref) (r : Ref) → Holds p rs → p r ≡ true → Holds p (with_scalar rs r)
 with_one p rs r h k = by (has_cell r.cell rs)
   where
     by : (b : Bool) → Holds p (if b then rs else rs ++ r ∷ [])
     by true = h
-    by false = all_both p rs (r ∷ []) h (only p r k)
+    by false = all_joined p rs (r ∷ []) h (only p r k)
 
 last_holds : (p : Ref → Bool) (rs : List Ref) (r : Ref) → Holds p (rs ++ r ∷ []) → p r ≡ true
 last_holds p rs r h = (and_parts (p r) true (all_right p rs (r ∷ []) h)).0
@@ -81,14 +74,14 @@ variable_holds p h k =
     let vars = element h.variable no_terms ∷ [] in
     let rest = expressions_references (optional h.step ++ vars) in
     let behind = all_right p (term_references h.last) rest (all_right p (term_references h.first) (term_references h.last ++ rest) k) in
-    let all = subst (λ rs. Holds p rs) (expressions_append (optional h.step) vars) behind in
+    let all = subst (λ rs. Holds p rs) (references_append (optional h.step) vars) behind in
     last_holds p (expressions_references (optional h.step)) h.variable all
 
 in_left : (p : Ref → Bool) (es fs : List Term) → HoldsIn p (es ++ fs) → HoldsIn p es
-in_left p es fs h = all_left p (expressions_references es) (expressions_references fs) (subst (λ rs. Holds p rs) (expressions_append es fs) h)
+in_left p es fs h = all_left p (expressions_references es) (expressions_references fs) (subst (λ rs. Holds p rs) (references_append es fs) h)
 
 in_right : (p : Ref → Bool) (es fs : List Term) → HoldsIn p (es ++ fs) → HoldsIn p fs
-in_right p es fs h = all_right p (expressions_references es) (expressions_references fs) (subst (λ rs. Holds p rs) (expressions_append es fs) h)
+in_right p es fs h = all_right p (expressions_references es) (expressions_references fs) (subst (λ rs. Holds p rs) (references_append es fs) h)
 
 mutual
   node_holds : (p : Ref → Bool) (rs : List Ref) (x : Node) → Holds p rs → HoldsIn p (node_expressions x) → Holds p (with_node rs x)
@@ -116,14 +109,14 @@ Shown p ls = list_all (λ (l : Loop). list_all p (known l)) ls ≡ true
 loop_shows : (p : Ref → Bool) (around : Option ℕ) (n line : ℕ) (h : DoHead) (b : Block) → HoldsIn p (head_expressions h ++ block_expressions b) → list_all p (known (loop_at around n line h b)) ≡ true
 loop_shows p around n line h b k =
     let inside = in_right p (head_expressions h) (block_expressions b) k in
-    true_both (p h.variable) (list_all p (with_block [] b ++ references (block_occurrences (n + 1) b))) (variable_holds p h (in_left p (head_expressions h) (block_expressions b) k))
-    (all_both p (with_block [] b) (references (block_occurrences (n + 1) b)) (block_holds p [] b refl inside) (subst (λ rs. Holds p rs) (sym (block_same (n + 1) b)) inside))
+    and_from (p h.variable) (list_all p (with_block [] b ++ references (block_occurrences (n + 1) b))) (variable_holds p h (in_left p (head_expressions h) (block_expressions b) k))
+    (all_joined p (with_block [] b) (references (block_occurrences (n + 1) b)) (block_holds p [] b refl inside) (subst (λ rs. Holds p rs) (sym (block_same (n + 1) b)) inside))
 
 mutual
   node_shows : (p : Ref → Bool) (around : Option ℕ) (k n : ℕ) (x : Node) → HoldsIn p (node_expressions x) → Shown p (node_loops around k n x)
   node_shows p around k n (plain s) h = refl
   node_shows p around k n (loop l d b) h =
-      true_both (list_all p (known (loop_at around n l d b))) (list_all (λ (m : Loop). list_all p (known m)) (block_loops (Some (k + 1)) (k + 1) (n + 1) b))
+      and_from (list_all p (known (loop_at around n l d b))) (list_all (λ (m : Loop). list_all p (known m)) (block_loops (Some (k + 1)) (k + 1) (n + 1) b))
       (loop_shows p around n l d b h)
       (block_shows p (Some (k + 1)) (k + 1) (n + 1) b (in_right p (head_expressions d) (block_expressions b) h))
   node_shows p around k n (choose a) h = arms_show p around k (n + 1) a h
@@ -131,7 +124,7 @@ mutual
   pub block_shows : (p : Ref → Bool) (around : Option ℕ) (k n : ℕ) (b : Block) → HoldsIn p (block_expressions b) → Shown p (block_loops around k n b)
   block_shows p around k n no_nodes h = refl
   block_shows p around k n (then_node x b) h =
-      all_both (λ (l : Loop). list_all p (known l)) (node_loops around k n x) (block_loops around (k + length (node_loops around k n x)) (n + length (node_lines x)) b)
+      all_joined (λ (l : Loop). list_all p (known l)) (node_loops around k n x) (block_loops around (k + length (node_loops around k n x)) (n + length (node_lines x)) b)
       (node_shows p around k n x (in_left p (node_expressions x) (block_expressions b) h))
       (block_shows p around (k + length (node_loops around k n x)) (n + length (node_lines x)) b (in_right p (node_expressions x) (block_expressions b) h))
 
@@ -139,22 +132,18 @@ mutual
   arms_show p around k n no_arms h = refl
   arms_show p around k n (then_arm l c b more) h =
       let first = in_left p (optional c ++ block_expressions b) (arms_expressions more) h in
-      all_both (λ (m : Loop). list_all p (known m)) (block_loops around k n b) (arms_loops around (k + length (block_loops around k n b)) (n + length (block_lines b)) more)
+      all_joined (λ (m : Loop). list_all p (known m)) (block_loops around k n b) (arms_loops around (k + length (block_loops around k n b)) (n + length (block_lines b)) more)
       (block_shows p around k n b (in_right p (optional c) (block_expressions b) first))
       (arms_show p around (k + length (block_loops around k n b)) (n + length (block_lines b)) more (in_right p (optional c ++ block_expressions b) (arms_expressions more) h))
 
 -- ---- what cells tell
 
-pub weaker : {X : Type 0} (a b : X → Bool) (xs : List X) → ((x : X) → a x ≡ true → b x ≡ true) → list_all a xs ≡ true → list_all b xs ≡ true
-weaker a b [] f h = refl
-weaker a b (x ∷ xs) f h = let p = and_parts (a x) (list_all a xs) h in true_both (b x) (list_all b xs) (f x p.0) (weaker a b xs f p.1)
-
 told_by : (rs : List Ref) (ls : List Loop) → are_told rs ≡ true → ((p : Ref → Bool) → list_all p rs ≡ true → Shown p ls) → list_all (λ (l : Loop). are_told (known l)) ls ≡ true
 told_by rs [] h f = refl
 told_by rs (l ∷ ls) h f =
     let first = λ (p : Ref → Bool) (k : list_all p rs ≡ true). and_parts (list_all p (known l)) (list_all (λ (m : Loop). list_all p (known m)) ls) (f p k) in
-    true_both (are_told (known l)) (list_all (λ (m : Loop). are_told (known m)) ls)
-    (first (λ r. list_all (λ s. is_told r s) (known l)) (weaker (λ r. list_all (λ s. is_told r s) rs) (λ r. list_all (λ s. is_told r s) (known l)) rs (λ r k. (first (λ s. is_told r s) k).0) h)).0
+    and_from (are_told (known l)) (list_all (λ (m : Loop). are_told (known m)) ls)
+    (first (λ r. list_all (λ s. is_told r s) (known l)) (all_weaker (λ r. list_all (λ s. is_told r s) rs) (λ r. list_all (λ s. is_told r s) (known l)) rs (λ r k. (first (λ s. is_told r s) k).0) h)).0
     (told_by rs ls h (λ p k. (first p k).1))
 
 pub loops_told : (b : Block) → are_told (block_references b) ≡ true → list_all (λ (l : Loop). are_told (known l)) (block_loops None 0 0 b) ≡ true

@@ -16,4 +16,3 @@ pub mod Program
 pub mod Ranges
 pub mod References
 pub mod RegularLoops
-pub mod Terms

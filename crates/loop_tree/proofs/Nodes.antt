@@ -1,41 +1,17 @@
 -- Statements and arms of an IF, seen as trees.
-use Rattle.std.proofs.Common.{◌≡◌, ◌∙◌, ℕ, Vec, Global, List, Result, sym, ap, subst, map, rules}
+use Rattle.std.proofs.Common.{◌≡◌, ◌∙◌, List, Result, sym, ap, subst, rules}
 use Rattle.std.specs.Prelude.{OnOk}
 use Rattle.ast.specs.Tree as tree
-use Rattle.ast.specs.Tree.{Block, Term, arms as arms_of, choose, loop, plain}
-use Rattle.ast.specs.View.{arm as arm_of, arm_step, block_view, head as head_of, node as node_of, node_step, optional_term, statement}
-use Rattle.ast.specs.declared.statement.DoHead.{DoHead}
-use Rattle.ast.specs.declared.statement.Stmt.{Stmt}
+use Rattle.ast.specs.Tree.{Block, Term}
+use Rattle.ast.specs.View.{arm as arm_of, arm_step, block_view, node_step}
 use Rattle.ast.specs.declared.tree.Arm.{Arm, fold_out-Arm}
-use Rattle.ast.specs.declared.tree.Node.{Node, Node-F, fold-roll-Node}
-use Rattle.ast.specs.declared.tree.Node.TheVariants.{Choice, Loop, Plain, rolls-Choice, rolls-Loop, rolls-Plain}
-
-pub plain_of : (n : Node) (s : Stmt) → n ≡ Plain s → node_of n ≡ plain (statement s)
-plain_of n s is = ap node_of is ∙ ap node_of (sym (rolls-Plain s)) ∙ fold-roll-Node tree.Node tree.Arm node_step arm_step (Node-F.Plain s)
-
--- the same with parts that stand elsewhere
-pub loop_of : (n : Node) (l : ℕ) (h : DoHead) (range : Vec Node Global) (ns : List Node) → n ≡ Loop l h range → ns ≡ range.items → node_of n ≡ loop l (head_of h) (block_view ns)
-loop_of n l h range ns is same =
-    ap node_of is
-    ∙ ap node_of (sym (rolls-Loop l h range))
-    ∙ fold-roll-Node tree.Node tree.Arm node_step arm_step (Node-F.Loop l h range)
-    ∙ ap (λ (ms : List Node). loop l (head_of h) (block_view ms)) (sym same)
-
-pub choice_of : (n : Node) (all : Vec Arm Global) (xs : List Arm) → n ≡ Choice all → xs ≡ all.items → node_of n ≡ choose (arms_of (map arm_of xs))
-choice_of n all xs is same =
-    ap node_of is
-    ∙ ap node_of (sym (rolls-Choice all))
-    ∙ fold-roll-Node tree.Node tree.Arm node_step arm_step (Node-F.Choice all)
-    ∙ ap (λ (ys : List Arm). choose (arms_of (map arm_of ys))) (sym same)
+use Rattle.ast.specs.declared.tree.Node.{Node}
 
 -- what is so of a statement's tree
 pub of_node : {S X E : Type 0} (does : tree.Node → S) (r : Result X E) (new : S) (t u : tree.Node) → t ≡ u → OnOk r (new ≡ does u) → OnOk r (new ≡ does t)
 of_node does r new t u is h = subst (λ (x : tree.Node). OnOk r (new ≡ does x)) (sym is) h
 
--- the parts of an arm
-pub condition_of : (a : Arm) → (arm_of a).condition ≡ optional_term a.condition
-condition_of a = ap (λ (b : tree.Arm). b.condition) (fold_out-Arm tree.Node tree.Arm node_step arm_step a) ∙ search rules
-
+-- the statements of an arm
 pub body_of : (a : Arm) (ns : List Node) → ns ≡ a.body.items → (arm_of a).body ≡ block_view ns
 body_of a ns same =
     ap (λ (b : tree.Arm). b.body) (fold_out-Arm tree.Node tree.Arm node_step arm_step a) ∙ parts a ∙ ap block_view (sym same) where

@@ -1,25 +1,22 @@
 -- What is appended behind the references that were there.
-use Rattle.std.proofs.Common.{◌≡◌, ◌∙◌, ℤ, Bool, inl, inr, ◌+◌, ◌<◌, ◌≤◌, ℕ, List, [], ◌∷◌, ◌++◌, Result, Ok, Err, sym, ap, subst, length, drop, get_or, map, append_assoc, append-nil, rules}
+use Rattle.std.proofs.Common.{◌≡◌, ◌∙◌, ℤ, Bool, inl, inr, ◌+◌, ◌<◌, ◌≤◌, ℕ, List, [], ◌∷◌, ◌++◌, Result, Ok, Err, sym, ap, subst, length, drop, get_or, map, append_assoc, append-nil}
 use Rattle.std.specs.Prelude.{◌⊎◌, IfOk, IsErr, OnOk}
+use Rattle.std.proofs.lemmas.Result.{on_ok_weaker}
 use Rattle.ast.specs.Tree as tree
 use Rattle.ast.specs.Tree.{Ref, Term, Terms, accessed, terms}
-use Rattle.ast.specs.View.{access, access_step, ref, term, term_step}
-use Rattle.ast.specs.declared.expression.Access.{Access, fold_out-Access}
+use Rattle.ast.specs.View.{access, ref, term}
+use Rattle.ast.specs.declared.expression.Access.{Access}
 use Rattle.ast.specs.declared.expression.Expr.{Expr}
 use Rattle.ast.specs.declared.expression.Expr.TheVariants.{Constant, Parameter, Truth}
 use Rattle.ast.specs.declared.name.Name.{Name}
 use Rattle.loop_tree.specs.Occurrences.{Occurrence, term_occurrences, terms_occurrences}
 use Rattle.loop_tree.proofs.Passing.{next, passed}
-use Rattle.loop_tree.proofs.Terms.{constant_of, parameter_of, truth_of}
+use Rattle.ast.proofs.Terms.{constant_of, parameter_of, truth_of, access_of}
 
 -- a call that failed says nothing
 pub no_answer : {X E : Type 0} (r : Result X E) (P : X → Type 0) → IsErr r → IfOk r P
 no_answer (Ok x) P h = absurd cc
 no_answer (Err e) P h = tt
-
-both : {X E : Type 0} (r : Result X E) (P Q : Type 0) → (P → Q) → OnOk r P → OnOk r Q
-both (Ok x) P Q f h = f h
-both (Err e) P Q f h = tt
 
 -- a leaf without a variable has none
 abbrev pub IsLeaf : Expr → Type 0
@@ -37,28 +34,18 @@ no_more old t n leaf = sym (ap (λ (l : List Occurrence). old ++ l) (none_of t n
 pub of_tree : {X E : Type 0} (r : Result X E) (new old : List Occurrence) (n : ℕ) (t u : Term) → t ≡ u → OnOk r (new ≡ old ++ term_occurrences n u) → OnOk r (new ≡ old ++ term_occurrences n t)
 of_tree r new old n t u is h = subst (λ (x : Term). OnOk r (new ≡ old ++ term_occurrences n x)) (sym is) h
 
--- some, and others behind them
-pub further : {X E : Type 0} (r : Result X E) (old mid new some others all : List Occurrence) → mid ≡ old ++ some → all ≡ some ++ others → OnOk r (new ≡ mid ++ others) → OnOk r (new ≡ old ++ all)
-further r old mid new some others all one is two =
-    both r (new ≡ mid ++ others) (new ≡ old ++ all)
-    (λ h. h ∙ ap (λ (l : List Occurrence). l ++ others) one ∙ append_assoc old some others ∙ ap (λ (l : List Occurrence). old ++ l) (sym is)) two
-
 one_more : (before after old some : List Occurrence) (o : Occurrence) → before ≡ old ++ some → after ≡ before ++ o ∷ [] → after ≡ old ++ (some ++ o ∷ [])
 one_more before after old some o is more = more ∙ ap (λ (l : List Occurrence). l ++ o ∷ []) is ∙ append_assoc old some (o ∷ [])
-
--- an element behind its subscripts
-tree_of : (a : Access) → access a ≡ record { ref = ref a.reference; subscripts = terms (map term a.subscripts.items) }
-tree_of a = fold_out-Access Term tree.Access term_step access_step a ∙ search rules
 
 pub element_more : {X E : Type 0} (r : Result X E) (made : Ref → Terms → Occurrence) (a : Access) (n : ℕ) (old before after : List Occurrence) (es ds : List Expr) → es ≡ a.subscripts.items → ds ≡ a.subscripts.items
     → before ≡ old ++ terms_occurrences n (terms (map term es)) → OnOk r (after ≡ before ++ made (ref a.reference) (terms (map term ds)) ∷ [])
     → OnOk r (after ≡ old ++ (terms_occurrences n (access a).subscripts ++ made (access a).ref (access a).subscripts ∷ []))
 element_more r made a n old before after es ds one other is more =
-    both r (after ≡ before ++ made (ref a.reference) (terms (map term ds)) ∷ []) (after ≡ old ++ (terms_occurrences n (access a).subscripts ++ made (access a).ref (access a).subscripts ∷ []))
+    on_ok_weaker {P = after ≡ before ++ made (ref a.reference) (terms (map term ds)) ∷ []} {Q = after ≡ old ++ (terms_occurrences n (access a).subscripts ++ made (access a).ref (access a).subscripts ∷ [])} r
     (λ h. one_more before after old (terms_occurrences n (terms (map term es))) (made (ref a.reference) (terms (map term ds))) is h
     ∙ ap (λ (l : List Expr). old ++ (terms_occurrences n (terms (map term l)) ++ made (ref a.reference) (terms (map term ds)) ∷ [])) one
     ∙ ap (λ (l : List Expr). old ++ (terms_occurrences n (terms (map term a.subscripts.items)) ++ made (ref a.reference) (terms (map term l)) ∷ [])) other
-    ∙ ap (λ (x : tree.Access). old ++ (terms_occurrences n x.subscripts ++ made x.ref x.subscripts ∷ [])) (sym (tree_of a))) more
+    ∙ ap (λ (x : tree.Access). old ++ (terms_occurrences n x.subscripts ++ made x.ref x.subscripts ∷ [])) (sym (access_of a))) more
 
 -- the same of each of a list, of which one is appended behind another
 module _ {X : Type 0} (one : X → List Occurrence) (all : List X → List Occurrence) where

@@ -1,19 +1,17 @@
 -- Where each reference holds the place of its name, and no name stands twice, cells tell names.
-use Rattle.std.proofs.Common.{◌≡◌, ◌≢◌, ◌∙◌, ap, sym, refl, ℕ, zero, suc, List, [], ◌∷◌, subst}
+use Rattle.std.proofs.Common.{◌≡◌, ◌≢◌, ◌∙◌, ap, sym, refl, ℕ, List, subst}
 use Rattle.std.proofs.lemmas.Bool.{and_parts, eqb-true, eqb-false}
 use Rattle.std.proofs.lemmas.Cmp.{nat_list_eq_equiv}
 use Rattle.std.specs.Prelude.{Bool, true, false, ◌&&◌, ◌==◌, Option, Some, None, slice_get, not}
-use Rattle.std.specs.List.{AllByRecursion, IsDistinct, list_all}
-use Rattle.std.specs.Cmp.Lexicographic.{same_text}
+use Rattle.std.specs.List.{IsDistinct, list_all}
 use Rattle.ast.specs.Program.{is_placed, is_variable, is_variable_named}
 use Rattle.ast.specs.Store.{same_name}
 use Rattle.ast.specs.Symbols.{Symbol, names_of}
 use Rattle.ast.specs.Tree.{Ref}
+use Rattle.ast.proofs.Lists.{all_weaker}
+use Rattle.ast.proofs.SameNames.{same_is}
+use Rattle.ast.proofs.Symbols.{names_differ}
 use Rattle.loop_tree.specs.Told.{iff, is_told, are_told}
-use Rattle.loop_tree.proofs.Known.{weaker}
-
-same : (x y : List ℕ) → same_name x y ≡ true → x ≡ y
-same x y h = same_text x y (sym h)
 
 -- the name at a place
 record Stands (ss : List Symbol) (cell : ℕ) (name : List ℕ) : Type 0 where
@@ -28,20 +26,7 @@ stands ss r h = by (slice_get ss r.cell) refl
     by None e = absurd (let d : false ≡ true = sym (ap (is_variable_named r.name) e) ∙ h in cc)
     by (Some s) e =
         let k : (same_name s.name r.name && is_variable s.sort) ≡ true = sym (ap (is_variable_named r.name) e) ∙ h in
-        record { symbol = s; at = e; named = same s.name r.name (and_parts (same_name s.name r.name) (is_variable s.sort) k).0 }
-
-differs : (x : List ℕ) (ss : List Symbol) (i : ℕ) (s : Symbol) → AllByRecursion (λ n. same_name x n ≡ false) (names_of ss) → slice_get ss i ≡ Some s → same_name x s.name ≡ false
-differs x [] i s h e = cc
-differs x (t ∷ ss) zero s h e = let d : t ≡ s = cc in subst (λ (z : Symbol). same_name x z.name ≡ false) d h.0
-differs x (t ∷ ss) (suc i) s h e = differs x ss i s h.1 e
-
-names_differ : (ss : List Symbol) (i j : ℕ) (s t : Symbol) → IsDistinct same_name (names_of ss) → slice_get ss i ≡ Some s → slice_get ss j ≡ Some t → i ≢ j → same_name s.name t.name ≡ false
-unfolding IsDistinct
-names_differ [] i j s t h e f n = cc e
-names_differ (u ∷ ss) zero zero s t h e f n = absurd (n refl)
-names_differ (u ∷ ss) zero (suc j) s t h e f n = let d : u ≡ s = cc e in subst (λ (z : Symbol). same_name z.name t.name ≡ false) d (differs u.name ss j t h.0 f)
-names_differ (u ∷ ss) (suc i) zero s t h e f n = let d : u ≡ t = cc f in nat_list_eq_equiv.symm s.name t.name ∙ subst (λ (z : Symbol). same_name z.name s.name ≡ false) d (differs u.name ss i s h.0 e)
-names_differ (u ∷ ss) (suc i) (suc j) s t h e f n = names_differ ss i j s t h.1 e f (λ k. n (ap suc k))
+        record { symbol = s; at = e; named = same_is s.name r.name (and_parts (same_name s.name r.name) (is_variable s.sort) k).0 }
 
 one_name : (ss : List Symbol) (i j : ℕ) (x y : List ℕ) → Stands ss i x → Stands ss j y → i ≡ j → same_name x y ≡ true
 one_name ss i j x y a b e =
@@ -63,5 +48,5 @@ told ss r s h a b = by (r.cell == s.cell) refl
 
 pub all_told : (ss : List Symbol) (rs : List Ref) → IsDistinct same_name (names_of ss) → list_all (λ r. is_placed ss r) rs ≡ true → are_told rs ≡ true
 all_told ss rs h k =
-    weaker (λ r. is_placed ss r) (λ r. list_all (λ s. is_told r s) rs) rs
-    (λ r a. weaker (λ s. is_placed ss s) (λ s. is_told r s) rs (λ s b. told ss r s h a b) k) k
+    all_weaker (λ r. is_placed ss r) (λ r. list_all (λ s. is_told r s) rs) rs
+    (λ r a. all_weaker (λ s. is_placed ss s) (λ s. is_told r s) rs (λ s b. told ss r s h a b) k) k

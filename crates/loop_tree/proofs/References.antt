@@ -4,8 +4,10 @@ use Rattle.std.proofs.lemmas.List.{append_assoc, append-nil, map-append}
 use Rattle.std.specs.Prelude.{◌+◌, ◌++◌, length, Option, Some, None}
 use Rattle.ast.specs.References.{term_references, terms_references, optional, items_expressions, kind_expressions, head_expressions, node_expressions, block_expressions, arms_expressions, expressions_references, block_references}
 use Rattle.ast.specs.Tree.{Ref, Term, Terms, constant, truth, parameter, element, call, parentheses, unary, binary, no_terms, then_term, Access, accessed, PrintItem, value_item, text_item, DoHead, Kind, program, integer, dimension, parameters, assign, do_loop, go_on, block_if, else_if, else_arm, end_if, logical_if, print, read, stop, end, Node, plain, loop, choose, Block, no_nodes, then_node, Arms, no_arms, then_arm}
+use Rattle.ast.proofs.References.{references_append}
 use Rattle.loop_tree.specs.Occurrences.{Occurrence, used_at, defined_at, term_occurrences, terms_occurrences, optional_occurrences, target_occurrences, targets_occurrences, items_occurrences, kind_occurrences, head_occurrences, node_lines, block_lines, node_occurrences, block_occurrences, arms_occurrences}
 use Rattle.loop_tree.specs.Told.{references}
+use Rattle.loop_tree.specs.Paths.{Token, uses, used}
 
 both : (os ps : List Occurrence) (rs ss : List Ref) → references os ≡ rs → references ps ≡ ss → references (os ++ ps) ≡ rs ++ ss
 both os ps rs ss h k = map-append (λ (o : Occurrence). o.ref) os ps ∙ ap (λ xs. xs ++ references ps) h ∙ ap (λ xs. rs ++ xs) k
@@ -60,13 +62,8 @@ kind_same n (logical_if e k) = refl
 kind_same n stop = refl
 kind_same n end = refl
 
-pub expressions_append : (es fs : List Term) → expressions_references (es ++ fs) ≡ expressions_references es ++ expressions_references fs
-expressions_append [] fs = refl
-expressions_append (e ∷ es) fs =
-    ap (λ rs. term_references e ++ rs) (expressions_append es fs) ∙ sym (append_assoc (term_references e) (expressions_references es) (expressions_references fs))
-
 joined : (os ps : List Occurrence) (es fs : List Term) → references os ≡ expressions_references es → references ps ≡ expressions_references fs → references (os ++ ps) ≡ expressions_references (es ++ fs)
-joined os ps es fs h k = both os ps (expressions_references es) (expressions_references fs) h k ∙ sym (expressions_append es fs)
+joined os ps es fs h k = both os ps (expressions_references es) (expressions_references fs) h k ∙ sym (references_append es fs)
 
 head_same : (n : ℕ) (h : DoHead) → references (head_occurrences n h) ≡ expressions_references (head_expressions h)
 head_same n h =
@@ -96,3 +93,8 @@ mutual
       joined (optional_occurrences i c ++ block_occurrences n b) (arms_occurrences i (n + length (block_lines b)) more) (optional c ++ block_expressions b) (arms_expressions more)
       (joined (optional_occurrences i c) (block_occurrences n b) (optional c) (block_expressions b) (optional_same i c) (block_same n b))
       (arms_same i (n + length (block_lines b)) more)
+
+-- the steps of references that are used
+pub used_append : (xs ys : List Ref) → used (xs ++ ys) ≡ used xs ++ used ys
+used_append [] ys = refl
+used_append (x ∷ xs) ys = ap (λ (t : List Token). uses x ∷ t) (used_append xs ys)

@@ -103,5 +103,6 @@ loop_by rs s = record {
   assigned = s.assigned;
 }
 
+-- the loops that were collected
 abbrev pub loops_in : Collected → List Loop
 loops_in c = map (loop_by c.references) c.spans

@@ -1,5 +1,5 @@
--- Expressions whose value doesn't depend on variables: of constants, names of constants, operators and
--- intrinsics.
+-- Expressions whose value doesn't depend on variables: of constants, names of constants, operators
+-- and intrinsics.
 use Rattle.std.specs.Prelude.{ℕ, ℤ, pos, if◌then◌else◌, List, Option, Some, None, Err}
 use Rattle.std.specs.Ordering.{int_eq}
 use Rattle.std.specs.Result.{result_ok}
@@ -30,10 +30,11 @@ constant_values es = result_ok (values no_variables es)
 abbrev pub step_of : DoHead → Option ℤ
 step_of h = result_ok (step_value no_variables h.step)
 
+-- how many trips parameters make, where the step isn't 0
 abbrev pub trips_by : ℤ → ℤ → ℤ → Option ℕ
 trips_by m1 m2 m3 = if int_eq m3 (pos 0) then None else Some (trips m1 m2 m3)
 
--- How often a loop's range is gone through, where that is known: all parameters are constant, and the
--- step isn't 0.
+-- How often a loop's range is gone through, where that is known: all parameters are constant, and
+-- the step isn't 0.
 abbrev pub trips_of : DoHead → Option ℕ
 trips_of h = if_some (constant_value h.first) (λ m1. if_some (constant_value h.last) (λ m2. if_some (step_of h) (λ m3. trips_by m1 m2 m3)))

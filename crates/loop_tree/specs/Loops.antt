@@ -18,13 +18,16 @@ abbrev pub with_named : List Ref → Ref → Terms → List Ref
 with_named rs r no_terms = with_scalar rs r
 with_named rs r (then_term e es) = rs
 
+-- with what an assignment or a READ gives a value, where that is a scalar
 abbrev pub with_target : List Ref → Access → List Ref
 with_target rs a = with_named rs a.ref a.subscripts
 
+-- with those of several elements and scalars
 abbrev pub with_targets : List Ref → List Access → List Ref
 with_targets rs [] = rs
 with_targets rs (a ∷ more) = with_targets (with_target rs a) more
 
+-- with those of a statement that holds no others
 abbrev pub with_kind : List Ref → Kind → List Ref
 with_kind rs (assign a e) = with_target rs a
 with_kind rs (read elements) = with_targets rs elements
@@ -45,10 +48,10 @@ abbrev mutual
   with_arms rs no_arms = rs
   with_arms rs (then_arm l c b more) = with_arms (with_block rs b) more
 
--- A loop: the number of the loop around it; the number of its DO among the statements; its line; what
--- its DO says; its range; its step where that is constant, and how often its range is gone through where
--- that is known; the references of its range in order; the scalars that its range gives values, each
--- once, by its first definition.
+-- A loop: the number of the loop around it; the number of its DO among the statements; its line;
+-- what its DO says; its range; its step where that is constant, and how often its range is gone
+-- through where that is known; the references of its range in order; the scalars that its range
+-- gives values, each once, by its first definition.
 pub record Loop : Type 0 where
   pub around : Option ℕ
   pub statement : ℕ
@@ -95,6 +98,7 @@ abbrev mutual
   arms_loops around k n (then_arm l c b more) =
       block_loops around k n b ++ arms_loops around (k + length (block_loops around k n b)) (n + length (block_lines b)) more
 
+-- the loops of a program, in the order of the text
 abbrev pub loops_of : Block → List Loop
 loops_of b = block_loops None 0 0 b
 
@@ -103,6 +107,7 @@ abbrev pub loop_numbered : List Loop → ℕ → Option Loop
 loop_numbered ls zero = None
 loop_numbered ls (suc n) = slice_get ls n
 
+-- each of these loops is so
 abbrev pub AreWhole : List Loop → Type 0
 AreWhole ls = (n : ℕ) (l : Loop) → loop_numbered ls n ≡ Some l → IsWhole l
 

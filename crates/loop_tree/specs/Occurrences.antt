@@ -1,7 +1,7 @@
 -- The references of a program, each with the statement that it belongs to. The statements are a
--- program's nodes, numbered from 0 as the text has them: a DO with its parameters and its variable, an
--- IF with the conditions of all its arms; what stands in a range or in an arm is a statement of its
--- own, so also the statement of a logical IF.
+-- program's nodes, numbered from 0 as the text has them: a DO with its parameters and its variable,
+-- an IF with the conditions of all its arms; what stands in a range or in an arm is a statement of
+-- its own, so also the statement of a logical IF.
 use Rattle.std.specs.Prelude.{ℕ, ◌+◌, ◌-◌, nat_le, slice_get, if◌then◌else◌, Bool, true, false, List, [], ◌∷◌, ◌++◌, length, Option, Some, None}
 use Rattle.ast.specs.Tree.{Ref, Term, Terms, element, call, parentheses, unary, binary, no_terms, then_term, Access, PrintItem, value_item, text_item, DoHead, Kind, assign, print, read, Node, plain, loop, choose, Block, no_nodes, then_node, Arms, no_arms, then_arm}
 
@@ -13,9 +13,11 @@ pub record Occurrence : Type 0 where
   pub defines : Bool
   pub statement : ℕ
 
+-- a reference that is read in statement n
 abbrev pub used_at : ℕ → Ref → Terms → Occurrence
 used_at n r es = record { ref = r; subscripts = es; defines = false; statement = n }
 
+-- a reference that is given a value in statement n
 abbrev pub defined_at : ℕ → Ref → Terms → Occurrence
 defined_at n r es = record { ref = r; subscripts = es; defines = true; statement = n }
 
@@ -33,6 +35,7 @@ abbrev mutual
   terms_occurrences n no_terms = []
   terms_occurrences n (then_term e es) = term_occurrences n e ++ terms_occurrences n es
 
+-- those of an expression that may be absent
 abbrev pub optional_occurrences : ℕ → Option Term → List Occurrence
 optional_occurrences n None = []
 optional_occurrences n (Some e) = term_occurrences n e
@@ -41,18 +44,22 @@ optional_occurrences n (Some e) = term_occurrences n e
 abbrev pub target_occurrences : ℕ → Access → List Occurrence
 target_occurrences n a = terms_occurrences n a.subscripts ++ defined_at n a.ref a.subscripts ∷ []
 
+-- those of elements that are given values, one after another
 abbrev pub targets_occurrences : ℕ → List Access → List Occurrence
 targets_occurrences n [] = []
 targets_occurrences n (a ∷ more) = target_occurrences n a ++ targets_occurrences n more
 
+-- those of an item of a PRINT
 abbrev pub item_occurrences : ℕ → PrintItem → List Occurrence
 item_occurrences n (value_item e) = term_occurrences n e
 item_occurrences n (text_item t) = []
 
+-- those of a PRINT's items
 abbrev pub items_occurrences : ℕ → List PrintItem → List Occurrence
 items_occurrences n [] = []
 items_occurrences n (i ∷ more) = item_occurrences n i ++ items_occurrences n more
 
+-- those of statement n, which holds no others
 abbrev pub kind_occurrences : ℕ → Kind → List Occurrence
 kind_occurrences n (assign a e) = term_occurrences n e ++ target_occurrences n a
 kind_occurrences n (print items) = items_occurrences n items
@@ -64,6 +71,7 @@ abbrev pub head_occurrences : ℕ → DoHead → List Occurrence
 head_occurrences n h =
     term_occurrences n h.first ++ term_occurrences n h.last ++ optional_occurrences n h.step ++ defined_at n h.variable no_terms ∷ []
 
+-- the line of an IF, which its first arm has
 abbrev pub first_line : Arms → ℕ
 first_line no_arms = 0
 first_line (then_arm l c b more) = l

@@ -1,11 +1,11 @@
--- The ways that a part of a program may be gone through, told by what they use and define in order of
--- evaluation.
+-- The ways that a part of a program may be gone through, told by what they use and define in order
+-- of evaluation.
 use Rattle.std.specs.Prelude.{◌≡◌, ◌⊎◌, ℕ, zero, suc, List, [], ◌∷◌, ◌++◌, map, Some, None}
 use Rattle.ast.specs.References.{term_references, terms_references, optional, expressions_references, items_expressions}
 use Rattle.ast.specs.Tree.{Ref, Term, Access, DoHead, Kind, assign, print, read, stop, Node, plain, loop, choose, Block, no_nodes, then_node, Arms, no_arms, then_arm}
 
--- what a path says of one step: a reference is read, or is given a value; an event is awaited, so many
--- iterations back, or advanced
+-- what a path says of one step: a reference is read, or is given a value; an event is awaited, so
+-- many iterations back, or advanced
 pub data Token : Type 0 where
   uses : Ref → Token
   defines : Ref → Token
@@ -31,6 +31,7 @@ abbrev pub Stop : PathSet
 Stop at_end t = ⊥
 Stop at_stop t = t ≡ []
 
+-- a path of one part to its end, and then one of the other
 abbrev pub Joined : PathSet → PathSet → PathSet
 Joined P Q e t = (u : List Token) × (v : List Token) × (t ≡ u ++ v) × P at_end u × Q e v
 
@@ -39,6 +40,7 @@ abbrev pub Then : PathSet → PathSet → PathSet
 Then P Q at_end t = Joined P Q at_end t
 Then P Q at_stop t = P at_stop t ⊎ Joined P Q at_stop t
 
+-- the paths of both
 abbrev pub Either : PathSet → PathSet → PathSet
 Either P Q e t = P e t ⊎ Q e t
 
@@ -51,9 +53,11 @@ Times (suc n) P = Then P (Times n P)
 abbrev pub AnyTimes : PathSet → PathSet
 AnyTimes P e t = (n : ℕ) × Times n P e t
 
+-- these references are read, one after another
 abbrev pub used : List Ref → List Token
 used rs = map (λ r. uses r) rs
 
+-- what an expression reads, in order of evaluation
 abbrev pub term_tokens : Term → List Token
 term_tokens e = used (term_references e)
 
@@ -61,6 +65,7 @@ term_tokens e = used (term_references e)
 abbrev pub target_tokens : Access → List Token
 target_tokens a = used (terms_references a.subscripts) ++ defines a.ref ∷ []
 
+-- elements that are given values, one after another
 abbrev pub targets_tokens : List Access → List Token
 targets_tokens [] = []
 targets_tokens (a ∷ more) = target_tokens a ++ targets_tokens more
@@ -69,6 +74,7 @@ targets_tokens (a ∷ more) = target_tokens a ++ targets_tokens more
 abbrev pub head_tokens : DoHead → List Token
 head_tokens h = used (expressions_references (h.first ∷ h.last ∷ optional h.step)) ++ defines h.variable ∷ []
 
+-- the paths of a statement that holds no others
 abbrev pub KindPaths : Kind → PathSet
 KindPaths (assign a e) = Just (term_tokens e ++ target_tokens a)
 KindPaths (print items) = Just (used (expressions_references (items_expressions items)))

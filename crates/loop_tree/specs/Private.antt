@@ -5,6 +5,7 @@ use Rattle.ast.specs.Tree.{Ref}
 use Rattle.loop_tree.specs.Loops.{Loop, has_cell}
 use Rattle.loop_tree.specs.Paths.{Token, uses, defines, Ending, Paths}
 
+-- the scalar with this cell is given a value
 abbrev pub defines_cell : ℕ → Token → Bool
 defines_cell c (defines r) = r.cell == c
 defines_cell c _ = false

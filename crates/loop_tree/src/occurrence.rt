@@ -71,6 +71,10 @@ fn add_element<'p>(
 }
 
 /// Appends the references of an expression, in order of evaluation.
+///
+/// # Errors
+///
+/// `AllocError` where memory is refused; some of them may stand in the list then.
 #[cycle(occurrences)]
 pub fn add_term<'p>(
     list: &mut Vec<Occurrence<'p>>,
@@ -93,7 +97,11 @@ pub fn add_term<'p>(
     }
 }
 
-/// The same of an expression that may be absent.
+/// Appends the references of an expression that may be absent, in order of evaluation.
+///
+/// # Errors
+///
+/// `AllocError` where memory is refused; some of them may stand in the list then.
 pub fn add_optional<'p>(
     list: &mut Vec<Occurrence<'p>>,
     statement: usize,

@@ -13,6 +13,10 @@ use std::alloc::{AllocError, Global};
 
 /// The loops of a program, numbered from 1 in the order of the text. Each shows what its DO and its
 /// range have.
+///
+/// # Errors
+///
+/// `AllocError` where memory is refused.
 pub fn loops<'p>(alloc: Global, program: &'p Program) -> Result<LoopTree<'p>, AllocError>
     ensures all { IfOk result (λ tree. loops_seen tree
         ≡ loops_of (block_view program.now.body.items)) }

@@ -10,3 +10,4 @@ pub mod Lying
 pub mod Naming
 pub mod Telling
 pub mod Forms
+pub mod Puts

@@ -1,10 +1,10 @@
 -- Cells by name and place, and their numbers.
 use Rattle.std.proofs.Common.{◌≡◌, ◌∙◌, ℕ, zero, suc, ◌+◌, ◌<◌, ◌≤◌, ◌^◌, Bool, true, false, List, [], ◌∷◌, length, get_or, Option, Some, None, refl, sym, ap, subst, arith}
 use Rattle.std.specs.Prelude.{ℤ, pos, negsuc, nat_lt, ◌&&◌, ◌||◌, ◌==◌, not, slice_get}
-use Rattle.std.specs.Cmp.Lexicographic.{same_text}
-use Rattle.std.proofs.lemmas.Bool.{and_parts, eqb-true, ltb-true}
+use Rattle.std.proofs.lemmas.Bool.{and_parts, eqb-true, ltb-true, not-true}
 use Rattle.std.proofs.lemmas.Cmp.{nat_list_eq_equiv}
 use Rattle.ast.specs.Store.{same_name}
+use Rattle.ast.proofs.SameNames.{same_itself, same_is}
 use Rattle.machine.specs.Code.{Cell}
 use Rattle.machine.specs.Frame.{Stack, has_room}
 use Rattle.machine.specs.FrameView.{stack_of}
@@ -14,21 +14,11 @@ use Rattle.machine.specs.View.{cell_from}
 use Rattle.machine.specs.declared.code.Variable.{Variable}
 use Rattle.machine.proofs.Stacks.{room_law, without_law}
 
-pub same_itself : (x : List ℕ) → same_name x x ≡ true
-same_itself x = nat_list_eq_equiv.refl x
-
-pub same : (x y : List ℕ) → same_name x y ≡ true → x ≡ y
-same x y h = same_text x y (sym h)
-
 -- ---- the number of a variable's cell is that of its name
 
 either_false : (a b : Bool) → (a || b) ≡ false → (a ≡ false) × (b ≡ false)
 either_false false b h = (refl, h)
 either_false true b h = cc
-
-not_true : (b : Bool) → not b ≡ true → b ≡ false
-not_true false h = refl
-not_true true h = cc
 
 differs : (name : List ℕ) (xs : List Variable) (i : ℕ) (x : Variable) → is_among name (names_in xs) ≡ false → slice_get xs i ≡ Some x → same_name x.name.letters name ≡ false
 differs name [] i x h e = cc
@@ -46,7 +36,7 @@ number_named (y ∷ ys) zero x p h e =
     subst (λ (z : Variable). number_at (y ∷ ys) z.name.letters p ≡ cell_number (Some z) (pos p)) d (rw (same_itself y.name.letters) refl)
 number_named (y ∷ ys) (suc i) x p h e =
     let k = and_parts (not (is_among y.name.letters (names_in ys))) (are_distinct (names_in ys)) h in
-    let d = differs y.name.letters ys i x (not_true (is_among y.name.letters (names_in ys)) k.0) e in
+    let d = differs y.name.letters ys i x (not-true (is_among y.name.letters (names_in ys)) k.0) e in
     let apart : same_name y.name.letters x.name.letters ≡ false = nat_list_eq_equiv.symm y.name.letters x.name.letters ∙ d in
     rw apart (number_named ys i x p k.1 e)
 
@@ -121,7 +111,7 @@ cells_apart n (x ∷ xs) a b p q m h e f =
     by true true w v further =
         let i = inside x p m (rw w at e) in
         let j = inside x q m (rw v at f) in
-        (sym (same x.name.letters a w) ∙ same x.name.letters b v, omega (arith, i.1, j.1))
+        (sym (same_is x.name.letters a w) ∙ same_is x.name.letters b v, omega (arith, i.1, j.1))
     by true false w v further =
         let i = inside x p m (rw w at e) in
         let k = begins n x xs h in

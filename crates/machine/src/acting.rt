@@ -279,6 +279,7 @@ fn push_step(slots: &mut [i64], counters: &[Counter], cursor: Cursor) -> Went
     }
 }
 
+/// The instruction so many before this one; the first where there are fewer.
 #[inline(always)]
 pub fn back(cursor: Cursor, n: u32) -> Cursor
     ensures { result ≡ record cursor { place = cursor.place - n } }
@@ -290,7 +291,8 @@ pub fn back(cursor: Cursor, n: u32) -> Cursor
     }
 }
 
-/// Single instruction.
+/// Makes a local instruction, on the parts of a frame that stands at the cursor. Nothing has
+/// changed where the answer is `Not`: the instruction isn't local, or the frame doesn't fit it.
 #[inline(always)]
 pub fn act(
     act: &Act,

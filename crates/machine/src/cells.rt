@@ -32,7 +32,8 @@ impl Code {
         self.cell_at(variable as usize, place)
     }
 
-    /// The same, of a variable by its place among the code's variables.
+    /// The number of a cell of the variable that stands at this place of the code's variables, if
+    /// there is one.
     #[tactic(auto, using(crate::proofs::Lying::few_cells))]
     pub fn cell_at(&self, variable: usize, place: i64) -> Option<usize>
         ensures { result ≡ cell_number (slice_get self.now.variables.items variable) place }

@@ -30,6 +30,10 @@ impl<'c> Done<'c> {
     ghost use Rattle.machine.specs.Local.{Works, is_local, locals};
 
     /// Takes the local instructions that stand next, at least one and at most `n`.
+    ///
+    /// # Errors
+    ///
+    /// `AllocError` where memory is refused.
     pub fn work(code: &'c Code, from: Frame, n: u32) -> Result<Done<'c>, AllocError>
         requires stands { is_local (code_of code.now).instructions (frame_of from) ≡ true }
         requires some { 1 ≤ n }

@@ -95,6 +95,10 @@ impl Frame {
     }
 
     /// Main's frame as it begins.
+    ///
+    /// # Errors
+    ///
+    /// `AllocError` where memory is refused.
     pub fn main(alloc: Global, code: &Code) -> Result<Frame, AllocError>
         ensures { IfOk result (λ frame. frame_of frame ≡ main_frame (code_of code.now)) }
     {
@@ -103,6 +107,10 @@ impl Frame {
 
     /// The frame of iteration `k` of an open loop as it begins; `index` is the value that the
     /// loop's variable has in it.
+    ///
+    /// # Errors
+    ///
+    /// `AllocError` where memory is refused.
     pub fn begin(
         alloc: Global,
         code: &Code,

@@ -21,7 +21,7 @@ use crate::frame::Frame;
 use crate::instr::Act;
 use crate::stack::{one, two};
 use crate::working::fits;
-use ast::{Fault, Line};
+use ast::{Fault, Line, MOST_EVENTS};
 use values::trips;
 
 /// The step that stands next in a frame, with what it works on.
@@ -213,7 +213,7 @@ fn print<'c>(code: &'c Code, frame: &Frame, number: u32) -> Next<'c>
 fn is_event(event: u32) -> bool
     ensures { result ≡ is_event event }
 {
-    0 < event && event <= 64
+    0 < event && event <= MOST_EVENTS as u32
 }
 
 fn await_at<'c>(code: &'c Code, frame: &Frame, number: u32) -> Next<'c>

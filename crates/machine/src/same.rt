@@ -66,7 +66,7 @@ fn same_counters(a: &[Counter], b: &[Counter]) -> bool
     true
 }
 
-/// Whether two stacks are equal.
+/// Whether two stacks of operands are equal, in what stands on them and in their room.
 #[tactic(auto, using(crate::proofs::Equal::stack_law))]
 fn same_operands(a: &[i64], top_a: usize, b: &[i64], top_b: usize) -> bool
     ensures { Decides result (stack_of top_a a.now ≡ stack_of top_b b.now) }
@@ -74,7 +74,7 @@ fn same_operands(a: &[i64], top_a: usize, b: &[i64], top_b: usize) -> bool
     room(top_a, a.len()) == room(top_b, b.len()) && same_numbers(used(a, top_a), used(b, top_b))
 }
 
-/// Whether two stacks are equal.
+/// Whether two stacks of serial loops are equal, in what stands on them and in their room.
 #[tactic(auto, using(crate::proofs::Equal::stack_law))]
 fn same_loops(a: &[Counter], top_a: usize, b: &[Counter], top_b: usize) -> bool
     ensures { Decides result (stack_of top_a a.now ≡ stack_of top_b b.now) }
@@ -82,7 +82,8 @@ fn same_loops(a: &[Counter], top_a: usize, b: &[Counter], top_b: usize) -> bool
     room(top_a, a.len()) == room(top_b, b.len()) && same_counters(used(a, top_a), used(b, top_b))
 }
 
-/// Whether what frames have beside stacks and private scalars is equal.
+/// Whether the places, numbers, values of the open loop's variable and faults of two frames are
+/// equal.
 fn same_rest(a: &Frame, b: &Frame) -> bool
     ensures { Decides result ((a.now.place ≡ b.now.place) × (a.now.index ≡ b.now.index)
         × (a.now.number ≡ b.now.number) × (a.now.fault ≡ b.now.fault)) }

@@ -1,27 +1,42 @@
 //! What else is wrong with a source, behind its first refusal.
 
 use crate::message::Message;
-use ast::Line;
+use ast::{Label, Line, Name};
 use bstr::ByteSlice;
 use engines::{Verdict, judged};
+use fixed_form::LAST_LABEL_COLUMN;
 use pages::Outcome;
-use remarks::{LABEL_COLUMNS, Squeezed, has_outer, is_blank, is_comment, is_continuation};
+use remarks::{Squeezed, cause_of, is_blank, is_comment, is_continuation, line_at};
 use std::alloc::{AllocError, Global};
 
 /// How many further refusals are told at most.
 const MOST: usize = 20;
 
+/// How many statements are left out at most.
+const MOST_STRUCK: usize = 60;
+
+/// The number of a name that isn't an integer, which is told once of each name.
+const NO_INTEGER: u8 = 31;
+
+/// The number of subscripts or arguments that don't fit, which is told once of each name.
+const MISFIT: u8 = 33;
+
+/// The number of a program that is too large, as it most often still is without a statement.
+const TOO_LARGE: u8 = 40;
+
 /// The number of a label that stands twice.
 const LABEL_TWICE: u8 = 41;
 
-/// A source without the statements that were refused.
+/// A source without the statements that were refused, and its first refusal.
 #[derive(Drop)]
-struct Rest {
+struct Reduced {
     source: Vec<u8>,
     number: u8,
     line: Line,
     /// Whether what was left out can't be what another statement stands on.
     is_sure: bool,
+    /// The names that refusals were of, with their numbers.
+    names: Vec<(u8, Name)>,
 }
 
 /// Says on standard error what else is wrong with a source that is refused at a statement: of the
@@ -31,52 +46,105 @@ pub fn tell_further<R: Eprint + AllocGlobal>(rt: &R, file: &str, source: &[u8], 
     let Verdict::Refused { number, line } = first else {
         return;
     };
-    let Ok(mut rest) = Rest::of(rt.alloc(), source, *number, *line) else {
-        return;
-    };
-    for _ in 0..MOST {
-        match rest.strike(rt.alloc()) {
-            Ok(true) => {}
-            _ => return,
-        }
-        let outcome = Outcome::Refused {
-            number: rest.number,
-            line: rest.line,
-        };
-        if let Some(message) = Message::of(rt.alloc(), file, &rest.source, outcome) {
-            let _ = rt.eprint(message.as_further());
-        }
+    if let Ok(mut reduced) = Reduced::of(rt.alloc(), source, *number, *line) {
+        let _ = reduced.tell(rt, file, source);
     }
-    let _ = eprintln!(rt; "doac: more than {MOST} further refusals are not looked for");
 }
 
-impl Rest {
+impl Reduced {
     fn of(alloc: Global, source: &[u8], number: u8, line: Line) -> Result<Self, AllocError> {
         let mut copy = Vec::new(alloc);
         copy.extend_from_slice(source)?;
-        Ok(Rest {
+        Ok(Reduced {
             source: copy,
             number,
             line,
             is_sure: true,
+            names: Vec::new(alloc),
         })
+    }
+
+    /// Says what is wrong with a source behind the refusal that it has.
+    fn tell<R: Eprint + AllocGlobal>(
+        &mut self,
+        rt: &R,
+        file: &str,
+        source: &[u8],
+    ) -> Result<(), AllocError> {
+        let mut left = MOST;
+        let _ = self.is_news(rt.alloc())?;
+        for _ in 0..MOST_STRUCK {
+            if !self.strike(rt.alloc())? {
+                return Ok(());
+            }
+            if !self.is_news(rt.alloc())? {
+                continue;
+            }
+            self.say(rt, file, source);
+            left = left.saturating_sub(1);
+            if left == 0 {
+                break;
+            }
+        }
+        let _ = if left == 0 {
+            eprintln!(rt; "doac: more than {MOST} further refusals are not looked for")
+        } else {
+            eprintln!(rt; "doac: further refusals are not looked for")
+        };
+        Ok(())
+    }
+
+    /// Whether the refusal isn't one of a name that was told before; notes the name.
+    fn is_news(&mut self, alloc: Global) -> Result<bool, AllocError> {
+        if !matches!(self.number, NO_INTEGER | MISFIT) {
+            return Ok(true);
+        }
+        let cause = cause_of(alloc, &self.source, self.number, self.line)?;
+        let Some(name) = cause.and_then(|cause| cause.name()) else {
+            return Ok(true);
+        };
+        if self.names.contains(&(self.number, name)) {
+            return Ok(false);
+        }
+        self.names.push((self.number, name))?;
+        Ok(true)
+    }
+
+    /// Says the refusal that it has, of a source.
+    fn say<R: Eprint + AllocGlobal>(&self, rt: &R, file: &str, source: &[u8]) {
+        let outcome = Outcome::Refused {
+            number: self.number,
+            line: self.line,
+        };
+        if let Some(message) = Message::of(rt.alloc(), file, &self.source, outcome) {
+            let _ = rt.eprint(message.as_further(source));
+        }
     }
 
     /// Leaves the refused statement out: whether what is left has a refusal that is worth telling.
     fn strike(&mut self, alloc: Global) -> Result<bool, AllocError> {
-        let is_alone = self.leaves_others(alloc)?;
-        if !is_of_text(self.number) && !(is_of_rule(self.number) && is_alone) {
+        if self.number == TOO_LARGE {
             return Ok(false);
         }
-        self.is_sure = self.is_sure && is_alone;
+        let is_isolated = self.is_isolated(alloc)?;
+        if !is_of_text(self.number) && !(is_of_rule(self.number) && is_isolated) {
+            return Ok(false);
+        }
+        self.is_sure = self.is_sure && is_isolated;
         self.source = struck(alloc, &self.source, self.number, self.line)?;
         self.judge(alloc)
     }
 
     /// Whether no other statement stands on what is left out: a statement, or a label that stands
-    /// twice.
-    fn leaves_others(&self, alloc: Global) -> Result<bool, AllocError> {
-        Ok(self.number == LABEL_TWICE || is_simple_in(alloc, &self.source, self.line)?)
+    /// twice, on which a DO may stand.
+    fn is_isolated(&self, alloc: Global) -> Result<bool, AllocError> {
+        let statement = Squeezed::of(alloc, &self.source, self.line)?;
+        match statement.label {
+            Some(label) if self.number == LABEL_TWICE => {
+                Ok(!ends_loop(&Squeezed::all(alloc, &self.source)?, label))
+            }
+            _ => Ok(statement.stands_alone()),
+        }
     }
 
     /// Judges what is left: whether it has a refusal that is worth telling.
@@ -92,6 +160,11 @@ impl Rest {
     }
 }
 
+/// Whether a DO among statements names a label.
+fn ends_loop(statements: &[Squeezed], label: Label) -> bool {
+    statements.iter().any(|statement| statement.is_loop() && statement.terminal() == label)
+}
+
 /// Whether a refusal is of a text that is no statement.
 fn is_of_text(number: u8) -> bool {
     matches!(number, 20..=27)
@@ -100,24 +173,6 @@ fn is_of_text(number: u8) -> bool {
 /// Whether a refusal is of a rule of the profile.
 fn is_of_rule(number: u8) -> bool {
     matches!(number, 30..=43)
-}
-
-/// Whether no other statement stands on this one: an assignment, a READ or a PRINT, also in a
-/// logical IF.
-fn is_simple(text: &[u8]) -> bool {
-    if text.starts_with(b"INTEGER") {
-        return false;
-    }
-    text.starts_with(b"PRINT")
-        || text.starts_with(b"READ")
-        || text.starts_with(b"WRITE")
-        || has_outer(b'=', text) && !has_outer(b',', text)
-}
-
-/// Whether no other statement stands on the one that begins in a line.
-fn is_simple_in(alloc: Global, source: &[u8], line: Line) -> Result<bool, AllocError> {
-    let statement = Squeezed::of(alloc, source, line)?;
-    Ok(is_simple(&statement.text))
 }
 
 /// A source without the statement that was refused by a number, or without its label where that
@@ -133,11 +188,9 @@ fn struck(alloc: Global, source: &[u8], number: u8, line: Line) -> Result<Vec<u8
 /// A source in which the statement that begins in a line has lost its label.
 fn unlabelled(alloc: Global, source: &[u8], line: Line) -> Result<Vec<u8>, AllocError> {
     let mut kept = Vec::with_capacity(alloc, source.len())?;
-    let mut number: Line = 0;
-    for text in source.lines_with_terminator() {
-        number = number.saturating_add(1);
-        match text.get(LABEL_COLUMNS..) {
-            Some(rest) if number == line => {
+    for (place, text) in source.lines_with_terminator().enumerate() {
+        match text.get(LAST_LABEL_COLUMN..) {
+            Some(rest) if line_at(place) == line => {
                 kept.extend_from_slice(b"     ")?;
                 kept.extend_from_slice(rest)?;
             }
@@ -151,14 +204,13 @@ fn unlabelled(alloc: Global, source: &[u8], line: Line) -> Result<Vec<u8>, Alloc
 /// stays, with CONTINUE.
 fn without(alloc: Global, source: &[u8], line: Line) -> Result<Vec<u8>, AllocError> {
     let mut kept = Vec::with_capacity(alloc, source.len())?;
-    let mut number: Line = 0;
     let mut is_struck = false;
-    for text in source.lines_with_terminator() {
-        number = number.saturating_add(1);
+    for (place, text) in source.lines_with_terminator().enumerate() {
+        let is_first = line_at(place) == line;
         let goes_on = is_comment(text) || is_blank(text.trim_end()) || is_continuation(text);
-        is_struck = number == line || is_struck && goes_on;
+        is_struck = is_first || is_struck && goes_on;
         if is_struck {
-            append_struck(&mut kept, text, number == line)?;
+            append_struck(&mut kept, text, is_first)?;
         } else {
             kept.extend_from_slice(text)?;
         }
@@ -167,7 +219,7 @@ fn without(alloc: Global, source: &[u8], line: Line) -> Result<Vec<u8>, AllocErr
 }
 
 fn append_struck(kept: &mut Vec<u8>, text: &[u8], is_first: bool) -> Result<(), AllocError> {
-    let label = text.get(..LABEL_COLUMNS).unwrap_or(b"");
+    let label = text.get(..LAST_LABEL_COLUMN).unwrap_or(b"");
     if is_first && label.iter().any(|byte| byte.is_ascii_digit()) {
         kept.extend_from_slice(label)?;
         kept.extend_from_slice(b" CONTINUE\n")

@@ -7,7 +7,8 @@ use explanations::explain::{Explanation, Origin, fault, refusal};
 use explanations::fault_number;
 use pages::Outcome;
 use remarks::{
-    Caret, Cause, Place, Squeezed, Visible, break_place, cause_of, hint, hint_of_schedule,
+    Caret, Cause, Place, Squeezed, Visible, break_place, cause_of, hint, hint_of_fault,
+    hint_of_schedule,
 };
 use std::alloc::Global;
 use std::fmt::{Display, Formatter, Result as FmtResult, Write};
@@ -40,13 +41,14 @@ impl<'a> Message<'a> {
                 (refusal(number)?, Line::try_from(line).unwrap_or(Line::MAX))
             }
         };
+        let cause = cause_in(alloc, source, &explanation, line);
         Some(Message {
             file,
             line,
             text: text_of_line(source, line),
-            caret: caret_of(alloc, source, explanation.number, line),
+            caret: caret_of(alloc, source, &explanation, line, cause),
             explanation,
-            cause: cause_in(alloc, source, &explanation, line),
+            cause,
             note: None,
             hint: hint_in(alloc, source, &explanation, line),
             is_further: false,
@@ -58,10 +60,11 @@ impl<'a> Message<'a> {
         Message { note, ..self }
     }
 
-    /// The message as one behind the first of its source.
-    pub fn as_further(self) -> Self {
+    /// The message as one behind the first of a source, of which it shows the line.
+    pub fn as_further(self, source: &'a [u8]) -> Self {
         Message {
             is_further: true,
+            text: text_of_line(source, self.line),
             ..self
         }
     }
@@ -143,7 +146,10 @@ fn hint_in(
     match explanation.origin {
         Origin::Refusal => hint_of_source(alloc, source, explanation.number, line),
         Origin::Schedule => hint_of_line(source, explanation.number, line),
-        Origin::Fault(_) => None,
+        Origin::Fault(_) => {
+            let statement = Squeezed::of(alloc, source, line).ok()?;
+            hint_of_fault(explanation.number, &statement)
+        }
     }
 }
 
@@ -154,13 +160,23 @@ fn cause_in(alloc: Global, source: &[u8], explanation: &Explanation, line: Line)
     }
 }
 
-/// Where a statement that is malformed stops being one.
-fn caret_of(alloc: Global, source: &[u8], number: u8, line: Line) -> Option<Caret<'_>> {
-    if number != 25 {
-        return None;
+/// Where in a statement that is refused stands what is meant.
+fn caret_of<'a>(
+    alloc: Global,
+    source: &'a [u8],
+    explanation: &Explanation,
+    line: Line,
+    cause: Option<Cause>,
+) -> Option<Caret<'a>> {
+    match explanation.origin {
+        Origin::Refusal => {}
+        _ => return None,
     }
-    let statement = Squeezed::of(alloc, source, line).ok()?;
-    Caret::of(source, line, break_place(&statement)?)
+    let place = match cause {
+        Some(cause) => cause.place()?,
+        None => break_place(explanation.number, &Squeezed::of(alloc, source, line).ok()?)?,
+    };
+    Caret::of(source, line, place)
 }
 
 /// Writes a caret below the line in which it stands, and that line too, if it isn't the one above.
@@ -182,31 +198,19 @@ fn hint_of_source(alloc: Global, source: &[u8], number: u8, line: Line) -> Optio
 
 fn hint_of_line(source: &[u8], number: u8, line: Line) -> Option<&'static str> {
     match number {
-        51 | 52 => hint_of_schedule(whole_line(source, line)?),
+        51 | 52 => hint_of_schedule(number, whole_line(source, line)?),
         _ => None,
     }
 }
 
 /// The text of a line, counted from 1.
 fn text_of_line(source: &[u8], line: Line) -> Option<&[u8]> {
-    let mut number: Line = 0;
-    for text in source.lines() {
-        number = number.saturating_add(1);
-        if number == line {
-            return Some(text);
-        }
-    }
-    None
+    let before = line.checked_sub(1)?;
+    source.lines().nth(before as usize)
 }
 
 /// A line with its end, counted from 1.
 fn whole_line(source: &[u8], line: Line) -> Option<&[u8]> {
-    let mut number: Line = 0;
-    for text in source.lines_with_terminator() {
-        number = number.saturating_add(1);
-        if number == line {
-            return Some(text);
-        }
-    }
-    None
+    let before = line.checked_sub(1)?;
+    source.lines_with_terminator().nth(before as usize)
 }

@@ -58,7 +58,8 @@ impl<'a> LastRecord<'a> {
 impl<'a> Display for LastRecord<'a> {
     fn fmt<W: Write>(&self, f: &mut Formatter<W>) -> FmtResult {
         let Some(file) = self.file else {
-            return writeln!(f, "No file of an input is named, so the input is empty.");
+            writeln!(f, "No file of an input is named, so the input is empty.")?;
+            return writeln!(f, "Name one behind the source's; - is standard input.");
         };
         let line = self.line;
         writeln!(f, "{}{}", Place { file, line }, self.says)?;

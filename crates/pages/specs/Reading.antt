@@ -1,5 +1,5 @@
--- What reading a text comes to, and reading a source, an input and a schedule, each to its end before
--- the next.
+-- What reading a text comes to, and reading a source, an input and a schedule, each to its end
+-- before the next.
 use Rattle.std.specs.Prelude.{◌≡◌, ℕ, IfSome, List, ⊤, Option, Result, Ok, Err, Vec}
 use Rattle.std.specs.Global.{Global}
 use Rattle.std.specs.Io.KnownBytes.{IsAtEnd}
@@ -24,8 +24,8 @@ OfTexts source input schedule P = OfText source (λ text. OfText input (λ given
 abbrev pub AreGiven : (source input schedule : Option (List ℕ)) → Texts → Type 0
 AreGiven source input schedule texts = Gives source texts.source.items × Gives input texts.input.items × Gives schedule texts.schedule.items
 
--- Where a fault leaves the readers: it has left those after its own alone, and any but want of memory
--- comes when those before its own have given all.
+-- Where a fault leaves the readers: it has left those after its own alone, and any but want of
+-- memory comes when those before its own have given all.
 abbrev pub LeavesThree : EngineFault → (source input_old input_new schedule_old schedule_new : Option (List ℕ)) → Type 0
 LeavesThree (Source e) source i j s t = (j ≡ i) × (t ≡ s)
 LeavesThree (Input e) source i j s t = IsAtEnd source × (t ≡ s)
@@ -44,7 +44,8 @@ IsReading (Schedule e) = ⊤
 IsReading Memory = ⊤
 IsReading _ = ⊥
 
--- what comes after the read of a text: where that failed its fault, and otherwise what is made of its bytes
+-- what comes after the read of a text: where that failed its fault, and otherwise what is made of
+-- its bytes
 abbrev pub AfterText : {X : Type 0} → Result (Vec ℕ Global) ReadFault → (ReadFault → EngineFault) → Result X EngineFault → (List ℕ → Type 0) → Type 0
 AfterText (Err fault) comes_to result made = result ≡ Err (comes_to fault)
 AfterText (Ok bytes) comes_to result made = made bytes.items

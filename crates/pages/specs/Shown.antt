@@ -25,6 +25,7 @@ at_line line = codes " LINE " ++ decimal line ++ 10 ∷ []
 abbrev pub accepted_with : ℕ → ℕ → List ℕ
 accepted_with statements loops = codes "ACCEPTED STATEMENTS " ++ decimal statements ++ codes " LOOPS " ++ decimal loops ++ 10 ∷ []
 
+-- the line of a program's source
 abbrev pub accepted : ProgramTree → List ℕ
 accepted program = accepted_with program.count (loops_in program.block)
 
@@ -105,8 +106,8 @@ EndShown store rows (Stopped line) text = text ≡ stopped line
 EndShown false rows Done text = text ≡ []
 EndShown true rows Done text = StoreShown rows text
 
--- what is written of an answer, by its output, its end and its store, and the program's symbols: the
--- records and what follows them
+-- what is written of an answer, by its output, its end and its store, and the program's symbols:
+-- the records and what follows them
 pub record Shown (wanted : Bool) (symbols : List Symbol) (output : List ℕ) (end : End) (store : StoreOf) (text : List ℕ) : Type 0 where
   pub last : List ℕ
   pub ends : EndShown wanted (map (row_of store) symbols) end last

@@ -67,7 +67,7 @@ impl EngineFault {
         }
     }
 
-    /// The same of the input.
+    /// What a failed read of the input comes to.
     pub fn of_input(fault: ReadFault) -> Self
         ensures { result ≡ of_input fault }
     {
@@ -77,7 +77,7 @@ impl EngineFault {
         }
     }
 
-    /// The same of the schedule.
+    /// What a failed read of the schedule comes to.
     pub fn of_schedule(fault: ReadFault) -> Self
         ensures { result ≡ of_schedule fault }
     {

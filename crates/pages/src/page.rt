@@ -48,6 +48,10 @@ pub fn outcome(end: End) -> Outcome
 
 /// Appends what follows the records of a run that ended so: at a fault or a STOP its line, and
 /// without either, where it is wanted, the store.
+///
+/// # Errors
+///
+/// `AllocError` where memory is refused; a part may have been appended then.
 pub fn append_end(
     text: &mut Vec<u8>,
     end: End,
@@ -81,7 +85,11 @@ impl Page {
     ghost use Rattle.handing.specs.Handing.{AppendsPart};
     ghost use Rattle.pages.specs.Outcomes.{IsWriting};
 
-    /// Writes the text.
+    /// Writes the text, and gives the outcome.
+    ///
+    /// # Errors
+    ///
+    /// `Writing` where the writer failed, with a beginning of the text written, not all of it.
     pub fn write<W: Write>(&self, writer: &mut W) -> Result<Outcome, EngineFault>
         ensures ok { IfOk result (λ outcome. (outcome ≡ self.now.outcome)
             × Appends (W.contents writer.old) (W.contents writer.new) self.now.text.items) }

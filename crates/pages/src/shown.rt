@@ -8,6 +8,10 @@ use explanations::{append_number, fault_name, fault_number};
 use std::alloc::AllocError;
 
 /// Appends the number of a source line, and ends the line of output.
+///
+/// # Errors
+///
+/// `AllocError` where memory is refused; a part may have been appended then.
 pub fn append_line(out: &mut Vec<u8>, line: Line) -> Result<(), AllocError>
     ensures { OnOk result (out.new.items ≡ out.old.items ++ at_line line) }
 {
@@ -17,6 +21,10 @@ pub fn append_line(out: &mut Vec<u8>, line: Line) -> Result<(), AllocError>
 }
 
 /// Appends the line of a source that is accepted; `statements` counts END.
+///
+/// # Errors
+///
+/// `AllocError` where memory is refused; a part may have been appended then.
 pub fn append_accepted(out: &mut Vec<u8>, statements: usize, loops: usize) -> Result<(), AllocError>
     ensures { OnOk result (out.new.items ≡ out.old.items ++ accepted_with statements loops) }
 {

@@ -13,6 +13,10 @@ use ast::{Store, Symbol};
 use std::alloc::{AllocError, Global};
 
 /// A row for each of a program's symbols, with the values that a store has for it.
+///
+/// # Errors
+///
+/// `AllocError` where memory is refused.
 pub fn rows<'a>(
     alloc: Global,
     symbols: &'a [Symbol],

@@ -13,7 +13,8 @@ const CHUNK: usize = 4096;
 
 /// Appends what one read gives; whether it gave a byte. A reader that gives none is at its end.
 fn read_some<R: Read>(reader: &mut R, bytes: &mut Vec<u8>) -> Result<bool, ReadFault>
-    ensures given { IfOk result (λ gave. (given : List ℕ) × (bytes.new.items ≡ bytes.old.items ++ given)
+    ensures given { IfOk result (λ gave. (given : List ℕ)
+        × (bytes.new.items ≡ bytes.old.items ++ given)
         × Consumes (R.remaining reader.old) (R.remaining reader.new) given) }
     ensures some { IfOk result (λ gave. gave ≡ true → length bytes.old.items
         < length bytes.new.items) }

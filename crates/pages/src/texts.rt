@@ -26,7 +26,8 @@ fn schedule_read(
     schedule: Result<Vec<u8>, ReadFault>,
 ) -> Result<Texts, EngineFault>
     ensures { AfterText schedule of_schedule result (λ text. IsOkAnd result (λ texts.
-        (texts.source.items ≡ source.items) × (texts.input.items ≡ input.items) × (texts.schedule.items ≡ text))) }
+        (texts.source.items ≡ source.items) × (texts.input.items ≡ input.items)
+        × (texts.schedule.items ≡ text))) }
 {
     let schedule = schedule.map_err(EngineFault::of_schedule)?;
     Ok(Texts {
@@ -44,7 +45,8 @@ fn input_read<S: Read>(
     schedule: &mut S,
 ) -> Result<Texts, EngineFault>
     ensures texts { AfterText input of_input result (λ given.
-        AfterInput source.items given (S.remaining schedule.old) (S.remaining schedule.new) result) }
+        AfterInput source.items given (S.remaining schedule.old) (S.remaining schedule.new)
+        result) }
     ensures untouched { IfErr input (λ _. S.remaining schedule.new ≡ S.remaining schedule.old) }
 {
     let input = input.map_err(EngineFault::of_input)?;
@@ -60,7 +62,8 @@ fn source_read<I: Read, S: Read>(
     schedule: &mut S,
 ) -> Result<Texts, EngineFault>
     ensures texts { AfterText source of_source result (λ text.
-        AfterSource text (I.remaining input.old) (I.remaining input.new) (S.remaining schedule.old) (S.remaining schedule.new) result) }
+        AfterSource text (I.remaining input.old) (I.remaining input.new)
+        (S.remaining schedule.old) (S.remaining schedule.new) result) }
     ensures untouched { IfErr source (λ _. (I.remaining input.new ≡ I.remaining input.old)
         × (S.remaining schedule.new ≡ S.remaining schedule.old)) }
 {
@@ -86,7 +89,8 @@ pub fn read_three<R: Read, I: Read, S: Read>(
     ensures ends { OnOk result (IsAtEnd (R.remaining source.new) × IsAtEnd (I.remaining input.new)
         × IsAtEnd (S.remaining schedule.new)) }
     ensures readers { IfErr result (λ fault. IsReading fault
-        × LeavesThree fault (R.remaining source.new) (I.remaining input.old) (I.remaining input.new) (S.remaining schedule.old) (S.remaining schedule.new)) }
+        × LeavesThree fault (R.remaining source.new) (I.remaining input.old)
+        (I.remaining input.new) (S.remaining schedule.old) (S.remaining schedule.new)) }
 {
     let read = read_all(alloc, source);
     source_read(alloc, read, input, schedule)

@@ -6,8 +6,8 @@ use Rattle.arrows.specs.declared.mark.Mark.{Mark}
 use Rattle.arrows.specs.declared.picture.LoopPicture.{LoopPicture}
 use Rattle.arrows.specs.declared.svg.Size.{Size}
 
--- The text is a picture with the arrows of a loop: those of its dependences, and of a serial one the order of
--- its iterations. Beside them it has words, boxes and discs.
+-- The text is a picture with the arrows of a loop: those of its dependences, and of a serial one
+-- the order of its iterations. Beside them it has words, boxes and discs.
 pub record IsDrawn (p : LoopPicture) (text : List ℕ) : Type 0 where
   pub size : Size
   pub sheet : List ℕ

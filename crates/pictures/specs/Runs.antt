@@ -36,6 +36,7 @@ with_turn t lanes = if nat_lt t.processor (length lanes) then set lanes t.proces
 
 -- ---- what is said of it
 
+-- a processor by its number, and its steps
 abbrev pub made : ℕ → ℕ → List ℕ
 made q steps = codes "processor " ++ decimal q ++ codes ": steps " ++ decimal steps
 

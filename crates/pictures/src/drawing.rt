@@ -376,6 +376,10 @@ fn append_body(
 }
 
 /// The text of the picture of a loop: an SVG file.
+///
+/// # Errors
+///
+/// `AllocError` where memory is refused.
 pub fn draw(alloc: Global, picture: &LoopPicture<'_>) -> Result<Vec<u8>, AllocError>
     ensures { IfOk result (λ text. IsDrawn picture.now text.items) }
 {

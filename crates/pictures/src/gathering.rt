@@ -183,6 +183,10 @@ fn count(lanes: &mut [Lane], turn: Turn)
 
 impl Gathered {
     /// Nothing yet, of a run of so many entries; of its processors so many are busy.
+    ///
+    /// # Errors
+    ///
+    /// `AllocError` where memory is refused.
     pub fn new(
         alloc: Global,
         entries: u64,

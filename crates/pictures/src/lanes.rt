@@ -626,6 +626,10 @@ fn back(alloc: Global, gathered: &Gathered, ending: &Ending<'_>) -> Result<Vec<u
 }
 
 /// The text of the picture of a run: an SVG file.
+///
+/// # Errors
+///
+/// `AllocError` where memory is refused.
 pub fn timeline(
     alloc: Global,
     gathered: &Gathered,

@@ -89,6 +89,10 @@ fn in_order(alloc: Global, names: &[Name]) -> Result<Vec<Name>, AllocError> {
 }
 
 /// What there is to draw of a loop of which iterations may overlap, by the lines of its source.
+///
+/// # Errors
+///
+/// `AllocError` where memory is refused.
 pub fn open_picture<'a>(
     alloc: Global,
     lines: Vec<&'a [u8]>,
@@ -153,6 +157,10 @@ fn serial_sketch<'a>(
 }
 
 /// What there is to draw of a loop that stays serial, by the lines of its source.
+///
+/// # Errors
+///
+/// `AllocError` where memory is refused.
 pub fn serial_picture<'a>(
     alloc: Global,
     lines: Vec<&'a [u8]>,

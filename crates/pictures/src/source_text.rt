@@ -15,6 +15,10 @@ const LAST: usize = 72;
 const MARK: usize = 5;
 
 /// The lines of a source, as far as its statements have lines.
+///
+/// # Errors
+///
+/// `AllocError` where memory is refused.
 pub fn lines_of<'a>(alloc: Global, source: &'a [u8]) -> Result<Vec<&'a [u8]>, AllocError> {
     let mut lines = Vec::new(alloc);
     for line in source.lines() {

@@ -1,7 +1,7 @@
 -- The check accepts each plan that is placed.
-use Rattle.std.proofs.Common.{◌≡◌, ◌∙◌, ◌+◌, ◌<◌, ◌≤◌, inl, ℕ, ℤ, Bool, true, false, not, List, length, refl, ap, sym, subst, Option, Some, None, true≢false, arith}
+use Rattle.std.proofs.Common.{◌≡◌, ◌∙◌, ◌+◌, ◌<◌, ◌≤◌, inl, ℕ, ℤ, Bool, true, not, List, length, refl, ap, sym, subst, Option, Some, None, true≢false, arith}
 use Rattle.std.specs.List.{list_all}
-use Rattle.std.proofs.lemmas.Bool.{and_from, and_parts}
+use Rattle.std.proofs.lemmas.Bool.{and_from, and_parts, not-true, not_from_false}
 use Rattle.ast.specs.Store.{same_name}
 use Rattle.ast.specs.Tree.{Ref, Block}
 use Rattle.dependence.specs.Kept.{EligibleIn, IsNonzero, Kept, KeptAt, Suits, block_reads, block_variables, most_events}
@@ -31,7 +31,7 @@ use Rattle.placement.proofs.Privates.{name_of, scalar_of}
 use Rattle.placement.proofs.Ranges.{block_within}
 use Rattle.plan_check.proofs.Members.{In, among, contained}
 use Rattle.plan_check.proofs.Parallel.{block_are}
-use Rattle.plan_check.proofs.Sound.{at_point, in_any, in_entries, is_same, not_false, ref_of}
+use Rattle.plan_check.proofs.Sound.{at_point, in_any, in_entries, is_same, ref_of}
 use Rattle.plan_check.specs.Checking.{Checked, all_ahead, all_held, all_true, at_references, claimed, distance_of, first, fits, has_name, has_named, is_looked_at, is_proper, is_step, never_early, reference_tokens, tokens_of}
 use Rattle.plan_check.specs.Flow.{Known, block_points}
 use Rattle.plan_check.specs.GoodPlan.{SameBody, named}
@@ -42,10 +42,6 @@ use Rattle.privatise.specs.Flow.{is_never_early}
 steps : (s : Option ℤ) → IsNonzero s → is_step s ≡ true
 steps None h = absurd h
 steps (Some s) h = ap (λ (b : Bool). not b) h
-
-not_so : (b : Bool) → b ≡ false → not b ≡ true
-not_so true h = cc
-not_so false h = refl
 
 at_distance : (r : Relation) (d : ℕ) → distance_of (Some r) ≡ Some d → KeptAt r d
 at_distance (Apart n reason) d h = cc
@@ -118,7 +114,7 @@ module _ (cells : ℕ) (l : Loop) (p : PlanTree) (around : List Loop) (whole : I
   fit : fits l p ≡ true
   fit =
       and_from (is_step l.step) _ (steps l.step suit.step)
-      (and_from (not (block_reads l.body)) _ (not_so (block_reads l.body) suit.no_read)
+      (and_from (not (block_reads l.body)) _ (not_from_false (block_reads l.body) suit.no_read)
       (and_from (list_all (λ (r : Ref). has_name p.privates r.name) (block_variables l.body)) _ (all_from (λ (r : Ref). has_name p.privates r.name) (block_variables l.body) variable)
       (and_from (list_all (λ (x : List ℕ). has_named l.assigned x) p.privates) _ (all_from (λ (x : List ℕ). has_named l.assigned x) p.privates scalar) all_proper)))
 
@@ -132,8 +128,8 @@ module _ (cells : ℕ) (l : Loop) (p : PlanTree) (around : List Loop) (whole : I
       record {
         a = a;
         b = b;
-        looked_at = record { a_in = contained a l.references i; b_in = contained b l.references j; name = x.0; other = not_false (same_name a.ref.name l.head.variable.name) y.0; defining = z.1 };
-        shared = λ v. true≢false (sym (has_private l p.privates told placed.privates a.ref.name (subst (λ (m : List ℕ). In m p.privates) v.is (name_of l p.privates placed.privates v.ref (among v.ref l.assigned v.among) v.private))) ∙ not_false (has_name p.privates a.ref.name) z.0);
+        looked_at = record { a_in = contained a l.references i; b_in = contained b l.references j; name = x.0; other = not-true (same_name a.ref.name l.head.variable.name) y.0; defining = z.1 };
+        shared = λ v. true≢false (sym (has_private l p.privates told placed.privates a.ref.name (subst (λ (m : List ℕ). In m p.privates) v.is (name_of l p.privates placed.privates v.ref (among v.ref l.assigned v.among) v.private))) ∙ not-true (has_name p.privates a.ref.name) z.0);
         source = refl;
         sink = refl;
         at = at_distance (relation l a b) d e;

@@ -1,13 +1,12 @@
 -- Awaits and advances behind other statements, and what is left of arms.
-use Rattle.std.proofs.Common.{◌≡◌, ◌∙◌, ◌+◌, ◌<◌, ℕ, Bool, List, [], ◌∷◌, ◌++◌, append_assoc, length, map, drop, get_or, arith, rules, sym, ap}
+use Rattle.std.proofs.Common.{◌≡◌, ◌∙◌, ◌+◌, ◌<◌, ℕ, Bool, List, [], ◌∷◌, ◌++◌, append_assoc, length, map, drop, get_or, arith, sym, ap}
 use Rattle.std.specs.Prelude.{◌&&◌}
 use Rattle.std.proofs.lemmas.List.{drop_more, length-append, map-append}
-use Rattle.ast.specs.Tree as tree
 use Rattle.ast.specs.Tree.{Arms, Block, then_arm, arms}
-use Rattle.ast.specs.View as view
 use Rattle.ast.specs.View.{arm as arm_of, block_view}
-use Rattle.ast.specs.declared.tree.Arm.{Arm, fold_out-Arm}
+use Rattle.ast.specs.declared.tree.Arm.{Arm}
 use Rattle.ast.specs.declared.tree.Node.{Node}
+use Rattle.ast.proofs.Nodes.{body_of}
 use Rattle.dependence.specs.Plan.{PlanNode, awaits, advances}
 use Rattle.dependence.specs.PlanView.{ArmOf, arm_step, arm_view, node_step, plan_node}
 use Rattle.dependence.specs.declared.plan.PlanArm.{PlanArm}
@@ -54,9 +53,6 @@ one_arm old new s a rest target e f w =
     ∙ ap (λ (vs : List ArmOf). vs ++ rest) (map-append arm_view old (s ∷ []) ∙ ap (λ (v : ArmOf). map arm_view old ++ v ∷ []) f)
     ∙ append_assoc (map arm_view old) (a ∷ []) rest
     ∙ w
-
-pub body_of : (a : Arm) → (arm_of a).body ≡ block_view a.body.items
-body_of a = ap (λ (b : tree.Arm). b.body) (fold_out-Arm tree.Node tree.Arm view.node_step view.arm_step a) ∙ search rules
 
 -- the number behind an arm
 behind : (a : Arm) (ns : List Node) (o n m : ℕ) → a.body.items ≡ ns → n ≡ block_size (block_view ns) → m ≡ o + n → m ≡ o + block_size (arm_of a).body

@@ -1,6 +1,7 @@
 -- Whether a loop around a loop may be open, one loop further out after another.
 use Rattle.std.proofs.Common.{◌≡◌, inl, inr, ℕ, zero, suc, Bool, true, false, List, [], ◌∷◌, Option, Some, None, ◌∙◌, ◌≤◌, refl, ap, arith, subst, sym}
 use Rattle.std.specs.Prelude.{◌-◌}
+use Rattle.ast.proofs.Numbers.{one_less}
 use Rattle.dependence.specs.Kept.{Suits}
 use Rattle.dependence.specs.PlanView.{plan_of}
 use Rattle.dependence.specs.declared.plan.LoopPlan.{LoopPlan}
@@ -28,14 +29,11 @@ further : (around : List Loop) (m : Loop) (last : Bool) → NoneSuits around →
 further around m true none s = inl ((is_outermost m around).1 (s, none))
 further around m false none s = (s, none)
 
-less_one : (n : ℕ) → suc n - 1 ≡ n
-less_one n = omega arith
-
 -- none of the loops around the next one suits, and of that it is known
 pub one_more : (all : List Loop) (l m : Loop) (most : ℕ) (last : Bool) → (most ≡ 0 → ⊥) → loop_around all l ≡ Some m → NoneSuits (around_in (most - 1) all m) → IsSuiting m last → IsInside (around_in most all l) last
 one_more all l m zero last some h none s = absurd (some refl)
 one_more all l m (suc n) last some h none s =
-    subst (λ x. IsInside (with_outer (λ k. around_in n all k) x) last) (sym h) (further (around_in n all m) m last (subst (λ k. NoneSuits (around_in k all m)) (less_one n) none) s)
+    subst (λ x. IsInside (with_outer (λ k. around_in n all k) x) last) (sym h) (further (around_in n all m) m last (subst (λ k. NoneSuits (around_in k all m)) (one_less n) none) s)
 
 -- ---- the plan
 

@@ -1,5 +1,5 @@
--- In a plan that is placed each advance has its order await, and before each statement stand the awaits of
--- what is kept and has it as its sink.
+-- In a plan that is placed each advance has its order await, and before each statement stand the
+-- awaits of what is kept and has it as its sink.
 use Rattle.std.proofs.Common.{◌≡◌, ◌∙◌, ◌+◌, ◌<◌, ◌≤◌, inl, inr, ℕ, Bool, true, false, List, [], ◌∷◌, ◌++◌, refl, ap, sym, subst, ⊎_elim, Option, Some, None, arith, if◌then◌else◌}
 use Rattle.std.specs.Prelude.{◌==◌, ◌&&◌, ◌||◌}
 use Rattle.std.specs.List.{Contains}

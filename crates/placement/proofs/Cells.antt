@@ -5,6 +5,7 @@ use Rattle.std.specs.List.{list_all}
 use Rattle.std.proofs.lemmas.Bool.{eqb-true}
 use Rattle.ast.specs.Store.{same_name}
 use Rattle.ast.specs.Tree.{Ref}
+use Rattle.ast.proofs.SameNames.{same_is}
 use Rattle.dependence.specs.Kept.{block_variables}
 use Rattle.loop_tree.specs.Loops.{IsWhole, Loop}
 use Rattle.loop_tree.specs.Occurrences.{Occurrence}
@@ -12,8 +13,8 @@ use Rattle.loop_tree.specs.Private.{Private}
 use Rattle.loop_tree.specs.Told.{are_told, iff, is_told, known, references}
 use Rattle.placement.proofs.Privates.{name_of, scalar_of}
 use Rattle.placement.proofs.Variables.{block_shows}
-use Rattle.plan_check.proofs.Members.{In, in_left, in_right}
-use Rattle.plan_check.proofs.Sound.{all_in, any_in, in_any, in_map, is_same, same_is, told_same}
+use Rattle.plan_check.proofs.Members.{In, in_left, in_right, all_in}
+use Rattle.plan_check.proofs.Sound.{any_in, in_any, in_map, is_same, told_same}
 use Rattle.plan_check.specs.Checking.{has_name}
 use Rattle.privatise.specs.Privates.{ArePrivate}
 

@@ -1,7 +1,7 @@
 -- The relation of each pair that is looked at is the first that is given for it.
 use Rattle.std.proofs.Common.{◌≡◌, ◌∙◌, ◌+◌, inl, inr, ℕ, Bool, true, false, ◌&&◌, List, [], ◌∷◌, ◌++◌, refl, ap, subst, Some, None, arith}
 use Rattle.std.specs.Prelude.{◌==◌, if◌then◌else◌}
-use Rattle.std.proofs.lemmas.Bool.{and_from, and_parts, eq-eqb, eqb-true, ne_eqb}
+use Rattle.std.proofs.lemmas.Bool.{and_from, and_parts, eq-eqb, eqb-true, ne_eqb, and_left, and_right}
 use Rattle.ast.specs.References.{are_numbered}
 use Rattle.dependence.specs.Tests.{relation}
 use Rattle.dependence.specs.declared.relation.Relation.{Relation}
@@ -35,14 +35,6 @@ one_other x i j e = ap (λ (b : Bool). if b then Some x.2 else None) e
 one_here : (x : ℕ × ℕ × Relation) (i j : ℕ) → ((x.0 == i) && (x.1 == j)) ≡ true → claimed (x ∷ []) i j ≡ Some x.2
 one_here x i j e = ap (λ (b : Bool). if b then Some x.2 else None) e
 
-not_both : (a b : Bool) → a ≡ false → (a && b) ≡ false
-not_both true b h = cc
-not_both false b h = refl
-
-not_both_right : (a b : Bool) → b ≡ false → (a && b) ≡ false
-not_both_right true b h = h
-not_both_right false b h = refl
-
 part_other : (x : ℕ × ℕ × Relation) (i j : ℕ) (b : Bool) → ((x.0 == i) && (x.1 == j)) ≡ false → claimed (if b then x ∷ [] else []) i j ≡ None
 part_other x i j true e = one_other x i j e
 part_other x i j false e = refl
@@ -52,7 +44,7 @@ module _ (l : Loop) (ps : List (List ℕ)) where
   with_other a [] i j n = refl
   with_other a (b ∷ bs) i j n =
       claimed_later (if is_looked_at l ps a b then (a.ref.id, b.ref.id, relation l a b) ∷ [] else []) (relations_with l ps a bs) i j
-      (part_other (a.ref.id, b.ref.id, relation l a b) i j (is_looked_at l ps a b) (not_both (a.ref.id == i) (b.ref.id == j) (ne_eqb a.ref.id i n)))
+      (part_other (a.ref.id, b.ref.id, relation l a b) i j (is_looked_at l ps a b) (and_left (a.ref.id == i) (b.ref.id == j) (ne_eqb a.ref.id i n)))
       ∙ with_other a bs i j n
 
   with_here : (n : ℕ) (a b : Occurrence) (bs : List Occurrence) → are_numbered n (references bs) ≡ true → In b bs → is_looked_at l ps a b ≡ true → claimed (relations_with l ps a bs) a.ref.id b.ref.id ≡ Some (relation l a b)
@@ -68,7 +60,7 @@ module _ (l : Loop) (ps : List (List ℕ)) where
       let low = least (n + 1) bs b g.1 i in
       let apart : x.ref.id ≡ b.ref.id → ⊥ = λ q. omega (arith, here, low, q) in
       claimed_later (if is_looked_at l ps a x then (a.ref.id, x.ref.id, relation l a x) ∷ [] else []) (relations_with l ps a bs) a.ref.id b.ref.id
-      (part_other (a.ref.id, x.ref.id, relation l a x) a.ref.id b.ref.id (is_looked_at l ps a x) (not_both_right (a.ref.id == a.ref.id) (x.ref.id == b.ref.id) (ne_eqb x.ref.id b.ref.id apart)))
+      (part_other (a.ref.id, x.ref.id, relation l a x) a.ref.id b.ref.id (is_looked_at l ps a x) (and_right (a.ref.id == a.ref.id) (x.ref.id == b.ref.id) (ne_eqb x.ref.id b.ref.id apart)))
       ∙ with_here (n + 1) a b bs g.1 i look
 
   of_here : (n m : ℕ) (a b : Occurrence) (os bs : List Occurrence) → are_numbered n (references os) ≡ true → are_numbered m (references bs) ≡ true → In a os → In b bs → is_looked_at l ps a b ≡ true

@@ -305,7 +305,8 @@ module _ (c : ℕ) where
   fine_at ((advance n, k) ∷ ps) r y f (inl z) e = let w : uses r ≡ advance n = ap (λ (x : Point). x.0) z in cc
   fine_at ((advance n, k) ∷ ps) r y f (inr i) e = fine_at ps r y f i e
 
--- the scalars of the plan's private names that its points use are used early on no path of the range
+-- the scalars of the plan's private names that its points use are used early on no path of the
+-- range
 pub never_early_of : (cells : ℕ) (p : PlanTree) → made_bare p.body ≡ true
     → ((r : Ref) (y : Known) → In (uses r, y) (block_points p.body (first cells)) → has_name p.privates r.name ≡ true → (block_walk r.cell (stripped p.body) ≡ Early → ⊥) × (r.cell < cells))
     → never_early cells p ≡ true

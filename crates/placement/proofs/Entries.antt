@@ -1,5 +1,5 @@
--- Before each reference of a plan that is placed its own events aren't advanced, and what is awaited before
--- its statement has been awaited.
+-- Before each reference of a plan that is placed its own events aren't advanced, and what is
+-- awaited before its statement has been awaited.
 use Rattle.std.proofs.Common.{◌≡◌, ◌∙◌, ◌+◌, ◌<◌, ◌≤◌, ◌⊎◌, inl, inr, ℕ, zero, suc, Bool, true, false, List, [], ◌∷◌, ◌++◌, length, get_or, refl, ap, sym, subst, ⊎_elim, Option, Some, None, arith, append_assoc, min}
 use Rattle.std.specs.Prelude.{nat_le}
 use Rattle.std.proofs.lemmas.Bool.{le-leb, leb-true}
@@ -68,9 +68,6 @@ at_advances (e ∷ es) b s = at_advances es b (step (advance e) (step (await e 1
 
 -- ---- awaits
 
-get_same : (xs : List Near) (e d : ℕ) → e < length xs → is_near (get_or (with_await xs e d) e None) d ≡ true
-get_same xs e d l = await_near xs e d l
-
 all_near : (xs : List Near) (k d : ℕ) → k < length xs → is_near (get_or (all (Some 0) xs) k None) d ≡ true
 all_near [] k d h = absurd (omega (arith, h))
 all_near (x ∷ xs) zero d h = le-leb 0 d (omega arith)
@@ -97,7 +94,7 @@ awaited_in : (xs : List (ℕ × ℕ)) (s : Known) (n : ℕ × ℕ) → In n xs �
 unfolding awaited_all
 awaited_in [] s n i r = absurd i
 awaited_in (a ∷ more) s n (inl e) r =
-    stays_awaited more (step (await a.0 a.1) s) n.0 n.1 (subst (λ (z : ℕ × ℕ). has_awaited (step (await z.0 z.1) s) n.0 n.1 ≡ true) e (get_same s.near n.0 n.1 r.near))
+    stays_awaited more (step (await a.0 a.1) s) n.0 n.1 (subst (λ (z : ℕ × ℕ). has_awaited (step (await z.0 z.1) s) n.0 n.1 ≡ true) e (await_near s.near n.0 n.1 r.near))
 awaited_in (a ∷ more) s n (inr i) r = awaited_in more (step (await a.0 a.1) s) n i (room_step (await a.0 a.1) s n.0 r)
 
 -- ---- tokens without events leave the events as they are

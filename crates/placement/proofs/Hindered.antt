@@ -1,5 +1,5 @@
 -- What is in the way of a loop, by its private scalars and its sources.
-use Rattle.std.proofs.Common.{◌≡◌, ◌+◌, ℕ, List, map, Option, take, Result, Ok, Err, IfOk}
+use Rattle.std.proofs.Common.{◌≡◌, ◌+◌, ℕ, List, map, Option, take}
 use Rattle.ast.specs.declared.name.Name.{Name}
 use Rattle.dependence.specs.Kept.{most_events}
 use Rattle.loop_tree.specs.Loops.{Loop}
@@ -13,7 +13,3 @@ is_shared l names found privates is = record { names = names; privates = private
 pub are_first : (lines : List ℕ) (l : Loop) (names : List (List ℕ)) (sources first : List ℕ) → ArePrivate l names → (ArePrivate l names → AreSources l sources)
     → first ≡ map (line_at lines) (take (most_events + 1) sources) → AreFirstSources lines l first
 are_first lines l names sources first privates all are = record { sources = sources; all = all privates; are = are }
-
-pub if_ok : {A E : Type 0} {P Q : A → Type 0} (r : Result A E) → ((x : A) → P x → Q x) → IfOk r P → IfOk r Q
-if_ok (Ok x) f p = f x p
-if_ok (Err e) f p = p

@@ -17,8 +17,7 @@ use Rattle.placement.specs.declared.planning.Judged.{Judged}
 use Rattle.placement.specs.declared.planning.Judged.TheVariants as judged
 use Rattle.placement.proofs.Cells.{known_variable, private_cell, private_name}
 use Rattle.placement.proofs.Few.{few}
-use Rattle.plan_check.proofs.Members.{In, among, contained}
-use Rattle.plan_check.proofs.Sound.{all_in}
+use Rattle.plan_check.proofs.Members.{In, among, contained, all_in}
 
 -- an element of which a test doesn't hold
 one_not : (f : Ref → Bool) (rs : List Ref) → list_all f rs ≡ false → (r : Ref) × In r rs × (f r ≡ false)

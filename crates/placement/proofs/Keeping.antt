@@ -9,8 +9,9 @@ use Rattle.loop_tree.specs.Paths.{Token, uses, defines, await, advance, used, te
 use Rattle.plan_check.specs.Checking.{is_in_order}
 use Rattle.plan_check.specs.Flow.{Known, Point, after, after_block, after_kind, block_points, has_advanced, has_awaited, is_free, joined, kind_tokens, nowhere, points, put, step}
 use Rattle.plan_check.proofs.Members.{In}
+use Rattle.plan_check.proofs.Turning.{get_put}
 use Rattle.placement.specs.Placing.{with_advances, with_awaits}
-use Rattle.placement.proofs.Lists.{all_get, all_length, await_length, await_near, both_length, both_true, near_length, put_length, put_other, put_same}
+use Rattle.placement.proofs.Lists.{all_get, all_length, await_length, await_near, both_length, both_true, near_length, put_length, put_same}
 
 -- there is room for an event
 pub record Room (s : Known) (e : ℕ) : Type 0 where
@@ -75,8 +76,8 @@ keeps_step e (defines r) s h = record { room = room_step (defines r) s e; free =
 keeps_step e (await n d) s h = record { room = room_step (await n d) s e; free = λ m k. k; advanced = λ m k. k }
 keeps_step e (advance n) s h = record {
   room = room_step (advance n) s e;
-  free = λ m k. put_other s.free n e false false h ∙ k;
-  advanced = λ m k. put_other s.advanced n e true false h ∙ k;
+  free = λ m k. get_put s.free n e false false h ∙ k;
+  advanced = λ m k. get_put s.advanced n e true false h ∙ k;
 }
 
 -- tokens without events

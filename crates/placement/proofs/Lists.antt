@@ -35,13 +35,6 @@ put_same [] n v d h = absurd (omega (arith, h))
 put_same (x ∷ xs) zero v d h = refl
 put_same (x ∷ xs) (suc n) v d h = put_same xs n v d (omega (arith, h))
 
-pub put_other : (xs : List Bool) (n k : ℕ) (v d : Bool) → (k ≡ n → ⊥) → get_or (put xs n v) k d ≡ get_or xs k d
-put_other [] n k v d h = refl
-put_other (x ∷ xs) zero zero v d h = absurd (h refl)
-put_other (x ∷ xs) zero (suc k) v d h = refl
-put_other (x ∷ xs) (suc n) zero v d h = refl
-put_other (x ∷ xs) (suc n) (suc k) v d h = put_other xs n k v d (λ e. h (ap suc e))
-
 pub all_get : (xs : List Bool) (k : ℕ) → k < length xs → get_or (all true xs) k false ≡ true
 all_get [] k h = absurd (omega (arith, h))
 all_get (x ∷ xs) zero h = refl

@@ -2,7 +2,7 @@
 use Rattle.std.proofs.Common.{◌≡◌, ◌∙◌, ◌+◌, ◌<◌, ◌≤◌, ℕ, Bool, true, false, ◌||◌, List, [], ◌∷◌, ◌++◌, length, length-append, append-nil, refl, ap, sym, Option, Some, None, arith, if◌then◌else◌}
 use Rattle.std.specs.Prelude.{nat_lt, slice_get, is_some}
 use Rattle.std.proofs.lemmas.Bool.{le-ltb, lt-ltb}
-use Rattle.std.proofs.Math.Bool.{or-false}
+use Rattle.std.proofs.Math.Bool.{or-false, or-true}
 use Rattle.dependence.specs.Tests.{relation}
 use Rattle.loop_tree.specs.Loops.{Loop}
 use Rattle.loop_tree.specs.Occurrences.{Occurrence}
@@ -12,10 +12,6 @@ use Rattle.placement.specs.Placement.{AreSources}
 use Rattle.placement.specs.declared.pairs.Pairs.{Pairs}
 use Rattle.placement.proofs.Analysing.{is_sources, same_sources}
 use Rattle.privatise.specs.Privates.{ArePrivate}
-
-or_true : (b : Bool) → (b || true) ≡ true
-or_true true = refl
-or_true false = refl
 
 or_group : (a b c : Bool) → ((a || b) || c) ≡ (a || (b || c))
 or_group true b c = refl
@@ -32,7 +28,7 @@ grown_by n ks a b (Some d) l =
     let more : List Triple = (b.statement, a.statement, d) ∷ [] in
     let e : length (ks ++ more) ≡ length ks + 1 = length-append ks more in
     let less : n < length (ks ++ more) = omega (arith, e, l) in
-    lt-ltb n (length (ks ++ more)) less ∙ sym (or_true (nat_lt n (length ks)))
+    lt-ltb n (length (ks ++ more)) less ∙ sym (or-true (nat_lt n (length ks)))
 
 grown_at : (l : Loop) (a : Occurrence) (o : Option Occurrence) (f : Found) (n : ℕ) → n ≤ length f.kept → nat_lt n (length (after_some l a o f).kept) ≡ (nat_lt n (length f.kept) || keeps_at l a o)
 grown_at l a None f n less = sym (or-false (nat_lt n (length f.kept)))

@@ -4,8 +4,9 @@ use Rattle.ast.specs.Tree.{Arms, Block, arms}
 use Rattle.ast.specs.View.{arm as arm_of, block_view}
 use Rattle.ast.specs.declared.tree.Arm.{Arm}
 use Rattle.ast.specs.declared.tree.Node.{Node}
+use Rattle.ast.proofs.Nodes.{body_of}
 use Rattle.placement.specs.Hindering.{arms_read, arms_shared, first_read, first_shared, or_else}
-use Rattle.placement.proofs.Appended.{arm_here, body_of}
+use Rattle.placement.proofs.Appended.{arm_here}
 
 pub none_read : (xs : List Arm) (i : ℕ) (a : Arm) (ns : List Node) (found target : Option ℕ) → i < length xs → a ≡ get_or xs i a → a.body.items ≡ ns → found ≡ first_read (block_view ns) → found ≡ None
     → arms_read (arms (map arm_of (drop i xs))) ≡ target → arms_read (arms (map arm_of (drop (i + 1) xs))) ≡ target

@@ -6,6 +6,7 @@ use Rattle.std.proofs.lemmas.Bool.{and_parts, le-ltb, lt-ltb, true≢false}
 use Rattle.std.proofs.lemmas.Cmp.{nat_eq_equiv}
 use Rattle.ast.specs.Store.{same_name}
 use Rattle.ast.specs.Tree.{Ref}
+use Rattle.ast.proofs.SameNames.{same_is}
 use Rattle.dependence.specs.Tests.{relation}
 use Rattle.dependence.specs.declared.relation.Relation.{Relation}
 use Rattle.loop_tree.specs.Loops.{Loop}
@@ -17,8 +18,8 @@ use Rattle.placement.specs.Looked.{ArePairs, Found, after_all, after_first, afte
 use Rattle.placement.specs.Placement.{is_ascending, is_looked_at, relations_of, relations_with}
 use Rattle.placement.specs.declared.pairs.Pairs.{Pairs}
 use Rattle.placement.proofs.Insertion.{has_with, in_with, with_ascending, with_keeps}
-use Rattle.plan_check.proofs.Members.{In, in_left, in_right, in_which}
-use Rattle.plan_check.proofs.Sound.{all_in, in_map, same_is}
+use Rattle.plan_check.proofs.Members.{In, in_left, in_right, in_which, all_in}
+use Rattle.plan_check.proofs.Sound.{in_map}
 
 -- ---- places
 

@@ -2,6 +2,7 @@
 use Rattle.std.proofs.Common.{◌≡◌, ◌∙◌, inl, inr, ℕ, Bool, true, false, not, ◌||◌, List, [], ◌∷◌, refl, ap, sym, subst, ⊎_elim, Option, Some, None, if◌then◌else◌}
 use Rattle.std.proofs.lemmas.Bool.{and_from, and_parts, not-true, not_from_false, true≢false}
 use Rattle.ast.specs.Store.{same_name}
+use Rattle.ast.proofs.SameNames.{same_is}
 use Rattle.dependence.specs.Kept.{Kept, KeptAt, PrivateName}
 use Rattle.dependence.specs.Tests.{relation}
 use Rattle.dependence.specs.declared.relation.Relation.{Relation}
@@ -15,7 +16,7 @@ use Rattle.placement.specs.Placement.{AreSources, is_looked_at}
 use Rattle.placement.proofs.Privates.{name_of, scalar_of}
 use Rattle.placement.proofs.Seconds.{Sourced, kept_of, kept_with, seconds}
 use Rattle.plan_check.proofs.Members.{In, among, contained, in_left, in_right, in_which}
-use Rattle.plan_check.proofs.Sound.{any_in, in_any, is_same, same_is}
+use Rattle.plan_check.proofs.Sound.{any_in, in_any, is_same}
 use Rattle.privatise.specs.Privates.{ArePrivate}
 
 -- ---- distances

@@ -7,8 +7,8 @@ use Rattle.loop_tree.specs.Told.{are_in_turn, are_told, known, references}
 use Rattle.placement.specs.Placement.{IsPlacedBody}
 use Rattle.plan_check.specs.Checking.{Checked}
 
--- The check accepts each plan that is placed for a loop that may be open, where so many cells are enough
--- for the scalars that its range gives values.
+-- The check accepts each plan that is placed for a loop that may be open, where so many cells are
+-- enough for the scalars that its range gives values.
 abbrev pub IsAccepted : Type 0
 IsAccepted =
     (cells : ℕ) (l : Loop) (p : PlanTree) (around : List Loop)

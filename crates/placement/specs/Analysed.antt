@@ -12,6 +12,7 @@ use Rattle.placement.specs.declared.analysis.Kept as declared
 abbrev pub Triple : Type 0
 Triple = ℕ × ℕ × ℕ
 
+-- the sink, source and distance of what is kept
 abbrev pub triple : declared.Kept → Triple
 triple k = (k.sink, k.source, k.distance)
 
@@ -19,6 +20,7 @@ triple k = (k.sink, k.source, k.distance)
 abbrev pub precedes : Triple → Triple → Bool
 precedes a b = nat_lt a.0 b.0 || ((a.0 == b.0) && comes_first (a.1, a.2) (b.1, b.2))
 
+-- each precedes the one behind it
 abbrev pub are_sorted : List Triple → Bool
 are_sorted [] = true
 are_sorted (x ∷ []) = true
@@ -29,6 +31,8 @@ pub record AreTriples (l : Loop) (triples : List Triple) : Type 0 where
   pub sorted : are_sorted triples ≡ true
   pub each : (s t d : ℕ) → Contains triples (t, s, d) ↔ Kept l s t d
 
+-- What the analysis of a loop finds: its sources, of which there are at most 64, what is kept, and
+-- the relations.
 pub record AreAnalysed (l : Loop) (privates : List (List ℕ)) (a : Analysis) : Type 0 where
   pub sources : AreSources l a.sources.items
   pub few : length a.sources.items ≤ most_events

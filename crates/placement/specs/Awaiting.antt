@@ -13,8 +13,8 @@ abbrev pub is_order_await : ℕ → ℕ → PlanBlock → Bool
 is_order_await e d (then_node (advances x) b) = (e == x) && (d == 1)
 is_order_await e d _ = false
 
--- The other awaits: the event, the distance and the number of the statement that they stand before; the
--- statements have numbers from n on.
+-- The other awaits: the event, the distance and the number of the statement that they stand before;
+-- the statements have numbers from n on.
 abbrev mutual
   pub awaited_in : ℕ → PlanBlock → List (ℕ × ℕ × ℕ)
   awaited_in n no_nodes = []
@@ -71,12 +71,13 @@ abbrev mutual
   are_before_arms (made_else b) = are_before b
   are_before_arms (then_arm l c b more) = are_before b && are_before_arms more
 
--- The awaits of a plan: order awaits, one of each advance, and before each statement those of what is kept
--- and has it as its sink.
+-- The awaits of a plan: order awaits, one of each advance, and before each statement those of what
+-- is kept and has it as its sink.
 pub record AwaitsKept (l : Loop) (p : PlanTree) (sources : List ℕ) : Type 0 where
   pub ordered : are_ordered None p.body ≡ true
   pub before : are_before p.body ≡ true
   pub kept : (e d t : ℕ) → Contains (awaited_in (l.statement + 1) p.body) (e, d, t) ↔ ((s : ℕ) × IsEvent 1 sources e s × Kept l s t d)
 
+-- A law: each plan that opens a loop has these awaits.
 abbrev pub AreKept : Type 0
 AreKept = (l : Loop) (p : PlanTree) → IsWhole l → (placed : IsPlacedBody l p) → AwaitsKept l p placed.sources

@@ -13,6 +13,7 @@ abbrev pub or_else : {A : Type 0} → Option A → Option A → Option A
 or_else (Some x) other = Some x
 or_else None other = other
 
+-- the line of a statement that is a READ
 abbrev pub line_of_read : Statement → Option ℕ
 line_of_read s = if is_read s.kind then Some s.line else None
 
@@ -51,6 +52,7 @@ module _ (names : List (List ℕ)) where
     arms_shared no_arms = None
     arms_shared (then_arm l c b more) = or_else (first_shared b) (arms_shared more)
 
+-- what the code has found, as letters and a line
 abbrev pub shown : Option (Name × ℕ) → Option (List ℕ × ℕ)
 shown found = option_map (λ (p : Name × ℕ). (p.0.letters, p.1)) found
 
@@ -60,10 +62,12 @@ pub record IsFirstShared (l : Loop) (found : Option (Name × ℕ)) : Type 0 wher
   pub privates : ArePrivate l names
   pub is : shown found ≡ first_shared names l.body
 
+-- the line of a statement by its number
 abbrev pub line_at : List ℕ → ℕ → ℕ
 line_at lines statement = get_or lines statement 0
 
--- The lines of the first sources of a loop, one more than there may be events, or as many as there are.
+-- The lines of the first sources of a loop, one more than there may be events, or as many as there
+-- are.
 pub record AreFirstSources (lines : List ℕ) (l : Loop) (first : List ℕ) : Type 0 where
   pub sources : List ℕ
   pub all : AreSources l sources

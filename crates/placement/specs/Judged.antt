@@ -29,17 +29,20 @@ IsHindered l n =
     ⊎ (((n ≡ 3) × ((names : List (List ℕ)) × IsPlain l names × (hides names l ≡ false)))
     ⊎ ((n ≡ 4) × ((names : List (List ℕ)) × IsPlain l names × (hides names l ≡ true) × HasManySources l))))
 
+-- Why the loop doesn't suit, or, where it suits, its private scalars and what its analysis finds.
 abbrev pub IsJudged : Loop → Judged → Type 0
 IsJudged l (judged.Serial n) = IsHindered l n
 IsJudged l (judged.Suits privates analysis) =
     IsPlain l (map letters privates.names.items) × (hides (map letters privates.names.items) l ≡ true) × AreAnalysed l (map letters privates.names.items) analysis
 
+-- the answer says that the loop suits
 abbrev pub suits_by : Judged → Bool
 suits_by (judged.Serial n) = false
 suits_by (judged.Suits privates analysis) = true
 
 -- ---- placement
 
+-- whether the loop suits
 abbrev pub IsSuiting : Loop → Bool → Type 0
 IsSuiting l true = Suits l
 IsSuiting l false = Suits l → ⊥
@@ -52,6 +55,7 @@ pub record IsOpened (l : Loop) (placed : Placed) : Type 0 where
   pub sources : AreSources l placed.sources.items
   pub triples : AreTriples l (map triple placed.kept.items)
 
+-- the loop is opened, but where a loop around is open: then it stays serial for reason 5
 abbrev pub IsOpenedUnless : Bool → Loop → Placed → Type 0
 IsOpenedUnless true l placed = placed.plan ≡ Serial 5
 IsOpenedUnless false l placed = IsOpened l placed

@@ -28,7 +28,8 @@ awaited s t = list_at s.awaits.items t
 abbrev pub advance_nodes_of : ℕ → List PlanNode
 advance_nodes_of e = awaits e 1 ∷ advances e ∷ []
 
--- of the events whose sources stand from one number on and before another; the first source has event k
+-- of the events whose sources stand from one number on and before another; the first source has
+-- event k
 abbrev pub advance_nodes : ℕ → List ℕ → ℕ → ℕ → List PlanNode
 advance_nodes k [] low high = []
 advance_nodes k (s ∷ ss) low high = (if nat_le low s && nat_lt s high then advance_nodes_of k else []) ++ advance_nodes (k + 1) ss low high
@@ -76,8 +77,8 @@ module _ (sources : List ℕ) (before : ℕ → List (ℕ × ℕ)) where
   inner_listed_arms o tree.no_arms = []
   inner_listed_arms o (tree.then_arm l c b more) = inner_arm o l c b ∷ inner_listed_arms (o + block_size b) more
 
-  -- an arm of an IF whose arms stand between low and high: its events and those of the other arms are
-  -- advanced in it, unless it stands behind an ELSE
+  -- an arm of an IF whose arms stand between low and high: its events and those of the other arms
+  -- are advanced in it, unless it stands behind an ELSE
   abbrev pub listed_arm : Bool → ℕ → ℕ → ℕ → ℕ → Option Term → Block → ArmOf
   listed_arm true low high o l c b = record { line = l; condition = c; body = plan_view.block (opening sources low high o b ++ placed_nodes o b) }
   listed_arm false low high o l c b = inner_arm o l c b

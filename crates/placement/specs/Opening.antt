@@ -3,6 +3,7 @@ use Rattle.std.specs.Prelude.{◌↔◌, List, [], ◌∷◌, ⊤}
 use Rattle.dependence.specs.Kept.{EligibleIn, Suits}
 use Rattle.loop_tree.specs.Loops.{Loop}
 
+-- none of these loops suits
 abbrev pub NoneSuits : List Loop → Type 0
 NoneSuits [] = ⊤
 NoneSuits (m ∷ around) = (Suits m → ⊥) × NoneSuits around

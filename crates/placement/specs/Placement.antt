@@ -22,8 +22,8 @@ is_ascending [] = true
 is_ascending (x ∷ []) = true
 is_ascending (x ∷ y ∷ more) = nat_lt x y && is_ascending (y ∷ more)
 
--- The statements that are sources of what is kept, in source order; their events have the numbers from 1
--- on.
+-- The statements that are sources of what is kept, in source order; their events have the numbers
+-- from 1 on.
 pub record AreSources (l : Loop) (ss : List ℕ) : Type 0 where
   pub ascending : is_ascending ss ≡ true
   pub kept : (s : ℕ) → Contains ss s → (t : ℕ) × (d : ℕ) × Kept l s t d
@@ -38,12 +38,14 @@ IsEvent k (x ∷ more) e s = ((e ≡ k) × (s ≡ x)) ⊎ IsEvent (k + 1) more e
 abbrev pub comes_first : ℕ × ℕ → ℕ × ℕ → Bool
 comes_first a b = nat_lt a.0 b.0 || ((a.0 == b.0) && nat_lt a.1 b.1)
 
+-- each comes before the one behind it
 abbrev pub are_in_order : List (ℕ × ℕ) → Bool
 are_in_order [] = true
 are_in_order (x ∷ []) = true
 are_in_order (x ∷ y ∷ more) = comes_first x y && are_in_order (y ∷ more)
 
--- What statement t awaits: the events and the distances of what is kept and has t as its sink, each once.
+-- What statement t awaits: the events and the distances of what is kept and has t as its sink, each
+-- once.
 pub record AreAwaits (l : Loop) (sources : List ℕ) (t : ℕ) (awaits : List (ℕ × ℕ)) : Type 0 where
   pub order : are_in_order awaits ≡ true
   pub kept : (e d : ℕ) → Contains awaits (e, d) → (s : ℕ) × IsEvent 1 sources e s × Kept l s t d
@@ -51,14 +53,15 @@ pub record AreAwaits (l : Loop) (sources : List ℕ) (t : ℕ) (awaits : List (�
 
 -- ---- relations
 
--- a reference and one in a later iteration have one name, which is neither private nor that of the loop's
--- variable, and one of them gives it a value
+-- a reference and one in a later iteration have one name, which is neither private nor that of the
+-- loop's variable, and one of them gives it a value
 abbrev pub is_looked_at : Loop → List (List ℕ) → Occurrence → Occurrence → Bool
 is_looked_at l privates a b =
     same_name a.ref.name b.ref.name
     && (not (same_name a.ref.name l.head.variable.name)
     && (not (list_any (λ (n : List ℕ). same_name n a.ref.name) privates) && (a.defines || b.defines)))
 
+-- the relations of a reference to others, in order
 abbrev pub relations_with : Loop → List (List ℕ) → Occurrence → List Occurrence → List (ℕ × ℕ × Relation)
 relations_with l privates a [] = []
 relations_with l privates a (b ∷ bs) =
@@ -71,8 +74,8 @@ relations_of l privates (a ∷ more) os = relations_with l privates a os ++ rela
 
 -- ---- the plan
 
--- The plan that opens a loop: each event is advanced behind the anchor of its source and in the other arms
--- around it, and each sink awaits what is kept.
+-- The plan that opens a loop: each event is advanced behind the anchor of its source and in the
+-- other arms around it, and each sink awaits what is kept.
 pub record IsPlacedBody (l : Loop) (p : PlanTree) : Type 0 where
   pub privates : ArePrivate l p.privates
   pub sources : List ℕ
@@ -87,8 +90,8 @@ abbrev pub SomeEligible : List Loop → Type 0
 SomeEligible [] = ⊥
 SomeEligible (m ∷ around) = EligibleIn m around ⊎ SomeEligible around
 
--- Why a loop isn't opened: its step is no constant other than 0; it has a READ; the variable of a loop
--- inside isn't private; more than 64 statements are sources; a loop around it may be open.
+-- Why a loop isn't opened: its step is no constant other than 0; it has a READ; the variable of a
+-- loop inside isn't private; more than 64 statements are sources; a loop around it may be open.
 abbrev pub Reason : Loop → List Loop → ℕ → Type 0
 Reason l around n =
     ((n ≡ 1) × (IsNonzero l.step → ⊥))
@@ -101,6 +104,7 @@ Reason l around n =
 abbrev pub IsLowest : Loop → List Loop → ℕ → Type 0
 IsLowest l around n = Reason l around n × ((m : ℕ) → m < n → Reason l around m → ⊥)
 
+-- a loop around, if there is one, and those around that
 abbrev pub with_outer : (Loop → List Loop) → Option Loop → List Loop
 with_outer further None = []
 with_outer further (Some m) = m ∷ further m
@@ -110,6 +114,7 @@ abbrev pub around_in : ℕ → List Loop → Loop → List Loop
 around_in zero all l = []
 around_in (suc n) all l = with_outer (λ m. around_in n all m) (loop_around all l)
 
+-- the loops around a loop, from the innermost on
 abbrev pub loops_around : List Loop → Loop → List Loop
 loops_around all l = around_in (length all) all l
 

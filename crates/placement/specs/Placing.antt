@@ -1,27 +1,30 @@
--- Where awaits and advances are put in the range of a loop (placement for known distances, after Midkiff
--- and Padua): statements have numbers, those of the range from one on.
+-- Where awaits and advances are put in the range of a loop (placement for known distances, after
+-- Midkiff and Padua): statements have numbers, those of the range from one on.
 use Rattle.std.specs.Prelude.{◌+◌, nat_le, nat_lt, ℕ, ◌&&◌, List, [], ◌∷◌, length, Some, None, if◌then◌else◌}
 use Rattle.ast.specs.Tree as tree
 use Rattle.ast.specs.Tree.{Node, Block, Arms}
 use Rattle.loop_tree.specs.Occurrences.{node_lines, block_lines, arms_lines}
 use Rattle.dependence.specs.Plan.{PlanNode, awaits, advances, plain, loop, choose, PlanBlock, no_nodes, then_node, PlanArms, no_arms, made_else, then_arm}
 
--- how many statements
+-- how many statements a node is, with those that it holds
 abbrev pub node_size : Node → ℕ
 node_size n = length (node_lines n)
 
+-- how many statements a block has, at any depth
 abbrev pub block_size : Block → ℕ
 block_size b = length (block_lines b)
 
+-- how many statements all arms have, at any depth
 abbrev pub arms_size : Arms → ℕ
 arms_size a = length (arms_lines a)
 
--- the events whose sources stand from one number on and before another; sources in order, the first of
--- those that are left has event k
+-- the events whose sources stand from one number on and before another; sources in order, the first
+-- of those that are left has event k
 abbrev pub events_from : ℕ → List ℕ → ℕ → ℕ → List ℕ
 events_from k [] low high = []
 events_from k (s ∷ ss) low high = if nat_le low s && nat_lt s high then k ∷ events_from (k + 1) ss low high else events_from (k + 1) ss low high
 
+-- awaits in front of statements
 abbrev pub with_awaits : List (ℕ × ℕ) → PlanBlock → PlanBlock
 with_awaits [] b = b
 with_awaits (a ∷ more) b = then_node (awaits a.0 a.1) (with_awaits more b)
@@ -38,6 +41,7 @@ made_for (e ∷ es) = made_else (with_advances (e ∷ es) no_nodes)
 
 -- sources: in order; before: what is awaited before a statement, by event and distance
 module _ (sources : List ℕ) (before : ℕ → List (ℕ × ℕ)) where
+  -- the events whose sources stand from number low on and before high
   abbrev pub events : ℕ → ℕ → List ℕ
   events low high = events_from 1 sources low high
 
@@ -68,6 +72,8 @@ module _ (sources : List ℕ) (before : ℕ → List (ℕ × ℕ)) where
     placed_node o (tree.loop l h b) = loop l h (inner_block (o + 1) b)
     placed_node o (tree.choose a) = choose (placed_arms (o + 1) (o + 1 + arms_size a) (o + 1) a)
 
+    -- a block that begins with statement o: before each statement what it awaits, behind it the
+    -- advances of the events that are anchored there
     pub placed_block : ℕ → Block → PlanBlock
     placed_block o tree.no_nodes = no_nodes
     placed_block o (tree.then_node n b) = with_awaits (before o) (then_node (placed_node o n) (with_advances (anchored o n) (placed_block (o + node_size n) b)))

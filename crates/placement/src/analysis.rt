@@ -16,14 +16,11 @@ ghost use Rattle.privatise.specs.Privates.{ArePrivate};
 ghost use Rattle.subscripts.specs.View.{form_in};
 
 use crate::pairs::{Pairs, Shared};
-use ast::Name;
+use ast::{MOST_EVENTS, Name};
 use dependence::{Recent, Relation, Relations, have_same_forms, relate_forms};
 use loop_tree::LoopView;
 use std::alloc::{AllocError, Global};
 use subscripts::Affine;
-
-/// So many events a loop may have.
-pub const MOST_EVENTS: usize = 64;
 
 /// A dependence that the tests don't refute: the numbers of its statements, and over how many
 /// iterations it goes. They are ordered by the sink, then by the source.

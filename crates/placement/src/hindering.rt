@@ -7,9 +7,8 @@ ghost use Rattle.ast.specs.View.{arm as arm_of, block_view, letters, node as nod
 ghost use Rattle.loop_tree.specs.TreeView.{seen};
 ghost use Rattle.placement.specs.Hindering as spec;
 
-use crate::analysis::MOST_EVENTS;
 use crate::origins::sources;
-use ast::{Arm, Kind, Line, Name, Node, Stmt};
+use ast::{Arm, Kind, Line, MOST_EVENTS, Name, Node, Stmt};
 use dependence::has_name;
 use loop_tree::LoopView;
 use privatise::private_scalars;
@@ -138,6 +137,10 @@ fn shared_in(names: &[Name], nodes: &[Node]) -> Option<(Name, Line)>
 }
 
 /// The first variable of a loop inside that isn't private, if one is, and the line of its DO.
+///
+/// # Errors
+///
+/// `AllocError` where memory is refused.
 #[tactic(auto, using(crate::proofs::Hindered::is_shared))]
 pub fn first_shared(
     alloc: Global,
@@ -180,6 +183,10 @@ fn lines_of(alloc: Global, lines: &[Line], statements: &[usize]) -> Result<Vec<L
 
 /// The lines of the first sources of a loop, one more than there may be events, or as many as there
 /// are; by the lines of the program's statements.
+///
+/// # Errors
+///
+/// `AllocError` where memory is refused.
 #[tactic(auto, using(crate::proofs::Hindered::are_first))]
 pub fn first_sources(
     alloc: Global,

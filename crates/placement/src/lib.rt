@@ -12,7 +12,7 @@ mod placing;
 mod planning;
 mod spots;
 
-pub use analysis::{Kept, MOST_EVENTS};
+pub use analysis::Kept;
 pub use hindering::{first_read, first_shared, first_sources};
 pub use laws::{accepted, kept, outermost};
 pub use planning::{Placed, place, plan};

@@ -128,6 +128,10 @@ fn serial(alloc: Global, reason: u8, suits: bool) -> Placed
 
 /// The plan of a loop of which the caller knows whether it stands in one that is open, as [`plan`]
 /// gives it.
+///
+/// # Errors
+///
+/// `AllocError` where memory is refused.
 pub fn place(alloc: Global, view: &LoopView<'_, '_>, inside: bool) -> Result<Placed, AllocError>
     ensures { IfOk result (λ placed. IsWhole (seen view.now)
         → IsPlaced (seen view.now) inside placed) }

@@ -16,12 +16,13 @@ use Rattle.dependence.specs.PlanView.{arm_view, arms, last_arm, plan_block, plan
 use Rattle.dependence.specs.declared.plan.PlanArm.{PlanArm}
 use Rattle.dependence.specs.declared.plan.PlanStmt.{PlanStmt}
 use Rattle.dependence.specs.declared.plan.PlanStmt.TheVariants.{Advance, Await, Choice, Loop, Plain}
-use Rattle.loop_tree.proofs.Nodes.{choice_of as node_choice, loop_of as node_loop, plain_of as node_plain}
+use Rattle.dependence.proofs.PlanArms.{line_of, condition_of, body_of}
+use Rattle.ast.proofs.Nodes.{choice_of as node_choice, loop_of as node_loop, plain_of as node_plain}
 use Rattle.plan_check.specs.GoodPlan.{only_events, stripped, stripped_arms}
 use Rattle.plan_check.specs.Stripping.{IsNode, stripped_arm}
 use Rattle.plan_check.proofs.Equal.{part_differs}
 use Rattle.plan_check.proofs.Nodes.{advance_of, await_of, choice_of, loop_of, made_of, plain_of, some_choice}
-use Rattle.plan_check.proofs.Passing.{body_of, condition_of, line_of}
+use Rattle.plan_check.proofs.Comparing.{seen}
 
 -- an await or an advance leaves nothing
 skipped : (n : PlanNode) (b : PlanBlock) → only_events (then_node n no_nodes) ≡ true → stripped (then_node n b) ≡ stripped b
@@ -201,15 +202,12 @@ arm_is b ms same = out b ∙ built _ _ _ _ _ _ refl refl (ap block_view (sym sam
     out : (b : Arm) → arm_of b ≡ record { line = b.line; condition = optional_term b.condition; body = block_view b.body.items }
     out b = fold_out-Arm tree.Node tree.Arm node_step arm_step b ∙ search rules
 
-arms_by : (x y : tree.Arm) (u v : tree.Arm) (b : Bool) → x ≡ u → y ≡ v → Decides b (u ≡ v) → Decides b (x ≡ y)
-arms_by x y u v b e f d = ((λ h. e ∙ d.0 h ∙ sym f), (λ h. d.1 (sym e ∙ h ∙ f)))
-
 pub same_opening : (a : PlanArm) (b : Arm) (ns : List PlanStmt) (ms : List Node) (s t : Bool) → ns ≡ a.body.items → ms ≡ b.body.items → s ≡ true → Decides s ((a.line ≡ b.line) × (optional_term a.condition ≡ optional_term b.condition))
     → Decides t (stripped (plan_block ns) ≡ block_view ms) → Decides t (stripped_arm a ≡ arm_of b)
-same_opening a b ns ms s t e f w d r = arms_by _ _ _ _ t (stripped_is a ns e) (arm_is b ms f) (
+same_opening a b ns ms s t e f w d r = seen _ _ _ _ t (stripped_is a ns e) (arm_is b ms f) (
   (λ h. built _ _ _ _ _ _ (d.0 w).0 (d.0 w).1 (r.0 h)),
   (λ h. r.1 (ap (λ (x : tree.Arm). x.body) h)),
 )
 
 pub other_opening : (a : PlanArm) (b : Arm) (s : Bool) → s ≡ false → Decides s ((a.line ≡ b.line) × (optional_term a.condition ≡ optional_term b.condition)) → Decides s (stripped_arm a ≡ arm_of b)
-other_opening a b s w d = arms_by _ _ _ _ s (stripped_is a a.body.items refl) (arm_is b b.body.items refl) (part_differs s s refl w d (λ h. (ap (λ (x : tree.Arm). x.line) h, ap (λ (x : tree.Arm). x.condition) h)))
+other_opening a b s w d = seen _ _ _ _ s (stripped_is a a.body.items refl) (arm_is b b.body.items refl) (part_differs s s refl w d (λ h. (ap (λ (x : tree.Arm). x.line) h, ap (λ (x : tree.Arm). x.condition) h)))

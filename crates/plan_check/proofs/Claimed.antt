@@ -3,6 +3,8 @@ use Rattle.std.proofs.Common.{◌≡◌, ◌∙◌, ◌==◌, ◌+◌, ◌*◌, 
 use Rattle.std.proofs.lemmas.Option.{slice_get-get_or}
 use Rattle.std.specs.Prelude.{◌-◌, ◌⊎◌, ◌||◌, nat_lt, nat_le, if◌then◌else◌, slice_get}
 use Rattle.std.proofs.lemmas.Bool.Decides.{nat_tests}
+use Rattle.std.proofs.lemmas.Bool.{and_from, and_parts, and_left, and_right, ltb-true}
+use Rattle.ast.proofs.Numbers.{equal_itself}
 use Rattle.dependence.specs.Runs.{relation_at, run, runs, stepped}
 use Rattle.dependence.specs.declared.relation.Relation.{Relation}
 use Rattle.dependence.specs.declared.run.Run.{Run}
@@ -11,9 +13,6 @@ use Rattle.plan_check.specs.Claiming.{ascend, end, is_behind}
 
 abbrev pub Claim : Type 0
 Claim = ℕ × ℕ × Relation
-
-nat_refl : (a : ℕ) → (a == a) ≡ true
-nat_refl a = grind (arith, nat_tests)
 
 nat_other : (a b : ℕ) → (a ≡ b → ⊥) → (a == b) ≡ false
 nat_other a b n = grind (arith, nat_tests, n)
@@ -26,25 +25,11 @@ pub chosen_no : {X : Type 0} (b : Bool) (x y : X) → b ≡ false → (if b then
 chosen_no false x y e = refl
 chosen_no true x y e = cc
 
-both : (b c : Bool) → b ≡ true → c ≡ true → (b && c) ≡ true
-both true true p q = refl
-both true false p q = cc
-both false c p q = cc
-
-first_no : (b c : Bool) → b ≡ false → (b && c) ≡ false
-first_no false c p = refl
-first_no true c p = cc
-
-second_no : (b c : Bool) → c ≡ false → (b && c) ≡ false
-second_no false c p = refl
-second_no true false p = refl
-second_no true true p = cc
-
 -- a run of another reference has no claim of a pair
 pub other_first : (a b s n : ℕ) (r : Relation) (rest : List Claim) (x y : ℕ) → (a ≡ x → ⊥) → claimed (stepped a b s n r ++ rest) x y ≡ claimed rest x y
 other_first a b s zero r rest x y o = refl
 other_first a b s (suc n) r rest x y o =
-    chosen_no ((a == x) && (b == y)) (Some r) (claimed (stepped a (b + s) s n r ++ rest) x y) (first_no (a == x) (b == y) (nat_other a x o))
+    chosen_no ((a == x) && (b == y)) (Some r) (claimed (stepped a (b + s) s n r ++ rest) x y) (and_left (a == x) (b == y) (nat_other a x o))
     ∙ other_first a (b + s) s n r rest x y o
 
 -- nor has one that ends before it
@@ -53,7 +38,7 @@ ends_before a b s zero r rest x y q = refl
 ends_before a b s (suc n) r rest x y q =
     let next : (b + s) + s * n < y + s = omega (arith, q) in
     let before : b ≡ y → ⊥ = λ e. omega (arith, next, e) in
-    chosen_no ((a == x) && (b == y)) (Some r) (claimed (stepped a (b + s) s n r ++ rest) x y) (second_no (a == x) (b == y) (nat_other b y before))
+    chosen_no ((a == x) && (b == y)) (Some r) (claimed (stepped a (b + s) s n r ++ rest) x y) (and_right (a == x) (b == y) (nat_other b y before))
     ∙ ends_before a (b + s) s n r rest x y next
 
 -- the pair at a place of a run
@@ -61,8 +46,8 @@ pub inside : (a b s n k : ℕ) (r : Relation) (rest : List Claim) → k < n → 
 inside a b s zero k r rest l = absurd (omega (arith, l))
 inside a b s (suc n) zero r rest l =
     let none : b ≡ b + s * 0 = omega (arith) in
-    let here : (b == b + s * 0) ≡ true = subst (λ y. (b == y) ≡ true) none (nat_refl b) in
-    chosen_yes ((a == a) && (b == b + s * 0)) (Some r) (claimed (stepped a (b + s) s n r ++ rest) a (b + s * 0)) (both (a == a) (b == b + s * 0) (nat_refl a) here)
+    let here : (b == b + s * 0) ≡ true = subst (λ y. (b == y) ≡ true) none (equal_itself b) in
+    chosen_yes ((a == a) && (b == b + s * 0)) (Some r) (claimed (stepped a (b + s) s n r ++ rest) a (b + s * 0)) (and_from (a == a) (b == b + s * 0) (equal_itself a) here)
 inside a b s (suc n) (suc k) r rest l =
     let less : k < n = omega (arith, l) in
     let same : (b + s) + s * k ≡ b + s * suc k = omega (arith) in
@@ -71,14 +56,6 @@ inside a b s (suc n) (suc k) r rest l =
     by : (c : Bool) → claimed (stepped a (b + s) s n r ++ rest) a (b + s * suc k) ≡ Some r → (if c then Some r else claimed (stepped a (b + s) s n r ++ rest) a (b + s * suc k)) ≡ Some r
     by true e = refl
     by false e = e
-
-split : (b c : Bool) → (b && c) ≡ true → (b ≡ true) × (c ≡ true)
-split true true e = (refl, refl)
-split true false e = cc
-split false c e = cc
-
-less : (a b : ℕ) → nat_lt a b ≡ true → a < b
-less a b e = grind (arith, nat_tests, e)
 
 at_least : (a b : ℕ) → nat_le a b ≡ true → a ≤ b
 at_least a b e = grind (arith, nat_tests, e)
@@ -119,13 +96,13 @@ NotBefore a b r = (a < r.first) ⊎ ((a ≡ r.first) × (b ≤ r.second))
 
 not_before : (a b : ℕ) (r : Run) → is_behind a b r ≡ true → NotBefore a b r × (1 ≤ r.step)
 not_before a b r e =
-    let parts = split (nat_lt a r.first || ((a == r.first) && nat_le b r.second)) (nat_le 1 r.step) e in
+    let parts = and_parts (nat_lt a r.first || ((a == r.first) && nat_le b r.second)) (nat_le 1 r.step) e in
     (by (nat_lt a r.first) ((a == r.first) && nat_le b r.second) refl refl parts.0, at_least 1 r.step parts.1)
   where
     by : (p q : Bool) → nat_lt a r.first ≡ p → ((a == r.first) && nat_le b r.second) ≡ q → (p || q) ≡ true → NotBefore a b r
-    by true q e f h = inl (less a r.first e)
+    by true q e f h = inl (ltb-true a r.first e)
     by false true e f h =
-        let two = split (a == r.first) (nat_le b r.second) f in
+        let two = and_parts (a == r.first) (nat_le b r.second) f in
         inr (equal a r.first two.0, at_least b r.second two.1)
     by false false e f h = cc
 
@@ -133,12 +110,12 @@ not_before a b r e =
 floor : (a b : ℕ) (rs : List Run) (i : ℕ) (r : Run) → ascend a b rs ≡ true → slice_get rs i ≡ Some r → NotBefore a b r
 floor a b [] i r e g = cc
 floor a b (x ∷ rs) zero r e g =
-    subst (λ (y : Run). NotBefore a b y) (some_is g) (not_before a b x (split (is_behind a b x) (ascend x.first (end x) rs) e).0).0
+    subst (λ (y : Run). NotBefore a b y) (some_is g) (not_before a b x (and_parts (is_behind a b x) (ascend x.first (end x) rs) e).0).0
   where
     some_is : Some x ≡ Some r → x ≡ r
     some_is h = cc
 floor a b (x ∷ rs) (suc i) r e g =
-    let parts = split (is_behind a b x) (ascend x.first (end x) rs) e in
+    let parts = and_parts (is_behind a b x) (ascend x.first (end x) rs) e in
     joined (not_before a b x parts.0) (floor x.first (end x) rs i r parts.1 g)
   where
     joined : NotBefore a b x × (1 ≤ x.step) → NotBefore x.first (end x) r → NotBefore a b r
@@ -159,7 +136,7 @@ claimed_at ks a b (x ∷ rs) zero k r e g l =
     some_is : Some x ≡ Some r → x ≡ r
     some_is h = cc
 claimed_at ks a b (x ∷ rs) (suc i) k r e g l =
-    let parts = split (is_behind a b x) (ascend x.first (end x) rs) e in
+    let parts = and_parts (is_behind a b x) (ascend x.first (end x) rs) e in
     behind (not_before a b x parts.0).1 (floor x.first (end x) rs i r parts.1 g) ∙ claimed_at ks x.first (end x) rs i k r parts.1 g l
   where
     behind : 1 ≤ x.step → NotBefore x.first (end x) r → claimed (run ks x ++ runs ks rs) r.first (r.second + r.step * k) ≡ claimed (runs ks rs) r.first (r.second + r.step * k)
@@ -206,6 +183,6 @@ pub at_place : (ks : List Relation) (rs : List Run) (i k x y : ℕ) (d : Run) �
     → (((slice_index_or rs i d).first == x) && ((slice_index_or rs i d).second + (slice_index_or rs i d).step * k == y)) ≡ true → claimed (runs ks rs) x y ≡ Some (relation_at ks (slice_index_or rs i d).relation)
 at_place ks rs i k x y d e l m h =
     let r : Run = slice_index_or rs i d in
-    let two = split (r.first == x) (r.second + r.step * k == y) h in
+    let two = and_parts (r.first == x) (r.second + r.step * k == y) h in
     subst (λ z. claimed (runs ks rs) z y ≡ Some (relation_at ks r.relation)) (equal r.first x two.0)
     (subst (λ z. claimed (runs ks rs) r.first z ≡ Some (relation_at ks r.relation)) (equal (r.second + r.step * k) y two.1) (claimed_at ks 0 0 rs i k r e (slice_get-get_or rs i d l) m))

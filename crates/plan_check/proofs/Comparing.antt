@@ -12,7 +12,7 @@ use Rattle.ast.specs.declared.expression.Intrinsic.{Intrinsic}
 use Rattle.ast.specs.declared.expression.Operator.{Operator}
 use Rattle.ast.specs.declared.expression.Prefix.{Prefix}
 use Rattle.ast.specs.declared.name.Name.{Name}
-use Rattle.loop_tree.proofs.Terms.{binary_of, call_of, constant_of, element_of, parameter_of, parentheses_of, truth_of, unary_of}
+use Rattle.ast.proofs.Terms.{binary_of, call_of, constant_of, element_of, parameter_of, parentheses_of, truth_of, unary_of}
 use Rattle.plan_check.proofs.Equal.{last_part, part_differs}
 
 -- ---- what an expression is, told by what it stands for

@@ -3,18 +3,15 @@ use Rattle.std.proofs.Common.{◌≡◌, ◌∙◌, ◌||◌, ℕ, Bool, true, f
 use Rattle.std.specs.List.{list_any}
 use Rattle.std.proofs.lemmas.Bool.{eqb-true}
 use Rattle.std.proofs.lemmas.List.{drop_all, drop_more}
+use Rattle.std.proofs.Math.Bool.{or-false}
 use Rattle.plan_check.specs.Judging.{has_event}
-
-or_false : (a : Bool) → (a || false) ≡ a
-or_false true = refl
-or_false false = refl
 
 or_assoc : (a b c : Bool) → (a || (b || c)) ≡ ((a || b) || c)
 or_assoc true b c = refl
 or_assoc false b c = refl
 
 pub any_more : (test : ℕ → Bool) (es : List ℕ) (e : ℕ) → list_any test (es ++ e ∷ []) ≡ (list_any test es || test e)
-any_more test [] e = or_false (test e)
+any_more test [] e = or-false (test e)
 any_more test (x ∷ es) e = ap (λ b. test x || b) (any_more test es e) ∙ or_assoc (test x) (list_any test es) (test e)
 
 pub any_same : (test : ℕ → Bool) (es : List ℕ) (e : ℕ) → has_event es e ≡ true → list_any test es ≡ (list_any test es || test e)
@@ -44,4 +41,4 @@ next_added test xs i e d before after whole h is added so_far =
     ∙ so_far
 
 pub all_added : (test : ℕ → Bool) (xs : List (ℕ × ℕ)) (i : ℕ) (b whole : Bool) → length xs ≤ i → (b || list_any (λ n. test n.0) (drop i xs)) ≡ whole → b ≡ whole
-all_added test xs i b whole h so_far = sym (or_false b) ∙ sym (ap (λ (ys : List (ℕ × ℕ)). b || list_any (λ n. test n.0) ys) (drop_all i xs h)) ∙ so_far
+all_added test xs i b whole h so_far = sym (or-false b) ∙ sym (ap (λ (ys : List (ℕ × ℕ)). b || list_any (λ n. test n.0) ys) (drop_all i xs h)) ∙ so_far

@@ -1,9 +1,12 @@
--- Each way along the paths of a part of a plan: what is known at its end, and before each of its tokens.
-use Rattle.std.proofs.Common.{◌≡◌, ◌∙◌, ◌⊎◌, inl, inr, ℕ, zero, suc, Bool, true, false, List, [], ◌∷◌, ◌++◌, refl, sym, ap, subst, ⊎_elim, Some, None}
-use Rattle.std.specs.Prelude.{◌&&◌, ◌||◌, ◌==◌, nat_le}
+-- Each way along the paths of a part of a plan: what is known at its end, and before each of its
+-- tokens.
+use Rattle.std.proofs.Common.{◌≡◌, ◌∙◌, ◌⊎◌, inl, inr, ℕ, zero, suc, Bool, true, List, [], ◌∷◌, ◌++◌, refl, sym, ap, subst, ⊎_elim, Some, None}
+use Rattle.std.specs.Prelude.{◌&&◌, ◌==◌, nat_le}
 use Rattle.std.proofs.lemmas.Bool.{and_from, and_parts}
+use Rattle.std.proofs.Math.Bool.{or-true}
 use Rattle.ast.specs.References.{expressions_references, items_expressions, optional, term_references, terms_references}
 use Rattle.ast.specs.Tree.{Ref, Access, DoHead, Kind, program, integer, dimension, parameters, assign, do_loop, go_on, block_if, else_if, else_arm, end_if, logical_if, print, read, stop, end}
+use Rattle.ast.proofs.Lists.{not_empty}
 use Rattle.dependence.specs.Plan.{awaits, advances, plain, loop, choose, PlanBlock, no_nodes, then_node, PlanArms, no_arms, made_else, then_arm, PlanPaths, PlanArmsPaths}
 use Rattle.loop_tree.specs.Paths.{Token, uses, defines, await, advance, Ending, at_end, at_stop, PathSet, Just, Stop, Joined, Then, Either, Times, AnyTimes, KindPaths, used, term_tokens, target_tokens, targets_tokens, head_tokens}
 use Rattle.plan_check.proofs.Facts.{Below, Fact, defined, near, free, advanced, fact, run, runs, turn}
@@ -45,10 +48,6 @@ parted (y ∷ p) q (z ∷ u) v x e =
     rest [] = []
     rest (w ∷ ws) = ws
 
-nothing_parted : (u v : List Token) (x : Token) → [] ≡ u ++ x ∷ v → ⊥
-nothing_parted [] v x e = cc
-nothing_parted (y ∷ u) v x e = cc
-
 -- ---- runs
 
 run_append : (f : Fact) (u v : List Token) (b : Bool) → run f (u ++ v) b ≡ run f v (run f u b)
@@ -81,7 +80,7 @@ after_below (x ∷ t) s b h = after_below t (step x s) (λ f. turn f x (b f)) (s
 
 points_stand : (t u v : List Token) (x : Token) (s : Known) (b : Fact → Bool) → Below s b → t ≡ u ++ x ∷ v → Stood (points t s) x (runs u b)
 unfolding head_of tail_of
-points_stand [] u v x s b h e = absurd (nothing_parted u v x e)
+points_stand [] u v x s b h e = absurd (not_empty u x v e)
 points_stand (y ∷ t) [] v x s b h e = record { known = s; at = inl (ap (λ (z : Token). (z, s)) (sym (ap (λ (w : List Token). head_of y w) e))); below = h }
 points_stand (y ∷ t) (z ∷ u) v x s b h e =
     let same : y ≡ z = ap (λ (w : List Token). head_of y w) e in
@@ -103,7 +102,7 @@ flows_stop s r = record { out = λ b h t p. absurd p; at = at }
   where
     at : (b : Fact → Bool) → Below s b → (e : Ending) (t u v : List Token) (x : Token) → Stop e t → t ≡ u ++ x ∷ v → Stood [] x (runs u b)
     at b h at_end t u v x p q = absurd p
-    at b h at_stop t u v x p q = absurd (nothing_parted u v x (sym p ∙ q))
+    at b h at_stop t u v x p q = absurd (not_empty u x v (sym p ∙ q))
 
 more_left : (ps qs : List Point) (x : Token) (b : Fact → Bool) → Stood ps x b → Stood (ps ++ qs) x b
 more_left ps qs x b h = record { known = h.known; at = in_left (x, h.known) ps qs h.at; below = h.below }
@@ -146,17 +145,13 @@ abbrev AllStill : List Token → Type 0
 AllStill [] = Unit {0}
 AllStill (x ∷ t) = Still x × AllStill t
 
-on_or : (a : Bool) → (a || true) ≡ true
-on_or true = refl
-on_or false = refl
-
 still_turn : (f : Fact) (x : Token) → Still x → turn f x true ≡ true
 still_turn (defined c) (uses r) h = refl
-still_turn (defined c) (defines r) h = on_or (r.cell == c)
+still_turn (defined c) (defines r) h = or-true (r.cell == c)
 still_turn (defined c) (await n d) h = refl
 still_turn (near k m) (uses r) h = refl
 still_turn (near k m) (defines r) h = refl
-still_turn (near k m) (await n d) h = on_or ((n == k) && nat_le d m)
+still_turn (near k m) (await n d) h = or-true ((n == k) && nat_le d m)
 still_turn (free k) (uses r) h = refl
 still_turn (free k) (defines r) h = refl
 still_turn (free k) (await n d) h = refl

@@ -1,10 +1,11 @@
 -- References of one cell are all that a reference is to be judged with.
-use Rattle.std.proofs.Common.{◌≡◌, ◌∙◌, ◌==◌, ℕ, Bool, true, false, ◌&&◌, ◌||◌, List, [], ◌∷◌, ◌++◌, Option, Some, None, slice_get, ap, refl, sym}
+use Rattle.std.proofs.Common.{◌≡◌, ◌∙◌, ◌==◌, ℕ, Bool, true, false, ◌&&◌, ◌||◌, List, [], ◌∷◌, Option, Some, None, slice_get, ap, refl, sym}
 use Rattle.std.specs.Prelude.{if◌then◌else◌}
 use Rattle.std.specs.List.{list_all}
 use Rattle.std.proofs.lemmas.Bool.{and_from, and_parts}
 use Rattle.ast.specs.Store.{same_name}
 use Rattle.ast.specs.Tree.{Ref}
+use Rattle.ast.proofs.Lists.{all_right, all_weaker}
 use Rattle.dependence.specs.declared.relation.Relation.{Relation}
 use Rattle.loop_tree.specs.Loops.{Loop}
 use Rattle.loop_tree.specs.Occurrences.{Occurrence}
@@ -14,10 +15,6 @@ use Rattle.plan_check.specs.Grouping.{at_cell, cell_of, chosen, row_at, with_cho
 use Rattle.plan_check.specs.Judging.{Entry, Verdict, by_claim, is_own, with_all, with_entry, with_pair, with_partners}
 use Rattle.plan_check.specs.Walking.{Note}
 
-behind : {X : Type 0} (f : X → Bool) (xs ys : List X) → list_all f (xs ++ ys) ≡ true → list_all f ys ≡ true
-behind f [] ys h = h
-behind f (x ∷ xs) ys h = behind f xs ys (and_parts (f x) (list_all f (xs ++ ys)) h).1
-
 -- what holds of all references holds of those of entries
 of_entries : (f : Ref → Bool) (l : Loop) (os : List Occurrence) (ns : List Note) → list_all f (references os) ≡ true → list_all (λ (e : Entry). f e.occurrence.ref) (entries_by l os ns) ≡ true
 of_entries f l [] ns h = refl
@@ -26,10 +23,6 @@ of_entries f l (o ∷ os) (n ∷ ns) h =
     let q = and_parts (f o.ref) (list_all f (references os)) h in
     and_from (f o.ref) (list_all (λ (e : Entry). f e.occurrence.ref) (entries_by l os ns)) q.0 (of_entries f l os ns q.1)
 
-of_all : {X : Type 0} (f g : X → Bool) (xs : List X) → ((x : X) → f x ≡ true → g x ≡ true) → list_all f xs ≡ true → list_all g xs ≡ true
-of_all f g [] k h = refl
-of_all f g (x ∷ xs) k h = let q = and_parts (f x) (list_all f xs) h in and_from (g x) (list_all g xs) (k x q.0) (of_all f g xs k q.1)
-
 -- the cells of entries tell whether their names are the same
 abbrev AreTold : List Entry → List Entry → Type 0
 AreTold xs ys = list_all (λ (x : Entry). list_all (λ (y : Entry). is_told x.occurrence.ref y.occurrence.ref) ys) xs ≡ true
@@ -37,10 +30,10 @@ AreTold xs ys = list_all (λ (x : Entry). list_all (λ (y : Entry). is_told x.oc
 pub entries_told : (l : Loop) (ns : List Note) → are_told (known l) ≡ true → AreTold (entries_by l l.references ns) (entries_by l l.references ns)
 entries_told l ns h =
     let rs = l.head.variable ∷ l.assigned in
-    let some = behind (λ (r : Ref). list_all (λ (s : Ref). is_told r s) (known l)) rs (references l.references) h in
+    let some = all_right (λ (r : Ref). list_all (λ (s : Ref). is_told r s) (known l)) rs (references l.references) h in
     of_entries (λ (r : Ref). list_all (λ (y : Entry). is_told r y.occurrence.ref) (entries_by l l.references ns)) l l.references ns
-    (of_all (λ (r : Ref). list_all (λ (s : Ref). is_told r s) (known l)) (λ (r : Ref). list_all (λ (y : Entry). is_told r y.occurrence.ref) (entries_by l l.references ns)) (references l.references)
-    (λ r k. of_entries (λ (s : Ref). is_told r s) l l.references ns (behind (λ (s : Ref). is_told r s) rs (references l.references) k)) some)
+    (all_weaker (λ (r : Ref). list_all (λ (s : Ref). is_told r s) (known l)) (λ (r : Ref). list_all (λ (y : Entry). is_told r y.occurrence.ref) (entries_by l l.references ns)) (references l.references)
+    (λ r k. of_entries (λ (s : Ref). is_told r s) l l.references ns (all_right (λ (s : Ref). is_told r s) rs (references l.references) k)) some)
 
 module _ (l : Loop) (events : List ℕ) (claim : ℕ → ℕ → Option Relation) where
   -- references of other cells aren't judged

@@ -1,6 +1,7 @@
 -- What is among the elements of a list, by cases on the list.
-use Rattle.std.proofs.Common.{◌≡◌, ◌⊎◌, inl, inr, ◌<◌, ℕ, zero, suc, List, [], ◌∷◌, ◌++◌, length, slice_index_or, sym, arith}
-use Rattle.std.specs.List.{Contains}
+use Rattle.std.proofs.Common.{◌≡◌, ◌⊎◌, inl, inr, ◌<◌, ℕ, zero, suc, List, [], ◌∷◌, ◌++◌, length, slice_index_or, sym, arith, Bool, true, ap, ◌∙◌}
+use Rattle.std.specs.List.{Contains, list_all}
+use Rattle.std.proofs.lemmas.Bool.{and_parts}
 
 abbrev pub In : {A : Type 0} → A → List A → Type 0
 In a [] = ⊥
@@ -38,3 +39,9 @@ among x xs c = by x xs c.0 c.1 c.2
     by x [] k l e = absurd (omega (arith, l))
     by x (y ∷ ys) zero l e = inl (sym e)
     by x (y ∷ ys) (suc k) l e = inr (by x ys k (omega (arith, l)) e)
+
+-- what holds of all of a list holds of each
+pub all_in : {A : Type 0} (f : A → Bool) (xs : List A) (x : A) → list_all f xs ≡ true → In x xs → f x ≡ true
+all_in f [] x h i = absurd i
+all_in f (y ∷ ys) x h (inl e) = ap f e ∙ (and_parts (f y) (list_all f ys) h).0
+all_in f (y ∷ ys) x h (inr i) = all_in f ys x (and_parts (f y) (list_all f ys) h).1 i

@@ -1,7 +1,8 @@
 -- Statements of a plan, seen as trees, and the events that they add to a list.
-use Rattle.std.proofs.Common.{◌≡◌, ◌∙◌, ◌+◌, ◌<◌, ◌≤◌, ℕ, List, Vec, Global, Option, Some, None, Result, Ok, Err, length, map, drop, get_or, ap, refl, sym}
-use Rattle.std.specs.Prelude.{IsErr, OnOk}
+use Rattle.std.proofs.Common.{◌≡◌, ◌∙◌, ◌+◌, ◌<◌, ◌≤◌, ℕ, List, Vec, Global, Option, Some, None, Result, length, map, drop, get_or, ap, refl, sym}
+use Rattle.std.specs.Prelude.{OnOk}
 use Rattle.std.proofs.lemmas.List.{drop_all, drop_more}
+use Rattle.std.proofs.lemmas.Result.{on_ok_weaker}
 use Rattle.ast.specs.Tree.{Term}
 use Rattle.ast.specs.View.{head, statement}
 use Rattle.ast.specs.declared.statement.DoHead.{DoHead}
@@ -52,27 +53,18 @@ some_choice n cs (Some b) others is same = (made_else (plan_block b.items), made
 
 -- ---- the events that statements add to a list
 
--- a call that failed says nothing
-pub no_answer : {X E : Type 0} (r : Result X E) (P : Type 0) → IsErr r → OnOk r P
-no_answer (Ok x) P h = absurd cc
-no_answer (Err e) P h = tt
-
-both : {X E : Type 0} (r : Result X E) (P Q : Type 0) → (P → Q) → OnOk r P → OnOk r Q
-both (Ok x) P Q f h = f h
-both (Err e) P Q f h = tt
-
 pub as_node : (new old : List (ℕ × ℕ)) (n m : PlanNode) → n ≡ m → new ≡ with_node m old → new ≡ with_node n old
 as_node new old n m is h = h ∙ ap (λ (x : PlanNode). with_node x old) (sym is)
 
 pub as_loop : {X E : Type 0} (r : Result X E) (new old : List (ℕ × ℕ)) (n m : PlanNode) → n ≡ m → OnOk r (new ≡ with_node m old) → OnOk r (new ≡ with_node n old)
-as_loop r new old n m is = both r (new ≡ with_node m old) (new ≡ with_node n old) (as_node new old n m is)
+as_loop r new old n m is = on_ok_weaker {P = new ≡ with_node m old} {Q = new ≡ with_node n old} r (as_node new old n m is)
 
 pub as_choice : (new old : List (ℕ × ℕ)) (n : PlanNode) (cs : List ArmOf) → n ≡ choose (arms cs no_arms) → ((last : PlanArms) → with_arms (arms cs last) old ≡ with_arms last new) → new ≡ with_node n old
 as_choice new old n cs is each = as_node new old n (choose (arms cs no_arms)) is (sym (each no_arms))
 
 pub as_made : {X E : Type 0} (r : Result X E) (new mid old : List (ℕ × ℕ)) (n : PlanNode) (cs : List ArmOf) (b : PlanBlock) → n ≡ choose (arms cs (made_else b)) → ((last : PlanArms) → with_arms (arms cs last) old ≡ with_arms last mid) → OnOk r (new ≡ with_block b mid) → OnOk r (new ≡ with_node n old)
 as_made r new mid old n cs b is each =
-    both r (new ≡ with_block b mid) (new ≡ with_node n old) (λ h. as_node new old n (choose (arms cs (made_else b))) is (h ∙ sym (each (made_else b))))
+    on_ok_weaker {P = new ≡ with_block b mid} {Q = new ≡ with_node n old} r (λ h. as_node new old n (choose (arms cs (made_else b))) is (h ∙ sym (each (made_else b))))
 
 pub next_listed : (ns : List PlanStmt) (i : ℕ) (n : PlanStmt) (before after whole : List (ℕ × ℕ)) → i < length ns → n ≡ get_or ns i n → after ≡ with_node (plan_node n) before
     → with_block (plan_block (drop i ns)) before ≡ whole → with_block (plan_block (drop (i + 1) ns)) after ≡ whole

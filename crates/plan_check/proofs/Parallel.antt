@@ -9,6 +9,7 @@ use Rattle.ast.specs.Tree.{Ref, Term, Terms, constant, truth, parameter, element
 use Rattle.dependence.specs.Plan.{awaits, advances, plain, loop, choose, PlanBlock, no_nodes, then_node, PlanArms, no_arms, made_else, then_arm}
 use Rattle.loop_tree.specs.Occurrences.{Occurrence, arms_occurrences, block_occurrences, head_occurrences, items_occurrences, kind_occurrences, optional_occurrences, target_occurrences, targets_occurrences, term_occurrences, terms_occurrences, node_lines, block_lines}
 use Rattle.loop_tree.specs.Paths.{Token, uses, defines, await, advance, used, term_tokens, target_tokens, targets_tokens, head_tokens}
+use Rattle.loop_tree.proofs.References.{used_append}
 use Rattle.plan_check.specs.Checking.{reference_tokens, tokens_of}
 use Rattle.plan_check.specs.Flow.{Known, Point, after, after_arms, after_kind, arms_points, block_points, kind_tokens, nowhere, points, step}
 use Rattle.plan_check.specs.GoodPlan.{made_bare, made_bare_arms, only_events, stripped, stripped_arms, token_of}
@@ -16,10 +17,6 @@ use Rattle.plan_check.specs.GoodPlan.{made_bare, made_bare_arms, only_events, st
 pub tokens_append : (os ps : List Occurrence) → tokens_of (os ++ ps) ≡ tokens_of os ++ tokens_of ps
 tokens_append [] ps = refl
 tokens_append (o ∷ os) ps = ap (λ (t : List Token). token_of o ∷ t) (tokens_append os ps)
-
-used_append : (xs ys : List Ref) → used (xs ++ ys) ≡ used xs ++ used ys
-used_append [] ys = refl
-used_append (x ∷ xs) ys = ap (λ (t : List Token). uses x ∷ t) (used_append xs ys)
 
 reference_append : (ps qs : List Point) → reference_tokens (ps ++ qs) ≡ reference_tokens ps ++ reference_tokens qs
 reference_append [] qs = refl

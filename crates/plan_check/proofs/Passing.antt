@@ -1,26 +1,18 @@
 -- Arms are passed one by one: what is known and seen behind each.
-use Rattle.std.proofs.Common.{◌≡◌, ◌∙◌, ◌+◌, ◌<◌, ℕ, Bool, true, List, ◌∷◌, length, drop, map, Option, sym, ap, get_or, rules}
+use Rattle.std.proofs.Common.{◌≡◌, ◌∙◌, ◌+◌, ◌<◌, ℕ, Bool, true, List, ◌∷◌, length, drop, map, Option, sym, ap, get_or}
 use Rattle.std.proofs.lemmas.List.{drop_more}
 use Rattle.ast.specs.Tree.{Term}
 use Rattle.ast.specs.View.{optional_term}
 use Rattle.ast.specs.declared.expression.Expr.{Expr}
-use Rattle.dependence.specs.Plan.{PlanNode, PlanBlock, PlanArms, then_arm}
-use Rattle.dependence.specs.PlanView.{ArmOf, arm_step, arm_view, arms, node_step, plan_block}
-use Rattle.dependence.specs.declared.plan.PlanArm.{PlanArm, fold_out-PlanArm}
+use Rattle.dependence.specs.Plan.{PlanBlock, PlanArms, then_arm}
+use Rattle.dependence.specs.PlanView.{arm_view, arms, plan_block}
+use Rattle.dependence.specs.declared.plan.PlanArm.{PlanArm}
 use Rattle.dependence.specs.declared.plan.PlanStmt.{PlanStmt}
+use Rattle.dependence.proofs.PlanArms.{line_of, condition_of, body_of}
 use Rattle.std.specs.Prelude.{◌&&◌}
 use Rattle.plan_check.specs.Flow.{Known, joined}
 use Rattle.plan_check.specs.GoodPlan.{made_bare, made_bare_arms}
 use Rattle.plan_check.specs.Walking.{Seen, behind, known_arms, known_block, seen_arms, seen_block, seen_optional}
-
-pub line_of : (a : PlanArm) → (arm_view a).line ≡ a.line
-line_of a = ap (λ (b : ArmOf). b.line) (fold_out-PlanArm PlanNode ArmOf node_step arm_step a) ∙ search rules
-
-pub condition_of : (a : PlanArm) → (arm_view a).condition ≡ optional_term a.condition
-condition_of a = ap (λ (b : ArmOf). b.condition) (fold_out-PlanArm PlanNode ArmOf node_step arm_step a) ∙ search rules
-
-pub body_of : (a : PlanArm) → (arm_view a).body ≡ plan_block a.body.items
-body_of a = ap (λ (b : ArmOf). b.body) (fold_out-PlanArm PlanNode ArmOf node_step arm_step a) ∙ search rules
 
 -- an arm is the first of those that are left
 pub arm_here : (xs : List PlanArm) (i : ℕ) (a : PlanArm) (c : Option Expr) (ns : List PlanStmt) → i < length xs → a ≡ get_or xs i a → a.condition ≡ c → a.body.items ≡ ns → (last : PlanArms)

@@ -58,11 +58,6 @@ at_place view [] n x l e = absurd (omega (arith, l))
 at_place view (y ∷ xs) zero x l e = ap (λ z. Some (view z)) (sym e)
 at_place view (y ∷ xs) (suc n) x l e = at_place view xs n x (omega (arith, l)) e
 
-pub none_at : {X Y : Type 0} (view : X → Y) (xs : List X) (n : ℕ) → length xs ≤ n → slice_get (map view xs) n ≡ None
-none_at view [] n l = refl
-none_at view (y ∷ xs) zero l = absurd (omega (arith, l))
-none_at view (y ∷ xs) (suc n) l = none_at view xs n (omega (arith, l))
-
 pub no_more : {X Y : Type 0} (f : X → Occurrence) (g : Y → Note) (l : Loop) (n : ℕ) (xs : List X) (ys : List Y) → min (length xs) (length ys) ≤ n → entries_by l (map f (drop n xs)) (map g (drop n ys)) ≡ []
 no_more f g l zero [] ys h = refl
 no_more f g l zero (x ∷ xs) [] h = refl

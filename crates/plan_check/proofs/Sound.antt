@@ -3,12 +3,13 @@ use Rattle.std.proofs.Common.{◌≡◌, ◌∙◌, ◌⊎◌, inl, inr, ◌+◌
 use Rattle.std.specs.Prelude.{◌==◌, nat_le}
 use Rattle.std.specs.List.{list_all, list_any}
 use Rattle.std.specs.Ordering.{int_eq}
-use Rattle.std.specs.Cmp.Lexicographic.{same_text}
 use Rattle.std.proofs.lemmas.Cmp.{nat_list_eq_equiv}
-use Rattle.std.proofs.lemmas.Bool.{and_from, and_parts, eqb-true, leb-true, eq-eqb}
+use Rattle.std.proofs.lemmas.Bool.{and_from, and_parts, eqb-true, leb-true, eq-eqb, not-true}
 use Rattle.ast.specs.References.{are_numbered}
 use Rattle.ast.specs.Store.{same_name}
 use Rattle.ast.specs.Tree.{Ref}
+use Rattle.ast.proofs.SameNames.{same_is}
+use Rattle.ast.proofs.Bools.{not_from_never}
 use Rattle.dependence.specs.Kept.{IsNonzero, block_reads, block_variables, most_events}
 use Rattle.dependence.specs.Meets.{Meets, IsWithin, Promises}
 use Rattle.dependence.specs.Plan.{PlanPaths, PlanTree}
@@ -27,14 +28,9 @@ use Rattle.plan_check.specs.GoodPlan.{Begins, GoodPlan, IsPrivate, Keeps, Names,
 use Rattle.plan_check.proofs.Tokens.{IsReference}
 use Rattle.plan_check.proofs.Naming.{Of, named_on}
 use Rattle.plan_check.proofs.Flowing.{Stood, flows_block}
-use Rattle.plan_check.proofs.Members.{In, among, contained, in_right}
+use Rattle.plan_check.proofs.Members.{In, among, contained, in_right, all_in}
 
 -- ---- Bools over lists
-
-pub all_in : {A : Type 0} (f : A → Bool) (xs : List A) (x : A) → list_all f xs ≡ true → In x xs → f x ≡ true
-all_in f [] x h i = absurd i
-all_in f (y ∷ ys) x h (inl e) = ap f e ∙ (and_parts (f y) (list_all f ys) h).0
-all_in f (y ∷ ys) x h (inr i) = all_in f ys x (and_parts (f y) (list_all f ys) h).1 i
 
 pub any_in : {A : Type 0} (f : A → Bool) (xs : List A) → list_any f xs ≡ true → (x : A) × In x xs × (f x ≡ true)
 any_in f [] h = cc
@@ -53,21 +49,10 @@ in_any f (y ∷ ys) x (inr i) e = by (f y) (in_any f ys x i e)
     by true g = refl
     by false g = g
 
-pub not_false : (b : Bool) → not b ≡ true → b ≡ false
-not_false true h = cc
-not_false false h = refl
-
-false_not : (b : Bool) → (b ≡ true → ⊥) → not b ≡ true
-false_not true h = absurd (h refl)
-false_not false h = refl
-
 -- where the first holds, the other does
 implied : (a b : Bool) → (not a || b) ≡ true → a ≡ true → b ≡ true
 implied true b h e = h
 implied false b h e = cc
-
-pub same_is : (x y : List ℕ) → same_name x y ≡ true → x ≡ y
-same_is x y h = same_text x y (sym h)
 
 pub is_same : (x y : List ℕ) → x ≡ y → same_name x y ≡ true
 is_same x y e = subst (λ (z : List ℕ). same_name x z ≡ true) e (nat_list_eq_equiv.refl x)
@@ -271,8 +256,8 @@ LookedAt l p a b = is_looked_at l p a b ≡ true
 looked_at : (l : Loop) (p : PlanTree) (a b : Occurrence) → Together l p a b → LookedAt l p a b
 looked_at l p a b t =
     and_from (same_name a.ref.name b.ref.name) _ (is_same a.ref.name b.ref.name t.name)
-    (and_from (not (same_name a.ref.name l.head.variable.name)) _ (false_not (same_name a.ref.name l.head.variable.name) (λ h. t.other (same_is a.ref.name l.head.variable.name h)))
-    (and_from (not (has_name p.privates a.ref.name)) _ (false_not (has_name p.privates a.ref.name) (λ h. t.shared (is_private p a.ref.name h))) t.defining))
+    (and_from (not (same_name a.ref.name l.head.variable.name)) _ (not_from_never (same_name a.ref.name l.head.variable.name) (λ h. t.other (same_is a.ref.name l.head.variable.name h)))
+    (and_from (not (has_name p.privates a.ref.name)) _ (not_from_never (has_name p.privates a.ref.name) (λ h. t.shared (is_private p a.ref.name h))) t.defining))
 
 pair_holds : (l : Loop) (p : PlanTree) (es : List Entry) (test : Entry → Entry → Bool) (x y : Entry) → each_pair l p es test ≡ true → In x es → In y es → LookedAt l p x.0 y.0 → test x y ≡ true
 pair_holds l p es test x y h i j k =
@@ -457,7 +442,7 @@ module _ (promised : (l : Loop) (a b : Occurrence) (r : Relation) → is_verifie
   pub good : GoodPlan l p
   good = record {
     step = step_is l.step fit.0;
-    no_read = not_false (block_reads l.body) fit.1;
+    no_read = not-true (block_reads l.body) fit.1;
     inner = λ r i. is_private p r.name (all_in (λ (r : Ref). has_name p.privates r.name) (block_variables l.body) r fit.2 (among r (block_variables l.body) i));
     scalars = λ name i.
         let h = all_in (λ (n : List ℕ). has_named l.assigned n) p.privates name fit.3 (among name p.privates i) in
@@ -473,7 +458,7 @@ module _ (promised : (l : Loop) (a b : Occurrence) (r : Relation) → is_verifie
     where
       step_is : (o : Option ℤ) → is_step o ≡ true → IsNonzero o
       step_is None h = cc
-      step_is (Some s) h = not_false (int_eq s (pos 0)) h
+      step_is (Some s) h = not-true (int_eq s (pos 0)) h
 
 pub accepted_is_good : (cells : ℕ) (l : Loop) (p : PlanTree) → are_in_turn (references l.references) ≡ true → are_told (known l) ≡ true → Checked cells l p → GoodPlan l p
 accepted_is_good cells l p turn_by told ok = good (λ m a b r e. promised m a b r e) cells l p turn_by told ok

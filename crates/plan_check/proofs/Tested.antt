@@ -2,6 +2,7 @@
 use Rattle.std.proofs.Common.{◌≡◌, ◌∙◌, ◌+◌, ◌<◌, ◌≤◌, ℕ, Bool, true, false, List, Option, length, map, drop, get_or, ap, refl, sym}
 use Rattle.std.specs.Prelude.{◌&&◌}
 use Rattle.std.proofs.lemmas.List.{drop_all, drop_more}
+use Rattle.std.proofs.Math.Bool.{and-true}
 use Rattle.ast.specs.Tree.{Term}
 use Rattle.dependence.specs.Plan.{PlanNode, PlanBlock, PlanArms, awaits, advances, plain, loop, choose, no_nodes, then_node, then_arm}
 use Rattle.dependence.specs.PlanView.{ArmOf, arm_view, arms, plan_block, plan_node}
@@ -9,10 +10,6 @@ use Rattle.dependence.specs.declared.plan.PlanArm.{PlanArm}
 use Rattle.dependence.specs.declared.plan.PlanStmt.{PlanStmt}
 use Rattle.plan_check.specs.Flow.{no_advance, no_advance_arms, outside, outside_arms}
 use Rattle.plan_check.specs.GoodPlan.{made_bare, made_bare_arms}
-
-and_true : (b : Bool) → (b && true) ≡ b
-and_true true = refl
-and_true false = refl
 
 and_apart : (a b : Bool) → (a && b) ≡ ((a && true) && b)
 and_apart true b = refl
@@ -68,7 +65,7 @@ module _ (passes : PlanBlock → Bool) where
   node_passes n m b is h = h ∙ ap (λ (x : PlanNode). passes (then_node x no_nodes)) (sym is)
 
 pub alone : (a b : Bool) → a ≡ b → a ≡ (b && true)
-alone a b is = is ∙ sym (and_true b)
+alone a b is = is ∙ sym (and-true b)
 
 -- the arms of an IF
 module _ (passes : PlanBlock → Bool) (in_arms : PlanArms → Bool) where

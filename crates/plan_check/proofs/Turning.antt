@@ -8,7 +8,7 @@ use Rattle.plan_check.specs.Flow.{Known, Near, both, both_near, further, is_near
 
 -- ---- lists by index
 
-get_put : {A : Type 0} (xs : List A) (n k : ℕ) (v d : A) → (k ≡ n → ⊥) → get_or (put xs n v) k d ≡ get_or xs k d
+pub get_put : {A : Type 0} (xs : List A) (n k : ℕ) (v d : A) → (k ≡ n → ⊥) → get_or (put xs n v) k d ≡ get_or xs k d
 get_put [] n k v d h = refl
 get_put (x ∷ xs) zero zero v d h = absurd (h refl)
 get_put (x ∷ xs) zero (suc k) v d h = refl

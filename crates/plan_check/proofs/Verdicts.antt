@@ -2,6 +2,7 @@
 use Rattle.std.proofs.Common.{◌≡◌, ◌∙◌, ℕ, Bool, true, false, not, ◌&&◌, ◌||◌, List, [], ◌∷◌, map, Option, Some, None, ap, refl, sym}
 use Rattle.std.specs.Prelude.{if◌then◌else◌}
 use Rattle.std.specs.List.{list_all, list_any}
+use Rattle.std.proofs.Math.Bool.{and-true}
 use Rattle.ast.specs.Store.{same_name}
 use Rattle.dependence.specs.Formed.{forms_of}
 use Rattle.dependence.specs.Plan.{PlanTree}
@@ -18,10 +19,6 @@ use Rattle.plan_check.specs.Judging.{Verdict, best, is_own, is_pair, with_all, w
 and_assoc : (a b c : Bool) → ((a && b) && c) ≡ (a && (b && c))
 and_assoc true b c = refl
 and_assoc false b c = refl
-
-and_true : (a : Bool) → (a && true) ≡ a
-and_true true = refl
-and_true false = refl
 
 all_same : {X : Type 0} (f g : X → Bool) (xs : List X) → ((x : X) → f x ≡ g x) → list_all f xs ≡ list_all g xs
 all_same f g [] h = refl
@@ -56,7 +53,7 @@ module _ (l : Loop) (p : PlanTree) (events : List ℕ) (claim : ℕ → ℕ → 
 
   by_partners : (part : Verdict → Bool) (test : Entry → Entry → Bool) → Goes part test → (x : Entry) (ys : List Entry) (v : Verdict)
       → part (with_partners l events claim (joined x) (map joined ys) v) ≡ (part v && list_all (λ (y : Entry). not (is_pair x.0 y.0) || test x y) ys)
-  by_partners part test goes x [] v = sym (and_true (part v))
+  by_partners part test goes x [] v = sym (and-true (part v))
   by_partners part test goes x (y ∷ ys) v =
       by_partners part test goes x ys (with_pair l events claim (joined x) (joined y) v)
       ∙ ap (λ b. b && list_all (λ (y : Entry). not (is_pair x.0 y.0) || test x y) ys) (goes x y v)
@@ -69,7 +66,7 @@ module _ (l : Loop) (p : PlanTree) (events : List ℕ) (claim : ℕ → ℕ → 
       by : (b : Bool) → is_own l p.privates x.0 ≡ b
           → part (if b then v else with_partners l events claim (joined x) (map joined ys) v) ≡ (part v && list_all (λ (y : Entry). passes test x y) ys)
       by true h =
-          sym (and_true (part v))
+          sym (and-true (part v))
           ∙ ap (λ b. part v && b) (sym (all_true_of (λ (y : Entry). passes test x y) ys (λ y. own_passes (same_name x.0.ref.name y.0.ref.name) (same_name x.0.ref.name l.head.variable.name) (has_name p.privates x.0.ref.name) (x.0.defines || y.0.defines) (test x y) h)))
       by false h =
           by_partners part test goes x ys v
@@ -77,7 +74,7 @@ module _ (l : Loop) (p : PlanTree) (events : List ℕ) (claim : ℕ → ℕ → 
 
   by_all : (part : Verdict → Bool) (test : Entry → Entry → Bool) → Goes part test → (xs ys : List Entry) (v : Verdict)
       → part (with_all l events claim p.privates (map joined xs) (map joined ys) v) ≡ (part v && list_all (λ (x : Entry). list_all (λ (y : Entry). passes test x y) ys) xs)
-  by_all part test goes [] ys v = sym (and_true (part v))
+  by_all part test goes [] ys v = sym (and-true (part v))
   by_all part test goes (x ∷ xs) ys v =
       by_all part test goes xs ys (with_entry l events claim p.privates (joined x) (map joined ys) v)
       ∙ ap (λ b. b && list_all (λ (x : Entry). list_all (λ (y : Entry). passes test x y) ys) xs) (by_entry part test goes x ys v)
@@ -103,21 +100,21 @@ module _ (l : Loop) (p : PlanTree) (events : List ℕ) (claim : ℕ → ℕ → 
       where
         by : (b : Bool) → (if b then judging.by_claim l events claim (joined x) (joined y) (claim x.0.ref.id y.0.ref.id) v else v).ahead ≡ (v.ahead && (not b || is_ahead_if (named p.body) x.1 (distance_of (claim_of p x y))))
         by true = ap (λ b. v.ahead && b) (ahead_same x.1 (distance_of (claim x.0.ref.id y.0.ref.id)) ∙ ap (λ c. is_ahead_if (named p.body) x.1 (distance_of c)) (same_claims x.0.ref.id y.0.ref.id))
-        by false = sym (and_true v.ahead)
+        by false = sym (and-true v.ahead)
 
     goes_held : Goes (λ v. v.held) (λ x y. is_held_if (named p.body) x.1 y.1 (distance_of (claim_of p x y)))
     goes_held x y v = by (is_pair x.0 y.0)
       where
         by : (b : Bool) → (if b then judging.by_claim l events claim (joined x) (joined y) (claim x.0.ref.id y.0.ref.id) v else v).held ≡ (v.held && (not b || is_held_if (named p.body) x.1 y.1 (distance_of (claim_of p x y))))
         by true = ap (λ b. v.held && b) (held_same x.1 y.1 (distance_of (claim x.0.ref.id y.0.ref.id)) ∙ ap (λ c. is_held_if (named p.body) x.1 y.1 (distance_of c)) (same_claims x.0.ref.id y.0.ref.id))
-        by false = sym (and_true v.held)
+        by false = sym (and-true v.held)
 
     goes_true : Goes (λ v. v.claims) (λ x y. is_true_claim l x.0 y.0 (claim_of p x y))
     goes_true x y v = by (is_pair x.0 y.0)
       where
         by : (b : Bool) → (if b then judging.by_claim l events claim (joined x) (joined y) (claim x.0.ref.id y.0.ref.id) v else v).claims ≡ (v.claims && (not b || is_true_claim l x.0 y.0 (claim_of p x y)))
         by true = ap (λ b. v.claims && b) (given_same x y (claim x.0.ref.id y.0.ref.id) ∙ ap (λ c. is_true_claim l x.0 y.0 c) (same_claims x.0.ref.id y.0.ref.id))
-        by false = sym (and_true v.claims)
+        by false = sym (and-true v.claims)
 
     pub ahead_all : (es : List Entry) → (with_all l events claim p.privates (map joined es) (map joined es) best).ahead ≡ each_pair l p es (λ x y. is_ahead_if (named p.body) x.1 (distance_of (claim_of p x y)))
     ahead_all es = by_all (λ v. v.ahead) (λ x y. is_ahead_if (named p.body) x.1 (distance_of (claim_of p x y))) goes_ahead es es best

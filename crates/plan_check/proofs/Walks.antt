@@ -1,6 +1,6 @@
 -- What a walk answers.
-use Rattle.std.proofs.Common.{◌≡◌, ◌∙◌, Bool, true, false, not, Result, Ok, Err, IfOk, List, map, ap, refl}
-use Rattle.std.proofs.lemmas.Bool.{and_parts}
+use Rattle.std.proofs.Common.{◌≡◌, ◌∙◌, true, false, not, Result, Ok, Err, IfOk, List, map, ap}
+use Rattle.std.proofs.lemmas.Bool.{and_parts, not-true}
 use Rattle.dependence.specs.Kept.{block_reads}
 use Rattle.dependence.specs.Plan.{PlanTree}
 use Rattle.loop_tree.specs.Loops.{Loop}
@@ -17,12 +17,8 @@ use Rattle.plan_check.proofs.Bridge.{NoReads, block_known, block_seen, noticed_a
 use Rattle.plan_check.proofs.Glue.{disorder_is, early_is, entries_are, notes_are, notes_of, tokens_are}
 use Rattle.plan_check.proofs.Reading.{no_reads}
 
-has_none : (b : Bool) → not b ≡ true → b ≡ false
-has_none true h = cc
-has_none false h = refl
-
 pub no_read_in : (l : Loop) (p : PlanTree) → fits l p ≡ true → block_reads l.body ≡ false
-no_read_in l p h = has_none (block_reads l.body) (and_parts (not (block_reads l.body)) _ (and_parts (is_step l.step) _ h).1).0
+no_read_in l p h = not-true (block_reads l.body) (and_parts (not (block_reads l.body)) _ (and_parts (is_step l.step) _ h).1).0
 
 pub is_walked : (l : Loop) (p : PlanTree) (k : Known) (s : Seen) → fits l p ≡ true → SameBody l p
     → k ≡ known_block p.privates p.body (first (cells_of l)) → s ≡ seen_block p.privates p.body (first (cells_of l)) nothing_seen → IsWalked l p k s

@@ -5,14 +5,17 @@ use Rattle.loop_tree.specs.Loops.{Loop}
 use Rattle.plan_check.specs.Checking.{IsChecked}
 use Rattle.plan_check.specs.GoodPlan.{GoodPlan, SameBody}
 
+-- the check accepts it
 abbrev pub Accepted : Loop → Option PlanTree → Type 0
 Accepted l None = ⊤
 Accepted l (Some p) = IsChecked l p
 
+-- its iterations may be run at once by it
 abbrev pub IsGood : Loop → Option PlanTree → Type 0
 IsGood l None = ⊤
 IsGood l (Some p) = GoodPlan l p
 
+-- without what was put in, its body is the loop's range
 abbrev pub HasBody : Loop → Option PlanTree → Type 0
 HasBody l None = ⊤
 HasBody l (Some p) = SameBody l p

@@ -13,6 +13,7 @@ use Rattle.dependence.specs.Plan.{awaits, advances, plain, loop, choose, PlanBlo
 -- ---- the plan's body without awaits, advances and made ELSEs
 
 abbrev mutual
+  -- a body without awaits, advances and made ELSEs
   pub stripped : PlanBlock → Block
   stripped no_nodes = tree.no_nodes
   stripped (then_node (awaits e d) b) = stripped b
@@ -80,11 +81,12 @@ Begins p u = (e : Ending) × (t : List Token) × PlanPaths p.body e (u ++ t)
 abbrev pub token_of : Occurrence → Token
 token_of a = if a.defines then defines a.ref else uses a.ref
 
+-- the plan names this scalar as private
 abbrev pub IsPrivate : PlanTree → List ℕ → Type 0
 IsPrivate p name = Contains p.privates name
 
--- A reference, and one in a later iteration, of one name that isn't private nor the loop's variable; one
--- of them gives it a value.
+-- A reference, and one in a later iteration, of one name that isn't private nor the loop's
+-- variable; one of them gives it a value.
 pub record Together (l : Loop) (p : PlanTree) (a b : Occurrence) : Type 0 where
   pub a_in : Contains l.references a
   pub b_in : Contains l.references b
@@ -93,12 +95,16 @@ pub record Together (l : Loop) (p : PlanTree) (a b : Occurrence) : Type 0 where
   pub other : a.ref.name ≡ l.head.variable.name → ⊥
   pub defining : (a.defines || b.defines) ≡ true
 
--- The event keeps a, in an iteration, before b, so many iterations later: no path has a behind an advance
--- of it, and each path that comes to b has awaited it, no further back than that.
+-- The event keeps a, in an iteration, before b, so many iterations later: no path has a behind an
+-- advance of it, and each path that comes to b has awaited it, no further back than that.
 pub record Keeps (p : PlanTree) (a b : Occurrence) (k j e : ℕ) : Type 0 where
   pub source : (u : List Token) → Begins p (u ++ token_of a ∷ []) → Contains u (advance e) → ⊥
   pub sink : (u : List Token) → Begins p (u ++ token_of b ∷ []) → (d : ℕ) × (k + d ≤ j) × Contains u (await e d)
 
+-- What a plan must be, on all paths of its body, for iterations of the loop to run at once. The
+-- loop's step is a constant other than 0; its range has no READ; the variables of the loops inside
+-- are private; private names are scalars that the range gives values; events have numbers from 1
+-- to 64, and distances are at least 1. The numbered conditions are those on paths.
 pub record GoodPlan (l : Loop) (p : PlanTree) : Type 0 where
   pub step : IsNonzero l.step
   pub no_read : block_reads l.body ≡ false
@@ -107,7 +113,8 @@ pub record GoodPlan (l : Loop) (p : PlanTree) : Type 0 where
   pub events : (e d : ℕ) → Names p e d → (1 ≤ e) × (e ≤ most_events) × (1 ≤ d)
   -- 1: a private scalar is defined before it is used
   pub defined : (u : List Token) (r : Ref) → IsPrivate p r.name → Begins p (u ++ uses r ∷ []) → (q : Ref) × (q.name ≡ r.name) × Contains u (defines q)
-  -- 2: an event is advanced once, behind an await of the iteration before; at least where the end is reached
+  -- 2: an event is advanced once, behind an await of the iteration before; at least where the end
+  -- is reached
   pub once : (u : List Token) (e : ℕ) → Begins p (u ++ advance e ∷ []) → Contains u (advance e) → ⊥
   pub behind : (u : List Token) (e : ℕ) → Begins p (u ++ advance e ∷ []) → Contains u (await e 1)
   pub each : (t : List Token) (e d : ℕ) → Names p e d → PlanPaths p.body at_end t → Contains t (advance e)

@@ -34,13 +34,13 @@ abbrev pub chosen : List Entry → List ℕ → List Entry
 chosen es [] = []
 chosen es (n ∷ ns) = with_chosen (slice_get es n) (chosen es ns)
 
--- of all rows, and of those of references that give values, the row of those that a reference is judged
--- with
+-- of all rows, and of those of references that give values, the row of those that a reference is
+-- judged with
 abbrev pub row_for : (all defining : List (List ℕ)) → Occurrence → List ℕ
 row_for all defining o = if o.defines then row_at all o.ref.cell else row_at defining o.ref.cell
 
--- each reference is judged with those of its cell: all of them where it gives its variable a value, and
--- otherwise those that do
+-- each reference is judged with those of its cell: all of them where it gives its variable a value,
+-- and otherwise those that do
 module _ (l : Loop) (events : List ℕ) (claim : ℕ → ℕ → Option Relation) where
   abbrev pub with_optional : Entry → Option Entry → Verdict → Verdict
   with_optional x None v = v

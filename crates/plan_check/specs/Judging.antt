@@ -10,6 +10,7 @@ use Rattle.plan_check.specs.Checking.{distance_of, has_name}
 use Rattle.plan_check.specs.Flow.{Near, flag_at, is_near, near_at}
 use Rattle.subscripts.specs.Forms.{Form}
 
+-- an event is one of these
 abbrev pub has_event : List ℕ → ℕ → Bool
 has_event [] e = false
 has_event (x ∷ es) e = (x == e) || has_event es e
@@ -27,20 +28,25 @@ pub record Verdict : Type 0 where
   pub held : Bool
   pub claims : Bool
 
+-- the verdict on no pairs
 abbrev pub best : Verdict
 best = record { ahead = true; held = true; claims = true }
 
 module _ (events : List ℕ) where
+  -- one of the events has been advanced on no path
   abbrev pub is_ahead : List Bool → Bool
   is_ahead free = list_any (λ e. flag_at free e) events
 
+  -- such an event has been awaited on each path to the other, no further back than d
   abbrev pub is_held : List Bool → List Near → ℕ → Bool
   is_held free near d = list_any (λ e. flag_at free e && is_near (near_at near e) d) events
 
+  -- so it is where the pair is to be kept
   abbrev pub is_ahead_if : List Bool → Option ℕ → Bool
   is_ahead_if free None = true
   is_ahead_if free (Some d) = is_ahead free
 
+  -- so it is where the pair is to be kept
   abbrev pub is_held_if : List Bool → List Near → Option ℕ → Bool
   is_held_if free near None = true
   is_held_if free near (Some d) = is_held free near d
@@ -53,11 +59,13 @@ is_own l privates a = same_name a.ref.name l.head.variable.name || has_name priv
 abbrev pub is_pair : Occurrence → Occurrence → Bool
 is_pair a b = same_name a.ref.name b.ref.name && (a.defines || b.defines)
 
+-- a relation is claimed of a pair, and its test gives it
 abbrev pub is_given : Loop → Entry → Entry → Option Relation → Bool
 is_given l x y None = false
 is_given l x y (Some r) = verified_by l x.forms y.forms r
 
 module _ (l : Loop) (events : List ℕ) (claim : ℕ → ℕ → Option Relation) where
+  -- the verdict with one more pair, by what is claimed of it
   abbrev pub by_claim : Entry → Entry → Option Relation → Verdict → Verdict
   by_claim x y c v = record {
     ahead = v.ahead && is_ahead_if events x.free (distance_of c);
@@ -65,16 +73,20 @@ module _ (l : Loop) (events : List ℕ) (claim : ℕ → ℕ → Option Relation
     claims = v.claims && is_given l x y c;
   }
 
+  -- the same, where the two are looked at
   abbrev pub with_pair : Entry → Entry → Verdict → Verdict
   with_pair x y v = if is_pair x.occurrence y.occurrence then by_claim x y (claim x.occurrence.ref.id y.occurrence.ref.id) v else v
 
+  -- with the pairs of a reference and several others
   abbrev pub with_partners : Entry → List Entry → Verdict → Verdict
   with_partners x [] v = v
   with_partners x (y ∷ ys) v = with_partners x ys (with_pair x y v)
 
+  -- the same of a reference whose variable iterations share
   abbrev pub with_entry : List (List ℕ) → Entry → List Entry → Verdict → Verdict
   with_entry privates x ys v = if is_own l privates x.occurrence then v else with_partners x ys v
 
+  -- with the pairs of several references and others
   abbrev pub with_all : List (List ℕ) → List Entry → List Entry → Verdict → Verdict
   with_all privates [] ys v = v
   with_all privates (x ∷ xs) ys v = with_all privates xs ys (with_entry privates x ys v)

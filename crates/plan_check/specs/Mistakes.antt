@@ -8,6 +8,7 @@ use Rattle.plan_check.specs.declared.fault.Mistake.TheVariants.{Early, Disorder,
 use Rattle.plan_check.specs.declared.fault.PlanFault.{PlanFault}
 use Rattle.plan_check.specs.declared.fault.PlanFault.TheVariants.{Memory, Refused}
 
+-- The number by which a mistake is told.
 abbrev pub number_of : Mistake → ℕ
 number_of Early = 70
 number_of Disorder = 71
@@ -27,6 +28,7 @@ rank_of Behind = 4
 rank_of Unawaited = 5
 rank_of Untrue = 6
 
+-- The plan, for this loop, has the mistake.
 abbrev pub Has : Loop → PlanTree → Mistake → Type 0
 Has l p Unfit = fits l p ≡ false
 Has l p OtherBody = IsBody (cells_of l) l p → ⊥
@@ -36,6 +38,7 @@ Has l p Behind = all_ahead (cells_of l) l p ≡ false
 Has l p Unawaited = all_held (cells_of l) l p ≡ false
 Has l p Untrue = all_true (cells_of l) l p ≡ false
 
+-- The plan has this mistake, and none of a lower rank.
 pub record IsFirst (l : Loop) (p : PlanTree) (m : Mistake) : Type 0 where
   pub has : Has l p m
   pub first : (n : Mistake) → rank_of n < rank_of m → Has l p n → ⊥

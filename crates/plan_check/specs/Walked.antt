@@ -18,9 +18,11 @@ points_of l p = block_points p.body (first (cells_of l))
 abbrev pub known_over : Loop → PlanTree → Known
 known_over l p = known_block p.privates p.body (first (cells_of l))
 
+-- what it says that the walk notes
 abbrev pub seen_over : Loop → PlanTree → Seen
 seen_over l p = seen_block p.privates p.body (first (cells_of l)) nothing_seen
 
+-- What a walk answers: what is known behind the body, which mistakes were met, and the references.
 pub record IsWalked (l : Loop) (p : PlanTree) (k : Known) (s : Seen) : Type 0 where
   pub known : k ≡ after_block p.body (first (cells_of l))
   pub early : s.early ≡ not (never_early (cells_of l) p)

@@ -31,6 +31,10 @@ fn add_event(events: &mut Vec<usize>, event: usize) -> Result<(), AllocError>
 }
 
 /// The events that are named, each once.
+///
+/// # Errors
+///
+/// `AllocError` where memory is refused.
 pub fn distinct(alloc: Global, named: &[(usize, u128)]) -> Result<Vec<usize>, AllocError>
     ensures { IfOk result (λ events. (test : ℕ → Bool) → list_any test events.items
         ≡ list_any (λ n. test n.0) named.now) }

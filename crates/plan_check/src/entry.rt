@@ -44,6 +44,10 @@ fn entry_of<'a, 'p>(
 }
 
 /// The references one by one, each with its note.
+///
+/// # Errors
+///
+/// `AllocError` where memory is refused.
 pub fn entries_of<'a, 'p>(
     alloc: Global,
     view: &LoopView<'_, '_>,

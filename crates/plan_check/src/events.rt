@@ -57,6 +57,10 @@ fn add_block(list: &mut Vec<(usize, u128)>, nodes: &[PlanStmt]) -> Result<(), Al
 }
 
 /// The events that are awaited, each with its distance, or advanced, as at distance 1.
+///
+/// # Errors
+///
+/// `AllocError` where memory is refused.
 #[tactic(auto, using(crate::proofs::Appending::listed))]
 pub fn events_of(alloc: Global, nodes: &[PlanStmt]) -> Result<Vec<(usize, u128)>, AllocError>
     ensures { IfOk result (λ list. list.items ≡ named (plan_block nodes.now)) }

@@ -7,36 +7,42 @@ ghost use Rattle.ast.specs.View.{access as access_of, optional_term, ref, term};
 
 use ast::{Access, Expr, Intrinsic, Name, Operator, Prefix, Reference};
 
+/// Whether two references are equal.
 pub fn is_same_reference(a: &Reference, b: &Reference) -> bool
     ensures { Decides result (ref a.now ≡ ref b.now) }
 {
     *a == *b
 }
 
+/// Whether two names are equal.
 pub fn is_same_name(a: Name, b: Name) -> bool
     ensures { Decides result (a.letters ≡ b.letters) }
 {
     a == b
 }
 
+/// Whether two operators are equal.
 fn is_same_operator(a: Operator, b: Operator) -> bool
     ensures { Decides result (a ≡ b) }
 {
     a == b
 }
 
+/// Whether two prefixes are equal.
 fn is_same_prefix(a: Prefix, b: Prefix) -> bool
     ensures { Decides result (a ≡ b) }
 {
     a == b
 }
 
+/// Whether two intrinsic functions are the same.
 fn is_same_intrinsic(a: Intrinsic, b: Intrinsic) -> bool
     ensures { Decides result (a ≡ b) }
 {
     a == b
 }
 
+/// Whether two lists of expressions are equal.
 #[cycle(same)]
 fn are_same_expressions(a: &[Expr], b: &[Expr]) -> bool
     ensures { Decides result (terms (map term a.now) ≡ terms (map term b.now)) }
@@ -44,6 +50,7 @@ fn are_same_expressions(a: &[Expr], b: &[Expr]) -> bool
     are_same_one_by_one(a, b)
 }
 
+/// Whether there are as many of both, and each is equal to the one at its place.
 #[cycle(same)]
 fn are_same_one_by_one(a: &[Expr], b: &[Expr]) -> bool
     ensures { Decides result (map term a.now ≡ map term b.now) }
@@ -59,6 +66,7 @@ fn are_same_one_by_one(a: &[Expr], b: &[Expr]) -> bool
     true
 }
 
+/// Whether two accesses are equal, their subscripts included.
 #[cycle(same)]
 pub fn is_same_access(a: &Access, b: &Access) -> bool
     ensures { Decides result (access_of a.now ≡ access_of b.now) }
@@ -67,6 +75,7 @@ pub fn is_same_access(a: &Access, b: &Access) -> bool
         && are_same_expressions(&a.subscripts, &b.subscripts)
 }
 
+/// Whether two expressions are equal.
 #[cycle(same)]
 pub fn is_same_expression(a: &Expr, b: &Expr) -> bool
     ensures { Decides result (term a.now ≡ term b.now) }
@@ -109,6 +118,7 @@ pub fn is_same_expression(a: &Expr, b: &Expr) -> bool
     }
 }
 
+/// Whether two expressions are equal that may be absent.
 pub fn is_same_optional(a: &Option<Expr>, b: &Option<Expr>) -> bool
     ensures { Decides result (optional_term a.now ≡ optional_term b.now) }
 {

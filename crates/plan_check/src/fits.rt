@@ -9,12 +9,9 @@ ghost use Rattle.plan_check.specs.GivenView.{given};
 ghost use Rattle.plan_check.specs.GoodPlan.{named};
 
 use crate::given::Given;
-use ast::{Name, Reference};
+use ast::{MOST_EVENTS, Name, Reference};
 use dependence::{has_read, hides_inner};
 use loop_tree::LoopView;
-
-/// How many events a plan may have.
-const MOST_EVENTS: usize = 64;
 
 /// Whether a step is a constant other than 0.
 fn is_step(step: Option<i64>) -> bool

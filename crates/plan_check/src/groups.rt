@@ -95,6 +95,10 @@ pub struct Partners {
 }
 
 /// The partners of references.
+///
+/// # Errors
+///
+/// `AllocError` where memory is refused.
 pub fn partners_of(alloc: Global, entries: &[Entry<'_, '_>]) -> Result<Partners, AllocError>
     ensures all { IfOk result (λ p. (c : ℕ)
         → chosen (map entry_of entries.now) (row_at (rows_of p.all) c)

@@ -3,6 +3,7 @@
 ghost use Rattle.std.specs.Prelude.{◌≡◌, ◌&&◌, true, Some};
 ghost use Rattle.plan_check.specs.Flow as spec;
 
+/// Sets the mark at a place, if there is one.
 pub fn put(flags: &mut [bool], place: usize, value: bool)
     ensures { flags.new ≡ spec.put flags.old place value }
 {
@@ -11,6 +12,7 @@ pub fn put(flags: &mut [bool], place: usize, value: bool)
     }
 }
 
+/// The lesser of two distances, of which one may be wanting.
 fn nearer(distance: u128, near: Option<u128>) -> Option<u128>
     ensures { result ≡ spec.nearer distance near }
 {
@@ -20,6 +22,8 @@ fn nearer(distance: u128, near: Option<u128>) -> Option<u128>
     }
 }
 
+/// Keeps the distance at which an event is awaited, where it is the least so far; nothing changes
+/// where there is no such event.
 pub fn put_await(nears: &mut [Option<u128>], event: usize, distance: u128)
     ensures { nears.new ≡ spec.with_await nears.old event distance }
 {
@@ -28,6 +32,7 @@ pub fn put_await(nears: &mut [Option<u128>], event: usize, distance: u128)
     }
 }
 
+/// The mark at a place; false where there is none.
 pub fn flag_at(flags: &[bool], place: usize) -> bool
     ensures { result ≡ spec.flag_at flags.now place }
 {
@@ -38,6 +43,7 @@ pub fn flag_at(flags: &[bool], place: usize) -> bool
     }
 }
 
+/// How near an event has been awaited; `None` where it hasn't, or there is none.
 pub fn near_at(nears: &[Option<u128>], place: usize) -> Option<u128>
     ensures { result ≡ spec.near_at nears.now place }
 {
@@ -48,12 +54,14 @@ pub fn near_at(nears: &[Option<u128>], place: usize) -> Option<u128>
     }
 }
 
+/// Whether two marks are set.
 fn both(a: bool, b: bool) -> bool
     ensures { result ≡ a && b }
 {
     a && b
 }
 
+/// Leaves the marks that are set in both lists.
 pub fn join_flags(flags: &mut [bool], others: &[bool])
     ensures { flags.new ≡ spec.both flags.old others.now }
 {
@@ -64,6 +72,7 @@ pub fn join_flags(flags: &mut [bool], others: &[bool])
     }
 }
 
+/// The greater of two distances, `None` where one is.
 fn further(a: Option<u128>, b: Option<u128>) -> Option<u128>
     ensures { result ≡ spec.further a b }
 {
@@ -76,6 +85,7 @@ fn further(a: Option<u128>, b: Option<u128>) -> Option<u128>
     }
 }
 
+/// Leaves the greater distance of each event, `None` where one list has none.
 pub fn join_nears(nears: &mut [Option<u128>], others: &[Option<u128>])
     ensures { nears.new ≡ spec.both_near nears.old others.now }
 {
@@ -86,6 +96,7 @@ pub fn join_nears(nears: &mut [Option<u128>], others: &[Option<u128>])
     }
 }
 
+/// Sets all marks.
 pub fn set_flags(flags: &mut [bool])
     ensures { flags.new ≡ spec.all true flags.old }
 {
@@ -96,6 +107,7 @@ pub fn set_flags(flags: &mut [bool])
     }
 }
 
+/// Sets all distances to 0, which is nearer than any await.
 pub fn set_nears(nears: &mut [Option<u128>])
     ensures { nears.new ≡ spec.all (Some 0) nears.old }
 {

@@ -15,16 +15,24 @@ use std::alloc::{AllocError, Global};
 /// A reference, and what is known of the events before it.
 #[derive(Drop)]
 pub struct Note {
+    /// The reference.
     pub reference: Reference,
+    /// Whether it is given a value.
     pub defines: bool,
+    /// How near each path to it has awaited the events, by their numbers.
     pub near: Vec<Option<u128>>,
+    /// Which events no path to it has advanced, by their numbers.
     pub free: Vec<bool>,
 }
 
+/// What a walk over a plan's body has found so far.
 #[derive(Drop)]
 pub struct Seen {
+    /// A private scalar is used where some path hasn't given it a value.
     pub early: bool,
+    /// An event is advanced where some path has advanced it, or hasn't awaited it at distance 1.
     pub disorder: bool,
+    /// The references, in order.
     pub notes: Vec<Note>,
 }
 
@@ -65,7 +73,11 @@ fn push_note(
     Ok(())
 }
 
-/// A reference is read.
+/// Notes a reference that is used.
+///
+/// # Errors
+///
+/// `AllocError` where memory is refused.
 pub fn note_use(
     alloc: Global,
     seen: &mut Seen,
@@ -83,7 +95,11 @@ pub fn note_use(
     push_note(alloc, seen, reference, false, known)
 }
 
-/// A reference is given a value.
+/// Notes a reference that is given a value.
+///
+/// # Errors
+///
+/// `AllocError` where memory is refused.
 pub fn note_definition(
     alloc: Global,
     seen: &mut Seen,
@@ -98,7 +114,7 @@ pub fn note_definition(
     push_note(alloc, seen, reference, true, known)
 }
 
-/// An event is advanced.
+/// Notes whether an event that is advanced is so out of order.
 pub fn note_advance(seen: &mut Seen, privates: &[Name], event: usize, known: &Known)
     ensures { seen_of seen.new
         ≡ spec.moved_on (map letters privates.now) event (known_of known.now) (seen_of seen.old) }

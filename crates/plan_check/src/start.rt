@@ -13,7 +13,7 @@ use crate::given::Given;
 use crate::known::Known;
 use crate::seen::Seen;
 use crate::walk::pass_block;
-use ast::Reference;
+use ast::{MOST_EVENTS, Reference};
 use loop_tree::LoopView;
 use std::alloc::{AllocError, Global};
 
@@ -51,10 +51,14 @@ fn begin(alloc: Global, view: &LoopView<'_, '_>) -> Result<Known, AllocError>
     ensures { IfOk result (λ known. known_of known ≡ first (cells_of (shown view.now))) }
 {
     let cells = count_cells(view.assigned())?;
-    Known::beginning(alloc, cells, 65)
+    Known::beginning(alloc, cells, MOST_EVENTS + 1)
 }
 
 /// Walks over a plan's body.
+///
+/// # Errors
+///
+/// `AllocError` where memory is refused.
 pub fn walk_over(
     alloc: Global,
     view: &LoopView<'_, '_>,

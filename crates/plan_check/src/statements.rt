@@ -120,6 +120,7 @@ fn are_same_definitions(a: &[Definition], b: &[Definition]) -> bool
     true
 }
 
+/// Whether two DO statements name the same terminal statement, variable and parameters.
 pub fn is_same_head(a: &DoHead, b: &DoHead) -> bool
     ensures { Decides result (head_of a.now ≡ head_of b.now) }
 {
@@ -265,6 +266,7 @@ fn is_same_kind(a: &Kind, b: &Kind) -> bool
     }
 }
 
+/// Whether two statements are equal, their lines and labels included.
 pub fn is_same_statement(a: &Stmt, b: &Stmt) -> bool
     ensures { Decides result (statement_of a.now ≡ statement_of b.now) }
 {

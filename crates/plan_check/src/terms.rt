@@ -13,6 +13,7 @@ use crate::seen::{Seen, note_definition, note_use};
 use ast::{Access, DoHead, Expr, Item, Kind, Name};
 use std::alloc::{AllocError, Global};
 
+/// Notes the references of expressions, one after another.
 #[cycle(terms)]
 fn pass_terms(
     alloc: Global,
@@ -31,6 +32,7 @@ fn pass_terms(
     Ok(())
 }
 
+/// Notes the references of an element's subscripts, and then the element.
 #[cycle(terms)]
 fn pass_element(
     alloc: Global,
@@ -47,6 +49,11 @@ fn pass_element(
     note_use(alloc, seen, privates, &access.reference, known)
 }
 
+/// Notes the references of an expression, in order of evaluation, with what is known there.
+///
+/// # Errors
+///
+/// `AllocError` where memory is refused; some of them may have been noted then.
 #[cycle(terms)]
 pub fn pass_term(
     alloc: Global,
@@ -72,6 +79,11 @@ pub fn pass_term(
     }
 }
 
+/// Notes the references of an expression that may be absent, with what is known there.
+///
+/// # Errors
+///
+/// `AllocError` where memory is refused; some of them may have been noted then.
 pub fn pass_optional(
     alloc: Global,
     seen: &mut Seen,
@@ -89,6 +101,7 @@ pub fn pass_optional(
     }
 }
 
+/// Notes the references of the items of a PRINT.
 fn pass_items(
     alloc: Global,
     seen: &mut Seen,
@@ -109,6 +122,7 @@ fn pass_items(
     Ok(())
 }
 
+/// Notes the references of an element's subscripts, and then the element, which is given a value.
 fn pass_target(
     alloc: Global,
     seen: &mut Seen,
@@ -124,6 +138,12 @@ fn pass_target(
     note_definition(alloc, seen, privates, &target.reference, known)
 }
 
+/// Notes the references of a statement that holds no others, and makes known what is known behind
+/// it. A READ is passed over: the check refuses a loop with one.
+///
+/// # Errors
+///
+/// `AllocError` where memory is refused; some of them may have been noted then.
 pub fn pass_kind(
     alloc: Global,
     known: &mut Known,
@@ -165,6 +185,11 @@ pub fn pass_kind(
     }
 }
 
+/// Notes the references of a DO, its variable the last, and makes known that this has a value.
+///
+/// # Errors
+///
+/// `AllocError` where memory is refused; some of them may have been noted then.
 pub fn pass_head(
     alloc: Global,
     known: &mut Known,

@@ -120,6 +120,12 @@ fn pass_node(
     }
 }
 
+/// Notes the references of a body and whether its advances are in order, and makes known what is
+/// known behind it.
+///
+/// # Errors
+///
+/// `AllocError` where memory is refused; some of them may have been noted then.
 #[cycle(walk)]
 pub fn pass_block(
     alloc: Global,

@@ -1,8 +1,8 @@
--- The list that goes through a part has, for each cell, what the paths before have done and then what
--- those through the part do.
+-- The list that goes through a part has, for each cell, what the paths before have done and then
+-- what those through the part do.
 use Rattle.std.proofs.Common.{◌≡◌, ◌∙◌, ap, sym, refl, ℕ, List, [], ◌∷◌, length, ◌<◌, arith}
 use Rattle.std.proofs.lemmas.Bool.{eqb-true, eqb-false}
-use Rattle.std.proofs.lemmas.List.{map-append}
+use Rattle.std.proofs.lemmas.List.{map-append, append-nil}
 use Rattle.std.specs.Prelude.{zero, suc, ◌++◌, ◌==◌, Bool, true, false, Option, Some, None, replicate}
 use Rattle.ast.specs.References.{term_references, terms_references, optional, expressions_references, items_expressions}
 use Rattle.ast.specs.Tree.{Ref, Term, Terms, constant, truth, parameter, element, call, parentheses, unary, binary, no_terms, then_term, Access, PrintItem, value_item, text_item, DoHead, Kind, program, integer, dimension, parameters, assign, do_loop, go_on, block_if, else_if, else_arm, end_if, logical_if, print, read, stop, end, Node, plain, loop, choose, Block, no_nodes, then_node, Arms, no_arms, then_arm}
@@ -102,13 +102,9 @@ mutual
 
 -- ---- statements
 
-none_more : (rs : List Ref) → rs ++ [] ≡ rs
-none_more [] = refl
-none_more (r ∷ rs) = ap (λ ss. r ∷ ss) (none_more rs)
-
 by_optional : (c : ℕ) (e : Option Term) → Uses c (λ ws. after_optional e ws) (expressions_references (optional e))
 by_optional c None = nothing c
-by_optional c (Some e) = λ ws. by_term c e ws ∙ ap (λ rs. then_walk (walk_at ws c) (walk c (used rs))) (sym (none_more (term_references e)))
+by_optional c (Some e) = λ ws. by_term c e ws ∙ ap (λ rs. then_walk (walk_at ws c) (walk c (used rs))) (sym (append-nil (term_references e)))
 
 by_items : (c : ℕ) (is : List PrintItem) → Uses c (λ ws. after_items is ws) (expressions_references (items_expressions is))
 by_items c [] = nothing c

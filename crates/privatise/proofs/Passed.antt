@@ -1,42 +1,19 @@
 -- What a pass through statements comes to, by what its calls came to.
-use Rattle.std.proofs.Common.{◌≡◌, ◌∙◌, ◌+◌, ◌<◌, ◌≤◌, ℕ, Vec, Global, List, ◌∷◌, Option, None, Some, Result, Ok, Err, ap, sym, subst, length, map, drop, get_or, rules}
-use Rattle.std.specs.Prelude.{IsErr, OnOk}
+use Rattle.std.proofs.Common.{◌≡◌, ◌∙◌, ◌+◌, ◌<◌, ◌≤◌, ℕ, List, ◌∷◌, Option, None, Some, Result, ap, sym, subst, length, map, drop, get_or}
+use Rattle.std.specs.Prelude.{OnOk}
 use Rattle.std.proofs.lemmas.List.{drop_all, drop_more}
 use Rattle.ast.specs.Tree as tree
-use Rattle.ast.specs.Tree.{Arms, Block, Term, arms as arms_of, choose, loop, plain, then_arm}
-use Rattle.ast.specs.View.{arm as arm_of, arm_step, block_view, head as head_of, node as node_of, node_step, optional_term, statement, term}
+use Rattle.ast.specs.Tree.{Arms, Block, Term, arms as arms_of, then_arm}
+use Rattle.ast.specs.View.{arm as arm_of, block_view, node as node_of, optional_term, statement, term}
 use Rattle.ast.specs.declared.expression.Expr.{Expr}
-use Rattle.ast.specs.declared.statement.DoHead.{DoHead}
 use Rattle.ast.specs.declared.statement.Stmt.{Stmt}
-use Rattle.ast.specs.declared.tree.Arm.{Arm, fold_out-Arm}
-use Rattle.ast.specs.declared.tree.Node.{Node, Node-F, fold-roll-Node}
-use Rattle.ast.specs.declared.tree.Node.TheVariants.{Choice, Loop, Plain, rolls-Choice, rolls-Loop, rolls-Plain}
+use Rattle.ast.specs.declared.tree.Arm.{Arm}
+use Rattle.ast.specs.declared.tree.Node.{Node}
+use Rattle.ast.specs.declared.tree.Node.TheVariants.{Plain}
+use Rattle.ast.proofs.Nodes.{plain_of, line_of, condition_of, body_of}
 use Rattle.privatise.specs.Cells.{joined}
 use Rattle.privatise.specs.Flow.{after_arms, after_block, after_head, after_kind, after_node, after_term}
 use Rattle.privatise.specs.declared.walk.Walk.{Walk}
-
--- a call that failed says nothing
-pub no_answer : {X E : Type 0} (r : Result X E) (P : Type 0) → IsErr r → OnOk r P
-no_answer (Ok x) P h = absurd cc
-no_answer (Err e) P h = tt
-
--- the nodes of a program, seen as trees
-pub plain_of : (n : Node) (s : Stmt) → n ≡ Plain s → node_of n ≡ plain (statement s)
-plain_of n s is = ap node_of is ∙ ap node_of (sym (rolls-Plain s)) ∙ fold-roll-Node tree.Node tree.Arm node_step arm_step (Node-F.Plain s)
-
-pub loop_of : (n : Node) (l : ℕ) (h : DoHead) (range : Vec Node Global) (ns : List Node) → n ≡ Loop l h range → ns ≡ range.items → node_of n ≡ loop l (head_of h) (block_view ns)
-loop_of n l h range ns is same =
-    ap node_of is
-    ∙ ap node_of (sym (rolls-Loop l h range))
-    ∙ fold-roll-Node tree.Node tree.Arm node_step arm_step (Node-F.Loop l h range)
-    ∙ ap (λ (ms : List Node). loop l (head_of h) (block_view ms)) (sym same)
-
-pub choice_of : (n : Node) (all : Vec Arm Global) (xs : List Arm) → n ≡ Choice all → xs ≡ all.items → node_of n ≡ choose (arms_of (map arm_of xs))
-choice_of n all xs is same =
-    ap node_of is
-    ∙ ap node_of (sym (rolls-Choice all))
-    ∙ fold-roll-Node tree.Node tree.Arm node_step arm_step (Node-F.Choice all)
-    ∙ ap (λ (ys : List Arm). choose (arms_of (map arm_of ys))) (sym same)
 
 pub of_tree : {X E : Type 0} (r : Result X E) (new old : List Walk) (t u : tree.Node) → t ≡ u → OnOk r (new ≡ after_node u old) → OnOk r (new ≡ after_node t old)
 of_tree r new old t u is h = subst (λ (x : tree.Node). OnOk r (new ≡ after_node x old)) (sym is) h
@@ -66,15 +43,6 @@ pub all_passed : (ns : List Node) (i : ℕ) (walks whole : List Walk) → length
 all_passed ns i walks whole h so_far = sym (ap (λ (ms : List Node). after_block (block_view ms) walks) (drop_all i ns h)) ∙ so_far
 
 -- arm by arm
-line_of : (a : Arm) → (arm_of a).line ≡ a.line
-line_of a = ap (λ (b : tree.Arm). b.line) (fold_out-Arm tree.Node tree.Arm node_step arm_step a) ∙ search rules
-
-condition_of : (a : Arm) → (arm_of a).condition ≡ optional_term a.condition
-condition_of a = ap (λ (b : tree.Arm). b.condition) (fold_out-Arm tree.Node tree.Arm node_step arm_step a) ∙ search rules
-
-body_of : (a : Arm) → (arm_of a).body ≡ block_view a.body.items
-body_of a = ap (λ (b : tree.Arm). b.body) (fold_out-Arm tree.Node tree.Arm node_step arm_step a) ∙ search rules
-
 arm_here : (xs : List Arm) (i : ℕ) (a : Arm) (c : Option Expr) (ns : List Node) → i < length xs → a ≡ get_or xs i a → a.condition ≡ c → ns ≡ a.body.items
     → arms_of (map arm_of (drop i xs)) ≡ then_arm a.line (optional_term c) (block_view ns) (arms_of (map arm_of (drop (i + 1) xs)))
 arm_here xs i a c ns h is tested same =

@@ -19,25 +19,31 @@ abbrev mutual
   after_terms no_terms ws = ws
   after_terms (then_term e es) ws = after_terms es (after_term e ws)
 
+-- behind an expression that may be absent
 abbrev pub after_optional : Option Term → List Walk → List Walk
 after_optional None ws = ws
 after_optional (Some e) ws = after_term e ws
 
+-- behind an item of a PRINT
 abbrev pub after_item : PrintItem → List Walk → List Walk
 after_item (value_item e) ws = after_term e ws
 after_item (text_item t) ws = ws
 
+-- behind a PRINT's items
 abbrev pub after_items : List PrintItem → List Walk → List Walk
 after_items [] ws = ws
 after_items (i ∷ more) ws = after_items more (after_item i ws)
 
+-- behind an element or a scalar that is given a value
 abbrev pub after_target : Access → List Walk → List Walk
 after_target a ws = gone_on (after_terms a.subscripts ws) a.ref.cell Defined
 
+-- behind several of these
 abbrev pub after_targets : List Access → List Walk → List Walk
 after_targets [] ws = ws
 after_targets (a ∷ more) ws = after_targets more (after_target a ws)
 
+-- behind a statement that holds no others
 abbrev pub after_kind : Kind → List Walk → List Walk
 after_kind (assign a e) ws = after_target a (after_term e ws)
 after_kind (print items) ws = after_items items ws
@@ -45,6 +51,7 @@ after_kind (read elements) ws = after_targets elements ws
 after_kind stop ws = stopped ws
 after_kind _ ws = ws
 
+-- behind a DO, whose variable has a value then
 abbrev pub after_head : DoHead → List Walk → List Walk
 after_head h ws = gone_on (after_optional h.step (after_term h.last (after_term h.first ws))) h.variable.cell Defined
 
@@ -64,9 +71,11 @@ abbrev mutual
   after_arms (then_arm l None b more) ended ws = joined (after_block b ws) ended
   after_arms (then_arm l (Some e) b more) ended ws = after_arms more (joined ended (after_block b (after_term e ws))) (after_term e ws)
 
+-- no path has used the scalar before its definition
 abbrev pub is_never_early : Walk → Bool
 is_never_early Early = false
 is_never_early _ = true
 
+-- so it is of the scalar with this cell
 abbrev pub is_never_early_at : List Walk → ℕ → Bool
 is_never_early_at ws c = is_never_early (walk_at ws c)

@@ -21,5 +21,6 @@ pub record ArePrivate (l : Loop) (names : List (List ℕ)) : Type 0 where
 abbrev pub private_refs : List Walk → List Ref → List Ref
 private_refs ws rs = filter (λ (r : Ref). is_never_early_at ws r.cell) rs
 
+-- their names
 abbrev pub private_names : List Walk → List Ref → List (List ℕ)
 private_names ws rs = map (λ (r : Ref). r.name) (private_refs ws rs)

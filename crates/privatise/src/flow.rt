@@ -124,6 +124,10 @@ fn private_names(
 
 /// The scalars that a loop's range gives values and that on no path through it are used before
 /// their definition, by their first definitions.
+///
+/// # Errors
+///
+/// `AllocError` where memory is refused.
 pub fn private_scalars(alloc: Global, view: &LoopView<'_, '_>) -> Result<ScalarSet, AllocError>
     ensures { IfOk result (λ set. ArePrivate (seen view.now) (map letters set.names.items)) }
 {

@@ -17,8 +17,8 @@ pub record IsCoreOf (code : Code) (input : List ℕ) (p s : ℕ) (x : CoreView) 
   pub processors : x.schedule.processors ≡ p
   pub slots : x.schedule.slots ≡ s
 
--- The schedule, of so many processors and slots, can be written, and leads to a state that has ended with
--- this answer.
+-- The schedule, of so many processors and slots, can be written, and leads to a state that has
+-- ended with this answer.
 pub record IsRunOf (code : Code) (input : List ℕ) (p s : ℕ) (answer : Answer) (x : Schedule) : Type 0 where
   pub sizes : AreSizes p s
   pub processors : x.processors ≡ p
@@ -26,7 +26,8 @@ pub record IsRunOf (code : Code) (input : List ℕ) (p s : ℕ) (answer : Answer
   pub kept : IsSchedule x
   pub replay : IsReplay code input x answer
 
--- A schedule of so many processors and slots, which can be written, leads to a state of which this holds.
+-- A schedule of so many processors and slots, which can be written, leads to a state of which this
+-- holds.
 pub record IsStateOf (code : Code) (input : List ℕ) (p s : ℕ) (P : Machine → Type 0) : Type 0 where
   pub schedule : Schedule
   pub processors : schedule.processors ≡ p

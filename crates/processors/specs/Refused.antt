@@ -11,6 +11,7 @@ abbrev pub IsGivenUp : Code → List ℕ → ℕ → ℕ → RunRefusal → Type
 IsGivenUp code input p s (Memory output) = IsOutputOf code input p s output.items
 IsGivenUp code input p s (Refused number) = (number ≡ 58) ⊎ (number ≡ 59)
 
+-- The answer is 57, and one of the numbers is out of its range.
 abbrev pub IsOutOfRange : ℕ → ℕ → RunRefusal → Type 0
 IsOutOfRange p s (Memory output) = ⊥
 IsOutOfRange p s (Refused number) = (number ≡ 57) × (AreSizes p s → ⊥)

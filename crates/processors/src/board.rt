@@ -92,6 +92,10 @@ impl<'c, C: Call> Board<'c, C> {
     ghost use Rattle.replay.specs.Replayed.{IsAnswer};
 
     /// A run in which nothing has happened.
+    ///
+    /// # Errors
+    ///
+    /// `AllocError` where memory is refused.
     pub fn new(alloc: Global, core: Core<'c>) -> Result<Board<'c, C>, AllocError>
         requires { IsCoreOf C.code C.input C.processors C.slots core }
     {
@@ -116,6 +120,7 @@ impl<'c, C: Call> Board<'c, C> {
         }
     }
 
+    /// Whether the run goes on, and if not, why.
     pub fn standing(&self) -> Standing {
         self.standing
     }
@@ -288,6 +293,7 @@ impl<'c, C: Call> Board<'c, C> {
         ensures { IsGivenUp C.code C.input C.processors C.slots result }
     {
         let Board { core, .. } = self;
+        // Their contracts say that this schedule leads to where the core is, and can be written.
         let _ = core.schedule().entries();
         let (output, _) = core.into_parts();
         RunRefusal::Memory { output }
@@ -305,6 +311,7 @@ impl<'c, C: Call> Board<'c, C> {
             ..
         } = self;
         let tally = core.tally();
+        // Their contracts say that this schedule leads to where the core is, and can be written.
         let _ = core.schedule().entries();
         let (_, schedule) = core.into_parts();
         Report {
@@ -317,6 +324,11 @@ impl<'c, C: Call> Board<'c, C> {
     }
 
     /// What has come of a run that nobody gave up, or that can't go on.
+    ///
+    /// # Errors
+    ///
+    /// 59 where the run hasn't ended, and want of memory, with the output, where there is none for
+    /// the answer.
     pub fn report(self) -> Result<Report, RunRefusal>
         ensures ok { IfOk result (λ r.
             IsRunOf C.code C.input C.processors C.slots r.answer r.schedule) }

@@ -14,6 +14,7 @@ pub struct Desk<'c, C: Call> {
 }
 
 impl<'c, C: Call> Desk<'c, C> {
+    /// A desk at which nobody stands or sleeps yet.
     pub fn new(board: Board<'c, C>) -> Desk<'c, C> {
         Desk {
             board: Mutex::new(board),

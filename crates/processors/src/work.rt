@@ -35,6 +35,7 @@ impl<'c, C: Call> Coded<'c, C> {
     ghost use Rattle.std.specs.Prelude.{◌≡◌};
     ghost use Rattle.machine.specs.CodeView.{code_of};
 
+    /// The code of a call, with what its processors' room is taken from.
     pub fn new(alloc: Global, code: &'c Code) -> Coded<'c, C>
         requires { code_of code.now ≡ C.code }
     {
@@ -46,6 +47,10 @@ impl<'c, C: Call> Coded<'c, C> {
     }
 
     /// Room for a processor's work, of which none has been done.
+    ///
+    /// # Errors
+    ///
+    /// `AllocError` where memory is refused.
     pub fn own(&self) -> Result<Own<'c, C>, AllocError> {
         Ok(Own {
             work: Work::new(self.alloc, self.code)?,
@@ -56,6 +61,10 @@ impl<'c, C: Call> Coded<'c, C> {
 
 impl<'c, C: Call> Own<'c, C> {
     /// Does the local work that stands next.
+    ///
+    /// # Errors
+    ///
+    /// `AllocError` where memory is refused.
     pub fn run(&mut self) -> Result<(), AllocError> {
         self.work.run(MOST_WORK)?;
         Ok(())

@@ -5,13 +5,13 @@ use Rattle.std.specs.Char.{to_ascii_uppercase}
 use Rattle.std.specs.List.{list_any}
 use Rattle.std.proofs.lemmas.Bool.{or_parts, lt-leb, le-leb, ltb-true, ltb-false}
 use Rattle.ast.specs.Tree.{Kind, Statement, program, integer, dimension, parameters, assign, do_loop, go_on, block_if, else_if, else_arm, end_if, logical_if, print, read, stop, end}
+use Rattle.ast.proofs.SameNames.{same_is}
 use Rattle.fixed_form.specs.Line.{without_blanks, is_end}
 use Rattle.fixed_form.specs.Lines.{Entry, AreEnded}
 use Rattle.syntax.specs.Classes.{Class, worded, class_of, class_by_keyword}
 use Rattle.syntax.specs.Pieces.{Piece, mark, quoted, Cut, marks, constants}
 use Rattle.syntax.specs.Statements.{IsKind, IsStatement}
 use Rattle.syntax.specs.declared.class.Keyword.TheVariants.{End}
-use Rattle.profile_check.proofs.Entries.{same-names}
 use Rattle.profile_check.proofs.SameShape.{EndsInEnd}
 use Rattle.profile_check.specs.Reads.{Spelled}
 
@@ -55,7 +55,7 @@ unfolding class_by_keyword
 class-of-end = refl
 
 end-text : (text : List ℕ) → is_end text ≡ true → text-of text ≡ codes "END"
-end-text text h = same-names (text-of text) (codes "END") h
+end-text text h = same_is (text-of text) (codes "END") h
 
 abbrev is-end-class : Class → Bool
 is-end-class (worded End u) = true

@@ -3,8 +3,6 @@ use Rattle.std.proofs.Common.{◌≡◌, ◌∙◌, ℕ, ℤ, Bool, true, false,
 use Rattle.std.specs.Prelude.{if◌then◌else◌}
 use Rattle.std.specs.Map.{lookup}
 use Rattle.std.proofs.lemmas.List.{map-append, length-map}
-use Rattle.std.proofs.lemmas.Bool.{eq-eqb}
-use Rattle.std.specs.Cmp.Lexicographic.{same_text}
 use Rattle.std.specs.List.{list_any}
 use Rattle.indexmap.specs.IndexMap.{insert_entry}
 use Rattle.indexmap.specs.IndexSet.{insert_key}
@@ -16,21 +14,15 @@ use Rattle.std.specs.Option.{option_map_or}
 use Rattle.ast.specs.declared.name.Name.{Name}
 use Rattle.ast.specs.declared.program.Dimension.{Dimension}
 use Rattle.ast.specs.contracts.name.NamePartialEq.TheImpl.{eq-value}
+use Rattle.ast.proofs.SameNames.{same_itself, same_is}
 use Rattle.profile_check.specs.Declarations.{constant_named, dimensions_named}
 use Rattle.profile_check.specs.DeclaredView.{constants_of, arrays_of}
-
-pub same-names : (x y : List ℕ) → same_name x y ≡ true → x ≡ y
-same-names x y e = same_text x y (sym e)
-
-itself : (x : List ℕ) → same_name x x ≡ true
-itself [] = refl
-itself (c ∷ cs) = rw (eq-eqb c c refl, itself cs) refl
 
 turned : (x y : List ℕ) (b c : Bool) → same_name x y ≡ b → same_name y x ≡ c → b ≡ c
 turned x y true true h k = refl
 turned x y false false h k = refl
-turned x y true false h k = sym (itself x) ∙ ap (λ z. same_name z x) (same-names x y h) ∙ k
-turned x y false true h k = sym (sym (itself y) ∙ ap (λ z. same_name z y) (same-names y x k) ∙ h)
+turned x y true false h k = sym (same_itself x) ∙ ap (λ z. same_name z x) (same_is x y h) ∙ k
+turned x y false true h k = sym (sym (same_itself y) ∙ ap (λ z. same_name z y) (same_is y x k) ∙ h)
 
 pub turn : (x y : List ℕ) → same_name x y ≡ same_name y x
 turn x y = turned x y (same_name x y) (same_name y x) refl refl

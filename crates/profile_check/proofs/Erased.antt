@@ -1,6 +1,7 @@
--- An expression is known by its text, by what names stand for, and by the number of its first reference.
-use Rattle.std.proofs.Common.{◌≡◌, ◌∙◌, ℕ, ◌+◌, Bool, true, false, List, [], ◌∷◌, ◌++◌, length, refl, ap, sym, subst, arith, append_assoc, map, Option, Some, None, option_map}
-use Rattle.std.specs.Prelude.{ℤ, ◌&&◌, ◌==◌}
+-- An expression is known by its text, by what names stand for, and by the number of its first
+-- reference.
+use Rattle.std.proofs.Common.{◌≡◌, ◌∙◌, ℕ, ◌+◌, Bool, true, false, List, [], ◌∷◌, ◌++◌, length, refl, ap, sym, subst, map, Option, Some, None, option_map}
+use Rattle.std.specs.Prelude.{ℤ, ◌==◌}
 use Rattle.std.specs.List.{list_all}
 use Rattle.std.proofs.lemmas.Bool.{and_parts, eqb-false, eqb-true}
 use Rattle.std.proofs.lemmas.List.Folds.{list_all-append}
@@ -9,10 +10,13 @@ use Rattle.ast.specs.References.{term_references, terms_references, expressions_
 use Rattle.ast.specs.Symbols.{Symbol}
 use Rattle.ast.specs.Tree.{Ref, Term, Terms, constant, truth, parameter, element, call, parentheses, unary, binary, no_terms, then_term, Access, accessed, PrintItem, value_item, text_item, Kind, program, integer, dimension, parameters, assign, do_loop, go_on, block_if, else_if, else_arm, end_if, logical_if, print, read, stop, end, DoHead, Statement, Node, plain, loop, choose, Block, no_nodes, then_node, Arms, no_arms, then_arm}
 use Rattle.ast.specs.declared.expression.Intrinsic.{Intrinsic}
-use Rattle.profile_check.specs.Erasure.{ref_to, intrinsic_name, erased, all_erased, access_erased, item_erased, kind_erased, head_erased, node_erased, block_erased, arms_erased}
+use Rattle.ast.proofs.References.{references_append, numbered_parts}
+use Rattle.ast.specs.Spelling.{intrinsic_name}
+use Rattle.profile_check.specs.Erasure.{ref_to, erased, all_erased, access_erased, item_erased, kind_erased, head_erased, node_erased, block_erased, arms_erased}
 use Rattle.profile_check.specs.Reads.{is_constant, is_meant, are_meant}
 
--- a name stands for one thing: a variable in one place, a constant with one value, or an intrinsic function
+-- a name stands for one thing: a variable in one place, a constant with one value, or an intrinsic
+-- function
 pub record Known (symbols : List Symbol) : Type 0 where
   pub place : (r s : Ref) → is_placed symbols r ≡ true → is_placed symbols s ≡ true → r.name ≡ s.name → r.cell ≡ s.cell
   pub value : (x : List ℕ) (n m : ℤ) → is_constant symbols x n ≡ true → is_constant symbols x m ≡ true → n ≡ m
@@ -32,13 +36,6 @@ pub record AllSettled (symbols : List Symbol) (n : ℕ) (es : Terms) : Type 0 wh
   pub placed : list_all (λ r. is_placed symbols r) (terms_references es) ≡ true
   pub numbered : are_numbered n (terms_references es) ≡ true
 
-numbered-parts : (n : ℕ) (xs ys : List Ref) → are_numbered n (xs ++ ys) ≡ true → (are_numbered n xs ≡ true) × (are_numbered (n + length xs) ys ≡ true)
-numbered-parts n [] ys h = (refl, subst (λ (m : ℕ). are_numbered m ys ≡ true) (omega arith) h)
-numbered-parts n (x ∷ xs) ys h =
-    let p = and_parts (x.id == n) (are_numbered (n + 1) (xs ++ ys)) h in
-    let q = numbered-parts (n + 1) xs ys p.1 in
-    (ap (λ (b : Bool). b && are_numbered (n + 1) xs) p.0 ∙ q.0, subst (λ (m : ℕ). are_numbered m ys ≡ true) (omega arith) q.1)
-
 placed-parts : (symbols : List Symbol) (xs ys : List Ref) → list_all (λ r. is_placed symbols r) (xs ++ ys) ≡ true
     → (list_all (λ r. is_placed symbols r) xs ≡ true) × (list_all (λ r. is_placed symbols r) ys ≡ true)
 placed-parts symbols xs ys h = and_parts (list_all (λ r. is_placed symbols r) xs) (list_all (λ r. is_placed symbols r) ys) (sym (list_all-append (λ r. is_placed symbols r) xs ys) ∙ h)
@@ -47,42 +44,42 @@ left : (symbols : List Symbol) (n : ℕ) (o : _) (a b : Term) → Settled symbol
 left symbols n o a b h = record {
   meant = (and_parts (is_meant symbols a) (is_meant symbols b) h.meant).0;
   placed = (placed-parts symbols (term_references a) (term_references b) h.placed).0;
-  numbered = (numbered-parts n (term_references a) (term_references b) h.numbered).0;
+  numbered = (numbered_parts n (term_references a) (term_references b) h.numbered).0;
 }
 
 right : (symbols : List Symbol) (n : ℕ) (o : _) (a b : Term) → Settled symbols n (binary o a b) → Settled symbols (n + length (term_references a)) b
 right symbols n o a b h = record {
   meant = (and_parts (is_meant symbols a) (is_meant symbols b) h.meant).1;
   placed = (placed-parts symbols (term_references a) (term_references b) h.placed).1;
-  numbered = (numbered-parts n (term_references a) (term_references b) h.numbered).1;
+  numbered = (numbered_parts n (term_references a) (term_references b) h.numbered).1;
 }
 
 first : (symbols : List Symbol) (n : ℕ) (e : Term) (es : Terms) → AllSettled symbols n (then_term e es) → Settled symbols n e
 first symbols n e es h = record {
   meant = (and_parts (is_meant symbols e) (are_meant symbols es) h.meant).0;
   placed = (placed-parts symbols (term_references e) (terms_references es) h.placed).0;
-  numbered = (numbered-parts n (term_references e) (terms_references es) h.numbered).0;
+  numbered = (numbered_parts n (term_references e) (terms_references es) h.numbered).0;
 }
 
 rest : (symbols : List Symbol) (n : ℕ) (e : Term) (es : Terms) → AllSettled symbols n (then_term e es) → AllSettled symbols (n + length (term_references e)) es
 rest symbols n e es h = record {
   meant = (and_parts (is_meant symbols e) (are_meant symbols es) h.meant).1;
   placed = (placed-parts symbols (term_references e) (terms_references es) h.placed).1;
-  numbered = (numbered-parts n (term_references e) (terms_references es) h.numbered).1;
+  numbered = (numbered_parts n (term_references e) (terms_references es) h.numbered).1;
 }
 
 subscripts : (symbols : List Symbol) (n : ℕ) (r : Ref) (es : Terms) → Settled symbols n (element r es) → AllSettled symbols n es
 subscripts symbols n r es h = record {
   meant = h.meant;
   placed = (placed-parts symbols (terms_references es) (r ∷ []) h.placed).0;
-  numbered = (numbered-parts n (terms_references es) (r ∷ []) h.numbered).0;
+  numbered = (numbered_parts n (terms_references es) (r ∷ []) h.numbered).0;
 }
 
 own-placed : (symbols : List Symbol) (n : ℕ) (r : Ref) (es : Terms) → Settled symbols n (element r es) → is_placed symbols r ≡ true
 own-placed symbols n r es h = (and_parts (is_placed symbols r) true ((placed-parts symbols (terms_references es) (r ∷ []) h.placed).1)).0
 
 own-number : (symbols : List Symbol) (n : ℕ) (r : Ref) (es : Terms) → Settled symbols n (element r es) → r.id ≡ n + length (terms_references es)
-own-number symbols n r es h = eqb-true r.id (n + length (terms_references es)) ((and_parts (r.id == n + length (terms_references es)) true ((numbered-parts n (terms_references es) (r ∷ []) h.numbered).1)).0)
+own-number symbols n r es h = eqb-true r.id (n + length (terms_references es)) ((and_parts (r.id == n + length (terms_references es)) true ((numbered_parts n (terms_references es) (r ∷ []) h.numbered).1)).0)
 
 arguments : (symbols : List Symbol) (n : ℕ) (f : Intrinsic) (es : Terms) → Settled symbols n (call f es) → AllSettled symbols n es
 arguments symbols n f es h = record { meant = h.meant; placed = h.placed; numbered = h.numbered }
@@ -169,36 +166,32 @@ pub record ListSettled (symbols : List Symbol) (n : ℕ) (es : List Term) : Type
 abbrev count : List Term → ℕ
 count es = length (expressions_references es)
 
-pub references-append : (xs ys : List Term) → expressions_references (xs ++ ys) ≡ expressions_references xs ++ expressions_references ys
-references-append [] ys = refl
-references-append (x ∷ xs) ys = ap (λ (rs : List Ref). term_references x ++ rs) (references-append xs ys) ∙ sym (append_assoc (term_references x) (expressions_references xs) (expressions_references ys))
-
 one : (symbols : List Symbol) (n : ℕ) (e : Term) (es : List Term) → ListSettled symbols n (e ∷ es) → Settled symbols n e
 one symbols n e es h = record {
   meant = (and_parts (is_meant symbols e) (list_all (λ e. is_meant symbols e) es) h.meant).0;
   placed = (placed-parts symbols (term_references e) (expressions_references es) h.placed).0;
-  numbered = (numbered-parts n (term_references e) (expressions_references es) h.numbered).0;
+  numbered = (numbered_parts n (term_references e) (expressions_references es) h.numbered).0;
 }
 
 others : (symbols : List Symbol) (n : ℕ) (e : Term) (es : List Term) → ListSettled symbols n (e ∷ es) → ListSettled symbols (n + length (term_references e)) es
 others symbols n e es h = record {
   meant = (and_parts (is_meant symbols e) (list_all (λ e. is_meant symbols e) es) h.meant).1;
   placed = (placed-parts symbols (term_references e) (expressions_references es) h.placed).1;
-  numbered = (numbered-parts n (term_references e) (expressions_references es) h.numbered).1;
+  numbered = (numbered_parts n (term_references e) (expressions_references es) h.numbered).1;
 }
 
 front : (symbols : List Symbol) (n : ℕ) (xs ys : List Term) → ListSettled symbols n (xs ++ ys) → ListSettled symbols n xs
 front symbols n xs ys h = record {
   meant = (and_parts (list_all (λ e. is_meant symbols e) xs) (list_all (λ e. is_meant symbols e) ys) (sym (list_all-append (λ e. is_meant symbols e) xs ys) ∙ h.meant)).0;
-  placed = (placed-parts symbols (expressions_references xs) (expressions_references ys) (subst (λ (rs : List Ref). list_all (λ r. is_placed symbols r) rs ≡ true) (references-append xs ys) h.placed)).0;
-  numbered = (numbered-parts n (expressions_references xs) (expressions_references ys) (subst (λ (rs : List Ref). are_numbered n rs ≡ true) (references-append xs ys) h.numbered)).0;
+  placed = (placed-parts symbols (expressions_references xs) (expressions_references ys) (subst (λ (rs : List Ref). list_all (λ r. is_placed symbols r) rs ≡ true) (references_append xs ys) h.placed)).0;
+  numbered = (numbered_parts n (expressions_references xs) (expressions_references ys) (subst (λ (rs : List Ref). are_numbered n rs ≡ true) (references_append xs ys) h.numbered)).0;
 }
 
 back : (symbols : List Symbol) (n : ℕ) (xs ys : List Term) → ListSettled symbols n (xs ++ ys) → ListSettled symbols (n + count xs) ys
 back symbols n xs ys h = record {
   meant = (and_parts (list_all (λ e. is_meant symbols e) xs) (list_all (λ e. is_meant symbols e) ys) (sym (list_all-append (λ e. is_meant symbols e) xs ys) ∙ h.meant)).1;
-  placed = (placed-parts symbols (expressions_references xs) (expressions_references ys) (subst (λ (rs : List Ref). list_all (λ r. is_placed symbols r) rs ≡ true) (references-append xs ys) h.placed)).1;
-  numbered = (numbered-parts n (expressions_references xs) (expressions_references ys) (subst (λ (rs : List Ref). are_numbered n rs ≡ true) (references-append xs ys) h.numbered)).1;
+  placed = (placed-parts symbols (expressions_references xs) (expressions_references ys) (subst (λ (rs : List Ref). list_all (λ r. is_placed symbols r) rs ≡ true) (references_append xs ys) h.placed)).1;
+  numbered = (numbered_parts n (expressions_references xs) (expressions_references ys) (subst (λ (rs : List Ref). are_numbered n rs ≡ true) (references_append xs ys) h.numbered)).1;
 }
 
 abbrev access-of : Term → Access

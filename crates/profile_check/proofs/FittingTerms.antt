@@ -1,5 +1,5 @@
--- The constants of a program are 64-bit integers: those of its text by their digits, those that names
--- stand for because the symbols' are.
+-- The constants of a program are 64-bit integers: those of its text by their digits, those that
+-- names stand for because the symbols' are.
 use Rattle.std.proofs.Common.{◌≡◌, ℕ, ℤ, Bool, true, false, List, [], ◌∷◌, ◌++◌, map, refl, ap, sym, subst, Option, Some, None, option_map, inl, inr}
 use Rattle.std.specs.Prelude.{◌⊎◌, if◌then◌else◌, ◌^◌}
 use Rattle.std.specs.List.{list_all}
@@ -19,6 +19,7 @@ use Rattle.profile_check.proofs.Parts.{own_expressions, own_text}
 use Rattle.profile_check.specs.Erasure.{erased, all_erased, access_erased, item_erased, kind_erased}
 use Rattle.profile_check.specs.Fitting.{sort_fits, symbol_fits}
 use Rattle.profile_check.specs.Reads.{is_fixed, is_constant, is_meant, are_meant}
+use Rattle.profile_check.proofs.Texts.{either-way}
 
 abbrev pub Fit : List Term → Type 0
 Fit es = list_all (λ e. is_fitting e) es ≡ true
@@ -74,10 +75,6 @@ read-spelled : (es : List Access) (u : List ℕ) → AreBehindComma (AreParts Is
 read-spelled [] u h = refl
 read-spelled (a ∷ es) u (inl h) = accesses-spelled (a ∷ es) h.0 h.2
 read-spelled (a ∷ es) u (inr h) = accesses-spelled (a ∷ es) u h
-
-either-way : {A B C D : Type 0} → (A × B) ⊎ (C × D) → B ⊎ D
-either-way (inl h) = inl h.1
-either-way (inr h) = inr h.1
 
 step-spelled : (o : Option Term) (r : Ref) (t : List ℕ) → IsStep o t → Fit (optional o ++ element r no_terms ∷ [])
 step-spelled None r t h = refl

@@ -4,10 +4,11 @@ use Rattle.std.specs.Prelude.{◌&&◌, ◌||◌, ◌==◌, if◌then◌else◌}
 use Rattle.std.proofs.lemmas.Bool.{or_parts}
 use Rattle.std.specs.List.{list_any}
 use Rattle.ast.specs.Tree.{Term, Statement, Kind, do_loop, block_if, else_if, else_arm, end_if, logical_if, program, integer, dimension, parameters, assign, go_on, print, read, stop, end, Node, loop, block}
-use Rattle.structure.specs.Open.{Open, do_range, if_block, open_from, open_after, after, begun, ended_by, ended as spec_ended, with_else, without_block}
+use Rattle.structure.specs.Open.{Open, do_range, if_block, open_after, after, begun, ended_by, ended as spec_ended, with_else, without_block}
 use Rattle.structure.specs.Rules.{is_out_of_order, is_some_and, is_end, by_label, is_range_of, is_around, is_other_range, is_block, is_any_range, begins_with, may_go_on, may_not_end_a_range, is_misplaced_arm, holds_wrong_statement, crosses, ends_wrongly, breaks_blocks, rules, lowest_broken}
 use Rattle.profile_check.specs.Nesting.{Frame, in_range, in_block, Nest, nest, next_arm, end_block, end_ranges, ended, own_node, with_kind, with_statement}
 use Rattle.profile_check.proofs.Laid.{IsInBlock, MayStand}
+use Rattle.profile_check.proofs.Fresh.{none-first}
 
 abbrev is_last : Option Term → Bool
 is_last None = true
@@ -22,10 +23,6 @@ shapes [] = []
 shapes (f ∷ frames) = shape_of f ∷ shapes frames
 
 -- ---- the rules that a statement keeps
-
-none-first : (b : Bool) (n : ℕ) (rest : Option ℕ) → (if b then Some n else rest) ≡ None → (b ≡ false) × (rest ≡ None)
-none-first true n rest h = absurd cc
-none-first false n rest h = (refl, h)
 
 pub record Kept (opened : List Open) (s : Statement) : Type 0 where
   pub crosses : crosses opened s ≡ false
@@ -158,7 +155,3 @@ all-ended (in_range line d before ∷ frames) s e h =
     absurd (let q : true ≡ false = sym (ap (λ (k : Kind). is_end k && true) e) ∙ p in cc)
 all-ended (in_block done line c before ∷ frames) s e h =
     absurd (let q : true ≡ false = sym (ap (λ (k : Kind). is_misplaced_arm k (shapes (in_block done line c before ∷ frames))) e) ∙ misplaced (shapes (in_block done line c before ∷ frames)) s h.blocks in cc)
-
-pub open-append : (opened : List Open) (front : List Statement) (s : Statement) → open_from opened (front ++ s ∷ []) ≡ after (open_from opened front) s
-open-append opened [] s = refl
-open-append opened (f ∷ front) s = open-append (after opened f) front s

@@ -2,7 +2,7 @@
 use Rattle.std.proofs.Common.{◌≡◌, ◌∙◌, ℕ, ◌+◌, ◌||◌, Bool, true, false, cond, List, [], ◌∷◌, ◌++◌, refl, ap, sym, subst, Option, Some, None, append_assoc, append-nil}
 use Rattle.std.specs.Prelude.{nat_le, if◌then◌else◌}
 use Rattle.std.specs.List.{list_any}
-use Rattle.std.proofs.lemmas.Bool.{or_parts}
+use Rattle.std.proofs.lemmas.Bool.{or_parts, or_from}
 use Rattle.std.proofs.lemmas.List.Folds.{list_any-append}
 use Rattle.std.proofs.Math.Bool.{or-false, or_assoc}
 use Rattle.indexmap.specs.IndexMap.{insert_entry}
@@ -10,12 +10,12 @@ use Rattle.indexmap.specs.IndexSet.{insert_key, insert_all}
 use Rattle.ast.specs.Store.{same_name}
 use Rattle.ast.specs.Symbols.{Extent}
 use Rattle.ast.specs.Tree.{Declarator, Statement}
+use Rattle.ast.proofs.SameNames.{same_is}
 use Rattle.profile_check.specs.Checking.{and_then_declared}
 use Rattle.profile_check.specs.Declarations.{Declared, Arrays, Constants, declared_in, arrays_by, or_no_extents, extents_of, with_arrays, total_elements, objects_by}
 use Rattle.profile_check.specs.Rules.{lower}
 use Rattle.profile_check.specs.TakenBefore.{taken_before}
 use Rattle.profile_check.specs.Uses.{is_among, bounded_by, defined_by, declarator_names, definition_names}
-use Rattle.profile_check.proofs.Entries.{same-names}
 use Rattle.profile_check.proofs.OneMore.{declared-append}
 use Rattle.profile_check.proofs.Sums.{total-append}
 
@@ -36,7 +36,7 @@ none-first false n rest h = (refl, h)
 had-equal : (x y : List ℕ) (keys : List (List ℕ)) (b : Bool) → same_name x y ≡ b → list_any (same_name y) keys ≡ true → list_any (same_name x) keys ≡ (list_any (same_name x) keys || b)
 had-equal x y keys false e h = sym (or-false (list_any (same_name x) keys))
 had-equal x y keys true e h =
-    let there = ap (λ z. list_any (same_name z) keys) (same-names x y e) ∙ h in
+    let there = ap (λ z. list_any (same_name z) keys) (same_is x y e) ∙ h in
     there ∙ sym (ap (λ b. b || true) there)
 
 had-key : (x y : List ℕ) (keys : List (List ℕ)) (b : Bool) → list_any (same_name y) keys ≡ b → list_any (same_name x) (cond b keys (keys ++ y ∷ [])) ≡ (list_any (same_name x) keys || same_name x y)
@@ -54,9 +54,6 @@ had-all x keys (y ∷ ys) =
 abbrev is_array : Arrays → List ℕ → Bool
 is_array arrays x = list_any (λ a. same_name x a.0) arrays
 
-none-of : (b c : Bool) → b ≡ false → c ≡ false → (b || c) ≡ false
-none-of b c h k = ap (λ a. a || c) h ∙ k
-
 added : (arrays : Arrays) (y : List ℕ) (ds : List Extent) → is_array arrays y ≡ false → insert_entry same_name arrays y ds ≡ arrays ++ (y, ds) ∷ []
 added [] y ds h = refl
 added (a ∷ arrays) y ds h =
@@ -64,10 +61,10 @@ added (a ∷ arrays) y ds h =
     ap (λ (b : Bool). if b then (a.0, ds) ∷ arrays else a ∷ insert_entry same_name arrays y ds) p.0 ∙ ap (λ (rest : Arrays). a ∷ rest) (added arrays y ds p.1)
 
 still-none : (arrays : Arrays) (y : List ℕ) (ds : List Extent) (x : List ℕ) → same_name x y ≡ false → is_array arrays x ≡ false → is_array (insert_entry same_name arrays y ds) x ≡ false
-still-none [] y ds x e h = none-of (same_name x y) false e refl
+still-none [] y ds x e h = or_from (same_name x y) false e refl
 still-none (a ∷ arrays) y ds x e h =
     let p = or_parts (same_name x a.0) (is_array arrays x) h in
-    by (none-of (same_name x a.0) (is_array (insert_entry same_name arrays y ds) x) p.0 (still-none arrays y ds x e p.1)) (same_name y a.0)
+    by (or_from (same_name x a.0) (is_array (insert_entry same_name arrays y ds) x) p.0 (still-none arrays y ds x e p.1)) (same_name y a.0)
   where
     by : is_array (a ∷ insert_entry same_name arrays y ds) x ≡ false → (b : Bool) → is_array (if b then (a.0, ds) ∷ arrays else a ∷ insert_entry same_name arrays y ds) x ≡ false
     by later true = h
@@ -103,7 +100,7 @@ objects-one : (objects : List (List ℕ)) (arrays : Arrays) (y : List ℕ) (ds :
 objects-one objects arrays y ds p = λ x h.
     let a = or_parts (is_among objects x) (same_name x y) (sym (had-key x y objects (list_any (same_name y) objects) refl) ∙ h) in
     list_any-append (λ (a : List ℕ × List Extent). same_name x a.0) arrays ((y, ds) ∷ [])
-    ∙ none-of (is_array arrays x) (same_name x y || false) (p x a.0) (none-of (same_name x y) false a.1 refl)
+    ∙ or_from (is_array arrays x) (same_name x y || false) (p x a.0) (or_from (same_name x y) false a.1 refl)
 
 appended : (constants : Constants) (objects : List (List ℕ)) (arrays : Arrays) (ds : List Declarator) (others : List (List ℕ)) → AreObjects objects arrays
     → taken_before objects (declarator_names ds ++ others) ≡ false → with_arrays arrays (arrays_by constants ds) ≡ arrays ++ arrays_by constants ds

@@ -15,15 +15,16 @@ use Rattle.ast.specs.Symbols.{Extent, variable, Symbol, names_of, dimensions_of,
 use Rattle.ast.specs.Tree.{Ref, Kind, Statement}
 use Rattle.ast.specs.declared.expression.Intrinsic.{Intrinsic}
 use Rattle.ast.specs.declared.expression.Intrinsic.TheVariants.{Abs, Iabs, Max, Max0, Min, Min0, Mod}
+use Rattle.ast.proofs.SameNames.{same_is}
 use Rattle.profile_check.specs.Checking.{and_then_declared}
 use Rattle.profile_check.specs.Declarations.{Declared, declared_in, constant_named, dimensions_named, constant_or, sort_of, symbols_of}
-use Rattle.profile_check.specs.Erasure.{intrinsic_name}
+use Rattle.ast.specs.Spelling.{intrinsic_name, intrinsic_named}
 use Rattle.profile_check.specs.Reads.{is_fixed, is_constant}
-use Rattle.profile_check.specs.Resolving.{place_of, intrinsic_named}
+use Rattle.profile_check.specs.Resolving.{place_of}
 use Rattle.profile_check.specs.Rules.{is_some_and, is_other, context_after, typed_in_whole, InProfile}
 use Rattle.profile_check.specs.Uses.{is_among, is_intrinsic, typed_by, dimensioned_by, defined_by, declarator_names, definition_names, names_used, names_declared, names_mentioned}
 use Rattle.profile_check.proofs.CountedTerms.{Ranked}
-use Rattle.profile_check.proofs.Entries.{same-names, turn}
+use Rattle.profile_check.proofs.Entries.{turn}
 use Rattle.profile_check.proofs.Erased.{Known}
 use Rattle.profile_check.proofs.Fresh.{had-all}
 use Rattle.profile_check.proofs.Parts.{table_in, Serves}
@@ -100,7 +101,7 @@ constant-found d (y ∷ names) x n h m = by (constant-found d names x n h) (same
         → (if same_name y x then is_fixed (sort_of d y) n else is_constant (symbols_at d names) x n) ≡ true
     by rest true e k =
         ap (λ (b : Bool). if b then is_fixed (sort_of d y) n else is_constant (symbols_at d names) x n) (turn y x ∙ e)
-        ∙ ap (λ (z : List ℕ). is_fixed (sort_of d z) n) (sym (same-names x y e)) ∙ fixed-at d x n h
+        ∙ ap (λ (z : List ℕ). is_fixed (sort_of d z) n) (sym (same_is x y e)) ∙ fixed-at d x n h
     by rest false e k = ap (λ (b : Bool). if b then is_fixed (sort_of d y) n else is_constant (symbols_at d names) x n) (turn y x ∙ e) ∙ rest k
 
 -- the place of a name
@@ -109,7 +110,7 @@ found [] x m = absurd cc
 found (y ∷ names) x m = by (found names x) (same_name x y) refl m
   where
     by : (is_among names x ≡ true → find (same_name x) names ≡ Some x) → (b : Bool) → same_name x y ≡ b → (b || is_among names x) ≡ true → cond b (Some y) (find (same_name x) names) ≡ Some x
-    by rest true e k = ap (λ (z : List ℕ). Some z) (sym (same-names x y e))
+    by rest true e k = ap (λ (z : List ℕ). Some z) (sym (same_is x y e))
     by rest false e k = rest k
 
 at-place : (names : List (List ℕ)) (x : List ℕ) → is_among names x ≡ true → slice_get names (place_of names x) ≡ Some x
@@ -202,7 +203,7 @@ held d names r h = by (slice_get names r.cell) refl (sym (ap (λ (o : Option Sym
     by None e k = absurd cc
     by (Some y) e k =
         let p = and_parts (same_name y r.name) (is_variable (sort_of d y)) k in
-        let q : y ≡ r.name = same-names y r.name p.0 in
+        let q : y ≡ r.name = same_is y r.name p.0 in
         record {
           name = e ∙ ap (λ (z : List ℕ). Some z) q;
           free = ap (λ (z : List ℕ). constant_named d.constants z) (sym q) ∙ no-value (dimensions_named d.arrays y) (constant_named d.constants y) p.1;
@@ -225,7 +226,7 @@ valued d (y ∷ names) x n h = by (valued d names x n) (same_name y x) refl h
         → (if b then is_fixed (sort_of d y) n else is_constant (symbols_at d names) x n) ≡ true → Valued d (y ∷ names) x n
     by rest true e k = record {
       named = or_left (same_name x y) (is_among names x) (turn x y ∙ e);
-      value = ap (λ (z : List ℕ). constant_named d.constants z) (sym (same-names y x e)) ∙ fixed-back (dimensions_named d.arrays y) (constant_named d.constants y) n k;
+      value = ap (λ (z : List ℕ). constant_named d.constants z) (sym (same_is y x e)) ∙ fixed-back (dimensions_named d.arrays y) (constant_named d.constants y) n k;
     }
     by rest false e k =
         let v = rest k in
@@ -247,7 +248,8 @@ same-place names x i j d a b = elim (cases_order i j) [
   | inr (inr less) ↦ absurd (one-place names x j i d b a less)
 ]
 
--- a name stands for one thing: a variable in one place, a constant with one value, or an intrinsic function
+-- a name stands for one thing: a variable in one place, a constant with one value, or an intrinsic
+-- function
 pub known : (ss : List Statement) → InProfile ss → Known (symbols_of (declared_in ss))
 known ss h =
     let d = declared_in ss in
@@ -279,7 +281,7 @@ dimensions-found d (y ∷ names) x f m = by (dimensions-found d names x f) (same
         → (if same_name y x then dimensions_of (sort_of d y) else dimensions_in (symbols_at d names) x) ≡ dimensions_named d.arrays x
     by rest true e k =
         ap (λ (b : Bool). if b then dimensions_of (sort_of d y) else dimensions_in (symbols_at d names) x) (turn y x ∙ e)
-        ∙ ap (λ (z : List ℕ). dimensions_of (sort_of d z)) (sym (same-names x y e))
+        ∙ ap (λ (z : List ℕ). dimensions_of (sort_of d z)) (sym (same_is x y e))
         ∙ ap (λ (v : Option ℤ). dimensions_of (constant_or (variable (dimensions_named d.arrays x)) v)) f
     by rest false e k = ap (λ (b : Bool). if b then dimensions_of (sort_of d y) else dimensions_in (symbols_at d names) x) (turn y x ∙ e) ∙ rest k
 

@@ -2,17 +2,17 @@
 use Rattle.std.proofs.Common.{◌≡◌, ◌∙◌, ℕ, ◌+◌, Bool, true, false, not, inl, inr, List, [], ◌∷◌, ◌++◌, map, refl, ap, sym, subst, Option, Some, None, append_assoc}
 use Rattle.std.specs.Prelude.{◌&&◌, ◌||◌, ◌==◌, if◌then◌else◌, ⊤, ◌⊎◌}
 use Rattle.std.specs.List.{list_any, list_all}
-use Rattle.std.proofs.lemmas.Bool.{or_parts, and_parts, and_from, not-true}
+use Rattle.std.proofs.lemmas.Bool.{or_parts, and_parts, and_from, not-true, or_from}
 use Rattle.std.proofs.lemmas.List.Folds.{list_any-append}
 use Rattle.ast.specs.Regular.{given_by, is_none_of, node_keeps, block_keeps, arms_keep, node_has_end, block_has_end, arms_have_end, holds_end, ends_outside}
 use Rattle.ast.specs.Stops.{is_end_kind}
 use Rattle.ast.specs.Store.{same_name}
 use Rattle.ast.specs.Tree.{Term, Access, Statement, Kind, DoHead, do_loop, block_if, else_if, else_arm, end_if, logical_if, program, integer, dimension, parameters, assign, go_on, print, read, stop, end, Node, plain, loop, choose, block, Arm, arms}
+use Rattle.ast.proofs.Lists.{all_joined}
 use Rattle.structure.specs.Open.{Open, open_after, is_active}
 use Rattle.structure.specs.Rules.{holds_wrong_statement, may_stand_in_if, rules, Keep}
 use Rattle.profile_check.proofs.Frames.{Kept, kept, shapes, all-ended}
 use Rattle.profile_check.proofs.SameShape.{Nested, nested-one, kept-alike, alike, EndsInEnd}
-use Rattle.profile_check.proofs.Settling.{all-joined}
 use Rattle.profile_check.specs.Nesting.{Frame, in_range, in_block, Nest, nest, arm_of, next_arm, end_block, end_ranges, ended, own_node, logical_node, with_kind, with_statement, nested_from, nested}
 use Rattle.profile_check.specs.Resolving.{Table, kind_resolved, accesses_resolved, statement_resolved, statements_resolved, statement_count, access_count, access_resolved}
 use Rattle.profile_check.specs.Uses.{Use, term_uses, terms_uses, given_uses, all_uses, optional_uses, uses}
@@ -25,16 +25,13 @@ stands_in names n = node_keeps names n && not (node_has_end n)
 abbrev arm_stands : List (List ℕ) → Arm → Bool
 arm_stands names a = block_keeps names a.body && not (block_has_end a.body)
 
-not-or : (a b : Bool) → a ≡ false → b ≡ false → (a || b) ≡ false
-not-or a b h k = ap (λ (c : Bool). c || b) h ∙ k
-
 from-nodes : (names : List (List ℕ)) (ns : List Node) → list_all (stands_in names) ns ≡ true → (block_keeps names (block ns) ≡ true) × (block_has_end (block ns) ≡ false)
 from-nodes names [] h = (refl, refl)
 from-nodes names (n ∷ ns) h =
     let p = and_parts (stands_in names n) (list_all (stands_in names) ns) h in
     let q = and_parts (node_keeps names n) (not (node_has_end n)) p.0 in
     let more = from-nodes names ns p.1 in
-    (and_from (node_keeps names n) (block_keeps names (block ns)) q.0 more.0, not-or (node_has_end n) (block_has_end (block ns)) (not-true (node_has_end n) q.1) more.1)
+    (and_from (node_keeps names n) (block_keeps names (block ns)) q.0 more.0, or_from (node_has_end n) (block_has_end (block ns)) (not-true (node_has_end n) q.1) more.1)
 
 from-arms : (names : List (List ℕ)) (xs : List Arm) → list_all (arm_stands names) xs ≡ true → (arms_keep names (arms xs) ≡ true) × (arms_have_end (arms xs) ≡ false)
 from-arms names [] h = (refl, refl)
@@ -42,7 +39,7 @@ from-arms names (a ∷ xs) h =
     let p = and_parts (arm_stands names a) (list_all (arm_stands names) xs) h in
     let q = and_parts (block_keeps names a.body) (not (block_has_end a.body)) p.0 in
     let more = from-arms names xs p.1 in
-    (and_from (block_keeps names a.body) (arms_keep names (arms xs)) q.0 more.0, not-or (block_has_end a.body) (arms_have_end (arms xs)) (not-true (block_has_end a.body) q.1) more.1)
+    (and_from (block_keeps names a.body) (arms_keep names (arms xs)) q.0 more.0, or_from (block_has_end a.body) (arms_have_end (arms xs)) (not-true (block_has_end a.body) q.1) more.1)
 
 -- the DO variables of the ranges that are open
 abbrev variables : List Frame → List (List ℕ)
@@ -65,7 +62,7 @@ record Orderly (frames : List Frame) (ns : List Node) : Type 0 where
   around : Around frames
 
 add : (frames : List Frame) (ns : List Node) (n : Node) → list_all (stands frames) ns ≡ true → stands frames n ≡ true → list_all (stands frames) (ns ++ n ∷ []) ≡ true
-add frames ns n h k = all-joined (stands frames) ns (n ∷ []) h (and_from (stands frames n) true k refl)
+add frames ns n h k = all_joined (stands frames) ns (n ∷ []) h (and_from (stands frames n) true k refl)
 
 -- a node that holds others
 a-loop : (frames : List Frame) (line : ℕ) (h : DoHead) (ns : List Node) → is_none_of (variables frames) h.variable.name ≡ true
@@ -87,7 +84,7 @@ an-arm names line c ns h = let p = from-nodes names ns h in and_from (block_keep
 
 more-arms : (names : List (List ℕ)) (done : List Arm) (line : ℕ) (c : Option Term) (ns : List Node) → list_all (arm_stands names) done ≡ true → list_all (stands_in names) ns ≡ true
     → list_all (arm_stands names) (done ++ arm_of line c ns ∷ []) ≡ true
-more-arms names done line c ns h k = all-joined (arm_stands names) done (arm_of line c ns ∷ []) h (and_from (arm_stands names (arm_of line c ns)) true (an-arm names line c ns k) refl)
+more-arms names done line c ns h k = all_joined (arm_stands names) done (arm_of line c ns ∷ []) h (and_from (arm_stands names (arm_of line c ns)) true (an-arm names line c ns k) refl)
 
 -- ---- one more statement
 
@@ -125,7 +122,8 @@ ended-orderly : (label : Option ℕ) (frames : List Frame) (ns : List Node) (n :
 ended-orderly None frames ns n h k = record { nodes = add frames ns n h.nodes k; around = h.around }
 ended-orderly (Some l) frames ns n h k = ranges-orderly l frames (ns ++ n ∷ []) (record { nodes = add frames ns n h.nodes k; around = h.around })
 
--- the names that a statement gives values, a DO's variable and the statement of a logical IF counted
+-- the names that a statement gives values, a DO's variable and the statement of a logical IF
+-- counted
 abbrev own_given : Kind → List (List ℕ)
 own_given (do_loop h) = h.variable.name ∷ []
 own_given (logical_if c k) = given_by k

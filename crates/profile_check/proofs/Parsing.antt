@@ -27,7 +27,8 @@ spelled-snoc [] (t ∷ ts) e s h k = absurd h
 spelled-snoc (d ∷ ds) [] e s h k = absurd h
 spelled-snoc (d ∷ ds) (t ∷ ts) e s h k = (h.0, spelled-snoc ds ts e s h.1 k)
 
--- Whatever statements all entries are, the first are those read and the others those of the entries left.
+-- Whatever statements all entries are, the first are those read and the others those of the entries
+-- left.
 pub record Begins (all : List Entry) (read : List Statement) (left : List Entry) : Type 0 where
   pub each : (ss : List Statement) → Spelled all ss → (rest : List Statement) × (ss ≡ read ++ rest) × Spelled left rest
 

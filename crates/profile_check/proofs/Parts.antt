@@ -52,7 +52,7 @@ pub record Serves (symbols : List Symbol) (t : Table) : Type 0 where
   pub constants : (x : List ℕ) (v : ℤ) → constant_named t.constants x ≡ Some v → is_constant symbols x v ≡ true
   pub places : (r : Ref) (n : ℕ) → is_among t.names r.name ≡ true → is_free t.constants r.name ≡ true → is_placed symbols (numbered t n r) ≡ true
 
--- A use of a name is sound where it calls an intrinsic function, or the name stands in the table and
--- is no constant, unless it stands alone and is given nothing.
+-- A use of a name is sound where it calls an intrinsic function, or the name stands in the table
+-- and is no constant, unless it stands alone and is given nothing.
 abbrev pub is_sound : Table → Use → Bool
 is_sound t u = is_call u || (is_among t.names u.name && (is_free t.constants u.name || (u.count == 0 && not u.is_given)))

@@ -4,7 +4,8 @@ use Rattle.std.proofs.lemmas.List.{length-map}
 use Rattle.std.specs.List.{position, prefix_len}
 use Rattle.ast.specs.Store.{same_name}
 use Rattle.ast.specs.Tree.{Ref, Term, Terms, element, then_term, terms}
-use Rattle.profile_check.specs.Resolving.{Table, count, count_terms, count_all, resolved, all_resolved, list_resolved, with_list, intrinsic_named}
+use Rattle.ast.specs.Spelling.{intrinsic_named}
+use Rattle.profile_check.specs.Resolving.{Table, count, count_terms, count_all, resolved, all_resolved, list_resolved, with_list}
 use Rattle.ast.specs.View.{letters}
 use Rattle.ast.specs.declared.name.Name.{Name}
 use Rattle.ast.specs.contracts.name.NamePartialEq.TheImpl.{eq-value}

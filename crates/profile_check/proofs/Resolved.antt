@@ -5,6 +5,7 @@ use Rattle.std.specs.List.{list_all}
 use Rattle.ast.specs.References.{optional, items_expressions, kind_expressions, head_expressions}
 use Rattle.ast.specs.Symbols.{Symbol}
 use Rattle.ast.specs.Tree.{Ref, Term, Terms, element, no_terms, Access, accessed, PrintItem, value_item, text_item, DoHead, Kind, assign, do_loop, block_if, else_if, logical_if, print, read, Statement}
+use Rattle.ast.proofs.Lists.{all_joined, all_parts}
 use Rattle.structure.specs.Rules.{holds_wrong_statement}
 use Rattle.profile_check.specs.Erasure.{erased, access_erased, item_erased, kind_erased, head_erased}
 use Rattle.profile_check.specs.Resolving.{Table, numbered, count, count_terms, resolved, all_resolved, access_count, access_resolved, accesses_resolved, items_resolved, count_optional, head_resolved, kind_resolved, kind_count, statements_resolved}
@@ -13,12 +14,12 @@ use Rattle.profile_check.proofs.Erased.{Settled, ListSettled}
 use Rattle.profile_check.proofs.Parts.{own_expressions, expressions_in, own_text, are_shallow_in, Serves, is_sound}
 use Rattle.profile_check.proofs.ResolvedKinds.{kind-counted, kind-below, kind-shallow, below-nothing}
 use Rattle.profile_check.proofs.ResolvedTerms.{Sound, given-placed, term-settled, terms-settled}
-use Rattle.profile_check.proofs.Settling.{all-parts, all-joined, no-terms-settled, element-settled, nothing-settled, more-settled, append-settled}
+use Rattle.profile_check.proofs.Settling.{no-terms-settled, element-settled, nothing-settled, more-settled, append-settled}
 
 module _ (symbols : List Symbol) (t : Table) (serves : Serves symbols t) where
   access-settled : (n : ℕ) (a : Access) → access_erased a ≡ a → Sound t (given_uses a) → Settled symbols n (accessed (access_resolved t n a))
   access-settled n a bare sound =
-      let p = all-parts (λ u. is_sound t u) (terms_uses a.subscripts) _ sound in
+      let p = all_parts (λ u. is_sound t u) (terms_uses a.subscripts) _ sound in
       let es : Terms = all_resolved t n a.subscripts in
       element-settled symbols n (access_resolved t n a).ref es
       (terms-settled symbols t serves n a.subscripts (ap (λ (b : Access). b.subscripts) bare) p.0)
@@ -27,7 +28,7 @@ module _ (symbols : List Symbol) (t : Table) (serves : Serves symbols t) where
   accesses-settled : (n : ℕ) (elements : List Access) → map access_erased elements ≡ elements → Sound t (all_uses given_uses elements) → ListSettled symbols n (map accessed (accesses_resolved t n elements))
   accesses-settled n [] bare sound = nothing-settled symbols n
   accesses-settled n (a ∷ more) bare sound =
-      let p = all-parts (λ u. is_sound t u) (given_uses a) (all_uses given_uses more) sound in
+      let p = all_parts (λ u. is_sound t u) (given_uses a) (all_uses given_uses more) sound in
       let b : Access = access_resolved t n a in
       let m : ℕ = n + access_count b in
       more-settled symbols n (accessed b) (map accessed (accesses_resolved t m more))
@@ -37,7 +38,7 @@ module _ (symbols : List Symbol) (t : Table) (serves : Serves symbols t) where
   items-settled : (n : ℕ) (items : List PrintItem) → map item_erased items ≡ items → Sound t (all_uses item_uses items) → ListSettled symbols n (items_expressions (items_resolved t n items))
   items-settled n [] bare sound = nothing-settled symbols n
   items-settled n (value_item e ∷ more) bare sound =
-      let p = all-parts (λ u. is_sound t u) (term_uses e) (all_uses item_uses more) sound in
+      let p = all_parts (λ u. is_sound t u) (term_uses e) (all_uses item_uses more) sound in
       let f : Term = resolved t n e in
       more-settled symbols n f (items_expressions (items_resolved t (n + count f) more))
       (term-settled symbols t serves n e (let z : erased e ≡ e = cc in z) p.0)
@@ -65,9 +66,9 @@ module _ (symbols : List Symbol) (t : Table) (serves : Serves symbols t) where
 
   head-settled : (n : ℕ) (h : DoHead) → head_erased h ≡ h → Sound t (head_uses h) → ListSettled symbols n (head_expressions (head_resolved t n h))
   head-settled n h bare sound =
-      let p = all-parts (λ u. is_sound t u) (term_uses h.first ++ term_uses h.last ++ optional_uses h.step) _ sound in
-      let q = all-parts (λ u. is_sound t u) (term_uses h.first ++ term_uses h.last) (optional_uses h.step) p.0 in
-      let both = all-parts (λ u. is_sound t u) (term_uses h.first) (term_uses h.last) q.0 in
+      let p = all_parts (λ u. is_sound t u) (term_uses h.first ++ term_uses h.last ++ optional_uses h.step) _ sound in
+      let q = all_parts (λ u. is_sound t u) (term_uses h.first ++ term_uses h.last) (optional_uses h.step) p.0 in
+      let both = all_parts (λ u. is_sound t u) (term_uses h.first) (term_uses h.last) q.0 in
       let first : Term = resolved t n h.first in
       let m : ℕ = n + count first in
       let last : Term = resolved t m h.last in
@@ -81,7 +82,7 @@ module _ (symbols : List Symbol) (t : Table) (serves : Serves symbols t) where
 
   inner-settled : (n : ℕ) (k : Kind) → kind_erased k ≡ k → Sound t (uses k) → ListSettled symbols n (kind_expressions (kind_resolved t n k))
   inner-settled n (assign a e) bare sound =
-      let p = all-parts (λ u. is_sound t u) (term_uses e) (given_uses a) sound in
+      let p = all_parts (λ u. is_sound t u) (term_uses e) (given_uses a) sound in
       let f : Term = resolved t n e in
       let m : ℕ = n + count f in
       let b : Access = access_resolved t m a in
@@ -103,7 +104,7 @@ module _ (symbols : List Symbol) (t : Table) (serves : Serves symbols t) where
   kind-settled n (block_if c) bare sound = condition-settled n c (let z : erased c ≡ c = cc in z) sound
   kind-settled n (else_if c) bare sound = condition-settled n c (let z : erased c ≡ c = cc in z) sound
   kind-settled n (logical_if c k) bare sound =
-      let p = all-parts (λ u. is_sound t u) (term_uses c) (uses k) sound in
+      let p = all_parts (λ u. is_sound t u) (term_uses c) (uses k) sound in
       let d : Term = resolved t n c in
       more-settled symbols n d (kind_expressions (kind_resolved t (n + count d) k))
       (term-settled symbols t serves n c (let z : erased c ≡ c = cc in z) p.0)
@@ -112,8 +113,8 @@ module _ (symbols : List Symbol) (t : Table) (serves : Serves symbols t) where
 
 -- ---- statements one after another
 
--- what a statement of a text has to meet: a logical IF holds a statement that it may hold, no name is
--- resolved yet, each name of its expressions stands for something, and no expression is too deep
+-- what a statement of a text has to meet: a logical IF holds a statement that it may hold, no name
+-- is resolved yet, each name of its expressions stands for something, and no expression is too deep
 pub record Fits (t : Table) (s : Statement) : Type 0 where
   pub alone : holds_wrong_statement s.kind ≡ false
   pub bare : own_text s.kind ≡ s.kind
@@ -145,4 +146,4 @@ pub list-shallow : (t : Table) (n : ℕ) (ss : List Statement) → AllFit t ss �
 list-shallow t n [] h = refl
 list-shallow t n (s ∷ ss) h =
     let k : Kind = kind_resolved t n s.kind in
-    all-joined _ (own_expressions k) (expressions_in (statements_resolved t (n + kind_count k) ss)) (kind-shallow t n s.kind h.0.shallow) (list-shallow t (n + kind_count k) ss h.1)
+    all_joined _ (own_expressions k) (expressions_in (statements_resolved t (n + kind_count k) ss)) (kind-shallow t n s.kind h.0.shallow) (list-shallow t (n + kind_count k) ss h.1)

@@ -1,4 +1,5 @@
--- A statement that is resolved has its text, the references that are counted, and no deeper expressions.
+-- A statement that is resolved has its text, the references that are counted, and no deeper
+-- expressions.
 use Rattle.std.proofs.Common.{◌≡◌, ◌∙◌, ℕ, ◌+◌, ◌≤◌, true, false, not, List, [], ◌∷◌, ◌++◌, map, length, refl, ap, arith, Option, Some, None, option_map}
 use Rattle.std.specs.Prelude.{⊤, nat_le}
 use Rattle.std.proofs.lemmas.Bool.{and_parts, and_from, leb-true, le-leb, not-false}
@@ -114,7 +115,7 @@ counted (else_if c) h = more-counted 0 c [] refl ∙ (let z : count c + 0 ≡ co
 counted (logical_if c k) h = more-counted (kind_count k) c (kind_expressions k) (inner-counted k (not-false (may_stand_in_if k) h))
 counted _ h = refl
 
-may-stand : (t : Table) (n : ℕ) (k : Kind) → may_stand_in_if (kind_resolved t n k) ≡ may_stand_in_if k
+pub may-stand : (t : Table) (n : ℕ) (k : Kind) → may_stand_in_if (kind_resolved t n k) ≡ may_stand_in_if k
 may-stand t n (assign a e) = refl
 may-stand t n _ = refl
 

@@ -10,21 +10,23 @@ use Rattle.ast.specs.Symbols.{Symbol}
 use Rattle.ast.specs.Tree.{Ref, Term, Terms, constant, truth, parameter, element, call, parentheses, unary, binary, no_terms, then_term, depth, deepest}
 use Rattle.ast.specs.declared.expression.Intrinsic.{Intrinsic}
 use Rattle.ast.specs.declared.expression.Intrinsic.TheVariants.{Abs, Iabs, Max, Max0, Min, Min0, Mod}
+use Rattle.ast.proofs.Lists.{all_parts}
+use Rattle.ast.proofs.SameNames.{same_is}
 use Rattle.profile_check.specs.Declarations.{constant_named}
-use Rattle.profile_check.specs.Erasure.{ref_to, intrinsic_name, erased, all_erased}
-use Rattle.profile_check.specs.Resolving.{Table, intrinsic_named, numbered, count, count_terms, alone, list_at, resolved, all_resolved}
+use Rattle.ast.specs.Spelling.{intrinsic_name, intrinsic_named}
+use Rattle.profile_check.specs.Erasure.{ref_to, erased, all_erased}
+use Rattle.profile_check.specs.Resolving.{Table, numbered, count, count_terms, alone, list_at, resolved, all_resolved}
 use Rattle.profile_check.specs.Uses.{Use, count_of, term_uses, terms_uses, is_among, is_intrinsic, is_call}
-use Rattle.profile_check.proofs.Entries.{same-names}
 use Rattle.profile_check.proofs.Erased.{Settled, AllSettled}
 use Rattle.profile_check.proofs.Parts.{Serves, is_free, is_sound}
-use Rattle.profile_check.proofs.Settling.{all-parts, no-terms-settled, element-settled, binary-settled, then-settled}
+use Rattle.profile_check.proofs.Settling.{no-terms-settled, element-settled, binary-settled, then-settled}
 
 -- ---- intrinsic functions by their names
 
 by-name : (x : List ℕ) (f g : Intrinsic) (b : Bool) (rest : Option Intrinsic) → same_name x (intrinsic_name f) ≡ b → (rest ≡ Some g → intrinsic_name g ≡ x) → (if b then Some f else rest) ≡ Some g → intrinsic_name g ≡ x
 by-name x f g true rest same more e =
     let q : f ≡ g = cc in
-    sym (same-names x (intrinsic_name f) same ∙ ap intrinsic_name q)
+    sym (same_is x (intrinsic_name f) same ∙ ap intrinsic_name q)
 by-name x f g false rest same more e = more e
 
 intrinsic-name : (x : List ℕ) (f : Intrinsic) → intrinsic_named x ≡ Some f → intrinsic_name f ≡ x
@@ -166,7 +168,7 @@ module _ (symbols : List Symbol) (t : Table) (serves : Serves symbols t) where
         let p = stands t u (and_right (is_intrinsic r.name) false refl) (one-sound t u sound) in
         alone-settled n r (constant_named t.constants r.name) refl p.0
     term-settled n (element r (then_term e es)) bare sound =
-        let p = all-parts (λ u. is_sound t u) (terms_uses (then_term e es)) _ sound in
+        let p = all_parts (λ u. is_sound t u) (terms_uses (then_term e es)) _ sound in
         named-settled n (count_of es) r (all_resolved t n (then_term e es)) (intrinsic_named r.name) refl p.1
         (terms-settled n (then_term e es) (let z : then_term (erased e) (all_erased es) ≡ then_term e es = cc in z) p.0)
     term-settled n (call f es) bare sound = absurd cc
@@ -177,7 +179,7 @@ module _ (symbols : List Symbol) (t : Table) (serves : Serves symbols t) where
         let h = term-settled n e (let z : erased e ≡ e = cc in z) sound in
         record { meant = h.meant; placed = h.placed; numbered = h.numbered }
     term-settled n (binary o a b) bare sound =
-        let p = all-parts (λ u. is_sound t u) (term_uses a) (term_uses b) sound in
+        let p = all_parts (λ u. is_sound t u) (term_uses a) (term_uses b) sound in
         let c : Term = resolved t n a in
         binary-settled symbols n o c (resolved t (n + count c) b)
         (term-settled n a (let z : erased a ≡ a = cc in z) p.0)
@@ -186,7 +188,7 @@ module _ (symbols : List Symbol) (t : Table) (serves : Serves symbols t) where
     pub terms-settled : (n : ℕ) (es : Terms) → all_erased es ≡ es → Sound t (terms_uses es) → AllSettled symbols n (all_resolved t n es)
     terms-settled n no_terms bare sound = no-terms-settled symbols n
     terms-settled n (then_term e es) bare sound =
-        let p = all-parts (λ u. is_sound t u) (term_uses e) (terms_uses es) sound in
+        let p = all_parts (λ u. is_sound t u) (term_uses e) (terms_uses es) sound in
         let f : Term = resolved t n e in
         then-settled symbols n f (all_resolved t (n + count f) es)
         (term-settled n e (let z : erased e ≡ e = cc in z) p.0)

@@ -1,15 +1,17 @@
--- Resolving a statement changes nothing that nesting and the rules on structure look at, so resolved
--- statements nest as those of the text do.
+-- Resolving a statement changes nothing that nesting and the rules on structure look at, so
+-- resolved statements nest as those of the text do.
 use Rattle.std.proofs.Common.{◌≡◌, ◌∙◌, ℕ, ◌+◌, Bool, not, List, [], ◌∷◌, ◌++◌, refl, ap, sym, subst, append_assoc, Option, Some, None}
 use Rattle.std.specs.Prelude.{◌&&◌, ◌||◌}
 use Rattle.ast.specs.Tree.{Statement, Kind, do_loop, block_if, else_if, else_arm, end_if, logical_if, program, integer, dimension, parameters, assign, go_on, print, read, stop, end, Node, block}
 use Rattle.structure.specs.Open.{Open, open_after, after, begun, ended as spec_ended}
-use Rattle.structure.specs.Rules.{is_end, is_some_and, is_around, is_other_range, is_range_of, is_block, is_any_range, begins_with, may_not_end_a_range, is_misplaced_arm, may_stand_in_if, holds_wrong_statement, rules, lowest_broken, Keep}
+use Rattle.structure.specs.Rules.{is_end, is_some_and, is_around, is_other_range, is_range_of, is_block, is_any_range, begins_with, may_not_end_a_range, is_misplaced_arm, holds_wrong_statement, rules, lowest_broken, Keep}
+use Rattle.structure.proofs.Agreement.{open-append}
 use Rattle.profile_check.specs.Layout.{Lays}
 use Rattle.profile_check.specs.Nesting.{Frame, Nest, nest, ended, own_node, with_kind, with_statement, nested_from, nested}
 use Rattle.profile_check.specs.Resolving.{Table, kind_resolved, statement_resolved, statements_resolved, statement_count}
-use Rattle.profile_check.proofs.Frames.{Kept, kept, shapes, shape, may_stand, all-ended, open-append}
+use Rattle.profile_check.proofs.Frames.{Kept, kept, shapes, shape, may_stand, all-ended}
 use Rattle.profile_check.proofs.Laid.{LaysNest, kind-lays}
+use Rattle.profile_check.proofs.ResolvedKinds.{may-stand}
 use Rattle.std.specs.List.{list_any}
 
 -- what nesting and the rules on structure look at is the same
@@ -23,30 +25,12 @@ pub record IsAlike (j k : Kind) : Type 0 where
 itself : (k : Kind) → IsAlike k k
 itself k = record { ends = refl; terminal = refl; arm = λ o. refl; inner = refl; opens = λ o. refl }
 
-may-stand-alike : (t : Table) (n : ℕ) (k : Kind) → may_stand_in_if (kind_resolved t n k) ≡ may_stand_in_if k
-may-stand-alike t n (program x) = refl
-may-stand-alike t n (integer ds) = refl
-may-stand-alike t n (dimension ds) = refl
-may-stand-alike t n (parameters ds) = refl
-may-stand-alike t n (assign a e) = refl
-may-stand-alike t n (do_loop h) = refl
-may-stand-alike t n go_on = refl
-may-stand-alike t n (block_if e) = refl
-may-stand-alike t n (else_if e) = refl
-may-stand-alike t n else_arm = refl
-may-stand-alike t n end_if = refl
-may-stand-alike t n (logical_if e k) = refl
-may-stand-alike t n (print items) = refl
-may-stand-alike t n (read elements) = refl
-may-stand-alike t n stop = refl
-may-stand-alike t n end = refl
-
 pub alike : (t : Table) (n : ℕ) (k : Kind) → IsAlike (kind_resolved t n k) k
 alike t n (assign a e) = record { ends = refl; terminal = refl; arm = λ o. refl; inner = refl; opens = λ o. refl }
 alike t n (do_loop h) = record { ends = refl; terminal = refl; arm = λ o. refl; inner = refl; opens = λ o. refl }
 alike t n (block_if e) = record { ends = refl; terminal = refl; arm = λ o. refl; inner = refl; opens = λ o. refl }
 alike t n (else_if e) = record { ends = refl; terminal = refl; arm = λ o. refl; inner = refl; opens = λ o. refl }
-alike t n (logical_if e k) = record { ends = refl; terminal = refl; arm = λ o. refl; inner = ap not (may-stand-alike t _ k); opens = λ o. refl }
+alike t n (logical_if e k) = record { ends = refl; terminal = refl; arm = λ o. refl; inner = ap not (may-stand t _ k); opens = λ o. refl }
 alike t n (print items) = record { ends = refl; terminal = refl; arm = λ o. refl; inner = refl; opens = λ o. refl }
 alike t n (read elements) = record { ends = refl; terminal = refl; arm = λ o. refl; inner = refl; opens = λ o. refl }
 alike t n (program x) = itself (program x)

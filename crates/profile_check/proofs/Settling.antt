@@ -1,23 +1,18 @@
 -- Expressions with each name meant, placed and numbered, put together from their parts.
-use Rattle.std.proofs.Common.{◌≡◌, ◌∙◌, ℕ, ◌+◌, Bool, true, List, [], ◌∷◌, ◌++◌, length, refl, ap, sym, subst, arith}
+use Rattle.std.proofs.Common.{◌≡◌, ◌∙◌, ℕ, ◌+◌, true, List, [], ◌∷◌, ◌++◌, length, refl, ap, sym, subst, arith}
 use Rattle.std.specs.Prelude.{◌==◌}
 use Rattle.std.specs.List.{list_all}
 use Rattle.std.proofs.lemmas.Bool.{and_parts, and_from, eq-eqb}
 use Rattle.std.proofs.lemmas.List.{length-append}
-use Rattle.std.proofs.lemmas.List.Folds.{list_all-append}
 use Rattle.ast.specs.Program.{is_placed}
 use Rattle.ast.specs.References.{term_references, terms_references, expressions_references, are_numbered}
 use Rattle.ast.specs.Symbols.{Symbol}
 use Rattle.ast.specs.Tree.{Ref, Term, Terms, constant, truth, parameter, element, call, parentheses, unary, binary, no_terms, then_term}
+use Rattle.ast.proofs.Lists.{all_joined}
+use Rattle.ast.proofs.References.{references_append}
 use Rattle.profile_check.specs.Reads.{is_meant, are_meant}
 use Rattle.profile_check.specs.Resolving.{count, count_terms}
-use Rattle.profile_check.proofs.Erased.{Settled, AllSettled, ListSettled, references-append}
-
-pub all-parts : {X : Type 0} (p : X → Bool) (xs ys : List X) → list_all p (xs ++ ys) ≡ true → (list_all p xs ≡ true) × (list_all p ys ≡ true)
-all-parts p xs ys h = and_parts (list_all p xs) (list_all p ys) (sym (list_all-append p xs ys) ∙ h)
-
-pub all-joined : {X : Type 0} (p : X → Bool) (xs ys : List X) → list_all p xs ≡ true → list_all p ys ≡ true → list_all p (xs ++ ys) ≡ true
-all-joined p xs ys h k = list_all-append p xs ys ∙ and_from (list_all p xs) (list_all p ys) h k
+use Rattle.profile_check.proofs.Erased.{Settled, AllSettled, ListSettled}
 
 -- references numbered from n on, and then from behind them on
 numbered-append : (n : ℕ) (xs ys : List Ref) → are_numbered n xs ≡ true → are_numbered (n + length xs) ys ≡ true → are_numbered n (xs ++ ys) ≡ true
@@ -49,7 +44,7 @@ module _ (symbols : List Symbol) where
   pub element-settled : (n : ℕ) (r : Ref) (es : Terms) → AllSettled symbols n es → is_placed symbols r ≡ true → r.id ≡ n + count_terms es → Settled symbols n (element r es)
   element-settled n r es h placed id = record {
     meant = h.meant;
-    placed = all-joined (λ s. is_placed symbols s) (terms_references es) (r ∷ []) h.placed (and_from (is_placed symbols r) true placed refl);
+    placed = all_joined (λ s. is_placed symbols s) (terms_references es) (r ∷ []) h.placed (and_from (is_placed symbols r) true placed refl);
     numbered = numbered-append n (terms_references es) (r ∷ []) h.numbered
         (and_from (r.id == n + length (terms_references es)) true (eq-eqb r.id (n + length (terms_references es)) (id ∙ ap (λ m. n + m) (sym (terms-counted es)))) refl);
   }
@@ -57,14 +52,14 @@ module _ (symbols : List Symbol) where
   pub binary-settled : (n : ℕ) (o : _) (a b : Term) → Settled symbols n a → Settled symbols (n + count a) b → Settled symbols n (binary o a b)
   binary-settled n o a b h k = record {
     meant = and_from (is_meant symbols a) (is_meant symbols b) h.meant k.meant;
-    placed = all-joined (λ r. is_placed symbols r) (term_references a) (term_references b) h.placed k.placed;
+    placed = all_joined (λ r. is_placed symbols r) (term_references a) (term_references b) h.placed k.placed;
     numbered = numbered-append n (term_references a) (term_references b) h.numbered (subst (λ (m : ℕ). are_numbered (n + m) (term_references b) ≡ true) (sym (term-counted a)) k.numbered);
   }
 
   pub then-settled : (n : ℕ) (e : Term) (es : Terms) → Settled symbols n e → AllSettled symbols (n + count e) es → AllSettled symbols n (then_term e es)
   then-settled n e es h k = record {
     meant = and_from (is_meant symbols e) (are_meant symbols es) h.meant k.meant;
-    placed = all-joined (λ r. is_placed symbols r) (term_references e) (terms_references es) h.placed k.placed;
+    placed = all_joined (λ r. is_placed symbols r) (term_references e) (terms_references es) h.placed k.placed;
     numbered = numbered-append n (term_references e) (terms_references es) h.numbered (subst (λ (m : ℕ). are_numbered (n + m) (terms_references es) ≡ true) (sym (term-counted e)) k.numbered);
   }
 
@@ -74,13 +69,13 @@ module _ (symbols : List Symbol) where
   pub more-settled : (n : ℕ) (e : Term) (es : List Term) → Settled symbols n e → ListSettled symbols (n + count e) es → ListSettled symbols n (e ∷ es)
   more-settled n e es h k = record {
     meant = and_from (is_meant symbols e) (list_all (λ f. is_meant symbols f) es) h.meant k.meant;
-    placed = all-joined (λ r. is_placed symbols r) (term_references e) (expressions_references es) h.placed k.placed;
+    placed = all_joined (λ r. is_placed symbols r) (term_references e) (expressions_references es) h.placed k.placed;
     numbered = numbered-append n (term_references e) (expressions_references es) h.numbered (subst (λ (m : ℕ). are_numbered (n + m) (expressions_references es) ≡ true) (sym (term-counted e)) k.numbered);
   }
 
   pub append-settled : (n m : ℕ) (xs ys : List Term) → length (expressions_references xs) ≡ m → ListSettled symbols n xs → ListSettled symbols (n + m) ys → ListSettled symbols n (xs ++ ys)
   append-settled n m xs ys counted h k = record {
-    meant = all-joined (λ e. is_meant symbols e) xs ys h.meant k.meant;
-    placed = rw (references-append xs ys) (all-joined (λ r. is_placed symbols r) (expressions_references xs) (expressions_references ys) h.placed k.placed);
-    numbered = rw (references-append xs ys) (numbered-append n (expressions_references xs) (expressions_references ys) h.numbered (rw counted k.numbered));
+    meant = all_joined (λ e. is_meant symbols e) xs ys h.meant k.meant;
+    placed = rw (references_append xs ys) (all_joined (λ r. is_placed symbols r) (expressions_references xs) (expressions_references ys) h.placed k.placed);
+    numbered = rw (references_append xs ys) (numbered-append n (expressions_references xs) (expressions_references ys) h.numbered (rw counted k.numbered));
   }

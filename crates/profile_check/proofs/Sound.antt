@@ -3,7 +3,7 @@
 use Rattle.std.proofs.Common.{◌≡◌, ◌∙◌, ℕ, ℤ, Bool, true, false, not, List, [], ◌∷◌, ◌++◌, length, map, refl, ap, sym, subst, append_assoc, append-nil, Option, Some, None, inl, inr}
 use Rattle.std.specs.Prelude.{◌⊎◌, ◌&&◌, ◌||◌, ◌==◌, if◌then◌else◌, is_some}
 use Rattle.std.specs.List.{list_any, list_all, filter}
-use Rattle.std.proofs.lemmas.Bool.{or_parts, or_left, or_right, and_parts, and_from, not-true, not-false}
+use Rattle.std.proofs.lemmas.Bool.{or_parts, or_left, or_right, and_parts, and_from, not-true, not-false, or_from}
 use Rattle.std.proofs.lemmas.Cmp.{nat_list_eq_equiv}
 use Rattle.std.proofs.lemmas.List.Folds.{list_any-append}
 use Rattle.std.proofs.Math.Bool.{or-false}
@@ -12,6 +12,7 @@ use Rattle.indexmap.specs.IndexSet.{insert_key, insert_all}
 use Rattle.ast.specs.Store.{same_name}
 use Rattle.ast.specs.Symbols.{Extent}
 use Rattle.ast.specs.Tree.{Declarator, Definition, Statement, Kind, program, integer, dimension, parameters, assign, do_loop, go_on, block_if, else_if, else_arm, end_if, logical_if, print, read, stop, end}
+use Rattle.ast.proofs.SameNames.{same_is}
 use Rattle.structure.specs.Open.{open_after}
 use Rattle.structure.specs.Rules.{is_empty, is_program, is_out_of_order, is_declaration, is_executable, is_misplaced_arm, is_around, is_block, by_label, may_stand_in_if, holds_wrong_statement, crosses, ends_wrongly, breaks_blocks, is_label_again, rules as order_rules, lowest_broken as lowest_order, Keep as KeepOrder}
 use Rattle.profile_check.specs.Checking.{nothing, and_then_declared}
@@ -20,7 +21,7 @@ use Rattle.profile_check.specs.Rules.{Context, context_after, is_some_and, is_ot
 use Rattle.profile_check.specs.Resolving.{Table}
 use Rattle.profile_check.specs.TakenBefore.{taken_before}
 use Rattle.profile_check.specs.Uses.{Use, uses, is_among, is_call, is_name, has_its_arguments, typed_by, bounded_by, defined_by, declarator_names, definition_names, program_named_by, names_used, names_declared, names_mentioned}
-use Rattle.profile_check.proofs.Entries.{same-names, turn}
+use Rattle.profile_check.proofs.Entries.{turn}
 use Rattle.profile_check.proofs.Fresh.{had-all, lower-none, none-first}
 use Rattle.profile_check.proofs.OneMore.{declared-append}
 use Rattle.profile_check.proofs.Parts.{own_expressions, table_in, is_free, is_sound}
@@ -140,7 +141,8 @@ none-by (read elements) d w = (refl, refl)
 none-by stop d w = (refl, refl)
 none-by end d w = (refl, refl)
 
--- the statements of front, some of them executable, have the arrays and the constants of the first of them
+-- the statements of front, some of them executable, have the arrays and the constants of the first
+-- of them
 record Closed (first front : List Statement) : Type 0 where
   executes : list_any (λ f. is_executable f.kind) front ≡ true
   arrays : (declared_in front).arrays ≡ (declared_in first).arrays
@@ -198,9 +200,6 @@ closed ss h front s back e x =
 
 -- ---- names taken into a table one after another
 
-both-none : (a b : Bool) → a ≡ false → b ≡ false → (a || b) ≡ false
-both-none a b h k = ap (λ (c : Bool). c || b) h ∙ k
-
 -- a name is in no table into which it is taken
 taken-new : (table names : List (List ℕ)) (x : List ℕ) → taken_before table names ≡ false → is_among names x ≡ true → is_among table x ≡ false
 taken-new table [] x h m = absurd cc
@@ -209,7 +208,7 @@ taken-new table (y ∷ names) x h m =
     by p.0 (λ k. taken-new (insert_key same_name table y) names x p.1 k) (same_name x y) refl m
   where
     by : is_among table y ≡ false → (is_among names x ≡ true → is_among (insert_key same_name table y) x ≡ false) → (b : Bool) → same_name x y ≡ b → (b || is_among names x) ≡ true → is_among table x ≡ false
-    by here later true e k = ap (λ (z : List ℕ). is_among table z) (same-names x y e) ∙ here
+    by here later true e k = ap (λ (z : List ℕ). is_among table z) (same_is x y e) ∙ here
     by here later false e k = (or_parts (is_among table x) (same_name x y || false) (sym (had-all x table (y ∷ [])) ∙ later k)).0
 
 -- the names of a list are taken after those before them
@@ -218,7 +217,7 @@ taken-parts table [] ys h = (refl, h)
 taken-parts table (x ∷ xs) ys h =
     let p = or_parts (list_any (same_name x) table) (taken_before (insert_key same_name table x) (xs ++ ys)) h in
     let q = taken-parts (insert_key same_name table x) xs ys p.1 in
-    (both-none _ _ p.0 q.0, q.1)
+    (or_from _ _ p.0 q.0, q.1)
 
 -- ---- no array has the name of a constant
 
@@ -229,7 +228,7 @@ dimensions-other (a ∷ arrays) y ds x e = by (dimensions-other arrays y ds x e)
     by : dimensions_named (insert_entry same_name arrays y ds) x ≡ dimensions_named arrays x → (b : Bool) → same_name y a.0 ≡ b
         → dimensions_named (if b then (a.0, ds) ∷ arrays else a ∷ insert_entry same_name arrays y ds) x ≡ dimensions_named (a ∷ arrays) x
     by rest true k =
-        let other : same_name a.0 x ≡ false = ap (λ (z : List ℕ). same_name z x) (sym (same-names y a.0 k)) ∙ turn y x ∙ e in
+        let other : same_name a.0 x ≡ false = ap (λ (z : List ℕ). same_name z x) (sym (same_is y a.0 k)) ∙ turn y x ∙ e in
         ap (λ (b : Bool). if b then ds else dimensions_named arrays x) other ∙ sym (ap (λ (b : Bool). if b then a.1 else dimensions_named arrays x) other)
     by rest false k = ap (λ (d : List Extent). if same_name a.0 x then a.1 else d) rest
 
@@ -248,7 +247,7 @@ constant-other (c ∷ constants) y n x e = by (constant-other constants y n x e)
     by : constant_named (insert_entry same_name constants y n) x ≡ constant_named constants x → (b : Bool) → same_name y c.0 ≡ b
         → constant_named (if b then (c.0, n) ∷ constants else c ∷ insert_entry same_name constants y n) x ≡ constant_named (c ∷ constants) x
     by rest true k =
-        let other : same_name c.0 x ≡ false = ap (λ (z : List ℕ). same_name z x) (sym (same-names y c.0 k)) ∙ turn y x ∙ e in
+        let other : same_name c.0 x ≡ false = ap (λ (z : List ℕ). same_name z x) (sym (same_is y c.0 k)) ∙ turn y x ∙ e in
         ap (λ (b : Bool). if b then Some n else constant_named constants x) other ∙ sym (ap (λ (b : Bool). if b then Some c.1 else constant_named constants x) other)
     by rest false k = ap (λ (v : Option ℤ). if same_name c.0 x then Some c.1 else v) rest
 

@@ -1,5 +1,5 @@
 -- One statement more, as the check's loop meets it; and what its answer says of a whole program.
-use Rattle.std.proofs.Common.{◌≡◌, ℕ, ◌+◌, ◌<◌, ◌≤◌, List, [], ◌∷◌, ap, ◌∙◌, sym, subst, map, length, get_or, drop, add-one, drop-cons, Option, None, Result, Ok, Err, IfOk, IfErr, suc}
+use Rattle.std.proofs.Common.{◌≡◌, ℕ, ◌+◌, ◌<◌, ◌≤◌, List, [], ap, ◌∙◌, sym, subst, map, length, get_or, drop, Option, None, Result, Ok, Err, IfOk, IfErr}
 use Rattle.std.proofs.lemmas.List.{drop_all}
 use Rattle.std.specs.Result.{IsErrAnd}
 use Rattle.ast.specs.Answers.{Break, Gives, Fails, Says}
@@ -8,6 +8,7 @@ use Rattle.ast.specs.View.{statement}
 use Rattle.ast.specs.declared.refusal.Refusal.{Refusal}
 use Rattle.ast.specs.declared.refusal.Refusal.TheVariants.{Memory, Refused}
 use Rattle.ast.specs.declared.statement.Stmt.{Stmt}
+use Rattle.ast.proofs.Lists.{item_here}
 use Rattle.profile_check.proofs.Laws.{ok-whole, err-breaks}
 use Rattle.profile_check.specs.Checking.{Before, before_of, and_one, rule_by, going_on, checked, table_of, IsRuleOf}
 use Rattle.profile_check.specs.Declarations.{Declared, declared_in}
@@ -15,13 +16,10 @@ use Rattle.profile_check.specs.DeclarationsView.{declared}
 use Rattle.profile_check.specs.Rules.{InProfile, BreaksFirst, typed_in_whole}
 use Rattle.profile_check.specs.declared.declarations.Declarations.{Declarations}
 
-cons_at : {X : Type 0} (xs : List X) (i : ℕ) (x : X) → i < length xs → x ≡ get_or xs i x → drop i xs ≡ x ∷ drop (i + 1) xs
-cons_at xs i x h e = rw (add-one, drop-cons xs i x) (ap (λ y. y ∷ drop (suc i) xs) (sym e))
-
 pub next-statement : (typed : List (List ℕ)) (b : Before) (stmts : List Stmt) (i : ℕ) (y : Stmt) → i < length stmts → y ≡ get_or stmts i y
     → checked typed b (map statement (drop i stmts))
     ≡ going_on (rule_by typed b (statement y)) (statement y) (checked typed (and_one b (statement y)) (map statement (drop (i + 1) stmts)))
-next-statement typed b stmts i y h e = ap (λ ss. checked typed b (map statement ss)) (cons_at stmts i y h e)
+next-statement typed b stmts i y h e = ap (λ ss. checked typed b (map statement ss)) (item_here stmts i y h e)
 
 -- a statement that breaks no rule is one of those before
 pub passed : (typed : List (List ℕ)) (old new : Before) (stmts : List Stmt) (i : ℕ) (y : Stmt) (meant : Result Declared Break) → i < length stmts → y ≡ get_or stmts i y

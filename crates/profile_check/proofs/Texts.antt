@@ -1,5 +1,5 @@
--- Statements that a text spells: their references have no numbers and no places yet, there are no more
--- of them than the text has characters, and their expressions are shallow.
+-- Statements that a text spells: their references have no numbers and no places yet, there are no
+-- more of them than the text has characters, and their expressions are shallow.
 use Rattle.std.proofs.Common.{◌≡◌, ◌∙◌, ℕ, ◌+◌, ◌-◌, ◌*◌, ◌<◌, ◌≤◌, Bool, true, false, cond, eqb, leb, ◌&&◌, ◌⊎◌, inl, inr, List, [], ◌∷◌, ◌++◌, length, map, Option, Some, None, option_map, refl, ap, ap₂, sym, subst, arith}
 use Rattle.std.specs.Prelude.{codes, max, ⊤}
 use Rattle.std.proofs.lemmas.Bool.{le-leb}
@@ -8,9 +8,11 @@ use Rattle.ast.specs.Program.{greatest_depth}
 use Rattle.ast.specs.References.{optional, items_expressions, kind_expressions}
 use Rattle.ast.specs.Tree.{Ref, Term, Terms, constant, truth, parameter, element, call, parentheses, unary, binary, no_terms, then_term, Access, accessed, PrintItem, value_item, text_item, DoHead, Kind, assign, do_loop, block_if, else_if, logical_if, print, read, Statement, depth}
 use Rattle.expressions.proofs.Tools.{some_is, on_true, on_false, choice, after_law}
-use Rattle.expressions.specs.Characters.{begins_letter, begins_with, after}
+use Rattle.expressions.specs.Characters.{begins_with, after}
 use Rattle.expressions.specs.Grammar.{Spells, AreSubscripts, AreFurther, IsReference, IsAccess}
-use Rattle.expressions.specs.Levels.{primary, top, spelling, prefix_spelling, left_level, right_level, operand_level}
+use Rattle.ast.specs.Spelling.{prefix_spelling, spelling}
+use Rattle.expressions.proofs.Complete.{letter_some}
+use Rattle.expressions.specs.Levels.{primary, top, left_level, right_level, operand_level}
 use Rattle.fixed_form.specs.declared.labelled.Labelled.{Labelled}
 use Rattle.fixed_form.specs.Answers.{entries}
 use Rattle.fixed_form.specs.Limits.{longest_text}
@@ -102,7 +104,7 @@ read-bare (a ∷ es) u (inl h) = accesses-bare (a ∷ es) h.0 h.2
 read-bare (a ∷ es) u (inr h) = accesses-bare (a ∷ es) u h
 
 -- which of two ways of writing a list was taken doesn't matter for its parts
-either-way : {A B C D : Type 0} → (A × B) ⊎ (C × D) → B ⊎ D
+pub either-way : {A B C D : Type 0} → (A × B) ⊎ (C × D) → B ⊎ D
 either-way (inl h) = inl h.1
 either-way (inr h) = inr h.1
 
@@ -127,13 +129,8 @@ statement-bare line label text s h = bare s.kind _ _ h.derived
 
 -- ---- no more references than characters
 
--- a name has a letter
-name-long : (t : List ℕ) → begins_letter t ≡ true → 0 < length t
-name-long [] h = absurd cc
-name-long (c ∷ cs) h = omega arith
-
 reference-long : (r : Ref) (t : List ℕ) → IsReference r t → 0 < length t
-reference-long r t h = name-long t h.1.0
+reference-long r t h = letter_some t h.1.0
 
 mutual
   term-few : (e : Term) (level : ℕ) (t : List ℕ) → Spells level e t → count e ≤ length t

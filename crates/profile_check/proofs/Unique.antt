@@ -1,29 +1,28 @@
--- Trees that lay out as the same statements are equal, where labels are distinct and no END IF is the
--- terminal statement of a range: nesting the statements one by one gives the tree.
-use Rattle.std.proofs.Common.{◌≡◌, ◌∙◌, ℕ, Bool, true, false, not, List, [], ◌∷◌, ◌++◌, refl, ap, sym, subst, Option, Some, None, append_assoc, inl, inr, arith}
+-- Trees that lay out as the same statements are equal, where labels are distinct and no END IF is
+-- the terminal statement of a range: nesting the statements one by one gives the tree.
+use Rattle.std.proofs.Common.{◌≡◌, ◌∙◌, ℕ, Bool, true, false, not, List, [], ◌∷◌, ◌++◌, refl, ap, sym, subst, Option, Some, None, append_assoc, inl, inr}
 use Rattle.std.specs.Prelude.{◌⊎◌, ◌&&◌, ◌||◌, ◌==◌, if◌then◌else◌}
 use Rattle.std.proofs.lemmas.Bool.{eqb-true, or_parts}
 use Rattle.std.proofs.lemmas.List.Folds.{list_any-append}
 use Rattle.std.specs.List.{list_any}
 use Rattle.std.proofs.lemmas.List.{append-nil}
 use Rattle.ast.specs.Tree.{Term, Statement, Kind, DoHead, do_loop, block_if, else_if, else_arm, end_if, logical_if, program, integer, dimension, parameters, assign, go_on, print, read, stop, end, Node, plain, loop, choose, Block, no_nodes, then_node, block, Arm, Arms, arms, no_arms, then_arm}
+use Rattle.ast.proofs.Lists.{not_empty}
+use Rattle.ast.proofs.Numbers.{equal_itself}
 use Rattle.profile_check.specs.Layout.{stands_alone, EndsWith, arm_head, Lays, LaysNode, LaysIf, LaysArms, LaysLogicalIf}
 use Rattle.profile_check.specs.Nesting.{Frame, in_range, in_block, Nest, nest, arm_of, begins_with_range_of, end_ranges, ended, with_kind, with_statement, nested_from}
+use Rattle.profile_check.proofs.Fresh.{none-first}
 use Rattle.structure.specs.Open.{Open, do_range, if_block, begun, after, open_from, open_after, ended as spec_ended}
 use Rattle.structure.specs.Rules.{is_out_of_order, is_end, is_range_of, is_some_and, has_label, is_label_again, crosses, ends_wrongly, breaks_blocks, may_not_end_a_range, rules, lowest_broken, Keep}
 use Rattle.structure.specs.Spans.{is_end_if}
 
 -- ---- lists
 
-not-none : {X : Type 0} (front : List X) (y : X) (back : List X) → [] ≡ front ++ y ∷ back → ⊥
-not-none [] y back h = cc
-not-none (f ∷ front) y back h = cc
-
 -- one of the elements with one more is that one, or one of those before
 split : {X : Type 0} (xs : List X) (x : X) (front : List X) (y : X) (back : List X) → xs ++ x ∷ [] ≡ front ++ y ∷ back
     → (back ≡ []) ⊎ ((back' : List X) × (xs ≡ front ++ y ∷ back'))
 split [] x [] y back e = inl (let q : [] ≡ back = cc in sym q)
-split [] x (f ∷ front) y back e = absurd (not-none front y back (let q : [] ≡ front ++ y ∷ back = cc in q))
+split [] x (f ∷ front) y back e = absurd (not_empty front y back (let q : [] ≡ front ++ y ∷ back = cc in q))
 split (z ∷ xs) x [] y back e = inr (xs, let q : z ≡ y = cc in ap (λ w. w ∷ xs) q)
 split (z ∷ xs) x (f ∷ front) y back e =
     let q : z ≡ f = cc in
@@ -113,7 +112,7 @@ safe-right : (frames : List Frame) (x v u : List Statement) → u ≡ x ++ v →
 safe-right frames x v u e safe = λ f k s t label q. safe (x ++ f) k s t label (e ∙ ap (λ (xs : List Statement). x ++ xs) q ∙ sym (append_assoc x f (s ∷ (t ∷ k))))
 
 safe-none : (frames : List Frame) → Safe frames []
-safe-none frames = λ f k s t label e. absurd (not-none f s (t ∷ k) e)
+safe-none frames = λ f k s t label e. absurd (not_empty f s (t ∷ k) e)
 
 -- the range of a DO is ended by its terminal statement alone
 safe-range : (line : ℕ) (h : DoHead) (before : List Node) (frames : List Frame) (range : List Statement) → Fine range → EndsWith h.terminal range → Safe (in_range line h before ∷ frames) range
@@ -198,9 +197,6 @@ range-closes h d range u e k fine last =
     ∙ ap (λ (b : Bool). if b then None else last.1.label) (fine.ends [] last.0 [] d last.1 h (e ∙ ap (λ (xs : List Statement). d ∷ xs) last.2) k last.3)
     ∙ last.3
 
-same-self : (n : ℕ) → (n == n) ≡ true
-same-self n = grind arith
-
 closing-behind : (s : Statement) (v : List Statement) (l : ℕ) → closing v ≡ Some l → closing (s ∷ v) ≡ closing v
 closing-behind s [] l h = absurd cc
 closing-behind s (t ∷ v) l h = refl
@@ -214,7 +210,7 @@ loop-nests line label h b range fine last body = λ frames ns.
     let end = range-closes h d range (d ∷ range) refl refl fine last in
     body (in_range line h ns ∷ frames) [] (safe-range line h ns frames range fine' last)
     ∙ ap (λ (l : Option ℕ). ended l (in_range line h ns ∷ frames) (nodes_of b)) end
-    ∙ ap (λ (x : Bool). if x then end_ranges h.terminal frames (ns ++ loop line h (block (nodes_of b)) ∷ []) else nest (in_range line h ns ∷ frames) (nodes_of b)) (same-self h.terminal)
+    ∙ ap (λ (x : Bool). if x then end_ranges h.terminal frames (ns ++ loop line h (block (nodes_of b)) ∷ []) else nest (in_range line h ns ∷ frames) (nodes_of b)) (equal_itself h.terminal)
     ∙ ap (λ (c : Block). end_ranges h.terminal frames (ns ++ loop line h c ∷ [])) (blocks-same b)
     ∙ ap (λ (l : Option ℕ). ended l frames (ns ++ loop line h b ∷ [])) (sym (closing-behind d range h.terminal end ∙ end))
 
@@ -334,10 +330,6 @@ one-tree b c ss h k fine = sym (nests-to b ss h fine) ∙ nests-to c ss k fine
 
 -- ---- statements that break no rule of structure
 
-none-first : (b : Bool) (n : ℕ) (rest : Option ℕ) → (if b then Some n else rest) ≡ None → (b ≡ false) × (rest ≡ None)
-none-first true n rest h = absurd cc
-none-first false n rest h = (refl, h)
-
 record Unbroken (front : List Statement) (s : Statement) : Type 0 where
   ends : ends_wrongly (open_after front) s ≡ false
   label : is_label_again front s ≡ false
@@ -358,7 +350,7 @@ others f g s t l e h =
     or_parts (has_label l s) (list_any (has_label l) g) ((or_parts (list_any (has_label l) f) (has_label l s || list_any (has_label l) g) (sym (list_any-append (has_label l) f (s ∷ g)) ∙ q)).1)
 
 has-own : (l : ℕ) (s : Statement) → s.label ≡ Some l → has_label l s ≡ true
-has-own l s e = ap (λ (o : Option ℕ). is_some_and (λ m. l == m) o) e ∙ same-self l
+has-own l s e = ap (λ (o : Option ℕ). is_some_and (λ m. l == m) o) e ∙ equal_itself l
 
 -- a range stays open until a statement with its label
 ended-stays : (l : ℕ) (label : Option ℕ) (opened : List Open) → is_some_and (λ m. l == m) label ≡ false → list_any (is_range_of l) opened ≡ true → list_any (is_range_of l) (spec_ended label opened) ≡ true
@@ -373,7 +365,7 @@ ended-stays l (Some m) (do_range terminal x ∷ opened) n h = by (terminal == m)
     by false p c q more = h
     by true p true q more =
         let same : l ≡ m = sym (eqb-true terminal l q) ∙ eqb-true terminal m p in
-        absurd (let z : true ≡ false = sym (same-self l) ∙ ap (λ (k : ℕ). l == k) same ∙ n in cc)
+        absurd (let z : true ≡ false = sym (equal_itself l) ∙ ap (λ (k : ℕ). l == k) same ∙ n in cc)
     by true p false q more = more (sym (ap (λ (b : Bool). b || list_any (is_range_of l) opened) q) ∙ h)
 
 or-right : (b c : Bool) → c ≡ true → (b || c) ≡ true
@@ -406,7 +398,7 @@ range-open f g d h e n =
     let opened = spec_ended d.label (open_after f) in
     let first : list_any (is_range_of h.terminal) (begun d.kind (spec_ended d.label (open_after f))) ≡ true =
     ap (λ (k : Kind). list_any (is_range_of h.terminal) (begun k (spec_ended d.label (open_after f)))) e
-    ∙ ap (λ (b : Bool). b || list_any (is_range_of h.terminal) (spec_ended d.label (open_after f))) (same-self h.terminal) in
+    ∙ ap (λ (b : Bool). b || list_any (is_range_of h.terminal) (spec_ended d.label (open_after f))) (equal_itself h.terminal) in
     ap (λ (o : List Open). list_any (is_range_of h.terminal) o) (open-append [] f (d ∷ g))
     ∙ range-stays h.terminal (after (open_after f) d) g n first
 

@@ -54,12 +54,6 @@ goes_on_without {X} {Y} {U} test f view xs i x old target h is t w =
     goes_on (λ ys. map f (filter test ys)) (λ y. map f (filter test (y ∷ []))) (first_kept test f) view xs i x old old target h is
     (sym (append-nil old) ∙ ap (λ (us : List U). old ++ us) (sym (none_kept test f (view x) t))) w
 
--- an element within a list is the same whatever stands for one outside
-pub same_element : {X : Type 0} (xs : List X) (i : ℕ) (d e : X) → i < length xs → get_or xs i d ≡ get_or xs i e
-same_element {X} xs i d e h =
-    let both : get_or xs i d ∷ drop (suc i) xs ≡ get_or xs i e ∷ drop (suc i) xs = sym (drop-cons xs i d h) ∙ drop-cons xs i e h in
-    cc
-
 -- a second list behind the first
 pub behind : {U : Type 0} (old mid new first second : List U) → mid ≡ old ++ first → new ≡ mid ++ second → new ≡ old ++ (first ++ second)
 behind {U} old mid new first second e f = f ∙ ap (λ (us : List U). us ++ second) e ∙ append_assoc old first second

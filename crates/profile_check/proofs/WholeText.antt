@@ -21,7 +21,7 @@ use Rattle.structure.specs.Rules.{holds_wrong_statement, is_misplaced_arm, by_la
 use Rattle.syntax.proofs.Public.{text_again}
 use Rattle.syntax.specs.Statements.{IsStatement}
 use Rattle.profile_check.proofs.Ending.{ends-in-end}
-use Rattle.profile_check.proofs.Erased.{ListSettled, references-append}
+use Rattle.profile_check.proofs.Erased.{ListSettled}
 use Rattle.profile_check.proofs.Known.{distinct, known, serves, ranked}
 use Rattle.profile_check.proofs.LaidText.{block-text, block-expressions}
 use Rattle.profile_check.proofs.OneProgram.{one-program}
@@ -42,10 +42,11 @@ use Rattle.profile_check.specs.Resolving.{Table, kind_count, kind_resolved, stat
 use Rattle.profile_check.specs.Rules.{InProfile, BreaksFirst, most_statements, is_miscounted}
 use Rattle.std.specs.Prelude.{◌⊎◌, ⊤}
 use Rattle.ast.specs.Regular.{is_counted, is_fitting, block_keeps, ends_outside, is_regular, are_fitting}
+use Rattle.ast.proofs.Lists.{all_joined, all_parts}
+use Rattle.ast.proofs.References.{references_append}
 use Rattle.profile_check.proofs.CountedTerms.{Ranked, kind-counted}
 use Rattle.profile_check.proofs.FittingTerms.{Fit, statement-spelled, kind-fitting}
 use Rattle.profile_check.proofs.Orderly.{Rightly, nested-orderly}
-use Rattle.profile_check.proofs.Settling.{all-parts, all-joined}
 use Rattle.profile_check.specs.Fitting.{symbol_fits}
 use Rattle.profile_check.specs.Uses.{uses}
 
@@ -147,9 +148,9 @@ list-counted symbols arrays ranked t n [] h c p = refl
 list-counted symbols arrays ranked t n (s ∷ ss) h c p =
     let k : Kind = kind_resolved t n s.kind in
     let more : List Term = expressions_in (statements_resolved t (n + kind_count k) ss) in
-    let q = all-parts (λ r. is_placed symbols r) (expressions_references (own_expressions k)) (expressions_references more)
-    (ap (λ (rs : List Ref). list_all (λ r. is_placed symbols r) rs) (sym (references-append (own_expressions k) more)) ∙ p) in
-    all-joined (λ e. is_counted symbols e) (own_expressions k) more
+    let q = all_parts (λ r. is_placed symbols r) (expressions_references (own_expressions k)) (expressions_references more)
+    (ap (λ (rs : List Ref). list_all (λ r. is_placed symbols r) rs) (sym (references_append (own_expressions k) more)) ∙ p) in
+    all_joined (λ e. is_counted symbols e) (own_expressions k) more
     (by k (none-resolved t n s.kind) (kind-text t n s.kind h.0.alone ∙ h.0.bare) q.0 c.0)
     (list-counted symbols arrays ranked t (n + kind_count k) ss h.1 c.1 q.1)
   where
@@ -191,9 +192,9 @@ list-fitting symbols fit t n [] h c m = refl
 list-fitting symbols fit t n (s ∷ ss) h c m =
     let k : Kind = kind_resolved t n s.kind in
     let more : List Term = expressions_in (statements_resolved t (n + kind_count k) ss) in
-    let q = all-parts (λ e. is_meant symbols e) (own_expressions k) more m in
+    let q = all_parts (λ e. is_meant symbols e) (own_expressions k) more m in
     let same : own_text k ≡ s.kind = kind-text t n s.kind h.0.alone ∙ h.0.bare in
-    all-joined (λ e. is_fitting e) (own_expressions k) more
+    all_joined (λ e. is_fitting e) (own_expressions k) more
     (kind-fitting symbols fit k q.0 (subst (λ (j : Kind). Fit (own_expressions j)) (sym same) c.0))
     (list-fitting symbols fit t (n + kind_count k) ss h.1 c.1 q.1)
 

@@ -9,7 +9,8 @@ use Rattle.syntax.specs.Statements.{IsStatement}
 use Rattle.profile_check.specs.Reads.{Spelled}
 use Rattle.profile_check.specs.Rules.{BreaksFirst}
 
--- the first fault of an entry's text, read from the left; 21 where a character constant is unfinished
+-- the first fault of an entry's text, read from the left; 21 where a character constant is
+-- unfinished
 pub record IsFault (e : Entry) (number : ℕ) : Type 0 where
   pub read : (ps : List Piece) → Cut ps e.text → statement_at e.line e.label e.text (marks ps) (constants ps) ≡ Err (record { number = number; line = e.line })
   pub unfinished : ((ps : List Piece) → Cut ps e.text → ⊥) → number ≡ 21

@@ -26,8 +26,8 @@ and_then_declared d s = record {
   names = insert_all same_name d.names (names_mentioned s.kind);
 }
 
--- the order of the statements before, what they declare, how many elements their arrays have, counted
--- to one more than a program may have, and how many they are
+-- the order of the statements before, what they declare, how many elements their arrays have,
+-- counted to one more than a program may have, and how many they are
 pub record Before : Type 0 where
   pub order : Standing
   pub declared : Declared

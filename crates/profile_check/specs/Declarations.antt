@@ -17,6 +17,7 @@ use Rattle.profile_check.specs.Uses.{typed_by, bounded_by, defined_by, declarato
 abbrev pub Constants : Type 0
 Constants = List (List ℕ × ℤ)
 
+-- the value of the constant of a name, if there is one
 abbrev pub constant_named : Constants → List ℕ → Option ℤ
 constant_named [] name = None
 constant_named (c ∷ cs) name = if same_name c.0 name then Some c.1 else constant_named cs name
@@ -49,6 +50,7 @@ extent_by (Some l) (Some u) = Some (record { lower = l; upper = u })
 extent_by (Some l) None = None
 extent_by None u = None
 
+-- the dimension that bounds make, where both have values
 abbrev pub extent_of : Constants → Bounds → Option Extent
 extent_of cs b = extent_by (lower_value cs b.lower) (bound_value cs b.upper)
 
@@ -58,9 +60,11 @@ all_or_none [] = Some []
 all_or_none (Some x ∷ others) = option_map (λ xs. x ∷ xs) (all_or_none others)
 all_or_none (None ∷ others) = None
 
+-- the dimensions of an array, where all bounds have values
 abbrev pub extents_of : Constants → List Bounds → Option (List Extent)
 extents_of cs bs = all_or_none (map (extent_of cs) bs)
 
+-- the names of arrays, with their dimensions
 abbrev pub Arrays : Type 0
 Arrays = List (List ℕ × List Extent)
 
@@ -72,6 +76,7 @@ or_no_extents None = []
 abbrev pub arrays_by : Constants → List Declarator → Arrays
 arrays_by cs ds = map (λ d. (d.name, or_no_extents (extents_of cs d.bounds))) ds
 
+-- the dimensions of an array by its name; none of what is no array
 abbrev pub dimensions_named : Arrays → List ℕ → List Extent
 dimensions_named [] name = []
 dimensions_named (a ∷ more) name = if same_name a.0 name then a.1 else dimensions_named more name
@@ -86,6 +91,7 @@ abbrev pub with_constant : Constants → List ℕ → Option ℤ → Constants
 with_constant cs name (Some n) = insert_entry same_name cs name n
 with_constant cs name None = cs
 
+-- with all definitions of a PARAMETER statement
 abbrev pub with_constants : Constants → List Definition → Constants
 with_constants cs [] = cs
 with_constants cs (d ∷ ds) = with_constants (with_constant cs d.name (constant_value cs d.value)) ds
@@ -128,9 +134,11 @@ pub record Declared : Type 0 where
   pub constants : Constants
   pub names : List (List ℕ)
 
+-- the names that a statement makes arrays or constants
 abbrev pub objects_by : Kind → List (List ℕ)
 objects_by k = declarator_names (bounded_by k) ++ definition_names (defined_by k)
 
+-- what the statements of a front declare
 abbrev pub declared_in : List Statement → Declared
 declared_in front = record {
   program = program_in front;
@@ -146,11 +154,13 @@ abbrev pub constant_or : Sort → Option ℤ → Sort
 constant_or other (Some n) = fixed n
 constant_or other None = other
 
+-- a constant, an array or a scalar, by what is declared of the name
 abbrev pub sort_of : Declared → List ℕ → Sort
 sort_of d name = constant_or (variable (dimensions_named d.arrays name)) (constant_named d.constants name)
 
 abbrev pub symbol_of : Declared → List ℕ → Symbol
 symbol_of d name = record { name = name; sort = sort_of d name }
 
+-- a symbol for each name, in order of first appearance
 abbrev pub symbols_of : Declared → List Symbol
 symbols_of d = map (symbol_of d) d.names

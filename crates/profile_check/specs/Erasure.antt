@@ -1,21 +1,12 @@
 -- A program's tree as its text has it: without the numbers and places of references, the values of
 -- constants, and what tells a call from an element.
-use Rattle.std.specs.Prelude.{ℕ, List, map, codes, option_map}
+use Rattle.std.specs.Prelude.{ℕ, List, map, option_map}
+use Rattle.ast.specs.Spelling.{intrinsic_name}
 use Rattle.ast.specs.Tree.{Ref, Term, Terms, parameter, element, call, parentheses, unary, binary, no_terms, then_term, Access, PrintItem, value_item, text_item, DoHead, Kind, assign, print, read, Node, plain, loop, choose, Block, no_nodes, then_node, Arms, no_arms, then_arm}
-use Rattle.ast.specs.declared.expression.Intrinsic.{Intrinsic}
-use Rattle.ast.specs.declared.expression.Intrinsic.TheVariants.{Abs, Iabs, Max, Max0, Min, Min0, Mod}
 
+-- a reference by its name alone
 abbrev pub ref_to : List ℕ → Ref
 ref_to name = record { name = name; id = 0; cell = 0 }
-
-abbrev pub intrinsic_name : Intrinsic → List ℕ
-intrinsic_name Abs = codes "ABS   "
-intrinsic_name Iabs = codes "IABS  "
-intrinsic_name Max = codes "MAX   "
-intrinsic_name Max0 = codes "MAX0  "
-intrinsic_name Min = codes "MIN   "
-intrinsic_name Min0 = codes "MIN0  "
-intrinsic_name Mod = codes "MOD   "
 
 abbrev mutual
   pub erased : Term → Term
@@ -44,6 +35,7 @@ kind_erased (print items) = print (map item_erased items)
 kind_erased (read elements) = read (map access_erased elements)
 kind_erased k = k
 
+-- a DO as its text has it
 abbrev pub head_erased : DoHead → DoHead
 head_erased h = record { terminal = h.terminal; variable = ref_to h.variable.name; first = erased h.first; last = erased h.last; step = option_map erased h.step }
 
@@ -53,6 +45,7 @@ abbrev mutual
   node_erased (loop l h b) = loop l (head_erased h) (block_erased b)
   node_erased (choose a) = choose (arms_erased a)
 
+  -- a program's statements as the text has them
   pub block_erased : Block → Block
   block_erased no_nodes = no_nodes
   block_erased (then_node n b) = then_node (node_erased n) (block_erased b)

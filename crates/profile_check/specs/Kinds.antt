@@ -1,5 +1,5 @@
--- Whether an expression of a text is integer or logical. Names are integer, in the profile, and so are
--- elements and calls with integer subscripts and arguments.
+-- Whether an expression of a text is integer or logical. Names are integer, in the profile, and so
+-- are elements and calls with integer subscripts and arguments.
 use Rattle.std.specs.Prelude.{Bool, true, false, ◌&&◌}
 use Rattle.ast.specs.Tree.{Term, constant, truth, parameter, element, call, parentheses, unary, binary, Terms, no_terms, then_term}
 use Rattle.ast.specs.declared.expression.Operator.{Operator}
@@ -12,6 +12,7 @@ pub data ValueKind : Type 0 where
   integral : ValueKind
   logical : ValueKind
 
+-- two kinds are one
 abbrev pub is_same : ValueKind → ValueKind → Bool
 is_same integral integral = true
 is_same logical logical = true
@@ -25,6 +26,7 @@ takes Equivalent = logical
 takes NotEquivalent = logical
 takes _ = integral
 
+-- what an operator gives: comparisons and logical operators a logical value
 abbrev pub gives : Operator → ValueKind
 gives Add = integral
 gives Subtract = integral
@@ -32,11 +34,13 @@ gives Multiply = integral
 gives Divide = integral
 gives _ = logical
 
+-- what a prefix takes and gives
 abbrev pub prefix_kind : Prefix → ValueKind
 prefix_kind Not = logical
 prefix_kind _ = integral
 
 abbrev mutual
+  -- the expression is of this kind, and so are its operands of those that its operators take
   pub is_of : ValueKind → Term → Bool
   is_of kind (constant n) = is_same kind integral
   is_of kind (truth b) = is_same kind logical

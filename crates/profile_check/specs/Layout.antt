@@ -22,6 +22,7 @@ arm_head None = else_arm
 arm_head (Some c) = else_if c
 
 abbrev mutual
+  -- a tree of statements lays out as these, one after another
   pub Lays : Block → List Statement → Type 0
   Lays no_nodes ss = ss ≡ []
   Lays (then_node n b) ss = (u : List Statement) × (v : List Statement) × (ss ≡ u ++ v) × LaysNode n u × Lays b v

@@ -2,8 +2,9 @@
 use Rattle.std.specs.Prelude.{ℕ, Bool, true, false, ◌==◌, if◌then◌else◌, List, [], ◌∷◌, ◌++◌, Option, Some, None}
 use Rattle.ast.specs.Tree.{Term, Statement, Kind, DoHead, do_loop, block_if, else_if, else_arm, end_if, logical_if, Node, plain, loop, choose, no_nodes, then_node, block, Arm, arms, no_arms, then_arm}
 
--- An open structure with the nodes that stand before it: a range with the line of its DO and what that
--- says; or a block with the arms that are done, and the line and the condition of the arm that isn't.
+-- An open structure with the nodes that stand before it: a range with the line of its DO and what
+-- that says; or a block with the arms that are done, and the line and the condition of the arm that
+-- isn't.
 pub data Frame : Type 0 where
   in_range : ℕ → DoHead → List Node → Frame
   in_block : List Arm → ℕ → Option Term → List Node → Frame
@@ -66,6 +67,7 @@ with_kind n s else_arm = next_arm s.line None n.frames n.nodes
 with_kind n s end_if = end_block n.frames n.nodes
 with_kind n s k = ended s.label n.frames (n.nodes ++ own_node s k ∷ [])
 
+-- one more statement, by what it does
 abbrev pub with_statement : Nest → Statement → Nest
 with_statement n s = with_kind n s s.kind
 
@@ -73,5 +75,6 @@ abbrev pub nested_from : Nest → List Statement → Nest
 nested_from n [] = n
 nested_from n (s ∷ ss) = nested_from (with_statement n s) ss
 
+-- what statements nest to, from the beginning
 abbrev pub nested : List Statement → Nest
 nested ss = nested_from (nest [] []) ss

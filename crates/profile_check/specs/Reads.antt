@@ -39,8 +39,8 @@ abbrev mutual
   are_meant symbols no_terms = true
   are_meant symbols (then_term e es) = is_meant symbols e && are_meant symbols es
 
--- The statements are the program: its symbols are what they declare, its tree lays out as they stand,
--- and each of its names is what it stands for.
+-- The statements are the program: its symbols are what they declare, its tree lays out as they
+-- stand, and each of its names is what it stands for.
 pub record AreProgram (ss : List Statement) (program : ProgramTree) : Type 0 where
   pub symbols : program.symbols ≡ symbols_of (declared_in ss)
   pub laid : Lays (block_erased program.block) ss

@@ -1,27 +1,16 @@
--- What the names of a statement stand for, and the numbers of its references: an account of the code.
-use Rattle.std.specs.Prelude.{ℕ, ℤ, ◌+◌, codes, if◌then◌else◌, List, [], ◌∷◌, Option, Some, None, position, unwrap_or, option_map}
+-- What the names of a statement stand for, and the numbers of its references: an account of the
+-- code.
+use Rattle.std.specs.Prelude.{ℕ, ℤ, ◌+◌, List, [], ◌∷◌, Option, Some, None, position, unwrap_or, option_map}
+use Rattle.ast.specs.Spelling.{intrinsic_named}
 use Rattle.ast.specs.Store.{same_name}
 use Rattle.ast.specs.Tree.{Ref, Term, Terms, parameter, element, call, parentheses, unary, binary, no_terms, then_term, Access, PrintItem, value_item, text_item, DoHead, Kind, assign, do_loop, block_if, else_if, logical_if, print, read, Statement}
 use Rattle.ast.specs.declared.expression.Intrinsic.{Intrinsic}
-use Rattle.ast.specs.declared.expression.Intrinsic.TheVariants.{Abs, Iabs, Max, Max0, Min, Min0, Mod}
 use Rattle.profile_check.specs.Declarations.{Constants, constant_named}
 
 -- the names of a program in the order of its symbols, and its constants
 pub record Table : Type 0 where
   pub names : List (List ℕ)
   pub constants : Constants
-
--- the intrinsic function of a name
-abbrev pub intrinsic_named : List ℕ → Option Intrinsic
-intrinsic_named name =
-    if same_name name (codes "ABS   ") then Some Abs
-    else if same_name name (codes "IABS  ") then Some Iabs
-    else if same_name name (codes "MAX   ") then Some Max
-    else if same_name name (codes "MAX0  ") then Some Max0
-    else if same_name name (codes "MIN   ") then Some Min
-    else if same_name name (codes "MIN0  ") then Some Min0
-    else if same_name name (codes "MOD   ") then Some Mod
-    else None
 
 -- the place of a name in a table that holds it
 abbrev pub place_of : List (List ℕ) → List ℕ → ℕ

@@ -11,7 +11,8 @@ use Rattle.ast.specs.declared.statement.Item.{Item}
 use Rattle.ast.specs.declared.statement.Kind.{Kind}
 use Rattle.profile_check.specs.Declarations.{constant_named}
 use Rattle.profile_check.specs.DeclaredView.{constants_of}
-use Rattle.profile_check.specs.Resolving.{Table, access_count, access_resolved, accesses_resolved, all_resolved, alone, count, count_all, count_terms, head_resolved, intrinsic_named, item_count, item_resolved, items_resolved, kind_resolved, list_at, list_resolved, resolved, total}
+use Rattle.ast.specs.Spelling.{intrinsic_named}
+use Rattle.profile_check.specs.Resolving.{Table, access_count, access_resolved, accesses_resolved, all_resolved, alone, count, count_all, count_terms, head_resolved, item_count, item_resolved, items_resolved, kind_resolved, list_at, list_resolved, resolved, total}
 use Rattle.profile_check.specs.declared.declarations.Declarations.{Declarations}
 
 abbrev pub table_of : Declarations → Table
@@ -32,8 +33,8 @@ count_listed a = count_terms (listed a)
 abbrev pub written : Access → Term
 written a = element (ref a.reference) (listed a)
 
--- what stands in place of a name with its list: another expression, or else an element; and how many
--- references it has
+-- what stands in place of a name with its list: another expression, or else an element; and how
+-- many references it has
 abbrev pub named : Access → Option Expr → Term
 named a None = written a
 named a (Some e) = term e

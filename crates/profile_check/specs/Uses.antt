@@ -5,8 +5,8 @@ use Rattle.ast.specs.Store.{same_name}
 pub use Rattle.ast.specs.Tree.{count_of}
 use Rattle.ast.specs.Tree.{Term, Terms, element, call, parentheses, unary, binary, no_terms, then_term, Access, PrintItem, value_item, text_item, Bounds, Declarator, Definition, DoHead, Kind, program, integer, dimension, parameters, assign, do_loop, block_if, else_if, logical_if, print, read}
 
--- a name that stands in a statement: with how many subscripts or arguments, and whether it is given a
--- value there
+-- a name that stands in a statement: with how many subscripts or arguments, and whether it is given
+-- a value there
 pub record Use : Type 0 where
   pub name : List ℕ
   pub count : ℕ
@@ -34,27 +34,34 @@ access_uses is_given a = terms_uses a.subscripts ++ record { name = a.ref.name; 
 abbrev pub given_uses : Access → List Use
 given_uses a = access_uses true a
 
+-- the names of an expression, where there is one
 abbrev pub optional_uses : Option Term → List Use
 optional_uses None = []
 optional_uses (Some e) = term_uses e
 
+-- the names of several parts, one after another
 abbrev pub all_uses : {X : Type 0} → (X → List Use) → List X → List Use
 all_uses uses [] = []
 all_uses uses (x ∷ xs) = uses x ++ all_uses uses xs
 
+-- the names of an item of a PRINT
 abbrev pub item_uses : PrintItem → List Use
 item_uses (value_item e) = term_uses e
 item_uses (text_item t) = []
 
+-- the names of the bounds of a dimension, the lower bound first
 abbrev pub bounds_uses : Bounds → List Use
 bounds_uses b = optional_uses b.lower ++ term_uses b.upper
 
+-- the names in the bounds of a declarator; its own name isn't used but declared
 abbrev pub declarator_uses : Declarator → List Use
 declarator_uses d = all_uses bounds_uses d.bounds
 
+-- the names in the expression that gives a constant its value
 abbrev pub definition_uses : Definition → List Use
 definition_uses d = term_uses d.value
 
+-- the names of a DO: its parameters, and then its variable, which is given a value
 abbrev pub head_uses : DoHead → List Use
 head_uses h = term_uses h.first ++ term_uses h.last ++ optional_uses h.step ++ record { name = h.variable.name; count = 0; is_given = true } ∷ []
 
@@ -78,6 +85,7 @@ typed_by (integer ds) = ds
 typed_by (logical_if c k) = typed_by k
 typed_by _ = []
 
+-- a declarator with bounds declares an array
 abbrev pub has_bounds : Declarator → Bool
 has_bounds d = nat_lt 0 (length d.bounds)
 
@@ -98,30 +106,37 @@ dimensioned_by (dimension ds) = ds
 dimensioned_by (logical_if c k) = dimensioned_by k
 dimensioned_by _ = []
 
+-- the definitions of a PARAMETER statement
 abbrev pub defined_by : Kind → List Definition
 defined_by (parameters ds) = ds
 defined_by (logical_if c k) = defined_by k
 defined_by _ = []
 
+-- the name that a PROGRAM statement gives
 abbrev pub program_named_by : Kind → Option (List ℕ)
 program_named_by (program x) = Some x
 program_named_by (logical_if c k) = program_named_by k
 program_named_by _ = None
 
+-- the names that declarators declare
 abbrev pub declarator_names : List Declarator → List (List ℕ)
 declarator_names ds = map (λ d. d.name) ds
 
+-- the names that definitions give values
 abbrev pub definition_names : List Definition → List (List ℕ)
 definition_names ds = map (λ d. d.name) ds
 
 -- ---- intrinsic functions
 
+-- their names, filled with blanks to six letters
 abbrev pub intrinsics : List (List ℕ)
 intrinsics = codes "ABS   " ∷ codes "IABS  " ∷ codes "MAX   " ∷ codes "MAX0  " ∷ codes "MIN   " ∷ codes "MIN0  " ∷ codes "MOD   " ∷ []
 
+-- a name is one of these
 abbrev pub is_among : List (List ℕ) → List ℕ → Bool
 is_among names name = list_any (same_name name) names
 
+-- a name is that of an intrinsic function
 abbrev pub is_intrinsic : List ℕ → Bool
 is_intrinsic name = is_among intrinsics name
 
@@ -129,12 +144,15 @@ is_intrinsic name = is_among intrinsics name
 abbrev pub is_call : Use → Bool
 is_call u = is_intrinsic u.name && (nat_lt 0 u.count && not u.is_given)
 
+-- any other use of a name
 abbrev pub is_name : Use → Bool
 is_name u = not (is_call u)
 
+-- ABS and IABS have one argument
 abbrev pub takes_one : List ℕ → Bool
 takes_one name = is_among (codes "ABS   " ∷ codes "IABS  " ∷ []) name
 
+-- MOD has two
 abbrev pub takes_two : List ℕ → Bool
 takes_two name = same_name name (codes "MOD   ")
 
@@ -142,10 +160,11 @@ takes_two name = same_name name (codes "MOD   ")
 abbrev pub has_its_arguments : Use → Bool
 has_its_arguments u = if takes_one u.name then u.count == 1 else if takes_two u.name then u.count == 2 else nat_le 2 u.count
 
--- the names that a statement uses
+-- the names that a statement uses, but for those of functions that it calls
 abbrev pub names_used : Kind → List (List ℕ)
 names_used k = map (λ u. u.name) (filter is_name (uses k))
 
+-- the names that a statement declares or defines, by INTEGER, DIMENSION or PARAMETER
 abbrev pub names_declared : Kind → List (List ℕ)
 names_declared k = declarator_names (typed_by k) ++ declarator_names (dimensioned_by k) ++ definition_names (defined_by k)
 

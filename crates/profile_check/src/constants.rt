@@ -5,10 +5,10 @@ ghost use Rattle.ast.specs.Tree.{element, terms};
 ghost use Rattle.ast.specs.View as view;
 ghost use Rattle.profile_check.specs.Declarations as spec;
 ghost use Rattle.profile_check.specs.DeclaredView.{constants_of};
-ghost use Rattle.profile_check.specs.Erasure.{intrinsic_name, ref_to};
+ghost use Rattle.profile_check.specs.Erasure.{ref_to};
 ghost use Rattle.profile_check.specs.Rules.{is_constant, lacks_constant};
 
-use ast::{Definition, Expr, Intrinsic, Name};
+use ast::{Definition, Expr, Name};
 use indexmap::IndexMap;
 use std::alloc::AllocError;
 use values::{apply_operator, apply_prefix, truth};
@@ -30,22 +30,6 @@ fn constant_named(constants: &Constants, name: Name) -> Option<i64>
     ensures { result ≡ spec.constant_named (constants_of constants.now.entries) name.letters }
 {
     constants.get(&name).copied()
-}
-
-/// The name of an intrinsic function.
-fn intrinsic_name(function: Intrinsic) -> Name
-    ensures { result.letters ≡ intrinsic_name function }
-{
-    let letters = match function {
-        Intrinsic::Abs => *b"ABS   ",
-        Intrinsic::Iabs => *b"IABS  ",
-        Intrinsic::Max => *b"MAX   ",
-        Intrinsic::Max0 => *b"MAX0  ",
-        Intrinsic::Min => *b"MIN   ",
-        Intrinsic::Min0 => *b"MIN0  ",
-        Intrinsic::Mod => *b"MOD   ",
-    };
-    Name { letters }
 }
 
 /// The value of a name in a constant expression: it may have no list.
@@ -72,9 +56,7 @@ pub fn constant_value(constants: &Constants, expression: &Expr) -> Option<i64>
         Expr::Truth(holds) => Some(truth(*holds)),
         Expr::Parameter(name, _) => constant_named(constants, *name),
         Expr::Element(access) => name_value(constants, access.reference.name, &access.subscripts),
-        Expr::Call(function, arguments) => {
-            name_value(constants, intrinsic_name(*function), arguments)
-        }
+        Expr::Call(function, arguments) => { name_value(constants, function.name(), arguments) }
         Expr::Parentheses(inner) => constant_value(constants, inner),
         Expr::Unary(prefix, operand) => {
             let a = constant_value(constants, operand)?;

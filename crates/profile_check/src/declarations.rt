@@ -21,19 +21,10 @@ use crate::rules::{
     changes_active, changes_constant, has_other, is_misnamed, miscounts, names_real, opens,
 };
 use crate::uses::Use;
-use ast::{Kind, Name, Stmt};
+use ast::{Kind, MOST_NAMES, MOST_NESTED, MOST_STATEMENTS, Name, Stmt};
 use indexmap::{IndexMap, IndexSet};
 use std::alloc::{AllocError, Global};
 use structure::Structure;
-
-/// The most statements of a program.
-const MOST_STATEMENTS: usize = 4096;
-
-/// How deeply ranges and blocks may be nested.
-const MOST_NESTED: usize = 16;
-
-/// The most names of a program.
-const MOST_NAMES: usize = 512;
 
 /// What is declared.
 pub struct Declarations {

@@ -21,6 +21,7 @@ const INTRINSICS: [[u8; 6]; 7] = [
     *b"ABS   ", *b"IABS  ", *b"MAX   ", *b"MAX0  ", *b"MIN   ", *b"MIN0  ", *b"MOD   ",
 ];
 
+/// Whether a name is that of an intrinsic function.
 pub fn is_intrinsic(name: &Name) -> bool
     ensures { result ≡ spec.is_intrinsic name.now.letters }
 {

@@ -17,30 +17,6 @@ ghost use Rattle.profile_check.specs.ResolvingView.{written_at};
 use crate::declarations::Declarations;
 use ast::{Access, DoHead, Expr, Intrinsic, Item, Kind, Name, RefId, Reference};
 
-/// The intrinsic function of a name.
-fn intrinsic_named(name: &Name) -> Option<Intrinsic>
-    ensures { result ≡ spec.intrinsic_named name.now.letters }
-{
-    let letters = &name.letters;
-    if *letters == *b"ABS   " {
-        Some(Intrinsic::Abs)
-    } else if *letters == *b"IABS  " {
-        Some(Intrinsic::Iabs)
-    } else if *letters == *b"MAX   " {
-        Some(Intrinsic::Max)
-    } else if *letters == *b"MAX0  " {
-        Some(Intrinsic::Max0)
-    } else if *letters == *b"MIN   " {
-        Some(Intrinsic::Min)
-    } else if *letters == *b"MIN0  " {
-        Some(Intrinsic::Min0)
-    } else if *letters == *b"MOD   " {
-        Some(Intrinsic::Mod)
-    } else {
-        None
-    }
-}
-
 /// Numbers a reference.
 fn number(reference: &mut Reference, declarations: &Declarations, next: usize)
     ensures { ref reference.new
@@ -103,7 +79,7 @@ fn resolve_name(
     ensures after { result.1 + count_listed access.old ≡ next + count_named access.new result.0 }
     ensures bound { result.1 ≤ next + 1 }
 {
-    match intrinsic_named(&access.reference.name) {
+    match Intrinsic::named(&access.reference.name) {
         Some(intrinsic) => {
             let arguments = taken(&mut access.subscripts);
             (Some(Expr::Call(intrinsic, arguments)), next)

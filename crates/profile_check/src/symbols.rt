@@ -55,6 +55,10 @@ fn symbol_of(alloc: Global, declarations: &Declarations, name: Name) -> Result<S
 }
 
 /// A symbol for each name that is declared, in their order.
+///
+/// # Errors
+///
+/// `AllocError` where memory is refused.
 pub fn symbols_of(alloc: Global, declarations: &Declarations) -> Result<Vec<Symbol>, AllocError>
     ensures found { IfOk result (λ symbols. map view.symbol symbols.items
         ≡ spec.symbols_of (declared declarations.now)) }

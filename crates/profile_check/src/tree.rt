@@ -25,6 +25,10 @@ fn resolve_statement(stmt: &mut Stmt, declarations: &Declarations, next: usize) 
 }
 
 /// The statements nested, their names resolved and their references numbered.
+///
+/// # Errors
+///
+/// `AllocError` where memory is refused.
 pub fn tree(
     alloc: Global,
     stmts: Vec<Stmt>,

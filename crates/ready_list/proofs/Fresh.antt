@@ -10,7 +10,7 @@ use Rattle.ready_list.specs.declared.table.Node.{Node}
 use Rattle.ready_list.proofs.Calls.{IsRead, read}
 use Rattle.ready_list.proofs.Closing.{IsLeft, linked}
 
-nowhere : (s m : ℕ) → places_in s (replicate m []) ≡ 0
+pub nowhere : (s m : ℕ) → places_in s (replicate m []) ≡ 0
 nowhere s zero = refl
 nowhere s (suc m) = omega (arith, nowhere s m)
 

@@ -2,12 +2,13 @@
 //! words.
 #![tactic(auto)]
 
+mod conditions;
 mod making;
 mod obstacles;
 mod serial;
 mod spelled;
 mod waiting;
 
-pub use obstacles::Met;
+pub use obstacles::MetObstacle;
 pub use serial::{Hindrance, hindrance_of, say_why_serial};
 pub use waiting::why;

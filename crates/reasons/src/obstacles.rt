@@ -7,15 +7,9 @@ use machine::{Code, Done, Frame, Next, stands_local, stands_next};
 use profile_check::program;
 use remarks::Visible;
 use replay::{Choice, Core};
-use schedules::{Act, Entry, Schedule, Version};
+use schedules::{Act, Entry, FIRST_ENTRY_LINE, LONGEST_BURST, Schedule, Version};
 use std::alloc::{AllocError, Global};
 use std::fmt::{Display, Formatter, Result as FmtResult, Write};
-
-/// The line of a schedule's first entry.
-const FIRST_LINE: usize = 3;
-
-/// How many local instructions an entry has at most.
-const BURST: u32 = 1024;
 
 /// The shared step that stands next.
 #[derive(Clone, Copy)]
@@ -59,20 +53,27 @@ pub enum Obstacle {
     PicksNothing,
     /// There is nothing for the processor to pick.
     NothingReady,
+    /// What is to be picked is held by this processor.
+    Held {
+        choice: Choice,
+        holder: usize,
+    },
     /// What is to be picked isn't parked, or what it waits for isn't reached.
     NotReady(Choice),
+    /// As many iterations are open as may be.
+    Full,
     /// The shared step that stands next isn't possible yet.
     NotPossible(Option<SharedStep>),
 }
 
 /// An obstacle that a processor meets.
 #[derive(Clone, Copy)]
-pub struct Met {
+pub struct MetObstacle {
     processor: u8,
     obstacle: Obstacle,
 }
 
-impl Met {
+impl MetObstacle {
     /// Why the entry in a line of a schedule's text can't be made, if it is an entry of a run of
     /// the source on the input.
     pub fn of(
@@ -96,7 +97,7 @@ fn met_in(
     input: &[u8],
     schedule: &[u8],
     line: usize,
-) -> Option<Met> {
+) -> Option<MetObstacle> {
     match compile(alloc, program) {
         Ok(compiled) => met_by_code(alloc, &compiled.code, input, schedule, line),
         Err(_) => None,
@@ -110,8 +111,8 @@ fn met_by_code(
     input: &[u8],
     schedule: &[u8],
     line: usize,
-) -> Option<Met> {
-    let place = line.checked_sub(FIRST_LINE)?;
+) -> Option<MetObstacle> {
+    let place = line.checked_sub(FIRST_ENTRY_LINE)?;
     match Schedule::parse(alloc, schedule) {
         Ok(schedule) => met_at(alloc, code, input, &schedule, place).unwrap_or(None),
         Err(_) => None,
@@ -125,7 +126,7 @@ fn met_at(
     input: &[u8],
     schedule: &Schedule,
     place: usize,
-) -> Result<Option<Met>, AllocError> {
+) -> Result<Option<MetObstacle>, AllocError> {
     let processors = u64::from(schedule.processors());
     let slots = u64::from(schedule.slots());
     let Some(mut core) = new_core(alloc, code, input, processors, slots)? else {
@@ -139,7 +140,7 @@ fn met_behind(
     core: &mut Core<'_>,
     schedule: &Schedule,
     place: usize,
-) -> Result<Option<Met>, AllocError> {
+) -> Result<Option<MetObstacle>, AllocError> {
     let mut entries = schedule.entries();
     for _ in 0..place {
         match entries.next() {
@@ -156,7 +157,11 @@ fn met_behind(
 }
 
 /// What an entry of a schedule of a version meets.
-fn met_by(core: &Core<'_>, version: Version, entry: Entry) -> Result<Option<Met>, AllocError> {
+fn met_by(
+    core: &Core<'_>,
+    version: Version,
+    entry: Entry,
+) -> Result<Option<MetObstacle>, AllocError> {
     let q = usize::from(entry.processor);
     let obstacle = match entry.act {
         _ if core.has_ended() => Obstacle::Ended,
@@ -166,7 +171,7 @@ fn met_by(core: &Core<'_>, version: Version, entry: Entry) -> Result<Option<Met>
         Act::PickIteration(number) => at_pick(core, q, Choice::Iteration(number))?,
         Act::TakeTicket => at_pick(core, q, Choice::Ticket)?,
     };
-    Ok(Some(Met {
+    Ok(Some(MetObstacle {
         processor: entry.processor,
         obstacle,
     }))
@@ -193,7 +198,7 @@ fn ahead(code: &Code, frame: Frame) -> Result<(u32, Option<SharedStep>), AllocEr
     if !stands_local(code, &frame) {
         return Ok((0, step_of(code, &frame)));
     }
-    let done = Done::work(code, frame, BURST)?;
+    let done = Done::work(code, frame, u32::from(LONGEST_BURST))?;
     Ok((done.made(), step_of(code, done.to())))
 }
 
@@ -215,8 +220,30 @@ fn at_pick(core: &Core<'_>, q: usize, choice: Choice) -> Result<Obstacle, AllocE
         Some(frame) => Ok(Obstacle::Holds {
             iteration: frame.iteration(),
         }),
-        None => Ok(Obstacle::NotReady(choice)),
+        None if choice == Choice::Ticket && core.overlap() == core.slots() as u128 => {
+            Ok(Obstacle::Full)
+        }
+        None => Ok(match holder_of(core, choice)? {
+            Some(holder) => Obstacle::Held { choice, holder },
+            None => Obstacle::NotReady(choice),
+        }),
     }
+}
+
+/// The processor that holds what is to be picked, if one does.
+fn holder_of(core: &Core<'_>, choice: Choice) -> Result<Option<usize>, AllocError> {
+    for q in 0..core.processors() {
+        if let Some(frame) = core.frame(q)? {
+            let held = match frame.iteration() {
+                Some(number) => Choice::Iteration(number),
+                None => Choice::Main,
+            };
+            if held == choice {
+                return Ok(Some(q));
+            }
+        }
+    }
+    Ok(None)
 }
 
 /// The shared step that stands next in a frame.
@@ -278,7 +305,7 @@ fn write_named<W: Write>(f: &mut Formatter<W>, word: &str, name: Option<Name>) -
     }
 }
 
-impl Display for Met {
+impl Display for MetObstacle {
     fn fmt<W: Write>(&self, f: &mut Formatter<W>) -> FmtResult {
         let q = self.processor;
         match self.obstacle {
@@ -307,7 +334,14 @@ impl Display for Met {
             Obstacle::NothingReady => {
                 write!(f, "processor {q} holds nothing, and nothing is ready")
             }
-            Obstacle::NotReady(choice) => write_choice(f, choice),
+            Obstacle::Held { choice, holder } => {
+                write_picked(f, choice)?;
+                write!(f, " isn't ready: processor {holder} holds it")
+            }
+            Obstacle::NotReady(choice) => write_unready(f, choice),
+            Obstacle::Full => {
+                f.write_str("no iteration may begin: as many are open as line 2 allows")
+            }
             Obstacle::NotPossible(step) => write_step(f, q, step),
         }
     }
@@ -343,11 +377,22 @@ fn write_few<W: Write>(
     }
 }
 
-fn write_choice<W: Write>(f: &mut Formatter<W>, choice: Choice) -> FmtResult {
+fn write_picked<W: Write>(f: &mut Formatter<W>, choice: Choice) -> FmtResult {
     match choice {
-        Choice::Main => f.write_str("main isn't ready"),
-        Choice::Iteration(number) => write!(f, "iteration {number} isn't ready"),
-        Choice::Ticket => f.write_str("no iteration may begin"),
+        Choice::Main => f.write_str("main"),
+        Choice::Iteration(number) => write!(f, "iteration {number}"),
+        Choice::Ticket => f.write_str("a ticket"),
+    }
+}
+
+fn write_unready<W: Write>(f: &mut Formatter<W>, choice: Choice) -> FmtResult {
+    match choice {
+        Choice::Main => f.write_str("main isn't ready: it waits for iterations to retire"),
+        Choice::Iteration(number) => write!(
+            f,
+            "iteration {number} isn't ready: it hasn't begun, waits, or has retired"
+        ),
+        Choice::Ticket => f.write_str("no iteration may begin: no loop is open, or none is left"),
     }
 }
 

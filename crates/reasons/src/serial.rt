@@ -1,10 +1,10 @@
 //! What standard error says of loops that stay serial.
 
-use ast::{Line, Name, Program};
+use ast::{Line, MOST_EVENTS, Name, Program};
 use codegen::LoopReport;
 use dependence::LoopPlan;
 use loop_tree::{LoopTree, LoopView, loops};
-use placement::{MOST_EVENTS, first_read, first_shared, first_sources};
+use placement::{first_read, first_shared, first_sources};
 use remarks::{Place, Visible};
 use std::alloc::{AllocError, Global};
 use std::fmt::{Display, Formatter, Result as FmtResult, Write};
@@ -140,6 +140,10 @@ fn hindrance_in(
 
 /// What keeps the loop of a number serial, for a reason; the reports are those of the program's
 /// loops.
+///
+/// # Errors
+///
+/// `AllocError` where memory is refused.
 pub fn hindrance_of(
     alloc: Global,
     tree: &LoopTree<'_>,

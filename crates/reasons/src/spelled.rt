@@ -1,50 +1,8 @@
 //! References and expressions, as a source spells them but for its blanks.
 
-use ast::{Access, Expr, Intrinsic, Name, Operator, Prefix};
+use ast::{Access, Expr, Intrinsic, Name};
 use explanations::append_number;
 use std::alloc::AllocError;
-
-/// What stands for an operator.
-fn sign(operator: Operator) -> &'static [u8] {
-    match operator {
-        Operator::Add => b"+",
-        Operator::Subtract => b"-",
-        Operator::Multiply => b"*",
-        Operator::Divide => b"/",
-        Operator::Less => b".LT.",
-        Operator::LessOrEqual => b".LE.",
-        Operator::Equal => b".EQ.",
-        Operator::NotEqual => b".NE.",
-        Operator::Greater => b".GT.",
-        Operator::GreaterOrEqual => b".GE.",
-        Operator::And => b".AND.",
-        Operator::Or => b".OR.",
-        Operator::Equivalent => b".EQV.",
-        Operator::NotEquivalent => b".NEQV.",
-    }
-}
-
-/// What stands before an operand.
-fn before(prefix: Prefix) -> &'static [u8] {
-    match prefix {
-        Prefix::Plus => b"+",
-        Prefix::Minus => b"-",
-        Prefix::Not => b".NOT.",
-    }
-}
-
-/// The name of an intrinsic function.
-fn name_of(intrinsic: Intrinsic) -> &'static [u8] {
-    match intrinsic {
-        Intrinsic::Abs => b"ABS",
-        Intrinsic::Iabs => b"IABS",
-        Intrinsic::Max => b"MAX",
-        Intrinsic::Max0 => b"MAX0",
-        Intrinsic::Min => b"MIN",
-        Intrinsic::Min0 => b"MIN0",
-        Intrinsic::Mod => b"MOD",
-    }
-}
 
 /// Appends expressions in parentheses, with commas between them.
 #[cycle(spelled)]
@@ -84,7 +42,7 @@ fn append_call(
     intrinsic: Intrinsic,
     arguments: &[Expr],
 ) -> Result<(), AllocError> {
-    out.extend_from_slice(name_of(intrinsic))?;
+    out.extend_from_slice(intrinsic.name().trimmed())?;
     append_list(out, arguments)
 }
 
@@ -104,12 +62,12 @@ fn append_expression(out: &mut Vec<u8>, expression: &Expr) -> Result<(), AllocEr
             out.extend_from_slice(b")")
         }
         Expr::Unary(prefix, operand) => {
-            out.extend_from_slice(before(*prefix))?;
+            out.extend_from_slice(prefix.spelling())?;
             append_expression(out, operand)
         }
         Expr::Binary(operator, left, right) => {
             append_expression(out, left)?;
-            out.extend_from_slice(sign(*operator))?;
+            out.extend_from_slice(operator.spelling())?;
             append_expression(out, right)
         }
     }

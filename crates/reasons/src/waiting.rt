@@ -1,5 +1,6 @@
 //! Why iterations of a loop wait for one another, or needn't, in words.
 
+use crate::conditions::Conditions;
 use crate::serial::hindrance_of;
 use crate::spelled::append_reference;
 use ast::{Line, Name, RefId};
@@ -26,19 +27,31 @@ struct Pair<'p> {
 /// The references of these numbers, if there are such.
 fn pair_of<'p>(
     tree: &LoopTree<'p>,
+    conditions: &Conditions,
     first: RefId,
     second: RefId,
     relation: Relation,
 ) -> Option<Pair<'p>> {
-    let first = *tree.references().get(first.0)?;
-    let second = *tree.references().get(second.0)?;
+    let (first, first_line) = occurrence_of(tree, conditions, first)?;
+    let (second, second_line) = occurrence_of(tree, conditions, second)?;
     Some(Pair {
         first,
-        first_line: *tree.lines().get(first.statement)?,
+        first_line,
         second,
-        second_line: *tree.lines().get(second.statement)?,
+        second_line,
         relation,
     })
+}
+
+/// The reference of a number, and the line that it stands in.
+fn occurrence_of<'p>(
+    tree: &LoopTree<'p>,
+    conditions: &Conditions,
+    number: RefId,
+) -> Option<(Occurrence<'p>, Line)> {
+    let occurrence = *tree.references().get(number.0)?;
+    let own = *tree.lines().get(occurrence.statement)?;
+    Some((occurrence, conditions.line(number).unwrap_or(own)))
 }
 
 fn append_occurrence(
@@ -162,12 +175,13 @@ fn is_kept(relation: Relation) -> bool {
 fn append_run(
     out: &mut Vec<u8>,
     tree: &LoopTree<'_>,
+    conditions: &Conditions,
     run: &Run,
     relation: Relation,
 ) -> Result<(), AllocError> {
     for place in 0..run.count {
         let (first, second) = run.pair(place);
-        if let Some(pair) = pair_of(tree, first, second, relation) {
+        if let Some(pair) = pair_of(tree, conditions, first, second, relation) {
             append_pair(out, &pair)?;
         }
     }
@@ -178,13 +192,14 @@ fn append_run(
 fn append_pairs(
     out: &mut Vec<u8>,
     tree: &LoopTree<'_>,
+    conditions: &Conditions,
     relations: &Relations,
     kept: bool,
 ) -> Result<(), AllocError> {
     for run in &relations.runs {
         let relation = relations.relation(run);
         if is_kept(relation) == kept {
-            append_run(out, tree, run, relation)?;
+            append_run(out, tree, conditions, run, relation)?;
         }
     }
     Ok(())
@@ -248,18 +263,22 @@ fn append_why_of(
             privates,
             relations,
             ..
-        } => {
-            append_pairs(out, tree, relations, true)?;
-            append_pairs(out, tree, relations, false)?;
-            if 1 <= number && number <= tree.count() {
-                append_all_shared(out, &tree.view(number), &privates.names)?;
-            }
-            Ok(())
+        } if 1 <= number && number <= tree.count() => {
+            let view = tree.view(number);
+            let conditions = Conditions::of(alloc, view.body())?;
+            append_pairs(out, tree, &conditions, relations, true)?;
+            append_pairs(out, tree, &conditions, relations, false)?;
+            append_all_shared(out, &view, &privates.names)
         }
+        LoopPlan::Body { .. } => Ok(()),
     }
 }
 
 /// The lines that say why a loop is as its report says, by its number.
+///
+/// # Errors
+///
+/// `AllocError` where memory is refused.
 pub fn why(
     alloc: Global,
     tree: &LoopTree<'_>,

@@ -24,7 +24,7 @@ type NoValue = Option<Beyond>;
 
 /// A program and the store in which its expressions are looked at.
 #[derive(Drop)]
-struct Look<'a> {
+struct Snapshot<'a> {
     alloc: Global,
     program: &'a Program,
     store: &'a Store,
@@ -34,12 +34,12 @@ impl Beyond {
     /// The first subscript in a line that is beyond its bounds in the store of a run which met an
     /// INDEX there, as far as that can be told: a READ of several variables may have changed it.
     pub fn of(alloc: Global, program: &Program, store: &Store, line: Line) -> Option<Self> {
-        let look = Look {
+        let snapshot = Snapshot {
             alloc,
             program,
             store,
         };
-        look.nodes(&program.body, line)
+        snapshot.nodes(&program.body, line)
     }
 }
 
@@ -64,7 +64,7 @@ fn hindrance(found: Result<i64, NoValue>) -> Option<Beyond> {
     }
 }
 
-impl<'a> Look<'a> {
+impl<'a> Snapshot<'a> {
     #[cycle(nodes)]
     fn nodes(&self, nodes: &[Node], line: Line) -> Option<Beyond> {
         for node in nodes {

@@ -1,7 +1,12 @@
 //! Where the text of a statement stops being one, as far as the order of operands and operators
 //! tells.
 
-use crate::squeezed::{Squeezed, has_outer};
+mod tokens;
+
+use crate::mentions::without_keyword;
+use crate::squeezed::{Squeezed, action, has_outer};
+pub use tokens::OPERATORS;
+use tokens::{Flaw, digits_at, open_text, operator_length, quoted_length, word_length};
 
 /// What may stand next in an expression.
 #[derive(Clone, Copy)]
@@ -33,8 +38,37 @@ struct Reading<'a> {
     is_list: bool,
 }
 
-/// The place in the text of a statement where it stops being one, if that can be told.
-pub fn break_place(statement: &Squeezed) -> Option<usize> {
+/// The place in the text of a statement of what it is refused for by a number that is of texts, if
+/// that can be told.
+pub fn break_place(number: u8, statement: &Squeezed) -> Option<usize> {
+    match number {
+        20 | 27 => action_place(&statement.text),
+        21 => open_text(&statement.text),
+        22 => flaw_place(Flaw::RealConstant, statement),
+        23 => flaw_place(Flaw::TooLarge, statement),
+        24 => flaw_place(Flaw::TooLong, statement),
+        25 => end_of_form(statement),
+        _ => None,
+    }
+}
+
+/// Where what a logical IF does begins.
+fn action_place(text: &[u8]) -> Option<usize> {
+    match text.len().saturating_sub(action(text).len()) {
+        0 => None,
+        place => Some(place),
+    }
+}
+
+/// Where the first token that no statement has stands behind the keyword of a statement.
+fn flaw_place(flaw: Flaw, statement: &Squeezed) -> Option<usize> {
+    let text = statement.text.as_slice();
+    let start = text.len().saturating_sub(without_keyword(statement).len());
+    flaw.place_in(text, start)
+}
+
+/// Where the operands and operators of a statement stop being in the order of one.
+fn end_of_form(statement: &Squeezed) -> Option<usize> {
     let text = statement.text.as_slice();
     if let Some(start) = start_of_list(text) {
         return in_list(text, start);
@@ -60,7 +94,7 @@ fn start_of_list(text: &[u8]) -> Option<usize> {
         b"WRITE(*,*)".as_slice(),
         b"READ(*,*)".as_slice(),
     ] {
-        if text.starts_with(front) && !has_outer(b'=', text) {
+        if text.starts_with(front) {
             return Some(front.len());
         }
     }
@@ -171,14 +205,14 @@ impl<'a> Reading<'a> {
                 Some((1, FIRST))
             }
             b'+' | b'-' if may_sign => Some((1, NEXT)),
-            b'0'..=b'9' => Some((self.length(false), BEHIND)),
+            b'0'..=b'9' => Some((digits_at(self.text, self.at), BEHIND)),
             b'A'..=b'Z' => Some((
-                self.length(true),
+                word_length(self.rest()),
                 Wanted::Operator {
                     is_behind_name: true,
                 },
             )),
-            b'\'' => Some((self.length_of_text(), BEHIND)),
+            b'\'' if self.is_list => Some((quoted_length(self.rest()), BEHIND)),
             b'.' => self.dotted_operand(),
             _ => None,
         }
@@ -206,8 +240,13 @@ impl<'a> Reading<'a> {
         }
     }
 
+    /// What is left to be read.
+    fn rest(&self) -> &'a [u8] {
+        self.text.get(self.at..).unwrap_or(&[])
+    }
+
     fn dotted_operand(&self) -> Option<(usize, Wanted)> {
-        let rest = self.text.get(self.at..)?;
+        let rest = self.rest();
         for (word, wanted) in [
             (b".NOT.".as_slice(), FIRST),
             (b".TRUE.".as_slice(), BEHIND),
@@ -220,45 +259,12 @@ impl<'a> Reading<'a> {
         None
     }
 
+    /// The length of an operator between points, and what may stand behind it.
     fn dotted_operator(&self) -> Option<(usize, Wanted)> {
-        let rest = self.text.get(self.at..)?;
-        for word in [
-            b".LT.".as_slice(),
-            b".LE.".as_slice(),
-            b".EQ.".as_slice(),
-            b".NE.".as_slice(),
-            b".GT.".as_slice(),
-            b".GE.".as_slice(),
-            b".AND.".as_slice(),
-            b".OR.".as_slice(),
-            b".EQV.".as_slice(),
-            b".NEQV.".as_slice(),
-        ] {
-            if rest.starts_with(word) {
-                return Some((word.len(), FIRST));
-            }
+        let rest = self.rest();
+        if rest.starts_with(b".NOT.") {
+            return None;
         }
-        None
-    }
-
-    /// How many digits stand here, or digits and letters.
-    fn length(&self, has_letters: bool) -> usize {
-        let mut length: usize = 0;
-        for byte in self.text.get(self.at..).unwrap_or(&[]) {
-            if !byte.is_ascii_digit() && !(has_letters && byte.is_ascii_alphabetic()) {
-                break;
-            }
-            length = length.saturating_add(1);
-        }
-        length
-    }
-
-    /// How long a text between apostrophes is, with them.
-    fn length_of_text(&self) -> usize {
-        let rest = self.text.get(self.at.saturating_add(1)..).unwrap_or(&[]);
-        match place_of(b'\'', rest) {
-            Some(end) => end.saturating_add(2),
-            None => rest.len().saturating_add(1),
-        }
+        Some((operator_length(rest)?, FIRST))
     }
 }

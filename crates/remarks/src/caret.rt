@@ -1,8 +1,10 @@
 //! A place in the text of a statement, as it stands among the lines of its source.
 
-use crate::columns::{LABEL_COLUMNS, is_blank, is_comment, is_continuation, text_of};
+use crate::columns::{is_blank, is_comment, is_continuation, text_of};
+use crate::place::line_at;
 use ast::Line;
 use bstr::ByteSlice;
+use fixed_form::LAST_LABEL_COLUMN;
 
 /// A place in a line: its column, from 0, and the line's text.
 #[derive(Clone, Copy)]
@@ -31,9 +33,8 @@ impl<'a> Caret<'a> {
             is_open: false,
         };
         let mut last = None;
-        let mut at: Line = 0;
-        for text in source.lines() {
-            at = at.saturating_add(1);
+        for (index, text) in source.lines().enumerate() {
+            let at = line_at(index);
             if at < line || is_comment(text) || is_blank(text) {
                 continue;
             }
@@ -49,7 +50,7 @@ impl<'a> Caret<'a> {
     }
 
     fn at(line: Line, place: usize, text: &'a [u8]) -> Self {
-        let column = place.saturating_add(LABEL_COLUMNS).saturating_add(1);
+        let column = place.saturating_add(LAST_LABEL_COLUMN).saturating_add(1);
         Caret { line, column, text }
     }
 }

@@ -7,7 +7,7 @@ mod limits;
 use crate::mentions::{Mention, mentions};
 use crate::squeezed::Squeezed;
 use crate::visible::Visible;
-use ast::{Label, Line, Name};
+use ast::{Intrinsic, Label, Line, Name};
 use declared::Declared;
 use kinds::wrong_kind;
 use limits::limit;
@@ -18,54 +18,41 @@ use std::fmt::{Display, Formatter, Result as FmtResult, Write};
 #[derive(Clone, Copy)]
 pub enum Cause {
     /// A name that isn't an integer.
-    Real(Name),
-    /// A name with subscripts or arguments in another number.
-    Misfit {
-        name: Name,
-        rank: usize,
-        count: usize,
-    },
+    Real(Mention),
+    /// A name with subscripts or arguments in another number than it has.
+    Misfit { mention: Mention, rank: usize },
     /// The variable of an open DO.
-    Active {
-        name: Name,
-        line: Line,
-    },
+    Active { mention: Mention, line: Line },
     /// A label that stands in a line before.
-    Label {
-        label: Label,
-        line: Line,
-    },
+    Label { label: Label, line: Line },
     /// A DO that is open.
-    Loop {
-        label: Label,
-        line: Line,
-    },
+    Loop { label: Label, line: Line },
+    /// The DO that a statement ends which can't end one.
+    Terminal(Line),
     /// An IF that is open.
     Block(Line),
+    /// An IF that has its ELSE.
+    Closed(Line),
+    /// No IF that is open.
+    NoBlock,
     /// A name that a statement before declares otherwise.
-    Declared {
-        name: Name,
-        line: Line,
-    },
+    Declared { mention: Mention, line: Line },
     /// A name that its own statement declares otherwise.
-    Repeated(Name),
+    Repeated(Mention),
     /// A function's name that is used otherwise.
-    Function(Name),
+    Function(Mention),
     /// The program's name that is used otherwise.
-    Program(Name),
+    Program(Mention),
     /// A constant that is given a value.
-    Constant {
-        name: Name,
-        line: Line,
-    },
+    Constant { mention: Mention, line: Line },
     /// A name that has no value in a constant expression.
-    Unknown(Name),
+    Unknown(Mention),
     /// A constant expression that has no value.
     NoValue,
     /// A name that stands where a logical value is wanted.
-    Integer(Name),
+    Integer(Mention),
     /// A name that is given a logical value.
-    Logical(Name),
+    Logical(Mention),
     /// A logical value where a number is wanted.
     Truth,
     /// A statement that can't stand behind a condition.
@@ -90,7 +77,10 @@ enum Open {
         line: Line,
         variable: Option<Name>,
     },
-    Block(Line),
+    Block {
+        line: Line,
+        has_else: bool,
+    },
 }
 
 /// What stands before a line of a source.
@@ -149,7 +139,7 @@ fn cause_in_action(
     match number {
         37 => by_place(alloc, number, statements, &done, &names),
         38 => by_declarations(alloc, number, statements, &done, &names),
-        _ => Ok(wrong_kind(statement, &done, &names)),
+        _ => Ok(wrong_kind(statement, &mentions(alloc, statement)?, &done, &names)),
     }
 }
 
@@ -179,10 +169,12 @@ fn by_place(
 ) -> Result<Option<Cause>, AllocError> {
     let before = Before::of(alloc, statements, statement.line)?;
     Ok(match number {
-        33 => before.misfit(names),
+        33 => before.misfit(statement, names),
+        35 => before.ended(statement).or(before.open()),
         36 if statement.is_misplaced() => Some(Cause::Misplaced),
+        36 if is_part_of_block(&statement.text) => before.block(),
         37 => before.active(statement, names),
-        40 => Some(limit(statements, &before, statement)),
+        40 => Some(limit(alloc, statements, &before, statement)?),
         41 => before.labelled(statement),
         _ => before.open(),
     })
@@ -199,7 +191,7 @@ fn real(
         let is_call = mention.count > 0 && arguments_of(mention.name).is_some();
         let is_integer = matches!(mention.name.letters[0], b'I'..=b'N');
         if !is_call && !is_integer && !typed.contains(&mention.name) {
-            return Ok(Some(Cause::Real(mention.name)));
+            return Ok(Some(Cause::Real(*mention)));
         }
     }
     Ok(None)
@@ -225,13 +217,17 @@ fn append_outer(names: &mut Vec<Name>, found: &[Mention]) -> Result<(), AllocErr
     Ok(())
 }
 
+/// Whether a text begins as a part of an IF block other than its IF.
+fn is_part_of_block(text: &[u8]) -> bool {
+    text.starts_with(b"ELSE") || text.starts_with(b"ENDIF")
+}
+
 /// How many arguments a name takes, if it is an intrinsic function's.
 fn arguments_of(name: Name) -> Option<Arguments> {
-    match name.trimmed() {
-        b"MOD" => Some(Arguments::Two),
-        b"ABS" | b"IABS" => Some(Arguments::One),
-        b"MAX" | b"MAX0" | b"MIN" | b"MIN0" => Some(Arguments::TwoOrMore),
-        _ => None,
+    match Intrinsic::named(&name)? {
+        Intrinsic::Mod => Some(Arguments::Two),
+        Intrinsic::Abs | Intrinsic::Iabs => Some(Arguments::One),
+        _ => Some(Arguments::TwoOrMore),
     }
 }
 
@@ -277,13 +273,25 @@ impl Before {
                 variable,
             })?;
         } else if statement.is_block() {
-            self.opened.push(Open::Block(line))?;
+            self.opened.push(Open::Block {
+                line,
+                has_else: false,
+            })?;
         } else if statement.text.as_slice() == b"ENDIF".as_slice() {
             let _ = self.opened.pop();
+        } else if statement.text.as_slice() == b"ELSE".as_slice() {
+            self.note_else();
         } else if let Some(label) = statement.label {
             self.end_ranges(label);
         }
         Ok(())
+    }
+
+    /// Notes that the innermost IF that is open has its ELSE.
+    fn note_else(&mut self) {
+        if let Some(Open::Block { has_else, .. }) = self.opened.last_mut() {
+            *has_else = true;
+        }
     }
 
     fn declare(&mut self, names: &[Mention]) -> Result<(), AllocError> {
@@ -322,8 +330,12 @@ impl Before {
     }
 
     /// The first name whose subscripts or arguments don't fit.
-    fn misfit(&self, names: &[Mention]) -> Option<Cause> {
+    fn misfit(&self, statement: &Squeezed, names: &[Mention]) -> Option<Cause> {
+        let is_declaration = statement.is_declaration();
         for mention in names {
+            if is_declaration && mention.depth == 0 {
+                continue;
+            }
             let rank = self.rank(mention.name);
             let fits = match arguments_of(mention.name) {
                 Some(arguments) => takes(arguments, mention.count),
@@ -331,9 +343,8 @@ impl Before {
             };
             if !fits {
                 return Some(Cause::Misfit {
-                    name: mention.name,
+                    mention: *mention,
                     rank,
-                    count: mention.count,
                 });
             }
         }
@@ -347,8 +358,36 @@ impl Before {
                 label: *label,
                 line: *line,
             }),
-            Open::Block(line) => Some(Cause::Block(*line)),
+            Open::Block { line, .. } => Some(Cause::Block(*line)),
         }
+    }
+
+    /// What is in the way of a part of an IF: what is open, or that no IF is.
+    fn block(&self) -> Option<Cause> {
+        match self.opened.last() {
+            Some(
+                Open::Block {
+                    line,
+                    has_else: true,
+                },
+            ) => Some(Cause::Closed(*line)),
+            None => Some(Cause::NoBlock),
+            Some(_) => self.open(),
+        }
+    }
+
+    /// The innermost open DO that a statement ends by its label.
+    fn ended(&self, statement: &Squeezed) -> Option<Cause> {
+        let own = statement.label?;
+        for open in self.opened.iter().rev() {
+            match open {
+                Open::Range { label, line, .. } if *label == own => {
+                    return Some(Cause::Terminal(*line));
+                }
+                _ => {}
+            }
+        }
+        None
     }
 
     /// The variable of an open DO that a statement gives a value.
@@ -357,12 +396,12 @@ impl Before {
             if mention.depth == 0 {
                 if let Some(line) = self.line_of(mention.name) {
                     return Some(Cause::Active {
-                        name: mention.name,
+                        mention: *mention,
                         line,
                     });
                 }
             }
-            if !statement.text.starts_with(b"READ") {
+            if !statement.is_read() {
                 return None;
             }
         }
@@ -399,25 +438,27 @@ impl Before {
 impl Display for Cause {
     fn fmt<W: Write>(&self, f: &mut Formatter<W>) -> FmtResult {
         match self {
-            Cause::Misfit { name, rank, count } => write_misfit(f, *name, *rank, *count),
-            Cause::Active { name, line } => {
-                write_of(f, *name, " is the variable of the DO in line ")?;
+            Cause::Misfit { mention, rank } => write_misfit(f, mention, *rank),
+            Cause::Active { mention, line } => {
+                write_of(f, mention, " is the variable of the DO in line ")?;
                 write!(f, "{line}, which is open")
             }
-            Cause::Declared { name, line } => {
-                write_of(f, *name, " is declared in line ")?;
+            Cause::Declared { mention, line } => {
+                write_of(f, mention, " is declared in line ")?;
                 write!(f, "{line} too")
             }
-            Cause::Constant { name, line } => {
-                write_of(f, *name, " is a constant, by line ")?;
+            Cause::Constant { mention, line } => {
+                write_of(f, mention, " is a constant, by line ")?;
                 write!(f, "{line}")
             }
             Cause::Label { label, line } => write_label(f, *label, *line),
             Cause::Loop { label, line } => write_loop(f, *label, *line),
+            Cause::Terminal(line) => write!(f, "the DO in line {line} ends with this statement"),
             Cause::Block(line) => write!(f, "the IF in line {line} is open"),
+            Cause::Closed(line) => write!(f, "the IF in line {line} has its ELSE already"),
             Cause::Limit(limit) => f.write_str(limit),
             _ => match self.named() {
-                Some((name, text)) => write_of(f, name, text),
+                Some((mention, text)) => write_of(f, &mention, text),
                 None => f.write_str(self.unnamed()),
             },
         }
@@ -425,8 +466,33 @@ impl Display for Cause {
 }
 
 impl Cause {
+    /// The name that it is of, if it is of one.
+    pub fn name(&self) -> Option<Name> {
+        Some(self.mention()?.name)
+    }
+
+    /// The number of the character, from 0, among those of the statement at which the name that is
+    /// meant begins, if one is.
+    pub fn place(&self) -> Option<usize> {
+        Some(self.mention()?.place)
+    }
+
+    /// Where the name that it is of is mentioned.
+    fn mention(&self) -> Option<Mention> {
+        match self {
+            Cause::Misfit { mention, .. }
+            | Cause::Active { mention, .. }
+            | Cause::Declared { mention, .. }
+            | Cause::Constant { mention, .. } => Some(*mention),
+            _ => {
+                let (mention, _) = self.named()?;
+                Some(mention)
+            }
+        }
+    }
+
     /// The name that it is of, where nothing else is told, and what is told of that.
-    fn named(&self) -> Option<(Name, &'static str)> {
+    fn named(&self) -> Option<(Mention, &'static str)> {
         match self {
             Cause::Real(name) => Some((
                 *name,
@@ -441,12 +507,11 @@ impl Cause {
             _ => None,
         }
     }
-}
 
-impl Cause {
     /// What is told where no name, line or limit is.
     fn unnamed(&self) -> &'static str {
         match self {
+            Cause::NoBlock => "no IF with THEN is open here",
             Cause::NoValue => "a value here overflows, or is divided by zero",
             Cause::Truth => "a logical value stands where a number is wanted",
             Cause::Misplaced => "such a statement can't stand behind the condition of an IF",
@@ -456,8 +521,8 @@ impl Cause {
 }
 
 /// Writes a name, and this behind it.
-fn write_of<W: Write>(f: &mut Formatter<W>, name: Name, text: &str) -> FmtResult {
-    write!(f, "{}", Visible::new(name.trimmed()))?;
+fn write_of<W: Write>(f: &mut Formatter<W>, mention: &Mention, text: &str) -> FmtResult {
+    write!(f, "{}", Visible::new(mention.name.trimmed()))?;
     f.write_str(text)
 }
 
@@ -472,25 +537,24 @@ fn write_loop<W: Write>(f: &mut Formatter<W>, label: Label, line: Line) -> FmtRe
     )
 }
 
-fn write_misfit<W: Write>(
-    f: &mut Formatter<W>,
-    name: Name,
-    rank: usize,
-    count: usize,
-) -> FmtResult {
-    let text = match (arguments_of(name), rank, count) {
+fn write_misfit<W: Write>(f: &mut Formatter<W>, mention: &Mention, rank: usize) -> FmtResult {
+    let count = mention.count;
+    let text = match (arguments_of(mention.name), rank, count) {
         (Some(Arguments::One), _, _) => " takes one argument, not ",
         (Some(Arguments::Two), _, _) => " takes two arguments, not ",
         (Some(Arguments::TwoOrMore), _, _) => " takes two arguments or more, not ",
         (None, 0, _) => {
-            return write_of(f, name, " is no array, and no function of the language");
+            return write_of(f, mention, " is no array, and no function of the language");
         }
-        (None, _, 0) => return write_of(f, name, " is an array, and stands with its subscripts"),
+        (None, _, 0) => {
+            return write_of(f, mention, " is an array, and stands with its subscripts");
+        }
+        (None, 1, _) => " has one subscript, not ",
         (None, _, _) => {
-            write_of(f, name, " has ")?;
+            write_of(f, mention, " has ")?;
             return write!(f, "{rank} subscripts, not {count}");
         }
     };
-    write_of(f, name, text)?;
+    write_of(f, mention, text)?;
     write!(f, "{count}")
 }

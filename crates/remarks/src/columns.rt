@@ -1,16 +1,38 @@
 //! The columns of a line.
 
 use ast::Label;
+use bstr::ByteSlice;
+use fixed_form::{LAST_COLUMN, LAST_LABEL_COLUMN};
 
-/// The last column that is read.
-const LAST_COLUMN: usize = 72;
-
-/// How many columns a label may stand in; the next one tells a continuation line.
-pub const LABEL_COLUMNS: usize = 5;
+/// How many columns a card has past the last one that is read.
+const CARD_WIDTH: usize = 8;
 
 /// What stands past the last column that is read; nothing, where the line ends before it.
 pub fn unread(line: &[u8]) -> &[u8] {
     line.get(LAST_COLUMN..).unwrap_or(&[])
+}
+
+/// Whether past the last column something stands that may be of a statement: neither blanks nor
+/// digits alone, nor what names a card.
+pub fn is_cut(line: &[u8]) -> bool {
+    is_told(unread(line)) && !names_card(unread(line))
+}
+
+/// Whether a text has more than blanks and digits.
+fn is_told(text: &[u8]) -> bool {
+    text.iter()
+        .any(|byte| *byte != b' ' && !byte.is_ascii_digit())
+}
+
+/// Whether past the last column stands what names a card: letters, and digits behind them.
+pub fn names_card(text: &[u8]) -> bool {
+    let text = text.trim();
+    let letters = text.iter().position(|byte| !byte.is_ascii_alphabetic());
+    let digits = text.get(letters.unwrap_or(text.len())..).unwrap_or(&[]);
+    digits.len() < text.len()
+        && 2 <= digits.len()
+        && text.len() <= CARD_WIDTH
+        && digits.iter().all(|byte| byte.is_ascii_digit())
 }
 
 /// What stands in the columns that are read.
@@ -20,7 +42,7 @@ fn read(line: &[u8]) -> &[u8] {
 
 /// What stands in the columns of a statement's text.
 pub fn text_of(line: &[u8]) -> &[u8] {
-    read(line).get(LABEL_COLUMNS + 1..).unwrap_or(&[])
+    read(line).get(LAST_LABEL_COLUMN + 1..).unwrap_or(&[])
 }
 
 /// Whether a line is a comment by its first column.
@@ -35,17 +57,17 @@ pub fn is_blank(line: &[u8]) -> bool {
 
 /// Whether a line that is no comment goes on with the statement above it.
 pub fn is_continuation(line: &[u8]) -> bool {
-    !matches!(line.get(LABEL_COLUMNS), None | Some(b' ' | b'0'))
+    !matches!(line.get(LAST_LABEL_COLUMN), None | Some(b' ' | b'0'))
 }
 
 /// The label of a line, if it has one.
 pub fn label_of(line: &[u8]) -> Option<Label> {
-    match line.get(LABEL_COLUMNS) {
+    match line.get(LAST_LABEL_COLUMN) {
         None | Some(b' ' | b'0') => {}
         Some(_) => return None,
     }
     let mut label: Option<Label> = None;
-    for byte in line.iter().take(LABEL_COLUMNS) {
+    for byte in line.iter().take(LAST_LABEL_COLUMN) {
         match *byte {
             digit @ b'0'..=b'9' => {
                 let front = label.unwrap_or(0);

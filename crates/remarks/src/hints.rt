@@ -1,15 +1,20 @@
 //! Hints at the commonest causes of a refusal, by what stands in its statement.
 
+mod schedules;
 mod signs;
 
-use crate::columns::{LABEL_COLUMNS, is_continuation, label_of};
+use crate::breaks::OPERATORS;
+use crate::columns::{is_continuation, label_of, text_of};
 use crate::mentions::behind_label;
-use crate::squeezed::{Squeezed, action, behind_parentheses, has_outer, names_label};
+use crate::squeezed::{Squeezed, action, assigns, behind_parentheses, has_outer, names_label};
 use bstr::ByteSlice;
+use fixed_form::LAST_LABEL_COLUMN;
+pub use schedules::hint_of_schedule;
 use signs::{
-    BEGINNINGS, CHARACTERS, COMPARISONS, FOREIGN, GREAT, LEFT_OUT, LENGTHS, NEIGHBOURS, Sign,
-    TYPOGRAPHY, WHILE,
+    BEGINNINGS, CHARACTERS, COMPARISONS, CONTINUED, FOREIGN, GREAT, LEFT_OUT, LENGTHS, NEIGHBOURS,
+    SUBPROGRAMS, Sign, TRANSFERS, TYPOGRAPHY, WHILE,
 };
+use std::cmp::Ordering;
 
 /// What is said of 31, where nothing more is known.
 const DECLARE: &str = "INTEGER X declares a name, and INTEGER A(5) an array; the functions are \
@@ -22,6 +27,16 @@ MOD of two arguments, ABS and IABS of one, MAX, MAX0, MIN and MIN0 of two or mor
 /// What is said of a label in other columns.
 const LABEL: &str = "a label stands in columns 1 to 5";
 
+/// What is said of a comment by other signs, or in other columns.
+const COMMENT: &str = "a comment has a C or * in column 1";
+
+/// What is said of END with something behind it.
+const ALONE: &str = "END stands alone";
+
+/// What is said of operators without their points.
+const POINTS: &str = "an operator has a point at each end, as in .EQ. and .AND.; there are .LT., \
+.LE., .EQ., .NE., .GT., .GE., .NOT., .AND., .OR., .EQV. and .NEQV.";
+
 /// What is said of a parenthesis without its end.
 const OPEN: &str = "a parenthesis is not closed";
 
@@ -32,32 +47,60 @@ pub fn hint(number: u8, line: &[u8], statement: &Squeezed) -> Option<&'static st
     match number {
         1 => of_character(line),
         2 | 3 | 5 => of_columns(line),
-        7 => of_end(text),
-        8 => Some("a source is one program, with no subroutines and functions behind it"),
+        7 => of_missing_end(line, text),
+        8 => of_rest(line, text),
         20 | 25 => of_form(line, statement),
         24 => of_signs(text)
             .or(first_of(&LENGTHS, text))
+            .or(of_constant(text))
             .or(of_form(line, statement)),
-        21 => of_mark(text).or(past_columns(statement)),
-        22 => of_real(text),
+        21 => of_mark(text)
+            .or(past_columns(statement))
+            .or(of_apostrophes(text)),
+        22 => of_real(text).or(of_points(text)),
         23 => first_of(&GREAT, text),
         27 => of_left_out(text),
         31 => of_name(text).or(Some(DECLARE)),
         33 => Some(FIT),
-        43 => of_kind(text),
+        35 => Some("give the label to a CONTINUE behind the statement"),
+        43 => of_kind(line, text),
         _ => None,
     }
 }
 
-/// What may have caused the refusal of a line of a schedule, as it stands with its end.
-pub fn hint_of_schedule(line: &[u8]) -> Option<&'static str> {
-    if !line.ends_with(b"\n") {
-        return Some("no LF stands behind the line");
-    }
-    if line.ends_with(b"\r\n") {
-        return Some("a CR stands at the end of the line; a schedule's line ends in LF alone");
+/// What may have caused a fault by this number, at the statement.
+pub fn hint_of_fault(number: u8, statement: &Squeezed) -> Option<&'static str> {
+    let text = statement.text.as_slice();
+    if matches!(number, 2 | 3) && is_if(text) && holds_one(&[b".AND.", b".OR."], text) {
+        return Some("both sides of .AND. and .OR. have to have a value; put one IF into another");
     }
     None
+}
+
+/// What is said of a PARAMETER without its parentheses.
+fn of_constant(text: &[u8]) -> Option<&'static str> {
+    match text.strip_prefix(b"PARAMETER".as_slice()) {
+        Some([first, ..]) if first.is_ascii_alphabetic() => {
+            Some("parentheses stand around what PARAMETER gives, as in PARAMETER (N=5)")
+        }
+        _ => None,
+    }
+}
+
+/// What is said of the sign that stands first in a text; of two at one place, of the first row.
+fn earliest_of(signs: &[Sign], text: &[u8]) -> Option<&'static str> {
+    let mut found = None;
+    let mut before = text.len();
+    for sign in signs {
+        match text.find(sign.holds) {
+            Some(place) if place < before => {
+                before = place;
+                found = Some(sign.hint);
+            }
+            _ => {}
+        }
+    }
+    found
 }
 
 fn first_of(signs: &[Sign], text: &[u8]) -> Option<&'static str> {
@@ -81,15 +124,21 @@ fn of_character(line: &[u8]) -> Option<&'static str> {
 }
 
 fn of_columns(line: &[u8]) -> Option<&'static str> {
-    let front = line.get(..=LABEL_COLUMNS).unwrap_or(line);
-    if matches!(front.first(), Some(b'!' | b'#' | b'/' | b'%')) {
-        return Some("a comment has a C or * in column 1");
+    let front = line.get(..=LAST_LABEL_COLUMN).unwrap_or(line);
+    if matches!(
+        front,
+        [b'!' | b'#' | b'/' | b'%', ..] | [b'D' | b'd', b' ', ..]
+    ) {
+        return Some(COMMENT);
+    }
+    if is_note(line.trim_start()) {
+        return Some(COMMENT);
     }
     if front.contains(&b':') {
         return Some("a label has no colon behind it");
     }
     if front.iter().any(|byte| byte.is_ascii_alphabetic()) {
-        return Some("a statement begins in column 7, with six blanks before it");
+        return of_letters(front);
     }
     if goes_past_label(line) {
         return Some(LABEL);
@@ -97,9 +146,26 @@ fn of_columns(line: &[u8]) -> Option<&'static str> {
     of_label_columns(line)
 }
 
+/// What is said of letters in columns 1 to 6.
+fn of_letters(front: &[u8]) -> Option<&'static str> {
+    if front
+        .trim_start()
+        .first()
+        .is_some_and(|byte| byte.is_ascii_digit())
+    {
+        return Some("the text behind a label begins in column 7");
+    }
+    Some("a statement begins in column 7, with six blanks before it")
+}
+
+/// Whether a text looks like a comment that begins in another column.
+fn is_note(text: &[u8]) -> bool {
+    matches!(text, [b'C' | b'c' | b'*', b' ', ..])
+}
+
 /// What is said of a line with digits in columns 1 to 5.
 fn of_label_columns(line: &[u8]) -> Option<&'static str> {
-    let front = line.get(..LABEL_COLUMNS).unwrap_or(line);
+    let front = line.get(..LAST_LABEL_COLUMN).unwrap_or(line);
     if is_continuation(line) && front.iter().any(|byte| byte.is_ascii_digit()) {
         return Some("column 6 is blank in the line that a statement begins in");
     }
@@ -114,7 +180,9 @@ fn goes_past_label(line: &[u8]) -> bool {
     let text = line.trim_start();
     let length = digits_of(text);
     let start = line.len().saturating_sub(text.len());
-    length > 0 && start.saturating_add(length) > LABEL_COLUMNS && text.get(length) == Some(&b' ')
+    length > 0
+        && start.saturating_add(length) > LAST_LABEL_COLUMN
+        && text.get(length) == Some(&b' ')
 }
 
 /// How many digits a text begins with.
@@ -127,7 +195,17 @@ fn digits_of(text: &[u8]) -> usize {
 fn of_signs(text: &[u8]) -> Option<&'static str> {
     let end = place_of_mark(text).unwrap_or(text.len());
     let front = text.get(..end).unwrap_or(text);
-    first_of(&FOREIGN, front).or(of_mark(text))
+    if divides(front) {
+        return Some("write it out, as in K=K/2");
+    }
+    earliest_of(&FOREIGN, front).or(of_mark(text))
+}
+
+/// Whether a text begins with a name, and the '/=' of other languages.
+fn divides(text: &[u8]) -> bool {
+    let end = text.iter().position(|byte| !byte.is_ascii_alphanumeric());
+    text.get(end.unwrap_or(text.len())..)
+        .is_some_and(|rest| rest.starts_with(b"/="))
 }
 
 fn of_mark(text: &[u8]) -> Option<&'static str> {
@@ -163,8 +241,40 @@ fn of_left_out(text: &[u8]) -> Option<&'static str> {
 }
 
 fn of_end(text: &[u8]) -> Option<&'static str> {
-    if text.starts_with(b"ENDPROGRAM") {
-        return Some("END stands alone");
+    match text.strip_prefix(b"END".as_slice()) {
+        Some([sign, ..]) if !sign.is_ascii_alphanumeric() => Some(ALONE),
+        Some(rest) if rest.starts_with(b"PROGRAM") => Some(ALONE),
+        _ => None,
+    }
+}
+
+/// What is said of a source without END, by its last line and statement.
+fn of_missing_end(line: &[u8], text: &[u8]) -> Option<&'static str> {
+    if is_continuation(line) && line.trim().eq_ignore_ascii_case(b"END") {
+        return Some("END begins in column 7; in column 6 it goes on with the line above");
+    }
+    of_end(text)
+}
+
+/// What is said of a line behind END.
+fn of_rest(line: &[u8], text: &[u8]) -> Option<&'static str> {
+    let known = first_of(&CHARACTERS, line);
+    if known.is_some() {
+        return known;
+    }
+    if line.trim_start().starts_with(b"!") {
+        return Some(COMMENT);
+    }
+    if SUBPROGRAMS.iter().any(|word| text.contains_str(word)) {
+        return Some("a source is one program, with no subroutines and functions behind it");
+    }
+    Some("the END above ends the program")
+}
+
+/// What is said of apostrophes, of which there is an odd number.
+fn of_apostrophes(text: &[u8]) -> Option<&'static str> {
+    if text.iter().filter(|byte| **byte == b'\'').count() >= 3 {
+        return Some("an apostrophe within a text is written twice");
     }
     None
 }
@@ -175,13 +285,65 @@ fn of_form(line: &[u8], statement: &Squeezed) -> Option<&'static str> {
     of_signs(text)
         .or(past_columns(statement))
         .or(of_label(line, text))
+        .or(of_first(line, text))
         .or(of_condition(text))
         .or(of_loop(line, text))
         .or(of_star(done))
         .or(of_end(text))
+        .or(of_parentheses(text))
+        .or(of_list(done))
         .or(first_of(&BEGINNINGS, done))
         .or(of_neighbours(text))
-        .or(of_parentheses(text))
+        .or(of_points(text))
+        .or(of_text(text))
+}
+
+/// What is said of a statement by its first character, or of a comment in its place.
+fn of_first(line: &[u8], text: &[u8]) -> Option<&'static str> {
+    if is_note(text_of(line).trim_start()) {
+        return Some(COMMENT);
+    }
+    match text.first() {
+        None => Some("a label stands before a statement, as in 10 CONTINUE"),
+        Some(sign) if CONTINUED.contains(sign) => {
+            Some("a statement goes on in a line with a sign in column 6")
+        }
+        Some(_) => None,
+    }
+}
+
+/// What is said of the list of a PRINT, a WRITE or a READ.
+fn of_list(text: &[u8]) -> Option<&'static str> {
+    if !TRANSFERS.iter().any(|front| text.starts_with(front)) {
+        return None;
+    }
+    if text.starts_with(b"WRITE(*,*),") || text.starts_with(b"READ(*,*),") {
+        return Some("no comma stands behind (*,*)");
+    }
+    if text.ends_with(b",") {
+        return Some("nothing stands behind the last comma");
+    }
+    let start = text.iter().position(|byte| *byte == b'=')?;
+    let behind = text.get(start..).unwrap_or(&[]);
+    if has_outer(b'=', text) && (!has_outer(b',', behind) || behind.starts_with(b"=,")) {
+        return Some("no '=' stands in a list; a text stands between apostrophes");
+    }
+    if text.starts_with(b"READ") {
+        return Some("there is no implied DO; name the elements, or read in a loop");
+    }
+    Some("there is no implied DO; name the elements, or print in a loop")
+}
+
+/// What is said of a text where none may stand: in a condition, or in what is done.
+fn of_text(text: &[u8]) -> Option<&'static str> {
+    let done = action(text);
+    let condition = text.get(..text.len().saturating_sub(done.len()));
+    let is_list = TRANSFERS.iter().any(|front| done.starts_with(front));
+    let is_tested = condition.is_some_and(|condition| condition.contains(&b'\''));
+    if is_tested || done.contains(&b'\'') && !is_list {
+        return Some("a text stands in a PRINT, a WRITE or a STOP alone");
+    }
+    None
 }
 
 fn past_columns(statement: &Squeezed) -> Option<&'static str> {
@@ -203,18 +365,22 @@ fn of_label(line: &[u8], text: &[u8]) -> Option<&'static str> {
 fn of_parentheses(text: &[u8]) -> Option<&'static str> {
     let opened = text.iter().filter(|byte| **byte == b'(').count();
     let closed = text.iter().filter(|byte| **byte == b')').count();
-    if opened > closed {
-        return Some(OPEN);
+    match opened.cmp(&closed) {
+        Ordering::Greater => Some(OPEN),
+        Ordering::Less => Some("a parenthesis is closed that is not open"),
+        Ordering::Equal => None,
     }
-    None
 }
 
 fn of_condition(text: &[u8]) -> Option<&'static str> {
     if is_if(text) {
         return within_condition(text);
     }
-    if text.starts_with(b"IF") || text.starts_with(b"ELSEIF") {
+    if (text.starts_with(b"IF") || text.starts_with(b"ELSEIF")) && !assigns(text) {
         return around_condition(text);
+    }
+    if text.starts_with(b"ELSE") && !assigns(text) {
+        return Some("ELSE stands alone in its line");
     }
     None
 }
@@ -227,10 +393,17 @@ fn within_condition(text: &[u8]) -> Option<&'static str> {
     if text.get(..end).unwrap_or(text).contains(&b'=') {
         return Some("write .EQ. in the place of '=' in a condition");
     }
-    if rest.is_empty() {
-        return Some("THEN is missing, or what is done if the condition holds");
+    match rest.strip_prefix(b"THEN".as_slice()) {
+        Some(behind) if !behind.is_empty() => {
+            Some("THEN ends its line; the statement stands in the next one")
+        }
+        Some(_) => None,
+        None if text.starts_with(b"ELSE") => Some("THEN is missing"),
+        None if rest.is_empty() => {
+            Some("THEN is missing, or what is done if the condition holds")
+        }
+        None => None,
     }
-    None
 }
 
 fn around_condition(text: &[u8]) -> Option<&'static str> {
@@ -305,17 +478,82 @@ fn of_name(text: &[u8]) -> Option<&'static str> {
     if text.starts_with(b"IF(") && text.contains_str(b")THEN") && !text.ends_with(b"THEN") {
         return Some("THEN ends its line; here it begins the name that is assigned to");
     }
-    None
-}
-
-fn of_kind(text: &[u8]) -> Option<&'static str> {
-    if is_if(text) && !text.contains(&b'.') && holds_one(&COMPARISONS, text) {
-        return Some("points stand around an operator, as in .EQ.");
+    if text.starts_with(b"ELSE") && assigns(text) {
+        return Some("ELSE stands alone in its line; here it begins the name that is assigned to");
     }
     None
 }
 
+fn of_kind(line: &[u8], text: &[u8]) -> Option<&'static str> {
+    if !is_if(text) || text.contains(&b'.') {
+        return None;
+    }
+    if has_word(&COMPARISONS, line) {
+        return Some("points stand around an operator, as in .EQ.");
+    }
+    Some("a condition compares, as in K.NE.0")
+}
+
+/// Whether one of these words of two letters stands between blanks in a line.
+fn has_word(words: &[&[u8]], line: &[u8]) -> bool {
+    line.windows(4).any(|part| {
+        let word = part.get(1..3).unwrap_or(&[]);
+        part.starts_with(b" ")
+            && part.ends_with(b" ")
+            && words.iter().any(|known| word.eq_ignore_ascii_case(known))
+    })
+}
+
+/// What is said of operators whose points are missing, or of words between points that are none.
+fn of_points(text: &[u8]) -> Option<&'static str> {
+    if text.contains_str(b".XOR.") {
+        return Some("there is no .XOR.; write .NEQV.");
+    }
+    let mut closing = None;
+    for (place, byte) in text.iter().enumerate() {
+        if *byte != b'.' || closing == Some(place) {
+            continue;
+        }
+        let word = letters_behind(text, place);
+        let end = place.saturating_add(word.len()).saturating_add(1);
+        let is_closed = text.get(end) == Some(&b'.');
+        if lacks_point(text.get(..place).unwrap_or(&[]), word, is_closed) {
+            return Some(POINTS);
+        }
+        if is_closed && !word.is_empty() {
+            closing = Some(end);
+        }
+    }
+    None
+}
+
+/// The letters behind a place of a text.
+fn letters_behind(text: &[u8], place: usize) -> &[u8] {
+    let rest = text.get(place.saturating_add(1)..).unwrap_or(&[]);
+    let end = rest.iter().position(|byte| !byte.is_ascii_alphabetic());
+    rest.get(..end.unwrap_or(rest.len())).unwrap_or(&[])
+}
+
+/// Whether a point lacks the other one of an operator, by the text before it and the word behind.
+fn lacks_point(before: &[u8], word: &[u8], is_closed: bool) -> bool {
+    if word.is_empty() {
+        OPERATORS.iter().any(|known| before.ends_with(known))
+    } else if is_closed {
+        !is_word(word)
+    } else {
+        is_word(word) || OPERATORS.iter().any(|known| word.starts_with(known))
+    }
+}
+
+/// Whether a word stands between points.
+fn is_word(word: &[u8]) -> bool {
+    OPERATORS.contains(&word) || matches!(word, b"TRUE" | b"FALSE")
+}
+
 fn of_neighbours(text: &[u8]) -> Option<&'static str> {
+    if text.ends_with(b"++") || text.ends_with(b"--") {
+        return Some("write it out, as in K=K+1");
+    }
     if holds_one(&NEIGHBOURS, text) {
         return Some("a sign behind an operator stands in parentheses, as in 2*(-1)");
     }

@@ -1,14 +1,12 @@
 //! The names that a statement mentions, in the order of its text.
 
-use crate::squeezed::Squeezed;
-use ast::Name;
+use crate::squeezed::{PROGRAM, Squeezed};
+use ast::{LONGEST_NAME, Name};
 use std::alloc::{AllocError, Global};
 
-/// How many letters and digits a name has at most.
-pub const LONGEST_NAME: usize = 6;
-
 /// What stands before the names of a statement.
-const KEYWORDS: [&[u8]; 7] = [
+const KEYWORDS: [&[u8]; 8] = [
+    PROGRAM,
     b"INTEGER",
     b"DIMENSION",
     b"PARAMETER",
@@ -27,11 +25,13 @@ const WORDS: [&[u8]; 7] = [
 #[derive(Clone, Copy)]
 pub struct Mention {
     pub name: Name,
+    /// The number, from 0, of its first character among those of the statement.
+    pub place: usize,
     /// How many subscripts or arguments stand behind it.
     pub count: usize,
     /// In how many parentheses it stands.
     pub depth: usize,
-    /// Whether an equals sign stands behind it.
+    /// Whether an equals sign stands behind it and its subscripts.
     pub is_given: bool,
 }
 
@@ -39,34 +39,46 @@ pub struct Mention {
 #[derive(Drop)]
 struct Scanner {
     found: Vec<Mention>,
+    /// The number of the character that is read next among those of the statement.
+    place: usize,
     /// The letters and digits that were read last.
     word: Vec<u8>,
-    /// For each open parenthesis the place of the name before it, if there is one.
+    /// For each open parenthesis the number of the name before it, if there is one.
     opened: Vec<Option<usize>>,
+    /// The number of the name whose parenthesis was closed by the character that was read last.
+    closed: Option<usize>,
     /// Whether an operator in points has begun and not ended.
     is_operator: bool,
 }
 
 /// The names of a statement that is one.
 pub fn mentions(alloc: Global, statement: &Squeezed) -> Result<Vec<Mention>, AllocError> {
+    let text = without_keyword(statement);
+    let before = statement.text.len().saturating_sub(text.len());
     let mut scanner = Scanner {
         found: Vec::new(alloc),
+        place: statement.front.saturating_add(before),
         word: Vec::new(alloc),
         opened: Vec::new(alloc),
+        closed: None,
         is_operator: false,
     };
-    for byte in without_keyword(statement) {
+    for byte in text {
         scanner.take(*byte)?;
+        scanner.place = scanner.place.saturating_add(1);
     }
     scanner.end_word()?;
     Ok(scanner.found)
 }
 
-/// The text of a statement behind its keyword, or behind the label of a DO.
-fn without_keyword(statement: &Squeezed) -> &[u8] {
+/// The text of a statement behind its keyword, or behind the label of a DO; of an assignment all.
+pub fn without_keyword(statement: &Squeezed) -> &[u8] {
     let text = statement.text.as_slice();
     if statement.is_loop() {
         return behind_label(text);
+    }
+    if statement.is_assignment() {
+        return text;
     }
     for keyword in &KEYWORDS {
         if text.starts_with(keyword) {
@@ -105,44 +117,47 @@ impl Scanner {
             return Ok(());
         }
         if byte.is_ascii_alphanumeric() {
+            self.closed = None;
             self.word.push(byte)?;
             return Ok(());
         }
         let named = self.end_word()?;
+        let given = named.or(self.closed);
+        self.closed = None;
         match byte {
             b'.' => self.is_operator = true,
             b'(' => self.open(named)?,
-            b'=' => self.give(named),
+            b'=' => self.give(given),
             b',' => self.count_one(),
-            b')' => {
-                let _ = self.opened.pop();
-            }
+            b')' => self.closed = self.opened.pop().unwrap_or(None),
             _ => {}
         }
         Ok(())
     }
 
-    /// Ends the word that was read last: its place among the names, if it is one.
+    /// Ends the word that was read last: its number among the names, if it is one.
     fn end_word(&mut self) -> Result<Option<usize>, AllocError> {
         let name = named(&self.word);
+        let start = self.place.saturating_sub(self.word.len());
         self.word.clear();
         let Some(name) = name else {
             return Ok(None);
         };
-        let place = self.found.len();
+        let number = self.found.len();
         self.found.push(Mention {
             name,
+            place: start,
             count: 0,
             depth: self.opened.len(),
             is_given: false,
         })?;
-        Ok(Some(place))
+        Ok(Some(number))
     }
 
     /// Notes that an equals sign stands behind a name.
     fn give(&mut self, named: Option<usize>) {
-        if let Some(place) = named {
-            if let Some(mention) = self.found.get_mut(place) {
+        if let Some(number) = named {
+            if let Some(mention) = self.found.get_mut(number) {
                 mention.is_given = true;
             }
         }
@@ -156,8 +171,8 @@ impl Scanner {
 
     /// Counts a subscript or an argument of the name before the innermost parenthesis.
     fn count_one(&mut self) {
-        if let Some(Some(place)) = self.opened.last() {
-            if let Some(mention) = self.found.get_mut(*place) {
+        if let Some(Some(number)) = self.opened.last() {
+            if let Some(mention) = self.found.get_mut(*number) {
                 mention.count = mention.count.saturating_add(1);
             }
         }

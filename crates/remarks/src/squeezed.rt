@@ -1,12 +1,22 @@
 //! Statements of a source as hints look at them.
 
-use crate::columns::{is_blank, is_comment, is_continuation, label_of, text_of, unread};
+use crate::columns::{is_blank, is_comment, is_continuation, is_cut, label_of, text_of};
+use crate::place::line_at;
 use ast::{Label, Line};
 use bstr::ByteSlice;
 use std::alloc::{AllocError, Global};
 
 /// What stands for each character of a text.
 const BLOT: u8 = b'~';
+
+/// What begins the statement that gives a program its name.
+pub const PROGRAM: &[u8] = b"PROGRAM";
+
+/// What begins the statements that others stand on, but for a DO and the parts of an IF.
+const DECLARATIONS: [&[u8]; 4] = [b"INTEGER", b"DIMENSION", b"PARAMETER", PROGRAM];
+
+/// What begins the statements that read and print.
+const TRANSFERS: [&[u8]; 3] = [b"PRINT", b"READ", b"WRITE"];
 
 /// What begins the statements that don't stand behind a condition, but for a DO.
 const UNCONDITIONAL: [&[u8]; 7] = [
@@ -16,7 +26,7 @@ const UNCONDITIONAL: [&[u8]; 7] = [
     b"INTEGER",
     b"DIMENSION",
     b"PARAMETER",
-    b"PROGRAM",
+    PROGRAM,
 ];
 
 /// Whether a sign stands outside all parentheses.
@@ -55,6 +65,18 @@ pub fn action(text: &[u8]) -> &[u8] {
     text
 }
 
+/// Whether a text begins with a name, with subscripts or without, and an equals sign.
+pub fn assigns(text: &[u8]) -> bool {
+    let end = text.iter().position(|byte| !byte.is_ascii_alphanumeric());
+    let rest = text.get(end.unwrap_or(text.len())..).unwrap_or(&[]);
+    let behind = if rest.starts_with(b"(") {
+        behind_parentheses(rest)
+    } else {
+        Some(rest)
+    };
+    behind.is_some_and(|behind| behind.starts_with(b"="))
+}
+
 /// Whether a text begins as a DO with a label.
 pub fn names_label(text: &[u8]) -> bool {
     matches!(text, [b'D', b'O', b'0'..=b'9', ..])
@@ -66,8 +88,10 @@ pub struct Squeezed {
     /// Its initial line.
     pub line: Line,
     pub label: Option<Label>,
+    /// How many characters of its statement stand before it, where it is what a logical IF does.
+    pub front: usize,
     pub text: Vec<u8>,
-    /// Whether something stands past the columns that are read.
+    /// Whether something that may be of it stands past the columns that are read.
     pub is_cut: bool,
     /// Whether a text has begun and not ended.
     is_open: bool,
@@ -78,13 +102,12 @@ impl Squeezed {
     /// lines.
     pub fn of(alloc: Global, source: &[u8], line: Line) -> Result<Self, AllocError> {
         let mut statement = Squeezed::new(alloc, line, None);
-        let mut number: Line = 0;
-        for text in source.lines() {
-            number = number.saturating_add(1);
+        for (place, text) in source.lines().enumerate() {
             if is_comment(text) || is_blank(text) {
                 continue;
             }
             if !is_continuation(text) {
+                let number = line_at(place);
                 if number > line {
                     break;
                 }
@@ -98,14 +121,12 @@ impl Squeezed {
     /// All statements of a source whose lines are in order.
     pub fn all(alloc: Global, source: &[u8]) -> Result<Vec<Self>, AllocError> {
         let mut statements = Vec::new(alloc);
-        let mut number: Line = 0;
-        for text in source.lines() {
-            number = number.saturating_add(1);
+        for (place, text) in source.lines().enumerate() {
             if is_comment(text) || is_blank(text) {
                 continue;
             }
             if !is_continuation(text) {
-                statements.push(Squeezed::new(alloc, number, label_of(text)))?;
+                statements.push(Squeezed::new(alloc, line_at(place), label_of(text)))?;
             }
             if let Some(statement) = statements.last_mut() {
                 statement.add_line(text)?;
@@ -118,6 +139,7 @@ impl Squeezed {
         Squeezed {
             line,
             label,
+            front: 0,
             text: Vec::new(alloc),
             is_cut: false,
             is_open: false,
@@ -128,6 +150,7 @@ impl Squeezed {
     pub fn action(&self, alloc: Global) -> Result<Self, AllocError> {
         let mut done = Squeezed::new(alloc, self.line, self.label);
         done.text.extend_from_slice(action(&self.text))?;
+        done.front = self.text.len().saturating_sub(done.text.len());
         Ok(done)
     }
 
@@ -141,6 +164,30 @@ impl Squeezed {
     /// Whether it is a DO, if it is a statement.
     pub fn is_loop(&self) -> bool {
         names_label(&self.text) && has_outer(b'=', &self.text) && has_outer(b',', &self.text)
+    }
+
+    /// Whether it assigns to a variable or an element, if it is a statement.
+    pub fn is_assignment(&self) -> bool {
+        assigns(&self.text)
+    }
+
+    /// Whether no other statement stands on it, whatever it was meant as: an assignment, a READ or
+    /// a PRINT, also in a logical IF.
+    pub fn stands_alone(&self) -> bool {
+        let done = action(&self.text);
+        if done.starts_with(b"THEN") || DECLARATIONS.iter().any(|front| done.starts_with(front)) {
+            return false;
+        }
+        if self.is_assignment() {
+            return true;
+        }
+        TRANSFERS.iter().any(|front| done.starts_with(front))
+            || has_outer(b'=', done) && !has_outer(b',', done)
+    }
+
+    /// Whether it is a READ, if it is a statement.
+    pub fn is_read(&self) -> bool {
+        self.text.starts_with(b"READ") && !self.is_assignment()
     }
 
     /// The label that a DO names.
@@ -166,7 +213,8 @@ impl Squeezed {
 
     /// Whether it declares names with bounds, if it is a statement.
     pub fn is_declaration(&self) -> bool {
-        self.text.starts_with(b"INTEGER") || self.text.starts_with(b"DIMENSION")
+        let begins = self.text.starts_with(b"INTEGER") || self.text.starts_with(b"DIMENSION");
+        begins && !self.is_assignment()
     }
 
     /// Whether it names constants, if it is a statement.
@@ -175,9 +223,7 @@ impl Squeezed {
     }
 
     fn add_line(&mut self, line: &[u8]) -> Result<(), AllocError> {
-        if !unread(line).trim().is_empty() {
-            self.is_cut = true;
-        }
+        self.is_cut = self.is_cut || is_cut(line);
         for byte in text_of(line) {
             self.add(*byte)?;
         }

@@ -58,7 +58,7 @@ impl<'a> Display for VisibleLines<'a> {
 
 /// Writes a character, or its name where a terminal would obey it.
 fn write_visible<W: Write>(f: &mut Formatter<W>, character: char) -> FmtResult {
-    if character.is_control() || is_directional(character) {
+    if character.is_control() || is_unseen(character) {
         write_escaped(f, character)
     } else {
         f.write_char(character)
@@ -73,10 +73,18 @@ fn write_escaped<W: Write>(f: &mut Formatter<W>, character: char) -> FmtResult {
     Ok(())
 }
 
-/// Whether a character changes the direction of the text behind it.
-fn is_directional(character: char) -> bool {
+/// Whether a character looks like a blank or like nothing, or changes the direction of the text
+/// behind it.
+fn is_unseen(character: char) -> bool {
     matches!(
         character,
-        '\u{61C}' | '\u{200E}' | '\u{200F}' | '\u{202A}'..='\u{202E}' | '\u{2066}'..='\u{2069}'
+        '\u{A0}'
+            | '\u{AD}'
+            | '\u{61C}'
+            | '\u{2000}'..='\u{200F}'
+            | '\u{2028}'..='\u{202F}'
+            | '\u{205F}'..='\u{206F}'
+            | '\u{3000}'
+            | '\u{FEFF}'
     )
 }

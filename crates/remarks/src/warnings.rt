@@ -1,15 +1,18 @@
 //! What is warned of on standard error. No warning changes an answer.
 
-use crate::columns::{is_comment, label_of, unread};
-use crate::mentions::LONGEST_NAME;
-use crate::place::Place;
+use crate::columns::{is_comment, is_cut, label_of, names_card, unread};
+use crate::place::{Place, line_at};
+use crate::squeezed::behind_parentheses;
 use crate::usage::{Seen, Usage};
 use crate::visible::Visible;
-use ast::{Kind, Line, Name, Node, Program, Symbol, SymbolKind};
+use ast::{Kind, LONGEST_NAME, Line, Name, Node, Program, Symbol, SymbolKind};
 use bstr::ByteSlice;
 
 /// How many lines are warned of for one thing.
 const MOST: u32 = 20;
+
+/// What begins the statement that calls a subroutine.
+const CALL: &[u8] = b"CALL ";
 
 /// Warns of what stands past the last column that is read, of comments that look like statements,
 /// of names that have no value or no use, and of labels that no DO names.
@@ -23,41 +26,73 @@ pub fn warn<R: Eprint + AllocGlobal>(rt: &R, file: &str, source: &[u8], program:
     }
 }
 
-/// Warns of each line with something past the last column that is read, of the first 20.
+/// Warns of each line with something past the last column that is read, of the first 20, and of
+/// the first one with the name of a card there.
 pub fn warn_of_columns<R: Eprint>(rt: &R, file: &str, source: &[u8]) {
+    warn_of_cuts(rt, file, source);
+    warn_of_cards(rt, file, source);
+}
+
+/// Warns of each line that may be cut, of the first 20.
+fn warn_of_cuts<R: Eprint>(rt: &R, file: &str, source: &[u8]) {
     let mut left = MOST;
-    let mut line: Line = 0;
-    for text in source.lines() {
-        line = line.saturating_add(1);
-        let cut = unread(text);
-        if is_comment(text) || !cut.iter().any(is_telling) {
+    for (index, text) in source.lines().enumerate() {
+        if is_comment(text) || !is_cut(text) {
             continue;
         }
         if left == 0 {
+            let _ = eprintln!(rt; "doac: more than {MOST} lines go past column 72");
             return;
         }
         left -= 1;
-        let place = Place { file, line };
-        let cut = Visible::new(cut.trim());
-        let _ = eprintln!(rt; "{place}warning: what stands past column 72 is not read: {cut}");
+        say_unread(rt, file, index, text);
     }
 }
 
-/// Warns of comments that look like assignments to a name that begins with C, or like a CONTINUE.
+/// Warns of the first line with the name of a card, and says how many there are.
+fn warn_of_cards<R: Eprint>(rt: &R, file: &str, source: &[u8]) {
+    let mut count: usize = 0;
+    for (index, text) in source.lines().enumerate() {
+        if !is_comment(text) && names_card(unread(text)) {
+            if count == 0 {
+                say_unread(rt, file, index, text);
+            }
+            count = count.saturating_add(1);
+        }
+    }
+    if count > 1 {
+        let _ = eprintln!(rt; "doac: {count} lines have letters and digits there, as cards do");
+    }
+}
+
+/// Says what stands in a line past the last column that is read.
+fn say_unread<R: Eprint>(rt: &R, file: &str, index: usize, text: &[u8]) {
+    let place = Place {
+        file,
+        line: line_at(index),
+    };
+    let cut = Visible::new(unread(text).trim());
+    let _ = eprintln!(rt; "{place}warning: what stands past column 72 is not read: {cut}");
+}
+
+/// Warns of comments that look like assignments to a name that begins with C, or like a CONTINUE or
+/// a CALL.
 fn warn_of_comments<R: Eprint>(rt: &R, file: &str, source: &[u8]) {
     let mut left = MOST;
-    let mut line: Line = 0;
-    for text in source.lines() {
-        line = line.saturating_add(1);
+    for (index, text) in source.lines().enumerate() {
         if left > 0 && looks_like_statement(text) {
             left -= 1;
-            let place = Place { file, line };
+            let place = Place {
+                file,
+                line: line_at(index),
+            };
             let _ = eprintln!(rt; "{place}warning: with a C in column 1 this is a comment");
         }
     }
 }
 
-/// Whether a name that begins in column 1 with a C stands before an equals sign, or is CONTINUE.
+/// Whether a name that begins in column 1 with a C stands before an equals sign, with subscripts or
+/// without, is CONTINUE, or is CALL before a name with arguments.
 fn looks_like_statement(line: &[u8]) -> bool {
     if !matches!(line, [b'C' | b'c', second, ..] if second.is_ascii_alphanumeric()) {
         return false;
@@ -65,21 +100,38 @@ fn looks_like_statement(line: &[u8]) -> bool {
     if line.trim().eq_ignore_ascii_case(b"CONTINUE") {
         return true;
     }
-    let mut letters: usize = 0;
-    for byte in line {
-        match byte {
-            b' ' => {}
-            b'=' => return letters <= LONGEST_NAME,
-            _ if byte.is_ascii_alphanumeric() => letters = letters.saturating_add(1),
-            _ => return false,
-        }
+    if line
+        .get(..CALL.len())
+        .is_some_and(|front| front.eq_ignore_ascii_case(CALL))
+    {
+        let rest = line.get(CALL.len()..).unwrap_or(&[]);
+        return behind_name(rest).is_some_and(|rest| rest.starts_with(b"(") && is_closed(rest));
     }
-    false
+    match behind_name(line) {
+        Some(rest) if rest.starts_with(b"(") => {
+            behind_parentheses(rest).is_some_and(|behind| behind.trim_start().starts_with(b"="))
+        }
+        Some(rest) => rest.starts_with(b"="),
+        None => false,
+    }
 }
 
-/// Whether a character past the last column is none of a card's number.
-fn is_telling(byte: &u8) -> bool {
-    *byte != b' ' && !byte.is_ascii_digit()
+/// Whether a text ends with the parenthesis that closes its first one.
+fn is_closed(text: &[u8]) -> bool {
+    behind_parentheses(text).is_some_and(|rest| rest.trim().is_empty())
+}
+
+/// What stands behind the letters and digits, and the blanks, that a text begins with, where they
+/// may be a name.
+fn behind_name(text: &[u8]) -> Option<&[u8]> {
+    let end = text
+        .iter()
+        .position(|byte| *byte != b' ' && !byte.is_ascii_alphanumeric())?;
+    let name = text.get(..end)?;
+    match name.iter().filter(|byte| **byte != b' ').count() {
+        1..=LONGEST_NAME => text.get(end..),
+        _ => None,
+    }
 }
 
 fn warn_of_names<R: Eprint>(rt: &R, file: &str, program: &Program, usage: &Usage) {
@@ -117,12 +169,13 @@ fn warn_of_constants<R: Eprint>(rt: &R, file: &str, program: &Program, usage: &U
 }
 
 fn warn_of_labels<R: Eprint>(rt: &R, file: &str, source: &[u8], usage: &Usage) {
-    let mut line: Line = 0;
-    for text in source.lines() {
-        line = line.saturating_add(1);
+    for (index, text) in source.lines().enumerate() {
         if let Some(label) = label_of(text) {
             if usage.terminals.binary_search(&label).is_err() {
-                let place = Place { file, line };
+                let place = Place {
+                    file,
+                    line: line_at(index),
+                };
                 let _ = eprintln!(rt; "{place}warning: no DO names the label {label}");
             }
         }

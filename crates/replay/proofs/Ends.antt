@@ -1,6 +1,7 @@
 -- Where a schedule leads from the beginning.
 use Rattle.std.proofs.Common.{inl, ◌≡◌, ◌∙◌, ℕ, ◌+◌, List, length, Some, None, sym, ap, subst}
 use Rattle.std.specs.Prelude.{Result, Ok, Err, IfOk, IfErr}
+use Rattle.std.proofs.lemmas.Result.{IfOk-weaker}
 use Rattle.ast.specs.View.{cells}
 use Rattle.ast.specs.declared.answer.Answer.{Answer}
 use Rattle.ast.specs.declared.fault.End.{End}
@@ -78,10 +79,6 @@ is_upgrade code input x y a h p n = begins code input x.processors x.slots a (λ
 
 -- ---- results
 
-if_ok : {X E : Type 0} (r : Result X E) (P Q : X → Type 0) → ((x : X) → P x → Q x) → IfOk r P → IfOk r Q
-if_ok (Ok x) P Q f h = f x h
-if_ok (Err e) P Q f h = h
-
 if_err : {X E : Type 0} (r : Result X E) (P Q : E → Type 0) → ((e : E) → P e → Q e) → IfErr r P → IfErr r Q
 if_err (Ok x) P Q f h = h
 if_err (Err e) P Q f h = f e h
@@ -91,7 +88,7 @@ Upgraded = Result Schedule ReplayRefusal
 
 pub found_upgrade : (code : Code) (input : List ℕ) (x : Schedule) (a : Activities) (r : Upgraded) → AreOf code x.processors x.slots a → point_in a ≡ beginning code input x.slots
     → IfOk r (NamesPicks (code_in a) (point_in a) x) → IfOk r (IsUpgrade code input x)
-found_upgrade code input x a r h p n = if_ok r (NamesPicks (code_in a) (point_in a) x) (IsUpgrade code input x) (λ y m. is_upgrade code input x y a h p m) n
+found_upgrade code input x a r h p n = IfOk-weaker r (NamesPicks (code_in a) (point_in a) x) (IsUpgrade code input x) (λ y m. is_upgrade code input x y a h p m) n
 
 pub refused_upgrade : (code : Code) (input : List ℕ) (x : Schedule) (a : Activities) (r : Upgraded) → AreOf code x.processors x.slots a → point_in a ≡ beginning code input x.slots
     → IfErr r (λ f. Explains f (StopsAt x.version (code_in a) x.slots (point_in a) x.entries)) → IfErr r (λ f. Explains f (HasStop code input x))

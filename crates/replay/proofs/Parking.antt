@@ -1,7 +1,6 @@
 -- Which steps park an activity, or take up one that was parked.
 use Rattle.std.proofs.Common.{inl, inr, ◌≡◌, ◌∙◌, ◌⊎◌, ℕ, zero, suc, Bool, true, false, List, [], ◌∷◌, map, get_or, Option, Some, None, refl, sym, ap, subst}
 use Rattle.std.specs.Prelude.{◌%◌, is_some, if◌then◌else◌, option_map}
-use Rattle.std.proofs.lemmas.Bool.{eq-eqb}
 use Rattle.machine.specs.Code.{Code}
 use Rattle.machine.specs.Frame.{Frame}
 use Rattle.machine.specs.Local.{local}
@@ -10,6 +9,7 @@ use Rattle.machine.specs.State.{Active, Machine, Wait, Who, the_main, iteration,
 use Rattle.machine.specs.View.{View, doing, loading, storing, printing, reading, awaiting, advancing, opening, joining, leaving, breaking, halting, stuck, view, trips_of, begin}
 use Rattle.machine.specs.declared.code.Open.{Open}
 use Rattle.machine.proofs.Views.{local_is_doing}
+use Rattle.machine.proofs.Puts.{put_same}
 use Rattle.activities.specs.Activities.{point_in}
 use Rattle.activities.specs.Core.{IsCore}
 use Rattle.activities.specs.Parts.{Kept, Standing, held_of, machine_of, numbered, point_of, standing, wait_in}
@@ -20,10 +20,6 @@ use Rattle.activities.specs.declared.holding.Activities.{Activities}
 use Rattle.activities.specs.declared.parts.Iteration.{Iteration}
 use Rattle.activities.proofs.Maps.{standing_is}
 
-pub put_here : {A : Type 0} (f : ℕ → A) (k : ℕ) (v : A) → put_at f k v k ≡ v
-unfolding put_at
-put_here {A} f k v = rw (eq-eqb k k refl) refl
-
 -- a step that parks nobody, or one that parks this activity
 abbrev Parks : Machine → Machine → Option Wait → Type 0
 Parks m n o = Still m n ⊎ ((w : Wait) × (o ≡ Some w))
@@ -32,7 +28,7 @@ still_as : (m n r : Machine) → n ≡ r → Still m r → Still m n
 still_as m n r e s = subst (λ (z : Machine). Still m z) (sym e) s
 
 parks_as : (m n r : Machine) (k : ℕ) (w : Wait) → n ≡ r → r.parked ≡ put_at m.parked k (Some w) → Parks m n (n.parked k)
-parks_as m n r k w e p = inr (w, ap (λ (z : Machine). z.parked k) e ∙ ap (λ (f : ℕ → Option Wait). f k) p ∙ put_here m.parked k (Some w))
+parks_as m n r k w e p = inr (w, ap (λ (z : Machine). z.parked k) e ∙ ap (λ (f : ℕ → Option Wait). f k) p ∙ put_same m.parked k (Some w))
 
 move_parks : (v : View Frame Open) (x : Active Frame) (m : Machine) (q k : ℕ) (n : Machine) → Move v x m q k n → Parks m n (n.parked k)
 move_parks (doing g) x m q k n h = inl (still_as m n _ h (refl, refl))
@@ -128,7 +124,7 @@ pub again_pick : (code : Code) (s : ℕ) (c : Choice) (a : Point) (q : ℕ) (b :
 again_pick code s take_main a q b h =
     inr (refl, λ t. (let z : None ≡ Some h.takes.0 = sym (ap (λ (m : Machine). m.waiting) h.takes.3) ∙ t.1 ∙ h.takes.1 in cc))
 again_pick code s (take_iteration k) a q b h =
-    inr (refl, λ t. (let z : None ≡ Some h.takes.0 = sym (ap (λ (m : Machine). m.parked k) h.takes.3 ∙ put_here a.machine.parked k None) ∙ ap (λ (f : ℕ → Option Wait). f k) t.0 ∙ h.takes.1 in cc))
+    inr (refl, λ t. (let z : None ≡ Some h.takes.0 = sym (ap (λ (m : Machine). m.parked k) h.takes.3 ∙ put_same a.machine.parked k None) ∙ ap (λ (f : ℕ → Option Wait). f k) t.0 ∙ h.takes.1 in cc))
 again_pick code s take_ticket a q b h = inl (refl, still_as a.machine b.machine _ h.takes.4 (refl, refl))
 
 -- ---- what an activity is parked on

@@ -1,8 +1,8 @@
 -- Steps with their entries.
-use Rattle.std.proofs.Common.{inl, ◌≡◌, ◌∙◌, ℕ, zero, suc, ◌+◌, ◌<◌, Bool, true, false, List, [], ◌∷◌, length, get_or, Option, Some, None, refl, sym, ap, subst, arith}
+use Rattle.std.proofs.Common.{inl, ◌≡◌, ◌∙◌, ℕ, ◌+◌, ◌<◌, Bool, true, false, length, get_or, Option, Some, None, refl, sym, ap, subst, arith}
 use Rattle.std.specs.Prelude.{◌%◌, ◌==◌, is_some, if◌then◌else◌, option_map}
 use Rattle.std.proofs.lemmas.Bool.{eq-eqb, ne_eqb}
-use Rattle.std.proofs.lemmas.List.{length-map}
+use Rattle.std.proofs.lemmas.List.{length-map, get_or_default}
 use Rattle.machine.specs.Frame.{Frame}
 use Rattle.machine.specs.Local.{locals}
 use Rattle.machine.specs.State.{Wait, Who, Choice, take_main, take_iteration, take_ticket}
@@ -40,16 +40,11 @@ there_is k (Some a) = by (a.number == k) refl
     by true e = rw e (some_wait a.wait)
     by false e = rw e refl
 
-any_default : {A : Type 0} (xs : List A) (i : ℕ) (d e : A) → i < length xs → get_or xs i d ≡ get_or xs i e
-any_default [] i d e h = absurd (omega (arith, h))
-any_default (x ∷ xs) zero d e h = refl
-any_default (x ∷ xs) (suc i) d e h = any_default xs i d e (omega (arith, h))
-
 pub parked_is : (a : Activities) (h : Holder) (k at : ℕ) (o y : Option Iteration) (r : Bool) → AreActivities a → h ≡ holders.Iteration k at → y ≡ get_or a.iterations.items (k % a.slots) y → y ≡ o → r ≡ is_there k o → r ≡ is_some (wait_of (point_in a).machine (who h))
 parked_is a h k at o y r stand e f g t =
     let room : length a.iterations.items ≡ a.slots = sym (length-map a.iterations.items (λ x. option_map standing_of x)) ∙ stand.core.room in
     let inside : k % a.slots < length a.iterations.items = omega (arith, room, stand.core.some) in
-    let place : get_or a.iterations.items (k % a.slots) None ≡ o = any_default a.iterations.items (k % a.slots) None y inside ∙ sym f ∙ g in
+    let place : get_or a.iterations.items (k % a.slots) None ≡ o = get_or_default a.iterations.items (k % a.slots) None y inside ∙ sym f ∙ g in
     t ∙ there_is k o ∙ sym (ap (λ (w : Option Wait). is_some w) (parked_at a k o place)) ∙ sym (ap (λ (z : Holder). is_some (wait_of (point_in a).machine (who z))) e)
 
 -- ---- steps

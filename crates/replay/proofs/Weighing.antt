@@ -8,6 +8,7 @@ use Rattle.machine.specs.State.{Active, Machine, CodeStep, Who, the_main, iterat
 use Rattle.machine.specs.View.{View, view, trips_of, begin}
 use Rattle.machine.specs.declared.code.Open.{Open}
 use Rattle.machine.proofs.Views.{local_is_doing}
+use Rattle.machine.proofs.Puts.{put_same}
 use Rattle.schedules.specs.Schedules.{Act, works, shares, picks_main, picks, takes_ticket, AreEntries, Entry}
 use Rattle.schedules.specs.declared.entry.Version.{Version}
 use Rattle.schedules.specs.declared.entry.Version.TheVariants.{First, Second}
@@ -15,7 +16,7 @@ use Rattle.activities.specs.Activities.{frame_at, frame_held}
 use Rattle.activities.specs.Points.{Point, Picks, Works, beginning, frame_in, frame_of}
 use Rattle.replay.specs.Replays.{Does}
 use Rattle.replay.specs.Tallies.{Again, AreCounts, Tallies, Weighed, steps}
-use Rattle.replay.proofs.Parking.{local_still, put_here, works_still}
+use Rattle.replay.proofs.Parking.{local_still, works_still}
 use Rattle.replay.proofs.Running.{picked_step}
 
 -- ---- one step before others
@@ -95,7 +96,7 @@ local_frame code s (iteration k) m q n f g h e l t =
     let is : t.0.frame ≡ f = (let z : Some t.0.frame ≡ Some f = sym (ap (λ (o : Option (Active Frame)). frame_in o) t.1) ∙ e in cc) in
     let next : n ≡ with_frame m k g t.0.out = subst (λ (v : View Frame Open). Move v t.0 m q k n) (ap (view code) is ∙ (local_is_doing code f g).0 l) t.2 in
     subst (λ (z : Machine). frame_held z (z.held q) ≡ Some g) (sym next)
-    (ap (λ (o : Option Who). frame_held (with_frame m k g t.0.out) o) h ∙ ap (λ (o : Option (Active Frame)). frame_in o) (put_here m.iterations k (Some (record { frame = g; out = t.0.out }))))
+    (ap (λ (o : Option Who). frame_held (with_frame m k g t.0.out) o) h ∙ ap (λ (o : Option (Active Frame)). frame_in o) (put_same m.iterations k (Some (record { frame = g; out = t.0.out }))))
 
 pub works_frame : (code : Code) (s n : ℕ) (a : Point) (q : ℕ) (b : Point) (f g : Frame) → Works code s n a q b → frame_at q a ≡ Some f → locals code.instructions n f ≡ Some g → frame_at q b ≡ Some g
 works_frame code s zero a q b f g w e l = subst (λ (x : Point). frame_at q x ≡ Some g) w (e ∙ l)

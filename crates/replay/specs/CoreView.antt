@@ -26,11 +26,12 @@ pub record IsNew (code : Code) (input : List ℕ) (p s : ℕ) (x : CoreView) : T
   pub schedule : x.schedule ≡ record { version = Second; processors = p; slots = s; entries = [] }
   pub point : point_at x ≡ beginning code input s
 
--- so many entries were made, and one was
+-- these entries were added, and code and input are as before
 pub record IsFurther (x : CoreView) (es : List Entry) (y : CoreView) : Type 0 where
   pub code_is : y.code ≡ x.code
   pub input_is : y.input ≡ x.input
   pub schedule : y.schedule ≡ with_entries x.schedule es
 
+-- one entry was added
 abbrev pub IsAfter : CoreView → Entry → CoreView → Type 0
 IsAfter x e y = IsFurther x (e ∷ []) y

@@ -1,4 +1,5 @@
 pub mod CoreView
+pub mod Followed
 pub mod Loading
 pub mod Making
 pub mod Replayed

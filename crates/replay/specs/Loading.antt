@@ -25,5 +25,6 @@ Loads x q old new false = (local_in x.code (frame_at q (point_at x)) ≡ false) 
 abbrev pub HandsInWork : CoreView → ℕ → Work → CoreView → Type 0
 HandsInWork x q w y = HandsInAll x q (code_of w.code.now) (frame_of w.from) w.made y
 
+-- why it isn't taken
 abbrev pub CannotHandInWork : CoreView → ℕ → Work → HandIn → Type 0
 CannotHandInWork x q w refusal = CannotHandIn x q (code_of w.code.now) (frame_of w.from) refusal

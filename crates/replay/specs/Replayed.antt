@@ -71,6 +71,7 @@ pub record NotEnded (code : Code) (input : List ℕ) (x : Schedule) (line : ℕ)
   pub going : point.machine.ended ≡ None
   pub at : line ≡ 2 + length x.entries
 
+-- Why `replay` refuses a schedule: an entry can't be made, or the run hasn't ended behind the last.
 abbrev pub GivesNone : Code → List ℕ → Schedule → ℕ → ℕ → Type 0
 GivesNone code input x number line = HasStop code input x number line ⊎ ((number ≡ 55) × NotEnded code input x line)
 
@@ -96,5 +97,6 @@ pub record NamesPicks (code : Code) (a : Point) (x y : Schedule) : Type 0 where
   pub new : Leads Second code x.slots a y.entries point
   pub same : x.version ≡ Second → y ≡ x
 
+-- the same from the beginning of a run
 abbrev pub IsUpgrade : Code → List ℕ → Schedule → Schedule → Type 0
 IsUpgrade code input x y = NamesPicks code (beginning code input x.slots) x y

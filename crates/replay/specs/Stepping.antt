@@ -20,6 +20,7 @@ use Rattle.replay.specs.declared.stepped.Stepped.TheVariants.{Went, Idle, Ended}
 abbrev pub HasEnded : CoreView → Type 0
 HasEnded x = (e : End) × ((point_at x).machine.ended ≡ Some e)
 
+-- the run hasn't ended
 abbrev pub IsGoing : CoreView → Type 0
 IsGoing x = (point_at x).machine.ended ≡ None
 
@@ -69,6 +70,7 @@ HasShared x q = (b : Point) × Moves x.code x.schedule.slots false (point_at x) 
 abbrev pub HasPick : CoreView → ℕ → Type 0
 HasPick x q = (c : Choice) × (b : Point) × ByRule x.schedule.slots (point_at x).order c × Picks x.code x.schedule.slots c (point_at x) q b
 
+-- one of these three is so
 abbrev pub CanGo : CoreView → ℕ → Type 0
 CanGo x q = HasLocal x q ⊎ HasShared x q ⊎ HasPick x q
 
@@ -80,6 +82,7 @@ MayStep x q n = (q < x.schedule.processors) × CodeStep x.code x.schedule.slots 
 abbrev pub KeepsGoing : CoreView → Type 0
 KeepsGoing x = (q : ℕ) (n : Machine) → MayStep x q n → CanGo x q
 
+-- the answer says that a step was made
 abbrev pub IsWent : Stepped → Type 0
 IsWent (Went ticket) = ⊤
 IsWent _ = ⊥
@@ -113,6 +116,8 @@ pub record HandsInAll (x : CoreView) (q : ℕ) (code : Code) (from : Frame) (mad
   pub after : IsFurther x (bursts q made) y
   pub step : Works x.code x.schedule.slots made (point_at x) q (point_at y)
 
+-- why local work isn't taken: the run had ended; the processor doesn't hold that frame, in that
+-- code; or, where neither is so, memory was refused
 abbrev pub CannotHandIn : CoreView → ℕ → Code → Frame → HandIn → Type 0
 CannotHandIn x q code from hand_ins.Ended = HasEnded x
 CannotHandIn x q code from hand_ins.Stranger = IsGoing x × (IsFrom x q code from → ⊥)

@@ -11,6 +11,7 @@ use Rattle.schedules.specs.declared.entry.Version.{Version}
 use Rattle.activities.specs.Points.{Point, beginning}
 use Rattle.replay.specs.Replays.{Does}
 
+-- how many steps an entry makes
 abbrev pub steps : Act → ℕ
 steps (works n) = n
 steps _ = 1

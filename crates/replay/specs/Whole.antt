@@ -28,6 +28,7 @@ pub record IsWhole (input : List ℕ) (a : Activities) (x : Schedule) (t : Tally
   pub replays : Replays (code_in a) input x (point_in a)
   pub tallies : Tallies Second (code_in a) x.slots (beginning (code_in a) input x.slots) x.entries (point_in a) t.made t.again
 
+-- what a core of these parts is seen as
 abbrev pub seen_as : List ℕ → Activities → Schedule → CoreView
 seen_as input a x = record { code = code_in a; input = input; schedule = x; kept = kept_in a }
 

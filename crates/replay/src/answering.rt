@@ -38,6 +38,10 @@ fn stored(alloc: Global, variables: &[Variable], cells: &[i64]) -> Result<Store,
 }
 
 /// The answer of a run with this output that has ended so.
+///
+/// # Errors
+///
+/// `AllocError` where memory is refused.
 pub fn answer(
     alloc: Global,
     code: &Code,
@@ -56,6 +60,10 @@ pub fn answer(
 }
 
 /// The answer of a run that has ended so, from what all activities share.
+///
+/// # Errors
+///
+/// `AllocError` where memory is refused.
 pub fn answer_of(alloc: Global, code: &Code, shared: Shared, end: End) -> Result<Answer, AllocError>
     requires { length shared.cells.items ≡ count_of (code_of code.now).variables }
     ensures output { IfOk result (λ answer. answer.output.items ≡ shared.output.items) }

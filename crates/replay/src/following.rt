@@ -6,14 +6,15 @@ ghost use Rattle.schedules.specs.Refusals.{Explains};
 ghost use Rattle.schedules.specs.Schedules.{IsAct};
 ghost use Rattle.schedules.specs.View.{act as act_view};
 ghost use Rattle.activities.specs.Activities.{AreActivities, AreOf, Stays, code_in, point_in};
-ghost use Rattle.replay.specs.Making.{LeadsOnly, MadeAs};
-ghost use Rattle.replay.specs.Replayed.{CannotBeMade, NoneLeads, StopsAt};
+ghost use Rattle.replay.specs.Making.{MadeAs};
+ghost use Rattle.replay.specs.Followed.{Follows, SaysNoneLead, SaysStop};
+ghost use Rattle.replay.specs.Replayed.{CannotBeMade};
 ghost use Rattle.activities.specs.Points.{beginning};
 
 use crate::making::make;
 use activities::Activities;
 use machine::Code;
-use schedules::{Act, Entry, ReplayRefusal, Schedule, Version};
+use schedules::{Act, Entry, FIRST_ENTRY_LINE, ReplayRefusal, Schedule, Version};
 use std::alloc::Global;
 
 /// Makes the entry at a line, and gives what it did, each pick named.
@@ -78,24 +79,15 @@ pub fn follow(activities: &mut Activities<'_>, schedule: &Schedule) -> Result<()
     requires stand { AreActivities activities.old }
     requires of { AreOf (code_in activities.old) schedule.now.processors schedule.now.slots
         activities.old }
-    ensures leads { OnOk result
-        (LeadsOnly schedule.now.version (code_in activities.old) schedule.now.slots
-        (point_in activities.old) schedule.now.entries (point_in activities.new)) }
-    ensures refused { IfErr result (λ fault.
-        Explains fault
-        (StopsAt schedule.now.version (code_in activities.old) schedule.now.slots
-        (point_in activities.old) schedule.now.entries)) }
-    ensures only { IfErr result (λ fault.
-        Explains fault
-        (λ number line.
-        NoneLeads schedule.now.version (code_in activities.old) schedule.now.slots
-        (point_in activities.old) schedule.now.entries)) }
+    ensures leads { OnOk result (Follows schedule.now activities.old activities.new) }
+    ensures refused { IfErr result (SaysStop schedule.now activities.old) }
+    ensures only { IfErr result (SaysNoneLead schedule.now activities.old) }
     ensures stand { AreActivities activities.new }
     ensures stays { Stays activities.old activities.new }
 {
     let version = schedule.version();
     let mut entries = schedule.entries();
-    let mut line = 3;
+    let mut line = FIRST_ENTRY_LINE;
     while let Some(entry) = entries.next() {
         if let Err(refusal) = make_at(activities, version, entry, line) {
             return Err(refusal);

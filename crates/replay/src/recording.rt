@@ -78,6 +78,7 @@ pub fn share(
     ensures parts { AreParts activities.new schedule.new tally.new }
     ensures stays { Stays activities.old activities.new }
 {
+    // Its contract says that there are fewer than 2^63 entries: the tally has room for more.
     let _ = schedule.len();
     schedule.push(Entry {
         processor: q as u8,
@@ -118,6 +119,7 @@ pub fn pick(
     ensures parts { AreParts activities.new schedule.new tally.new }
     ensures stays { Stays activities.old activities.new }
 {
+    // Its contract says that there are fewer than 2^63 entries: the tally has room for more.
     let _ = schedule.len();
     schedule.push(Entry {
         processor: q as u8,
@@ -163,6 +165,7 @@ pub fn put(
     ensures parts { AreParts activities.new schedule.new tally.new }
     ensures stays { Stays activities.old activities.new }
 {
+    // Its contract says that there are fewer than 2^63 entries: the tally has room for more.
     let _ = schedule.len();
     schedule.push(Entry {
         processor: q as u8,
@@ -173,8 +176,9 @@ pub fn put(
     Ok(())
 }
 
-/// The same of local work of any length, with as many entries as it takes. What processor `q` holds
-/// gives its own frame for the other.
+/// What processor `q` holds gets the frame to which so many local instructions of its own lead, and
+/// gives its own for it. The schedule gets as many entries as that takes. Where memory is refused
+/// nothing changes.
 pub fn put_all(
     activities: &mut Activities<'_>,
     schedule: &mut Schedule,
@@ -197,6 +201,7 @@ pub fn put_all(
     ensures parts { AreParts activities.new schedule.new tally.new }
     ensures stays { Stays activities.old activities.new }
 {
+    // Its contract says that there are fewer than 2^63 entries: the tally has room for more.
     let _ = schedule.len();
     schedule.push_work(q as u8, made)?;
     activities.put(q, to);

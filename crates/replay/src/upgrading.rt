@@ -6,15 +6,15 @@ ghost use Rattle.schedules.specs.Refusals.{Explains};
 ghost use Rattle.schedules.specs.Schedules.{IsSchedule};
 ghost use Rattle.schedules.specs.declared.entry.Version.TheVariants.{First, Second};
 ghost use Rattle.activities.specs.Activities.{AreActivities, AreOf, code_in, point_in};
-ghost use Rattle.replay.specs.Making.{AreNamed, LeadsOnly};
-ghost use Rattle.replay.specs.Replayed.{HasStop, IsUpgrade, LeadsNowhere, NamesPicks, NoneLeads};
-ghost use Rattle.replay.specs.Replayed.{StopsAt};
+ghost use Rattle.replay.specs.Followed.{Follows, SaysNoneLead, SaysStop};
+ghost use Rattle.replay.specs.Making.{AreNamed};
+ghost use Rattle.replay.specs.Replayed.{HasStop, IsUpgrade, LeadsNowhere, NamesPicks};
 ghost use Rattle.replay.specs.Replays.{Leads};
 
 use crate::following::{begun, follow, make_at};
 use activities::Activities;
 use machine::Code;
-use schedules::{Entry, ReplayRefusal, Schedule, Version};
+use schedules::{Entry, FIRST_ENTRY_LINE, ReplayRefusal, Schedule, Version};
 use std::alloc::Global;
 
 /// Makes the entries of a schedule from the beginning on, and adds them to another one, each pick
@@ -27,35 +27,19 @@ fn follow_naming(
     requires stand { AreActivities activities.old }
     requires of { AreOf (code_in activities.old) schedule.now.processors schedule.now.slots
         activities.old }
-    requires new { named.old
-        ≡ record {
-          version = Second;
-          processors = schedule.now.processors;
-          slots
-              = schedule.now.slots;
-          entries = [];
-        } }
-    ensures leads { OnOk result
-        (LeadsOnly schedule.now.version (code_in activities.old) schedule.now.slots
-        (point_in activities.old) schedule.now.entries (point_in activities.new)) }
+    requires new { named.old ≡ record schedule.now { version = Second; entries = [] } }
+    ensures leads { OnOk result (Follows schedule.now activities.old activities.new) }
     ensures named { OnOk result
         (Leads Second (code_in activities.old) schedule.now.slots (point_in activities.old)
         named.new.entries (point_in activities.new)) }
     ensures each { OnOk result (AreNamed schedule.now.entries named.new.entries) }
     ensures sizes { named.new ≡ record named.old { entries = named.new.entries } }
-    ensures refused { IfErr result (λ fault.
-        Explains fault
-        (StopsAt schedule.now.version (code_in activities.old) schedule.now.slots
-        (point_in activities.old) schedule.now.entries)) }
-    ensures only { IfErr result (λ fault.
-        Explains fault
-        (λ number line.
-        NoneLeads schedule.now.version (code_in activities.old) schedule.now.slots
-        (point_in activities.old) schedule.now.entries)) }
+    ensures refused { IfErr result (SaysStop schedule.now activities.old) }
+    ensures only { IfErr result (SaysNoneLead schedule.now activities.old) }
 {
     let version = schedule.version();
     let mut entries = schedule.entries();
-    let mut line = 3;
+    let mut line = FIRST_ENTRY_LINE;
     while let Some(entry) = entries.next() {
         match make_at(activities, version, entry, line) {
             Ok(act) => named.push(Entry {
@@ -81,15 +65,8 @@ fn with_names(
     requires first { schedule.now.version ≡ First }
     ensures found { IfOk result
         (NamesPicks (code_in activities.old) (point_in activities.old) schedule.now) }
-    ensures refused { IfErr result (λ fault.
-        Explains fault
-        (StopsAt schedule.now.version (code_in activities.old) schedule.now.slots
-        (point_in activities.old) schedule.now.entries)) }
-    ensures only { IfErr result (λ fault.
-        Explains fault
-        (λ number line.
-        NoneLeads schedule.now.version (code_in activities.old) schedule.now.slots
-        (point_in activities.old) schedule.now.entries)) }
+    ensures refused { IfErr result (SaysStop schedule.now activities.old) }
+    ensures only { IfErr result (SaysNoneLead schedule.now activities.old) }
 {
     let mut named = Schedule::new(
         alloc,
@@ -111,15 +88,8 @@ fn as_it_is(activities: &mut Activities<'_>, schedule: &Schedule) -> Result<Sche
     requires second { schedule.now.version ≡ Second }
     ensures found { IfOk result
         (NamesPicks (code_in activities.old) (point_in activities.old) schedule.now) }
-    ensures refused { IfErr result (λ fault.
-        Explains fault
-        (StopsAt schedule.now.version (code_in activities.old) schedule.now.slots
-        (point_in activities.old) schedule.now.entries)) }
-    ensures only { IfErr result (λ fault.
-        Explains fault
-        (λ number line.
-        NoneLeads schedule.now.version (code_in activities.old) schedule.now.slots
-        (point_in activities.old) schedule.now.entries)) }
+    ensures refused { IfErr result (SaysStop schedule.now activities.old) }
+    ensures only { IfErr result (SaysNoneLead schedule.now activities.old) }
 {
     match follow(activities, schedule) {
         Ok(()) => Ok(schedule.try_copy()?),

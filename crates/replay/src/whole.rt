@@ -10,7 +10,7 @@ use crate::stepped::{CoreRefusal, HandIn, Stepped, Tally};
 use activities::{Activities, Choice, Holder, Shared};
 use ast::Answer;
 use machine::{Code, Done, Frame, Work, stands_local};
-use schedules::{Schedule, Version};
+use schedules::{MOST_PROCESSORS, MOST_SLOTS, Schedule, Version};
 use std::alloc::{AllocError, Global};
 use std::marker::Model;
 
@@ -102,7 +102,7 @@ impl<'c> Core<'c> {
         ensures new { IfOk result (IsNew (code_of code.now) input.now p s) }
         ensures refused { IfErr result (NoCore p s) }
     {
-        if p < 1 || p > 64 || s < 1 || s > 256 {
+        if p < 1 || p > u64::from(MOST_PROCESSORS) || s < 1 || s > u64::from(MOST_SLOTS) {
             return Err(CoreRefusal::Refused { number: 57 });
         }
         let activities = Activities::new(alloc, code, input, p as usize, s as usize)?;
@@ -161,7 +161,11 @@ impl<'c> Core<'c> {
         self.activities.frame(q)
     }
 
-    /// A copy of the frame of what processor `q` holds.
+    /// A copy of the frame of what processor `q` holds, if it holds anything.
+    ///
+    /// # Errors
+    ///
+    /// `AllocError` where memory is refused, which is wanted only where it does.
     pub fn frame(&self, q: usize) -> Result<Option<Frame>, AllocError>
         ensures ok { IfOk result (λ o. option_map frame_of o ≡ frame_at q (point_at self.now)) }
         ensures memory { OnErr result (is_some (frame_at q (point_at self.now)) ≡ true) }
@@ -392,6 +396,10 @@ impl<'c> Core<'c> {
     }
 
     /// Room for local work of the core's code, of which none has been done.
+    ///
+    /// # Errors
+    ///
+    /// `AllocError` where memory is refused.
     pub fn work(&self) -> Result<Work<'c>, AllocError>
         ensures code { IfOk result (λ work. code_of work.code.now ≡ self.now.code) }
         ensures none { IfOk result (λ work. work.made ≡ 0) }
@@ -487,6 +495,10 @@ impl<'c> Core<'c> {
     }
 
     /// The answer, where the run has ended.
+    ///
+    /// # Errors
+    ///
+    /// `AllocError` where memory is refused, which is wanted only there.
     pub fn answer(&self) -> Result<Option<Answer>, AllocError>
         ensures some { IfOk result (λ o.
             IfSome o (IsAnswer self.now.code (point_at self.now).machine)) }

@@ -1,5 +1,5 @@
--- How the entries of a schedule are kept: each in a few bytes, and the numbers of the iterations that
--- are picked beside them, in order.
+-- How the entries of a schedule are kept: each in a few bytes, and the numbers of the iterations
+-- that are picked beside them, in order.
 use Rattle.std.specs.Prelude.{◌≡◌, ℕ, zero, suc, ◌+◌, ◌/◌, ◌%◌, List, [], ◌∷◌, ◌++◌, length, drop, get_or, replicate}
 use Rattle.schedules.specs.Schedules.{Entry, Schedule, IsSchedule, longest_burst, works, shares, picks_main, picks, takes_ticket}
 use Rattle.schedules.specs.declared.entry.Version.{Version}

@@ -15,6 +15,7 @@ pub data Act : Type 0 where
   picks : ℕ → Act
   takes_ticket : Act
 
+-- an entry of a schedule: a processor, and what it does
 pub record Entry : Type 0 where
   pub processor : ℕ
   pub act : Act
@@ -39,10 +40,12 @@ IsAct Second (picks k) = k < 2 ^ 128
 IsAct Second takes_ticket = ⊤
 IsAct First _ = ⊥
 
+-- each entry is one of the first p processors, and its act is one of the version
 abbrev pub AreEntries : Version → ℕ → List Entry → Type 0
 AreEntries v p [] = ⊤
 AreEntries v p (e ∷ es) = ((e.processor < p) × IsAct v e.act) × AreEntries v p es
 
+-- its numbers are in range, and it can be written
 abbrev pub IsSchedule : Schedule → Type 0
 IsSchedule x = AreSizes x.processors x.slots × AreEntries x.version x.processors x.entries
 
@@ -64,6 +67,7 @@ bursts q n = replicate (n / longest_burst) (record { processor = q; act = works 
 
 -- ---- the text. Each line ends in LF, numbers are in shortest decimal, parted by one blank.
 
+-- line 1
 abbrev pub header : Version → List ℕ
 header First = codes "DOACROSS SCHEDULE 1"
 header Second = codes "DOACROSS SCHEDULE 2"
@@ -72,9 +76,11 @@ header Second = codes "DOACROSS SCHEDULE 2"
 abbrev pub line_before : List ℕ → List ℕ → List ℕ
 line_before line rest = line ++ 10 ∷ rest
 
+-- line 2: the number of processors and that of slots
 abbrev pub sizes_text : ℕ → ℕ → List ℕ
 sizes_text p s = decimal p ++ 32 ∷ decimal s
 
+-- what stands in an entry's line behind the processor
 abbrev pub act_text : Act → List ℕ
 act_text (works n) = decimal n
 act_text shares = codes "0"
@@ -82,6 +88,7 @@ act_text picks_main = codes "M"
 act_text (picks k) = codes "I " ++ decimal k
 act_text takes_ticket = codes "T"
 
+-- the line of an entry
 abbrev pub entry_text : Entry → List ℕ
 entry_text e = decimal e.processor ++ 32 ∷ act_text e.act
 
@@ -95,6 +102,7 @@ abbrev pub text_before : Schedule → List ℕ → List ℕ
 text_before x rest =
     line_before (header x.version) (line_before (sizes_text x.processors x.slots) (entries_before x.entries rest))
 
+-- the whole text of a schedule
 abbrev pub text_of : Schedule → List ℕ
 text_of x = text_before x []
 

@@ -10,5 +10,6 @@ mod short;
 mod writing;
 
 pub use entry::{Act, Entry, Version};
+pub use reading::{FIRST_ENTRY_LINE, LONGEST_BURST, MOST_PROCESSORS, MOST_SLOTS};
 pub use refusal::ReplayRefusal;
 pub use schedule::Schedule;

@@ -20,6 +20,9 @@ pub const MOST_SLOTS: u16 = 256;
 /// The greatest number of local instructions of an entry.
 pub const LONGEST_BURST: u16 = 1024;
 
+/// The line of a schedule's first entry.
+pub const FIRST_ENTRY_LINE: usize = 3;
+
 /// Why a line is no entry.
 #[derive(Clone, Copy, PartialEq, Eq)]
 pub enum NoEntry {

@@ -10,15 +10,15 @@ ghost use Rattle.schedules.specs.Schedules.{picks, with_entries, with_entry};
 ghost use Rattle.schedules.specs.View.{act as act_view, entry as entry_view};
 
 use crate::entry::{Act, Entry, Version};
-use crate::reading::{NoEntry, entry, header, sizes};
+use crate::reading::{LONGEST_BURST, NoEntry, entry, header, sizes};
 use crate::refusal::ReplayRefusal;
 use crate::short::{Entries, Short};
 use crate::writing::{append_entries, append_header, append_sizes};
 use std::alloc::{AllocError, Global};
 use std::marker::Model;
 
-/// How many local instructions an entry holds at most.
-const LONGEST: u32 = 1024;
+/// How many local instructions an entry holds at most, as a run counts them.
+const LONGEST: u32 = LONGEST_BURST as u32;
 
 /// What each processor of a run did, turn by turn.
 pub struct Schedule {
@@ -73,7 +73,7 @@ fn append_bursts(shorts: &mut Vec<Short>, processor: u8, made: u32) -> Result<()
     shorts.reserve(whole + 1)?;
     let longest = Short::Work {
         processor,
-        count: LONGEST as u16,
+        count: LONGEST_BURST,
     };
     shorts.resize(shorts.len() + whole, longest)?;
     if rest > 0 {
@@ -144,7 +144,7 @@ impl Schedule {
         Entries::new(&self.shorts, &self.picked)
     }
 
-    /// An equal schedule.
+    /// An equal schedule, or `AllocError` where memory is refused.
     pub fn try_copy(&self) -> Result<Schedule, AllocError>
         ensures { IfOk result (λ copy. copy ≡ self.now) }
     {
@@ -306,6 +306,10 @@ impl Schedule {
     }
 
     /// The text of the schedule.
+    ///
+    /// # Errors
+    ///
+    /// `AllocError` where memory is refused.
     pub fn text(&self) -> Result<Vec<u8>, AllocError>
         ensures { IfOk result (λ text. SchedText self.now text.items) }
     {

@@ -42,6 +42,8 @@ impl<'a> Entries<'a> {
     ghost use Rattle.schedules.specs.Kept.{entries_of};
     ghost use Rattle.schedules.specs.View.{entry as entry_view};
 
+    /// The entries that are kept so: `picked` has the numbers of the iterations that are picked, in
+    /// order.
     pub fn new(shorts: &'a [Short], picked: &'a [u128]) -> Entries<'a>
         ensures shorts { result.shorts.now ≡ shorts.now }
         ensures picked { result.picked.now ≡ picked.now }

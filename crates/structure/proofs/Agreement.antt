@@ -67,7 +67,7 @@ agrees front s =
     else if label i then Some 41
     else None
 
-open-append : (opened : List Open) (front : List Statement) (s : Statement) → open_from opened (front ++ s ∷ []) ≡ after (open_from opened front) s
+pub open-append : (opened : List Open) (front : List Statement) (s : Statement) → open_from opened (front ++ s ∷ []) ≡ after (open_from opened front) s
 open-append opened [] s = refl
 open-append opened (f ∷ front) s = open-append (after opened f) front s
 

@@ -4,6 +4,7 @@ use Rattle.std.specs.Prelude.{if◌then◌else◌}
 use Rattle.std.specs.Option.{unwrap_or}
 use Rattle.std.proofs.lemmas.List.{get_or-reverse, reverse-append, append-nil}
 use Rattle.ast.specs.Tree.{Statement, Kind, do_loop, block_if, else_if, else_arm, end_if, logical_if, program, integer, dimension, parameters, assign, go_on, print, read, stop, end}
+use Rattle.ast.proofs.Numbers.{one_more, one_less}
 use Rattle.structure.specs.Backward.{with_end, last_place, span_to}
 use Rattle.structure.specs.Parts.{part_of}
 use Rattle.structure.specs.Rules.{is_some_and}
@@ -55,12 +56,6 @@ dropped : (ends : List ℕ) (k total : ℕ) → get_or (drop 1 ends) k total ≡
 dropped [] k total = refl
 dropped (e ∷ ends) k total = refl
 
-plus-one : (n : ℕ) → n + 1 ≡ suc n
-plus-one n = omega arith
-
-minus-one : (n : ℕ) → suc n - 1 ≡ n
-minus-one n = omega arith
-
 pass : (ends : List ℕ) (place total : ℕ) (ss : List Statement) (kind : Kind) → ((k : ℕ) → get_or ends k total ≡ (place + 1) + before_end_if k ss)
     → is_end_if kind ≡ false → ((d : ℕ) → nested d kind ≡ d) → (k : ℕ) → get_or ends k total ≡ place + with_kind k kind ss
 pass ends place total ss kind h e n zero =
@@ -74,12 +69,12 @@ end-behind : (ends : List ℕ) (place total : ℕ) (ss : List Statement) (kind :
     → (k : ℕ) → get_or (with_end place (part_of kind) ends) k total ≡ place + with_kind k kind ss
 end-behind ends place total ss end_if h zero = omega arith
 end-behind ends place total ss end_if h (suc k) =
-    more (get_or ends k total) (before_end_if k ss) place (h k) ∙ ap (λ (d : ℕ). place + (before_end_if d ss + 1)) (sym (minus-one k))
+    more (get_or ends k total) (before_end_if k ss) place (h k) ∙ ap (λ (d : ℕ). place + (before_end_if d ss + 1)) (sym (one_less k))
 end-behind ends place total ss (block_if c) h zero =
     dropped ends 0 total ∙ more (get_or ends 1 total) (before_end_if 1 ss) place (h 1)
 end-behind ends place total ss (block_if c) h (suc k) =
     dropped ends (suc k) total ∙ more (get_or ends (suc (suc k)) total) (before_end_if (suc (suc k)) ss) place (h (suc (suc k)))
-    ∙ ap (λ (d : ℕ). place + (before_end_if d ss + 1)) (sym (plus-one (suc k)))
+    ∙ ap (λ (d : ℕ). place + (before_end_if d ss + 1)) (sym (one_more (suc k)))
 end-behind ends place total ss (program x) h k = pass ends place total ss (program x) h refl (λ d. refl) k
 end-behind ends place total ss (integer x) h k = pass ends place total ss (integer x) h refl (λ d. refl) k
 end-behind ends place total ss (dimension x) h k = pass ends place total ss (dimension x) h refl (λ d. refl) k

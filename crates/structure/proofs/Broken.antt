@@ -4,19 +4,16 @@ use Rattle.std.specs.Prelude.{◌⊎◌}
 use Rattle.ast.specs.Tree.{Statement}
 use Rattle.ast.specs.View.{statement}
 use Rattle.ast.specs.declared.statement.Stmt.{Stmt}
+use Rattle.ast.proofs.Lists.{not_empty}
 use Rattle.structure.specs.Rules.{Keep, BreakFirst, rules, lowest_broken}
 use Rattle.structure.specs.Standing.{Standing, standing_after, next, rule_by}
 use Rattle.structure.proofs.Agreement.{agrees, one-more}
-
-not-none : {X : Type 0} (front : List X) (y : X) (back : List X) → [] ≡ front ++ y ∷ back → ⊥
-not-none [] y back h = cc
-not-none (f ∷ front) y back h = cc
 
 -- one of the statements with one more is that one, or one of those before
 split : {X : Type 0} (xs : List X) (x : X) (front : List X) (y : X) (back : List X) → xs ++ x ∷ [] ≡ front ++ y ∷ back
     → ((front ≡ xs) × (y ≡ x)) ⊎ ((back' : List X) × (xs ≡ front ++ y ∷ back'))
 split [] x [] y back e = inl (refl, cc)
-split [] x (f ∷ front) y back e = absurd (not-none front y back (let q : [] ≡ front ++ y ∷ back = cc in q))
+split [] x (f ∷ front) y back e = absurd (not_empty front y back (let q : [] ≡ front ++ y ∷ back = cc in q))
 split (z ∷ xs) x [] y back e = inr (xs, let q : z ≡ y = cc in ap (λ w. w ∷ xs) q)
 split (z ∷ xs) x (f ∷ front) y back e =
     let q : z ≡ f = cc in
@@ -32,7 +29,8 @@ keep-more front s h k = record { each = λ f t b e. by f t b (split front s f t 
     by f t b (inl p) = subst (λ (g : List Statement). lowest_broken rules g t ≡ None) (sym p.0) (subst (λ (u : Statement). lowest_broken rules front u ≡ None) (sym p.1) k)
     by f t b (inr p) = h.each f t p.0 p.1
 
--- the statements before those that are left keep the rules, and the code knows what it needs of them
+-- the statements before those that are left keep the rules, and the code knows what it needs of
+-- them
 pub record Reached (t : Standing) (all left : List Statement) : Type 0 where
   pub front : List Statement
   pub cut : all ≡ front ++ left
@@ -40,7 +38,7 @@ pub record Reached (t : Standing) (all left : List Statement) : Type 0 where
   pub kept : Keep rules front
 
 pub reached-none : (t : Standing) (all : List Statement) → t ≡ standing_after [] → Reached t all all
-reached-none t all e = record { front = []; cut = refl; stands = e; kept = record { each = λ f s b h. absurd (not-none f s b h) } }
+reached-none t all e = record { front = []; cut = refl; stands = e; kept = record { each = λ f s b h. absurd (not_empty f s b h) } }
 
 broken-by : (t : Standing) (front : List Statement) (s : Statement) → t ≡ standing_after front → rule_by t s ≡ lowest_broken rules front s
 broken-by t front s e = ap (λ (u : Standing). rule_by u s) e ∙ agrees front s

@@ -4,8 +4,8 @@ use Rattle.std.specs.List.{list_any}
 use Rattle.ast.specs.Store.{same_name}
 use Rattle.ast.specs.Tree.{Statement, Kind, do_loop, block_if, else_arm, end_if}
 
--- a DO range, by the label of its terminal statement and its DO variable; or an IF block, by whether
--- its ELSE stands
+-- a DO range, by the label of its terminal statement and its DO variable; or an IF block, by
+-- whether its ELSE stands
 pub data Open : Type 0 where
   do_range : ℕ → List ℕ → Open
   if_block : Bool → Open
@@ -16,6 +16,7 @@ ended_by label [] = []
 ended_by label (do_range terminal x ∷ opened) = if terminal == label then ended_by label opened else do_range terminal x ∷ opened
 ended_by label (if_block is_last ∷ opened) = if_block is_last ∷ opened
 
+-- the same of a statement with a label or without
 abbrev pub ended : Option ℕ → List Open → List Open
 ended None opened = opened
 ended (Some label) opened = ended_by label opened
@@ -29,6 +30,7 @@ abbrev pub with_else : List Open → List Open
 with_else (if_block is_last ∷ opened) = if_block true ∷ opened
 with_else opened = opened
 
+-- what is open behind a statement, by what it opens and ends itself
 abbrev pub begun : Kind → List Open → List Open
 begun (do_loop h) opened = do_range h.terminal h.variable.name ∷ opened
 begun (block_if c) opened = if_block false ∷ opened
@@ -44,6 +46,7 @@ abbrev pub open_from : List Open → List Statement → List Open
 open_from opened [] = opened
 open_from opened (s ∷ ss) = open_from (after opened s) ss
 
+-- what is open after some statements
 abbrev pub open_after : List Statement → List Open
 open_after front = open_from [] front
 
@@ -52,5 +55,6 @@ abbrev pub is_variable_of : List ℕ → Open → Bool
 is_variable_of name (do_range terminal x) = same_name name x
 is_variable_of name (if_block is_last) = false
 
+-- a name is the DO variable of a range that is open
 abbrev pub is_active : List Open → List ℕ → Bool
 is_active opened name = list_any (is_variable_of name) opened

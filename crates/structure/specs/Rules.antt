@@ -1,5 +1,5 @@
--- The rules on the order of statements, on labels, DO ranges and IF blocks, each a test of a statement
--- after the statements of a front.
+-- The rules on the order of statements, on labels, DO ranges and IF blocks, each a test of a
+-- statement after the statements of a front.
 use Rattle.std.specs.Prelude.{◌≡◌, ℕ, Bool, true, false, not, ◌&&◌, ◌||◌, ◌==◌, if◌then◌else◌, List, [], ◌∷◌, ◌++◌, Option, Some, None}
 use Rattle.std.specs.List.{list_any}
 use Rattle.ast.specs.Tree.{Statement, Kind, program, integer, dimension, parameters, assign, do_loop, go_on, block_if, else_if, else_arm, end_if, logical_if, print, read, stop, end}
@@ -20,15 +20,18 @@ abbrev pub is_program : Kind → Bool
 is_program (program x) = true
 is_program _ = false
 
+-- INTEGER, DIMENSION and PARAMETER
 abbrev pub is_declaration : Kind → Bool
 is_declaration (integer ds) = true
 is_declaration (dimension ds) = true
 is_declaration (parameters ds) = true
 is_declaration _ = false
 
+-- any other statement
 abbrev pub is_executable : Kind → Bool
 is_executable k = not (is_program k) && not (is_declaration k)
 
+-- Refusal 30: a PROGRAM behind other statements, or a declaration behind an executable one.
 abbrev pub is_out_of_order : List Statement → Statement → Bool
 is_out_of_order front s =
     (is_program s.kind && not (is_empty front))
@@ -75,6 +78,8 @@ begins_with test (o ∷ opened) = test o
 abbrev pub is_any_range : Open → Bool
 is_any_range o = not (is_block o)
 
+-- Refusal 34: the label is that of a range around another range that is open, or END stands where
+-- the innermost open structure is a range.
 abbrev pub crosses : List Open → Statement → Bool
 crosses opened s =
     by_label (λ label around. is_around (is_other_range label) label around) opened s
@@ -91,6 +96,7 @@ may_not_end_a_range end_if = true
 may_not_end_a_range stop = true
 may_not_end_a_range _ = false
 
+-- Refusal 35: the label is that of an open range, and a statement of this kind may not end one.
 abbrev pub ends_wrongly : List Open → Statement → Bool
 ends_wrongly opened s = may_not_end_a_range s.kind && by_label (λ label around. list_any (is_range_of label) around) opened s
 
@@ -101,6 +107,7 @@ abbrev pub may_go_on : Open → Bool
 may_go_on (do_range terminal x) = false
 may_go_on (if_block is_last) = not is_last
 
+-- ELSE IF, ELSE and END IF without their IF block innermost, or an arm behind ELSE; END in a block
 abbrev pub is_misplaced_arm : Kind → List Open → Bool
 is_misplaced_arm (else_if c) opened = not (begins_with may_go_on opened)
 is_misplaced_arm else_arm opened = not (begins_with may_go_on opened)
@@ -108,6 +115,7 @@ is_misplaced_arm end_if opened = not (begins_with is_block opened)
 is_misplaced_arm end opened = begins_with is_block opened
 is_misplaced_arm _ opened = false
 
+-- the statements that may stand in a logical IF
 abbrev pub may_stand_in_if : Kind → Bool
 may_stand_in_if (assign a e) = true
 may_stand_in_if go_on = true
@@ -120,6 +128,8 @@ abbrev pub holds_wrong_statement : Kind → Bool
 holds_wrong_statement (logical_if c k) = not (may_stand_in_if k)
 holds_wrong_statement _ = false
 
+-- Refusal 36: such a part is misplaced, a terminal statement stands in an IF block of its range, or
+-- a logical IF holds another statement.
 abbrev pub breaks_blocks : List Open → Statement → Bool
 breaks_blocks opened s =
     is_misplaced_arm s.kind opened
@@ -127,9 +137,11 @@ breaks_blocks opened s =
 
 -- ---- 41: a label that stands before
 
+-- a statement has this label
 abbrev pub has_label : ℕ → Statement → Bool
 has_label label s = is_some_and (λ l. label == l) s.label
 
+-- Refusal 41: a statement before has this one's label.
 abbrev pub is_label_again : List Statement → Statement → Bool
 is_label_again front s = is_some_and (λ label. list_any (has_label label) front) s.label
 

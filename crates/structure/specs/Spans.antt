@@ -1,6 +1,6 @@
--- The spans of DO ranges and IF blocks: the places of their first and their last statement, statements
--- numbered from 0. A range goes from its DO to the first statement behind it that has its label, a
--- block from its IF to the END IF that matches it.
+-- The spans of DO ranges and IF blocks: the places of their first and their last statement,
+-- statements numbered from 0. A range goes from its DO to the first statement behind it that has
+-- its label, a block from its IF to the END IF that matches it.
 use Rattle.std.specs.Prelude.{ℕ, zero, suc, ◌+◌, ◌-◌, Bool, true, false, if◌then◌else◌, List, [], ◌∷◌, ◌++◌}
 use Rattle.ast.specs.Tree.{Statement, Kind, do_loop, block_if, end_if}
 use Rattle.structure.specs.Rules.{has_label}
@@ -35,5 +35,6 @@ abbrev pub spans_from : ℕ → List Statement → List (ℕ × ℕ)
 spans_from place [] = []
 spans_from place (s ∷ ss) = span_at place s.kind ss ++ spans_from (place + 1) ss
 
+-- the spans of all ranges and blocks, in the order of their first statements
 abbrev pub spans_of : List Statement → List (ℕ × ℕ)
 spans_of ss = spans_from 0 ss

@@ -16,10 +16,12 @@ pub record Standing : Type 0 where
   pub opened : List Open
   pub labels : List ℕ
 
+-- the labels of statements
 abbrev pub labels_of : List Statement → List ℕ
 labels_of [] = []
 labels_of (s ∷ ss) = option_to_list s.label ++ labels_of ss
 
+-- what is kept after some statements
 abbrev pub standing_after : List Statement → Standing
 standing_after front = record {
   begun = not (is_empty front);
@@ -28,6 +30,7 @@ standing_after front = record {
   labels = insert_all nat_eq [] (labels_of front);
 }
 
+-- what a `Structure` keeps
 abbrev pub standing : Structure → Standing
 standing s = record {
   begun = s.begun;
@@ -48,6 +51,7 @@ next t s = record {
 abbrev pub rule_of_label : Standing → Statement → Option ℕ
 rule_of_label t s = if is_some_and (λ label. list_any (nat_eq label) t.labels) s.label then Some 41 else None
 
+-- the lowest rule on order, labels, ranges and blocks that a statement breaks, by what is kept
 abbrev pub rule_by : Standing → Statement → Option ℕ
 rule_by t s =
     if (is_program s.kind && t.begun) || (is_declaration s.kind && t.executable) then Some 30

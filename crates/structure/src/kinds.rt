@@ -20,6 +20,7 @@ pub enum Part {
     Other,
 }
 
+/// What a statement opens or ends, by its kind.
 pub fn part_of(kind: &Kind) -> Part
     ensures { part result ≡ part_of (kind_of kind.now) }
 {
@@ -89,6 +90,7 @@ pub fn is_declaration(kind: &Kind) -> bool
     }
 }
 
+/// Whether a statement is END.
 pub fn is_end(kind: &Kind) -> bool
     ensures { result ≡ spec.is_end (kind_of kind.now) }
 {

@@ -22,6 +22,7 @@ pub enum Open {
     Block(bool),
 }
 
+/// Whether a structure is a range whose terminal statement has the label.
 pub fn is_range_of(structure: &Open, label: Label) -> bool
     ensures { result ≡ is_range_of label (opened structure.now) }
 {
@@ -31,6 +32,7 @@ pub fn is_range_of(structure: &Open, label: Label) -> bool
     }
 }
 
+/// Whether a structure is a range whose terminal statement has another label.
 fn is_other_range(structure: &Open, label: Label) -> bool
     ensures { result ≡ is_other_range label (opened structure.now) }
 {
@@ -40,6 +42,7 @@ fn is_other_range(structure: &Open, label: Label) -> bool
     }
 }
 
+/// Whether a structure is an IF block.
 fn is_block(structure: &Open) -> bool
     ensures { result ≡ is_block (opened structure.now) }
 {
@@ -58,6 +61,7 @@ pub fn has_range_of(structures: &[Open], label: Label) -> bool
     false
 }
 
+/// Whether a structure is a range with this DO variable.
 fn is_variable_of(structure: &Open, name: Name) -> bool
     ensures { result ≡ spec.is_variable_of name.letters (opened structure.now) }
 {
@@ -124,6 +128,7 @@ fn begins_with_block(structures: &[Open]) -> bool
     }
 }
 
+/// Whether a structure is a block that may have another arm: its ELSE doesn't stand.
 fn may_go_on(structure: &Open) -> bool
     ensures { result ≡ may_go_on (opened structure.now) }
 {
@@ -196,6 +201,10 @@ fn end_block(structures: &mut Vec<Open>)
 }
 
 /// Opens a structure inside those that are open.
+///
+/// # Errors
+///
+/// `AllocError` where memory is refused.
 fn add_inside(structures: &mut Vec<Open>, one: Open) -> Result<(), AllocError>
     ensures { OnOk result (map opened structures.new.items ≡ opened one
         ∷ map opened structures.old.items) }
@@ -204,7 +213,11 @@ fn add_inside(structures: &mut Vec<Open>, one: Open) -> Result<(), AllocError>
     Ok(())
 }
 
-/// What a statement opens and ends, its label aside.
+/// Opens or ends what a statement opens or ends, its label aside.
+///
+/// # Errors
+///
+/// `AllocError` where memory is refused.
 pub fn begin(structures: &mut Vec<Open>, one: Part) -> Result<(), AllocError>
     ensures { OnOk result (map opened structures.new.items
         ≡ begun_by (part one) (map opened structures.old.items)) }

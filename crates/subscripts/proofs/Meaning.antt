@@ -5,6 +5,7 @@ use Rattle.std.proofs.lemmas.Bool.Decides.{Decides-eqb, Decides-int_eq}
 use Rattle.std.proofs.Math.IntN.{zero-*ℤ, *ℤ-one, *ℤ_comm}
 use Rattle.std.specs.Prelude.{ℤ, pos, ◌+ℤ◌, ◌*ℤ◌, neg_ℤ, ◌==◌, ◌||◌, ◌&&◌, Bool, true, false, if◌then◌else◌, Option, Some, None, Result, Ok, Err, ⊤}
 use Rattle.std.specs.Ordering.{int_eq}
+use Rattle.std.proofs.lemmas.Option.{none-some, same_Some}
 use Rattle.ast.specs.Exact.{in_range, fits, value_of}
 use Rattle.ast.specs.Tree.{Ref, Term, Terms, constant, truth, parameter, element, call, parentheses, unary, binary, no_terms, then_term}
 use Rattle.ast.specs.declared.expression.Operator.{Operator}
@@ -29,18 +30,6 @@ use Rattle.subscripts.proofs.Sums.{once_total, once_times, sum_total, sum_produc
 pub form_or : Form → Option Form → Form
 form_or d (Some f) = f
 form_or d None = d
-
-pub some_same : (f h : Form) → Some f ≡ Some h → f ≡ h
-unfolding form_or
-some_same f h e = ap (λ o. form_or f o) e
-
-is_some_form : Option Form → Type 0
-is_some_form (Some f) = ⊤
-is_some_form None = ⊥
-
-pub none_some : (h : Form) → None ≡ Some h → ⊥
-unfolding is_some_form
-none_some h e = subst (λ o. is_some_form o) (sym e) tt
 
 number_or : ℤ → Result ℤ Fault → ℤ
 number_or d (Ok x) = x
@@ -69,8 +58,8 @@ room_is : (f h : Form) → in_room f ≡ Some h → f ≡ h
 room_is f h e = by (has_room f) e
   where
     by : (b : Bool) → (if b then Some f else None) ≡ Some h → f ≡ h
-    by true g = some_same f h g
-    by false g = absurd (none_some h g)
+    by true g = same_Some f h g
+    by false g = absurd (none-some h g)
 
 pub record Through (r : Option Form) (next : Form → Option Form) (h : Form) : Type 0 where
   pub first : Form
@@ -78,7 +67,7 @@ pub record Through (r : Option Form) (next : Form → Option Form) (h : Form) : 
   pub then_is : next first ≡ Some h
 
 pub through : (r : Option Form) (next : Form → Option Form) (h : Form) → if_some r next ≡ Some h → Through r next h
-through None next h e = absurd (none_some h e)
+through None next h e = absurd (none-some h e)
 through (Some f) next h e = record { first = f; is = refl; then_is = e }
 
 -- ---- values of forms
@@ -220,14 +209,14 @@ scalar_once l c = by (is_variable l c)
     by false = (refl, tt)
 
 element_meant : (l : Loop) (r : Ref) (es : Terms) (h : Form) → element_form l r es ≡ Some h → Meant l (element r es) h
-element_meant l r no_terms h e = subst (λ f. Meant l (element r no_terms) f) (some_same (scalar_form l r.cell) h e) (record { once = scalar_once l r.cell; value = λ steady i v m. scalar_value l steady i r v m })
-element_meant l r (then_term a es) h e = absurd (none_some h e)
+element_meant l r no_terms h e = subst (λ f. Meant l (element r no_terms) f) (same_Some (scalar_form l r.cell) h e) (record { once = scalar_once l r.cell; value = λ steady i v m. scalar_value l steady i r v m })
+element_meant l r (then_term a es) h e = absurd (none-some h e)
 
 negative : (a : ℤ) → total true (pos 0) a ≡ neg_ℤ a
 negative a = omega (arith, ints)
 
 unary_meant : (l : Loop) (p : Prefix) (e : Term) (f h : Form) → Meant l e f → prefixed_form l p f ≡ Some h → Meant l (unary p e) h
-unary_meant l Plus e f h m g = subst (λ x. Meant l (unary Plus e) x) (some_same f h g) (record {
+unary_meant l Plus e f h m g = subst (λ x. Meant l (unary Plus e) x) (same_Some f h g) (record {
   once = m.once;
   value = λ steady i v k. subst (λ n. IsValueOf l steady i f n) (ok_same k.0 v k.2) (m.value steady i k.0 k.1);
 })
@@ -239,13 +228,13 @@ unary_meant l Minus e f h m g = subst (λ x. Meant l (unary Minus e) x) (room_is
       subst (λ n. IsValueOf l steady i (total_form true (number_form (pos 0)) f) n) (negative k.0 ∙ range_is (neg_ℤ k.0) v k.2)
       (total_value l steady i true (number_form (pos 0)) f (pos 0) k.0 tt m.once refl z a);
 })
-unary_meant l Not e f h m g = absurd (none_some h g)
+unary_meant l Not e f h m g = absurd (none-some h g)
 
 total_meant : (l : Loop) (minus : Bool) (o : Operator) (a b : Term) (f g h : Form) → ((x y : ℤ) → value_of o x y ≡ in_range (total minus x y)) → Meant l a f → Meant l b g → total_of l minus f g ≡ Some h → Meant l (binary o a b) h
 total_meant l minus o a b f g h exact m n e = by (share_varying l f.shares g.shares) refl e
   where
     by : (x : Bool) → share_varying l f.shares g.shares ≡ x → (if x then None else in_room (total_form minus f g)) ≡ Some h → Meant l (binary o a b) h
-    by true k j = absurd (none_some h j)
+    by true k j = absurd (none-some h j)
     by false k j = subst (λ z. Meant l (binary o a b) z) (room_is (total_form minus f g) h j) (record {
       once = once_total minus f.shares g.shares m.once n.once;
       value = λ steady i v w.
@@ -287,34 +276,34 @@ product_meant l a b f g h m n e = by (is_constant f) (is_constant g) refl refl e
           (ap (λ c. c *ℤ w.0) (sym (u.is ∙ is_the_constant u.values i g q)) ∙ *ℤ_comm w.1 w.0 ∙ range_is (w.0 *ℤ w.1) v w.4)
           (times_value l steady i g.constant f w.0 (m.value steady i w.0 w.2));
     })
-    by false false p q j = absurd (none_some h j)
+    by false false p q j = absurd (none-some h j)
 
 binary_meant : (l : Loop) (o : Operator) (a b : Term) (f g h : Form) → Meant l a f → Meant l b g → binary_form l o f g ≡ Some h → Meant l (binary o a b) h
 binary_meant l Add a b f g h m n e = total_meant l false Add a b f g h (λ x y. refl) m n e
 binary_meant l Subtract a b f g h m n e = total_meant l true Subtract a b f g h (λ x y. refl) m n e
 binary_meant l Multiply a b f g h m n e = product_meant l a b f g h m n e
-binary_meant l Divide a b f g h m n e = absurd (none_some h e)
-binary_meant l Less a b f g h m n e = absurd (none_some h e)
-binary_meant l LessOrEqual a b f g h m n e = absurd (none_some h e)
-binary_meant l Equal a b f g h m n e = absurd (none_some h e)
-binary_meant l NotEqual a b f g h m n e = absurd (none_some h e)
-binary_meant l Greater a b f g h m n e = absurd (none_some h e)
-binary_meant l GreaterOrEqual a b f g h m n e = absurd (none_some h e)
-binary_meant l And a b f g h m n e = absurd (none_some h e)
-binary_meant l Or a b f g h m n e = absurd (none_some h e)
-binary_meant l Equivalent a b f g h m n e = absurd (none_some h e)
-binary_meant l NotEquivalent a b f g h m n e = absurd (none_some h e)
+binary_meant l Divide a b f g h m n e = absurd (none-some h e)
+binary_meant l Less a b f g h m n e = absurd (none-some h e)
+binary_meant l LessOrEqual a b f g h m n e = absurd (none-some h e)
+binary_meant l Equal a b f g h m n e = absurd (none-some h e)
+binary_meant l NotEqual a b f g h m n e = absurd (none-some h e)
+binary_meant l Greater a b f g h m n e = absurd (none-some h e)
+binary_meant l GreaterOrEqual a b f g h m n e = absurd (none-some h e)
+binary_meant l And a b f g h m n e = absurd (none-some h e)
+binary_meant l Or a b f g h m n e = absurd (none-some h e)
+binary_meant l Equivalent a b f g h m n e = absurd (none-some h e)
+binary_meant l NotEquivalent a b f g h m n e = absurd (none-some h e)
 
 number_meant : (l : Loop) (e : Term) (n : ℤ) (h : Form) → ((steady : ℕ → ℤ) (i v : ℤ) → MayBe l steady i e v → v ≡ n) → Some (number_form n) ≡ Some h → Meant l e h
-number_meant l e n h k j = subst (λ f. Meant l e f) (some_same (number_form n) h j) (record { once = tt; value = λ steady i v m. number_value l steady i n v (k steady i v m) })
+number_meant l e n h k j = subst (λ f. Meant l e f) (same_Some (number_form n) h j) (record { once = tt; value = λ steady i v m. number_value l steady i n v (k steady i v m) })
 
 -- The form of an expression, if it has one, has its value, whatever stands in it.
 pub meant : (l : Loop) (e : Term) (h : Form) → form_of l e ≡ Some h → Meant l e h
 meant l (constant n) h e = number_meant l (constant n) n h (λ steady i v m. m) e
-meant l (truth b) h e = absurd (none_some h e)
+meant l (truth b) h e = absurd (none-some h e)
 meant l (parameter x n) h e = number_meant l (parameter x n) n h (λ steady i v m. m) e
 meant l (element r es) h e = element_meant l r es h e
-meant l (call f es) h e = absurd (none_some h e)
+meant l (call f es) h e = absurd (none-some h e)
 meant l (parentheses a) h e = let m = meant l a h e in record { once = m.once; value = m.value }
 meant l (unary p a) h e =
     let t = through (form_of l a) (λ f. prefixed_form l p f) h e in

@@ -6,6 +6,7 @@ use Rattle.std.proofs.lemmas.List.{append-nil, length-append}
 use Rattle.std.proofs.lemmas.List.Folds.{list_all-append}
 use Rattle.std.specs.Prelude.{IfSome, ℤ, pos, ◌+◌, nat_le, nat_lt, not, ◌++◌, ◌==◌, ◌||◌, Bool, true, false, ◌&&◌, if◌then◌else◌, Option, Some, None}
 use Rattle.std.specs.List.{list_all}
+use Rattle.std.proofs.lemmas.Option.{none-some, same_Some}
 use Rattle.ast.specs.Exact.{fits}
 use Rattle.ast.specs.declared.expression.Operator.{Operator}
 use Rattle.ast.specs.declared.expression.Operator.TheVariants.{Add, Subtract, Multiply, Divide, Less, LessOrEqual, Equal, NotEqual, Greater, GreaterOrEqual, And, Or, Equivalent, NotEquivalent}
@@ -17,7 +18,6 @@ use Rattle.subscripts.specs.Leaves.{leaf_form}
 use Rattle.subscripts.specs.Steps.{Left, fitted, form_by, put}
 use Rattle.subscripts.specs.declared.leaf.Leaf.{Leaf}
 use Rattle.subscripts.specs.declared.leaf.Leaf.TheVariants.{Number, Scalar}
-use Rattle.subscripts.proofs.Meaning.{none_some, some_same}
 use Rattle.subscripts.proofs.Sums.{once_times, once_total, turned}
 
 -- ---- what is added to nothing, or nothing to what
@@ -232,8 +232,8 @@ in_room_proper : (f h : Form) → Once f.shares → list_all is_nonzero f.shares
 in_room_proper f h o n e = by (has_room f) refl e
   where
     by : (b : Bool) → has_room f ≡ b → (if b then Some f else None) ≡ Some h → IsProper h
-    by true r k = subst (λ g. IsProper g) (some_same f h k) (record { once = o; nonzero = n; room = r })
-    by false r k = absurd (none_some h k)
+    by true r k = subst (λ g. IsProper g) (same_Some f h k) (record { once = o; nonzero = n; room = r })
+    by false r k = absurd (none-some h k)
 
 pub total_proper : (minus : Bool) (f g h : Form) → Once f.shares → Once g.shares → in_room (total_form minus f g) ≡ Some h → IsProper h
 total_proper minus f g h o p e =
@@ -244,7 +244,7 @@ total_of_proper : (l : Loop) (minus : Bool) (f g h : Form) → IsProper f → Is
 total_of_proper l minus f g h p q e = by (share_varying l f.shares g.shares) e
   where
     by : (b : Bool) → (if b then None else in_room (total_form minus f g)) ≡ Some h → IsProper h
-    by true k = absurd (none_some h k)
+    by true k = absurd (none-some h k)
     by false k = total_proper minus f g h p.once q.once k
 
 times_proper : (k : ℤ) (f h : Form) → IsProper f → in_room (times k f) ≡ Some h → IsProper h
@@ -256,23 +256,23 @@ product_proper f g h p q e = by (is_constant f) (is_constant g) e
     by : (b d : Bool) → (if b then in_room (times f.constant g) else if d then in_room (times g.constant f) else None) ≡ Some h → IsProper h
     by true d k = times_proper f.constant g h q k
     by false true k = times_proper g.constant f h p k
-    by false false k = absurd (none_some h k)
+    by false false k = absurd (none-some h k)
 
 pub binary_proper : (l : Loop) (o : Operator) (f g h : Form) → IsProper f → IsProper g → binary_form l o f g ≡ Some h → IsProper h
 binary_proper l Add f g h p q e = total_of_proper l false f g h p q e
 binary_proper l Subtract f g h p q e = total_of_proper l true f g h p q e
 binary_proper l Multiply f g h p q e = product_proper f g h p q e
-binary_proper l Divide f g h p q e = absurd (none_some h e)
-binary_proper l Less f g h p q e = absurd (none_some h e)
-binary_proper l LessOrEqual f g h p q e = absurd (none_some h e)
-binary_proper l Equal f g h p q e = absurd (none_some h e)
-binary_proper l NotEqual f g h p q e = absurd (none_some h e)
-binary_proper l Greater f g h p q e = absurd (none_some h e)
-binary_proper l GreaterOrEqual f g h p q e = absurd (none_some h e)
-binary_proper l And f g h p q e = absurd (none_some h e)
-binary_proper l Or f g h p q e = absurd (none_some h e)
-binary_proper l Equivalent f g h p q e = absurd (none_some h e)
-binary_proper l NotEquivalent f g h p q e = absurd (none_some h e)
+binary_proper l Divide f g h p q e = absurd (none-some h e)
+binary_proper l Less f g h p q e = absurd (none-some h e)
+binary_proper l LessOrEqual f g h p q e = absurd (none-some h e)
+binary_proper l Equal f g h p q e = absurd (none-some h e)
+binary_proper l NotEqual f g h p q e = absurd (none-some h e)
+binary_proper l Greater f g h p q e = absurd (none-some h e)
+binary_proper l GreaterOrEqual f g h p q e = absurd (none-some h e)
+binary_proper l And f g h p q e = absurd (none-some h e)
+binary_proper l Or f g h p q e = absurd (none-some h e)
+binary_proper l Equivalent f g h p q e = absurd (none-some h e)
+binary_proper l NotEquivalent f g h p q e = absurd (none-some h e)
 
 pub number_proper : (n : ℤ) → fits n ≡ true → IsProper (number_form n)
 number_proper n e = record { once = tt; nonzero = refl; room = ap (λ (x : Bool). (x && true) && true) e }

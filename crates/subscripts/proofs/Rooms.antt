@@ -26,9 +26,6 @@ over n m h = by (nat_le n m) refl
     by true e = absurd (let k = leb-true n m e in omega (arith, h, k))
     by false e = refl
 
-below : (n m : ℕ) → nat_lt n m ≡ true → n < m
-below n m e = ltb-true n m e
-
 not_below : (n m : ℕ) → nat_lt n m ≡ false → m ≤ n
 not_below n m e = ltb-false n m e
 
@@ -69,7 +66,7 @@ put_law ss (t ∷ ts) h = put_first ss t ts ∙ by (fits t.factor) (int_eq t.fac
     by false false d e f g more longer k = ap (λ (x : Bool). if (x && list_all share_fits (nonzero ts)) && nat_le (length ss + length (t ∷ nonzero ts)) most_shares then Some (ss ++ t ∷ nonzero ts) else None) (sym e)
     by true true d e f g more longer k = more k
     by true false true e f g more longer k =
-        let room = below (length ss) most_shares g in
+        let room = ltb-true (length ss) most_shares g in
         let n = length-append ss (t ∷ []) in
         longer (omega (arith, room, n))
         ∙ ap (λ (m : ℕ). if list_all share_fits (nonzero ts) && nat_le m most_shares then Some ((ss ++ t ∷ []) ++ nonzero ts) else None) (let q : length (ss ++ t ∷ []) + length (nonzero ts) ≡ length ss + length (t ∷ nonzero ts) = omega (arith, n) in q)

@@ -1,5 +1,5 @@
--- Affine forms of subscripts: c0 + c*I + the sum of u*x over at most 8 other scalars x, where I is the
--- loop's variable. All numbers are exact; where one is no 64-bit integer, there is no form.
+-- Affine forms of subscripts: c0 + c*I + the sum of u*x over at most 8 other scalars x, where I is
+-- the loop's variable. All numbers are exact; where one is no 64-bit integer, there is no form.
 use Rattle.std.specs.Prelude.{ℕ, ℤ, pos, ◌+ℤ◌, ◌-ℤ◌, ◌*ℤ◌, nat_le, Bool, true, false, not, ◌&&◌, ◌==◌, if◌then◌else◌, List, [], ◌∷◌, ◌++◌, map, filter, length, Option, Some, None}
 use Rattle.std.specs.List.{list_any, list_all}
 use Rattle.std.specs.Ordering.{int_eq}
@@ -17,6 +17,7 @@ pub record Share : Type 0 where
   pub cell : ℕ
   pub factor : ℤ
 
+-- a form: its constant, how often it takes the loop's variable, and other scalars
 pub record Form : Type 0 where
   pub constant : ℤ
   pub coefficient : ℤ
@@ -26,9 +27,11 @@ pub record Form : Type 0 where
 abbrev pub varies : Loop → ℕ → Bool
 varies l c = has_cell c l.assigned
 
+-- the cell is that of the loop's variable
 abbrev pub is_variable : Loop → ℕ → Bool
 is_variable l c = c == l.head.variable.cell
 
+-- a scalar is among those of shares
 abbrev pub has_share : ℕ → List Share → Bool
 has_share c ss = list_any (λ (s : Share). s.cell == c) ss
 
@@ -37,6 +40,7 @@ abbrev pub factor_in : List Share → ℕ → ℤ
 factor_in [] c = pos 0
 factor_in (s ∷ ss) c = if s.cell == c then s.factor else factor_in ss c
 
+-- a scalar is taken at all
 abbrev pub is_nonzero : Share → Bool
 is_nonzero s = not (int_eq s.factor (pos 0))
 
@@ -44,12 +48,15 @@ is_nonzero s = not (int_eq s.factor (pos 0))
 abbrev pub nonzero : List Share → List Share
 nonzero ss = filter is_nonzero ss
 
+-- a form has at most so many other scalars
 abbrev pub most_shares : ℕ
 most_shares = 8
 
+-- the factor is a 64-bit integer
 abbrev pub share_fits : Share → Bool
 share_fits s = fits s.factor
 
+-- all factors are, and there are few enough
 abbrev pub shares_fit : List Share → Bool
 shares_fit ss = list_all share_fits ss && nat_le (length ss) most_shares
 
@@ -57,6 +64,7 @@ shares_fit ss = list_all share_fits ss && nat_le (length ss) most_shares
 abbrev pub has_room : Form → Bool
 has_room f = fits f.constant && fits f.coefficient && shares_fit f.shares
 
+-- a form, where it has room
 abbrev pub in_room : Form → Option Form
 in_room f = if has_room f then Some f else None
 
@@ -65,9 +73,11 @@ abbrev pub total : Bool → ℤ → ℤ → ℤ
 total false a b = a +ℤ b
 total true a b = a -ℤ b
 
+-- a share of the first, with the second's of the same scalar
 abbrev pub total_share : Bool → List Share → Share → Share
 total_share minus gs s = record { cell = s.cell; factor = total minus s.factor (factor_in gs s.cell) }
 
+-- a share of the second alone
 abbrev pub new_share : Bool → Share → Share
 new_share minus s = record { cell = s.cell; factor = total minus (pos 0) s.factor }
 
@@ -75,9 +85,11 @@ new_share minus s = record { cell = s.cell; factor = total minus (pos 0) s.facto
 abbrev pub others : List Share → List Share → List Share
 others fs gs = filter (λ (s : Share). not (has_share s.cell fs)) gs
 
+-- the shares of a sum or a difference
 abbrev pub total_shares : Bool → List Share → List Share → List Share
 total_shares minus fs gs = nonzero (map (total_share minus gs) fs ++ map (new_share minus) (others fs gs))
 
+-- the sum or the difference of two forms
 abbrev pub total_form : Bool → Form → Form → Form
 total_form minus f g = record {
   constant = total minus f.constant g.constant;
@@ -89,6 +101,7 @@ total_form minus f g = record {
 abbrev pub share_varying : Loop → List Share → List Share → Bool
 share_varying l fs gs = list_any (λ (s : Share). varies l s.cell && has_share s.cell gs) fs
 
+-- the same, where they share no varying scalar and the numbers fit
 abbrev pub total_of : Loop → Bool → Form → Form → Option Form
 total_of l minus f g = if share_varying l f.shares g.shares then None else in_room (total_form minus f g)
 
@@ -141,8 +154,8 @@ abbrev pub element_form : Loop → Ref → Terms → Option Form
 element_form l r no_terms = Some (scalar_form l r.cell)
 element_form l r (then_term e es) = None
 
--- The affine form of an expression; None where it has none: elements of arrays, intrinsics, divisions
--- and other products, whatever has a part without a form, and what is out of room.
+-- The affine form of an expression; None where it has none: elements of arrays, intrinsics,
+-- divisions and other products, whatever has a part without a form, and what is out of room.
 abbrev pub form_of : Loop → Term → Option Form
 form_of l (constant n) = Some (number_form n)
 form_of l (truth b) = None

@@ -13,8 +13,8 @@ ScalarMayBe false true i steady v = ⊤
 ScalarMayBe false false i steady v = v ≡ steady
 
 -- An expression may have the value v where the loop's variable is i, and the scalars that the range
--- doesn't assign hold these values. Each place where another scalar or an element stands may hold any
--- number of its own. What faults has no value.
+-- doesn't assign hold these values. Each place where another scalar or an element stands may hold
+-- any number of its own. What faults has no value.
 abbrev mutual
   pub MayBe : Loop → (ℕ → ℤ) → ℤ → Term → ℤ → Type 0
   MayBe l steady i (constant n) v = v ≡ n
@@ -36,6 +36,7 @@ abbrev pub sum_of : (ℕ → ℤ) → List Share → ℤ
 sum_of values [] = pos 0
 sum_of values (s ∷ ss) = (s.factor *ℤ values s.cell) +ℤ sum_of values ss
 
+-- the value of a form by that of the loop's variable and those of scalars
 abbrev pub form_value : (ℕ → ℤ) → ℤ → Form → ℤ
 form_value values i f = f.constant +ℤ ((f.coefficient *ℤ i) +ℤ sum_of values f.shares)
 

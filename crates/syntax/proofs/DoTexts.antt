@@ -1,5 +1,5 @@
 -- A text whose statement is a DO begins with a digit behind its keyword.
-use Rattle.std.proofs.Common.{◌≡◌, ℕ, zero, suc, ◌+◌, ◌<◌, Bool, true, false, cond, List, [], ◌∷◌, length, take, drop, Option, Some, None, arith, subst}
+use Rattle.std.proofs.Common.{◌≡◌, ℕ, true, cond, List, [], ◌∷◌, drop, Option, Some, None, subst}
 use Rattle.std.specs.Prelude.{codes}
 use Rattle.std.specs.List.{prefix_len}
 use Rattle.std.proofs.lemmas.Bool.{and_parts}
@@ -70,15 +70,3 @@ do_begins t u e = go (after (codes "IF(") t) e
     go : (o : Option (List ℕ)) → ◌≡◌ {A = Class} (elim o [ Some r ↦ class_behind_if t r | None ↦ other_class t ]) (classes.do_loop u) → begins_digit u ≡ true
     go None f = other_begins t u f
     go (Some r) f = behind_begins t r u f
-
-at_least_one : (b : Bool) (n : ℕ) → b ≡ true → 0 < cond b (1 + n) 0
-at_least_one true n e = omega arith
-at_least_one false n e = absurd cc
-
-take_some : (n c : ℕ) (cs : List ℕ) → 0 < n → 0 < length (take n (c ∷ cs))
-take_some zero c cs h = absurd (omega (arith, h))
-take_some (suc n) c cs h = omega arith
-
-pub some_digits : (t : List ℕ) → begins_digit t ≡ true → 0 < length (take (prefix_len is_digit t) t)
-some_digits [] h = absurd cc
-some_digits (c ∷ cs) h = take_some (prefix_len is_digit (c ∷ cs)) c cs (at_least_one (is_digit c) (prefix_len is_digit cs) h)

@@ -12,7 +12,7 @@ use Rattle.expressions.specs.Characters.{is_digit, begins_digit, after, value}
 use Rattle.expressions.specs.Grammar.{IsName, IsAccess, reference_to, Spells, depth_limit}
 use Rattle.expressions.specs.Levels.{top}
 use Rattle.expressions.specs.Reading.{name_at, wanted_at, end_at, front_at, whole_at, ended, element_at}
-use Rattle.expressions.proofs.Sound.{wanted_law, end_law, name_sound, front_sound, element_sound, whole_sound}
+use Rattle.expressions.proofs.Sound.{wanted_law, end_law, name_sound, front_sound, element_sound, whole_sound, digits_some}
 use Rattle.expressions.proofs.Tools.{done, bind_ok, ok_is, on_true, on_false, choice, joined, front_passes, after_law}
 use Rattle.syntax.specs.declared.class.Keyword.{Keyword}
 use Rattle.syntax.specs.declared.class.Keyword.TheVariants.{Program, Integer, Dimension, Parameter, Print, Write, Read, ReadUnit, Continue, Else, ElseIf, EndIf, Stop, End, LeftOut}
@@ -21,7 +21,7 @@ use Rattle.syntax.specs.Classes.{Class, class_of, without_comma, is_word}
 use Rattle.syntax.specs.Depths.{depth_of_kind}
 use Rattle.syntax.specs.Statements.{AreFurther, AreParts, AreOptional, AreBehindComma, closing, nothing, IsBounds, IsDeclarator, IsArray, IsDefinition, most_digits, IsLabel, IsStep, IsComma, AreParameters, IsDoHead, IsItem, AreFurtherItems, AreItems, is_stop_text, IsKind, is_initial}
 use Rattle.syntax.specs.ReadingStatements.{parts_at, closed_list, open_list, listed, list_behind_unit, list_behind_star, upper_at, bounds_at, array_of, array_at, declared_at, declarator_at, definition_at, next_constant, item_at, items_from, items_at, step_at, head_of, do_at, assigned_at, definitions_at, arm_at, else_if_at, whole_name_at, alone, worded_at, class_at, kind_at, initial, shallow, checked_at, statement_at}
-use Rattle.syntax.proofs.DoTexts.{do_begins, some_digits}
+use Rattle.syntax.proofs.DoTexts.{do_begins}
 
 -- ---- lists
 
@@ -316,7 +316,7 @@ do_sound line t h digit e =
           let c = comma_law rest in
           let named : without_comma rest ≡ s.0 ++ 61 ∷ w.0 = s.1 ∙ ap (λ (l : List ℕ). s.0 ++ l) (wanted_law line (codes "=") b.0.1 w.0 w.1) in
           let cut : t ≡ take n t ++ (c.0 ++ (s.0 ++ 61 ∷ w.0)) = sym (take-append-drop n t) ∙ ap (λ (l : List ℕ). take n t ++ l) (c.1 ∙ ap (λ (l : List ℕ). c.0 ++ l) named) in
-          let label : IsLabel h.terminal (take n t) = (some_digits t digit, front_passes is_digit t, omega (arith, leb-true n most_digits few, length-take n t), p.0) in
+          let label : IsLabel h.terminal (take n t) = (digits_some t digit, front_passes is_digit t, omega (arith, leb-true n most_digits few, length-take n t), p.0) in
           (take n t, c.0, s.0, w.0, cut, label, c.2, (b.0.0, s.2, p.1), p.2)
       | on_false many f ↦ absurd cc
     ]

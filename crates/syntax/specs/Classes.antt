@@ -131,5 +131,6 @@ class_behind_if t u = elim (enclosed u) [
   | None ↦ unclosed
 ]
 
+-- what kind of statement a text is looked at as, by its marks
 abbrev pub class_of : List ℕ → Class
 class_of t = elim (after (codes "IF(") t) [ Some u ↦ class_behind_if t u | None ↦ other_class t ]

@@ -30,6 +30,7 @@ depth_of_item (text_item t) = 0
 abbrev pub depth_of_head : DoHead → ℕ
 depth_of_head h = max (depth h.first) (max (depth h.last) (depth_of_optional h.step))
 
+-- the depth of the deepest expression of a statement, that of a logical IF included; 0 without one
 abbrev pub depth_of_kind : Kind → ℕ
 depth_of_kind (integer ds) = greatest depth_of_declarator ds
 depth_of_kind (dimension ds) = greatest depth_of_declarator ds

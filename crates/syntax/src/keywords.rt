@@ -23,6 +23,7 @@ use std::vec::IntoIter;
 /// The greatest number of digits of a label and of a STOP.
 pub const MOST_DIGITS: usize = 5;
 
+/// Refusal 25: a malformed statement, in this line.
 pub fn malformed(line: Line) -> Refusal
     ensures { result ≡ Refused 25 line }
 {

@@ -1,6 +1,7 @@
 -- What comes of a run of code is the sequential program's.
 use Rattle.std.proofs.Common.{◌≡◌, ◌∙◌, ℕ, ℤ, zero, suc, ◌+◌, Bool, true, false, List, [], ◌∷◌, ◌++◌, map, Option, Some, None, Vec, append-nil, inl, inr, ap, refl, subst, sym}
 use Rattle.std.specs.Global.{Global}
+use Rattle.std.proofs.lemmas.Option.{same_Some}
 use Rattle.ast.specs.Meaning.{seq}
 use Rattle.ast.specs.Program.{ProgramTree}
 use Rattle.ast.specs.Store.{StoreOf, values_from}
@@ -82,15 +83,12 @@ by_rows wanted Done old new text same h = subst (λ (rows : List Row). EndShown 
 by_rows wanted (Stopped line) old new text same h = h
 by_rows wanted (FaultedAt fault line) old new text same h = h
 
-same_some : (a b : End) → Some a ≡ Some b → a ≡ b
-same_some a b h = cc
-
 shown_so : (wanted : Bool) (tree : ProgramTree) (code : Code) (input : List ℕ) (m : Machine) (answer : Answer) (outcome : Outcome) (text : List ℕ) → IsCompiled tree code
     → Ended m (seq tree input).output (seq tree input).end (seq tree input).store → IsAnswer code m answer → outcome ≡ outcome_of answer.end
     → Extends (EndShown wanted (rows_from (cells answer.store) 0 tree.symbols) answer.end) answer.output.items text → ShowsRun wanted tree input outcome text
 shown_so wanted tree code input m answer outcome text compiled ended is out more =
     let store = (seq tree input).store in
-    let same : answer.end ≡ (seq tree input).end = same_some answer.end (seq tree input).end (sym is.end ∙ ended.is) in
+    let same : answer.end ≡ (seq tree input).end = same_Some answer.end (seq tree input).end (sym is.end ∙ ended.is) in
     let rows : answer.end ≡ Done → rows_from (cells answer.store) 0 tree.symbols ≡ map (row_of store) tree.symbols =
     λ done. ap (λ cs. rows_from cs 0 tree.symbols) (is.store ∙ stored_as code.variables tree.symbols m.store store (ended.stored (sym same ∙ done)) compiled.2.variables) ∙ rows_whole store tree.symbols in
     record {

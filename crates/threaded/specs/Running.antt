@@ -15,6 +15,7 @@ use Rattle.replay.specs.Replays.{Replays}
 use Rattle.schedules.specs.Schedules.{SchedText, Schedule}
 use Rattle.handing.specs.Handing.{AppendsPart}
 use Rattle.pages.specs.Outcomes.{outcome_of, status_of}
+use Rattle.pages.specs.Reading.{OfText}
 use Rattle.pages.specs.Shown.{EndShown, Extends, refused}
 use Rattle.pages.specs.View.{rows_from}
 use Rattle.pages.specs.declared.fault.EngineFault.{EngineFault}
@@ -28,8 +29,8 @@ use Rattle.threaded.specs.declared.ran.Ran.{Ran}
 use Rattle.threaded.specs.declared.ran.Ran.TheVariants.{Refused, Whole as Came, Memory, OutOfRange, NotStarted, Stuck}
 use Rattle.threaded.specs.declared.ran.Whole.{Whole}
 
--- The text is that of a schedule of so many processors and slots. It leads the code on the input to an end
--- that is the sequential program's.
+-- The text is that of a schedule of so many processors and slots. It leads the code on the input to
+-- an end that is the sequential program's.
 pub record IsScheduleOf (tree : ProgramTree) (code : Code) (input : List ℕ) (p s : ℕ) (text : List ℕ) : Type 0 where
   pub schedule : Schedule
   pub spelled : SchedText schedule text
@@ -53,8 +54,8 @@ pub record IsWhole (tree : ProgramTree) (code : Code) (input : List ℕ) (w : Wa
   pub shown : ShowsRun w.store tree input whole.page.outcome whole.page.text.items
   pub schedule : WhereWanted w.schedule whole.schedule (IsScheduleOf tree code input w.processors w.slots)
 
--- What is shown of an answer, and of the schedule that leads to it; where there is no memory for that, the
--- records alone.
+-- What is shown of an answer, and of the schedule that leads to it; where there is no memory for
+-- that, the records alone.
 abbrev pub Shows : Wants → List Symbol → Answer → Schedule → Ran → Type 0
 Shows w symbols answer x (Refused page) = ⊥
 Shows w symbols answer x (Came whole) =
@@ -86,7 +87,8 @@ ComesOf tree code input w OutOfRange = AreSizes w.processors w.slots → ⊥
 ComesOf tree code input w NotStarted = AreSizes w.processors w.slots
 ComesOf tree code input w Stuck = AreSizes w.processors w.slots
 
--- What `run` may come to with a source: where there is no memory for its code, nothing has gone out.
+-- What `run` may come to with a source: where there is no memory for its code, nothing has gone
+-- out.
 abbrev pub Running : (source input : List ℕ) → Wants → Ran → Type 0
 Running source input w (Refused page) = IsNoCodeAs source page.outcome page.text.items
 Running source input w (Came whole) = WithCode source (λ tree code. ComesOf tree code input w (Came whole))
@@ -111,8 +113,8 @@ abbrev pub GrowsPart : Option (List ℕ) → (old new : Option (List ℕ)) → T
 GrowsPart None old new = ⊥
 GrowsPart (Some text) old new = AppendsPart old new text
 
--- The schedule's text was written, if it is wanted, and then the page; or a beginning of one of them, and
--- nothing behind it.
+-- The schedule's text was written, if it is wanted, and then the page; or a beginning of one of
+-- them, and nothing behind it.
 abbrev pub WritesWhole : Whole → (before after old new : Option (List ℕ)) → Result Outcome EngineFault → Type 0
 WritesWhole x before after old new (Ok outcome) =
     (outcome ≡ x.page.outcome) × Grows (text_of x.schedule) before after × Appends old new x.page.text.items
@@ -126,8 +128,8 @@ abbrev pub WritesText : List ℕ → Result Outcome EngineFault → (old new : O
 WritesText text answer old new (Err (faults.Writing e)) = AppendsPart old new text
 WritesText text answer old new result = (result ≡ answer) × Appends old new text
 
--- What came of a run was written: of one that was given up for want of memory the records that had gone
--- out, and of one that there isn't nothing.
+-- What came of a run was written: of one that was given up for want of memory the records that had
+-- gone out, and of one that there isn't nothing.
 abbrev pub WritesRan : Ran → (before after old new : Option (List ℕ)) → Result Outcome EngineFault → Type 0
 WritesRan (Refused page) before after old new result = (after ≡ before) × WritesText page.text.items (Ok page.outcome) old new result
 WritesRan (Came whole) before after old new result = WritesWhole whole before after old new result
@@ -146,11 +148,24 @@ pub record WroteRan (allows : Ran → Type 0) (before after old new : Option (Li
 abbrev pub WroteStatus : (Ran → Type 0) → (before after old new : Option (List ℕ)) → ℕ → Type 0
 WroteStatus allows before after old new status = (outcome : Outcome) × (status ≡ status_of outcome) × WroteRan allows before after old new (Ok outcome)
 
--- What a fault leaves of the writers: both as they were where reading failed, and otherwise what is written
--- of what came of a run; or both as they were for want of memory to read.
+-- What a fault leaves of the writers: both as they were where reading failed, and otherwise what is
+-- written of what came of a run; or both as they were for want of memory to read.
 abbrev pub LeavesRun : EngineFault → (before after old new : Option (List ℕ)) → Type 0 → Type 0
 LeavesRun (faults.Source e) before after old new wrote = (after ≡ before) × (new ≡ old)
 LeavesRun (faults.Input e) before after old new wrote = (after ≡ before) × (new ≡ old)
 LeavesRun (faults.Schedule e) before after old new wrote = ⊥
 LeavesRun faults.Memory before after old new wrote = ((after ≡ before) × (new ≡ old)) ⊎ wrote
 LeavesRun _ before after old new wrote = wrote
+
+-- ---- the engine over readers: a source and an input are read, whose readers have these bytes left
+
+-- `run` ends with this status
+abbrev pub RunEnds : Wants → (source input before after old new : Option (List ℕ)) → ℕ → Type 0
+RunEnds w source input before after old new status =
+    OfText source (λ text. OfText input (λ given. WroteStatus (Running text given w) before after old new status))
+
+-- or with this fault
+abbrev pub RunFails : Wants → (source input before after old new : Option (List ℕ)) → EngineFault → Type 0
+RunFails w source input before after old new fault =
+    LeavesRun fault before after old new
+    (OfText source (λ text. OfText input (λ given. WroteRan (Running text given w) before after old new (Err fault))))

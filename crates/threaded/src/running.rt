@@ -1,6 +1,6 @@
 //! Runs in threads, and what comes of them.
 
-ghost use Rattle.std.specs.Prelude.{◌≡◌, ◌++◌, ℕ, Err, List, IfOk, IfErr, length, map};
+ghost use Rattle.std.specs.Prelude.{◌≡◌, ◌++◌, ℕ, List, IfOk, IfErr, length, map};
 ghost use Rattle.ast.specs.ProgramView.{program as program_of};
 ghost use Rattle.ast.specs.View.{cells, symbol as symbol_of};
 ghost use Rattle.codegen.specs.Headline.{Headline};
@@ -8,12 +8,11 @@ ghost use Rattle.codegen.specs.Program.{IsCompiled};
 ghost use Rattle.machine.specs.CodeView.{code_of};
 ghost use Rattle.profile_check.specs.Reads.{Reads};
 ghost use Rattle.schedules.specs.Schedules.{SchedText};
-ghost use Rattle.pages.specs.Reading.{OfText};
 ghost use Rattle.pages.specs.Shown.{EndShown};
 ghost use Rattle.pages.specs.View.{rows_from};
 ghost use Rattle.engines.specs.Engines.{LeavesReaders};
-ghost use Rattle.threaded.specs.Running.{LeavesRun, Running, ComesOf, Shows, ShowsRefusal};
-ghost use Rattle.threaded.specs.Running.{WhereWanted, WroteRan, WroteStatus};
+ghost use Rattle.threaded.specs.Running.{ComesOf, RunEnds, RunFails, Running, Shows};
+ghost use Rattle.threaded.specs.Running.{ShowsRefusal, WhereWanted};
 
 use crate::figures::Figures;
 use crate::ran::{Ran, Whole};
@@ -258,11 +257,12 @@ pub fn run<T: Threads + Wait + Sync, R: Read, I: Read, S: Write, W: Write>(
     schedule: &mut S,
     out: &mut W,
 ) -> Result<u8, EngineFault>
-    ensures ok { IfOk result (λ status. OfText (R.remaining source.old) (λ text. OfText (I.remaining input.old) (λ given.
-        WroteStatus (Running text given wants) (S.contents schedule.old) (S.contents schedule.new) (W.contents out.old) (W.contents out.new) status))) }
-    ensures err { IfErr result (λ fault. LeavesRun fault (S.contents schedule.old) (S.contents schedule.new) (W.contents out.old) (W.contents out.new)
-        (OfText (R.remaining source.old) (λ text. OfText (I.remaining input.old) (λ given.
-        WroteRan (Running text given wants) (S.contents schedule.old) (S.contents schedule.new) (W.contents out.old) (W.contents out.new) (Err fault))))) }
+    ensures ok { IfOk result (RunEnds wants (R.remaining source.old) (I.remaining input.old)
+        (S.contents schedule.old) (S.contents schedule.new) (W.contents out.old)
+        (W.contents out.new)) }
+    ensures err { IfErr result (RunFails wants (R.remaining source.old) (I.remaining input.old)
+        (S.contents schedule.old) (S.contents schedule.new) (W.contents out.old)
+        (W.contents out.new)) }
     ensures readers { IfErr result (λ fault.
         LeavesReaders fault (R.remaining source.new) (I.remaining input.old)
         (I.remaining input.new)) }

@@ -1,6 +1,6 @@
 -- Laws of blocks.
-use Rattle.std.proofs.Common.{◌≡◌, ◌∙◌, ◌+◌, ◌-◌, ◌<◌, ◌≤◌, ℕ, suc, Bool, true, false, List, ◌∷◌, Option, Some, None, Result, Ok, Err, refl, ap, sym, subst, length, map, drop, take, get_or, arith, rules, length-drop}
-use Rattle.std.proofs.lemmas.List.{drop_all, drop_more, take_all}
+use Rattle.std.proofs.Common.{◌≡◌, ◌∙◌, ◌+◌, ◌-◌, ◌<◌, ◌≤◌, ℕ, suc, Bool, true, false, List, ◌∷◌, Option, Some, None, Result, Ok, Err, refl, ap, sym, subst, length, map, drop, take, get_or}
+use Rattle.std.proofs.lemmas.List.{drop_all, drop_more}
 use Rattle.std.specs.Prelude.{ℤ, IsErrAnd, if◌then◌else◌}
 use Rattle.ast.specs.Exact.{is_true}
 use Rattle.ast.specs.Meaning.{Run, exec, exec_arms, exec_block, given, going_on, grown, is_last_stop_of, looked_up, looped, read_elements, step_value, target, then_do, turns, value, written}
@@ -8,14 +8,16 @@ use Rattle.ast.specs.Results.{◌>>=◌}
 use Rattle.ast.specs.Symbols.{Symbol}
 use Rattle.ast.specs.Tree as tree
 use Rattle.ast.specs.Tree.{Arms, Block, DoHead, Term, arms as arms_of, loop, no_nodes, then_arm, then_node}
-use Rattle.ast.specs.View.{access as access_of, arm as arm_of, arm_step, block_view, node as node_of, node_step, optional_term}
+use Rattle.ast.specs.View.{access as access_of, arm as arm_of, block_view, node as node_of, optional_term}
 use Rattle.ast.specs.Input.{next_integer}
 use Rattle.ast.specs.declared.expression.Access.{Access}
 use Rattle.ast.specs.declared.fault.End.{End}
 use Rattle.ast.specs.declared.fault.End.TheVariants.{Done, Fault as Faulted}
 use Rattle.ast.specs.declared.fault.Fault.{Fault}
-use Rattle.ast.specs.declared.tree.Arm.{Arm, fold_out-Arm}
+use Rattle.ast.specs.declared.tree.Arm.{Arm}
 use Rattle.ast.specs.declared.tree.Node.{Node}
+use Rattle.ast.proofs.Nodes.{line_of, condition_of, body_of}
+use Rattle.ast.proofs.Lists.{part_left}
 use Rattle.tree_run.specs.Executing.{holds_at}
 use Rattle.tree_run.specs.Placed.{PlacedAccess, PlacedAccesses, PlacedArms, PlacedBlock, PlacedNode, PlacedOptional}
 use Rattle.tree_run.specs.Runs.{Completes, GivesValue, Reaches, closed, run_of}
@@ -75,9 +77,6 @@ next_node ns i n h is =
 pub placed_node : (ss : List Symbol) (ns : List Node) (i : ℕ) (n : Node) → i < length ns → n ≡ get_or ns i n → PlacedBlock ss (block_view (drop i ns)) → PlacedNode ss (node_of n) × PlacedBlock ss (block_view (drop (i + 1) ns))
 placed_node ss ns i n h is p = subst (λ (b : Block). PlacedBlock ss b) (next_node ns i n h is) p
 
-pub part_left : (ns : List Node) (i : ℕ) → take (length ns - i) (drop i ns) ≡ drop i ns
-part_left ns i = take_all (length ns - i) (drop i ns) (omega (arith, length-drop i ns))
-
 no_stop : (ss : List Symbol) (n : tree.Node) (b : Block) (run : Run) → is_last_stop_of (then_node n b) ≡ false → then_do (exec ss n run) (λ after. exec_block ss b after) ≡ exec_block ss (then_node n b) run
 no_stop ss n b run is = ap (λ (x : Bool). if x then run else then_do (exec ss n run) (λ after. exec_block ss b after)) (sym is)
 
@@ -114,15 +113,6 @@ stopped ss ns i run whole tested so_far =
     ∙ so_far
 
 -- the next arm, and the others
-pub line_of : (a : Arm) → (arm_of a).line ≡ a.line
-line_of a = ap (λ (b : tree.Arm). b.line) (fold_out-Arm tree.Node tree.Arm node_step arm_step a) ∙ search rules
-
-pub condition_of : (a : Arm) → (arm_of a).condition ≡ optional_term a.condition
-condition_of a = ap (λ (b : tree.Arm). b.condition) (fold_out-Arm tree.Node tree.Arm node_step arm_step a) ∙ search rules
-
-pub body_of : (a : Arm) → (arm_of a).body ≡ block_view a.body.items
-body_of a = ap (λ (b : tree.Arm). b.body) (fold_out-Arm tree.Node tree.Arm node_step arm_step a) ∙ search rules
-
 next_arm : (xs : List Arm) (i : ℕ) (a : Arm) → i < length xs → a ≡ get_or xs i a → arms_of (map arm_of (drop i xs)) ≡ then_arm a.line (optional_term a.condition) (block_view a.body.items) (arms_of (map arm_of (drop (i + 1) xs)))
 next_arm xs i a h is =
     let others = arms_of (map arm_of (drop (i + 1) xs)) in

@@ -9,8 +9,8 @@ use Rattle.std.proofs.Math.ListN.{set}
 use Rattle.ast.specs.Store.{StoreOf, same_name, put, zeros, value_at, values_in, values_from, store_of}
 use Rattle.ast.specs.Symbols.{Symbol, names_of, size, cells_of}
 use Rattle.ast.specs.Symbols.{shapes_of}
+use Rattle.ast.proofs.SameNames.{same_itself, same_is}
 use Rattle.tree_run.specs.Shapes.{shapes_in}
-use Rattle.tree_run.proofs.Finding.{same_itself, same}
 
 abbrev Cell : Type 0
 Cell = List ℕ × List ℤ
@@ -80,7 +80,7 @@ set_found (x ∷ xs) (suc p) (suc q) v h = rw (eqb-suc-suc p q) (set_found xs p 
 
 -- a name that is another's isn't a third one
 other : (x y z : List ℕ) → same_name x z ≡ false → same_name x y ≡ true → same_name z y ≡ false
-other x y z h k = nat_list_eq_equiv.symm z y ∙ (subst (λ (w : List ℕ). same_name w z ≡ false) (same x y k) h)
+other x y z h k = nat_list_eq_equiv.symm z y ∙ (subst (λ (w : List ℕ). same_name w z ≡ false) (same_is x y k) h)
 
 passed : (b s : Bool) (e : Bool) (v : ℤ) (w new old : Option ℤ) → (b ≡ true → s ≡ false) → unwrap_or new (pos 0) ≡ (if s && e then v else unwrap_or old (pos 0)) → unwrap_or (if b then w else new) (pos 0) ≡ (if s && e then v else unwrap_or (if b then w else old) (pos 0))
 passed true s e v w new old k h = let f : s ≡ false = k refl in rw f refl

@@ -1,9 +1,9 @@
 -- Laws of the items of a PRINT.
-use Rattle.std.proofs.Common.{◌≡◌, ◌∙◌, ◌+◌, ◌<◌, ℕ, suc, subst, Bool, true, false, List, [], ◌∷◌, ◌++◌, Result, Ok, Err, refl, sym, ap, append_assoc, is_err, length, take, drop, get_or, map, arith, add-one, drop-cons}
-use Rattle.std.proofs.lemmas.List.{append-nil, take-take, take_all}
+use Rattle.std.proofs.Common.{◌≡◌, ◌∙◌, ◌+◌, ◌<◌, ℕ, suc, subst, Bool, true, false, List, [], ◌∷◌, ◌++◌, Result, Ok, Err, refl, sym, ap, append_assoc, is_err, length, drop, get_or, map, arith, add-one, drop-cons}
+use Rattle.std.proofs.lemmas.List.{append-nil, take_all}
 use Rattle.std.specs.Prelude.{ℤ, IsErrAnd}
 use Rattle.ast.specs.Meaning.{LookUp, Run, exec_plain, given, looked_up, printed, value}
-use Rattle.ast.specs.Record.{Printed, number, text, items_printed, rest_printed, record_of}
+use Rattle.ast.specs.Record.{Keeps, Printed, all_shown, items_printed, number, record_of, rest_printed, shown, text}
 use Rattle.ast.specs.Results.{◌>>=◌}
 use Rattle.ast.specs.Symbols.{Symbol}
 use Rattle.ast.specs.Tree.{PrintItem, value_item, text_item, print}
@@ -12,8 +12,9 @@ use Rattle.ast.specs.declared.statement.Item.{Item}
 use Rattle.ast.specs.declared.fault.End.{End}
 use Rattle.ast.specs.declared.fault.End.TheVariants.{Done, Fault as Faulted}
 use Rattle.ast.specs.declared.fault.Fault.{Fault}
+use Rattle.ast.proofs.Records.{shown_on, nothing_shown}
 use Rattle.tree_run.specs.Placed.{PlacedItems}
-use Rattle.tree_run.specs.Printing.{Keeps, all_shown, shown, item_onto, items_onto, record_onto}
+use Rattle.tree_run.specs.Printing.{item_onto, items_onto, record_onto}
 use Rattle.tree_run.specs.Runs.{Gives, Reaches, closed}
 use Rattle.tree_run.specs.declared.stop.Stop.{Stop}
 use Rattle.tree_run.specs.declared.stop.Stop.TheVariants.{Memory, Fault as Fails, Stopped as Stops}
@@ -50,20 +51,6 @@ fails_on r a s line new v next whole w given failing h =
 
 pub keeps_all : (l : List ℕ) → Keeps l l
 keeps_all l = (omega arith, take_all (length l) l (omega arith))
-
-pub keeps_on : (old mid new : List ℕ) → Keeps old mid → Keeps mid new → Keeps old new
-keeps_on old mid new h g = (
-  omega (arith, h.0, g.0),
-  sym (take-take (length old) (length mid) new h.0) ∙ ap (λ (l : List ℕ). take (length old) l) g.1 ∙ h.1,
-)
-
-pub shown_on : (first : Bool) (p : Printed) (ps : List Printed) → all_shown first (p ∷ ps) ≡ shown first p ++ rest_printed ps
-shown_on true p ps = refl
-shown_on false p ps = refl
-
-pub nothing_shown : (first : Bool) → all_shown first [] ≡ []
-nothing_shown true = refl
-nothing_shown false = refl
 
 -- one item, and then the others
 then_more : (r : Result (List Printed) Fault) (output : List ℕ) (first : Bool) (p : Printed) → (r >>= λ ps. Ok ((output ++ shown first p) ++ rest_printed ps)) ≡ ((r >>= λ ps. Ok (p ∷ ps)) >>= λ ps. Ok (output ++ all_shown first ps))

@@ -6,5 +6,5 @@ pub mod Items
 pub mod Offsets
 pub mod Placing
 pub mod Seats
-pub mod Terms
+mod TermValues
 pub mod Values

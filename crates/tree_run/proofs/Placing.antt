@@ -1,40 +1,34 @@
 -- A program whose references are placed is placed in each of its parts.
-use Rattle.std.proofs.Common.{◌≡◌, List, [], ◌∷◌, ◌++◌, Bool, true, refl}
+use Rattle.std.proofs.Common.{◌≡◌, List, [], ◌∷◌, ◌++◌, true}
 use Rattle.std.specs.List.{list_all}
 use Rattle.std.proofs.lemmas.Bool.{and_parts}
 use Rattle.ast.specs.Program.{are_placed, is_placed}
 use Rattle.ast.specs.References.{term_references, terms_references, expressions_references, optional, head_expressions, block_expressions, arms_expressions, node_expressions}
 use Rattle.ast.specs.Symbols.{Symbol}
-use Rattle.ast.specs.Tree.{Ref, Term, Terms, constant, truth, parameter, element, call, parentheses, unary, binary, no_terms, then_term, Node, plain, loop, choose, Block, no_nodes, then_node, Arms, no_arms, then_arm}
+use Rattle.ast.specs.Tree.{Term, Terms, constant, truth, parameter, element, call, parentheses, unary, binary, no_terms, then_term, Node, plain, loop, choose, Block, no_nodes, then_node, Arms, no_arms, then_arm}
+use Rattle.ast.proofs.Lists.{all_parts}
 use Rattle.tree_run.specs.Placed.{AllPlaced, PlacedTerm, PlacedTerms, PlacedNode, PlacedBlock, PlacedArms}
-
-both : (p : Ref → Bool) (xs ys : List Ref) → list_all p (xs ++ ys) ≡ true → (list_all p xs ≡ true) × (list_all p ys ≡ true)
-both p [] ys h = (refl, h)
-both p (x ∷ xs) ys h =
-    let k = and_parts (p x) (list_all p (xs ++ ys)) h in
-    let l = both p xs ys k.1 in
-    (rw (k.0, l.0) refl, l.1)
 
 mutual
   placed_term : (ss : List Symbol) (e : Term) → list_all (λ r. is_placed ss r) (term_references e) ≡ true → PlacedTerm ss e
   placed_term ss (element r es) h =
-      let k = both (λ r. is_placed ss r) (terms_references es) (r ∷ []) h in
+      let k = all_parts (λ r. is_placed ss r) (terms_references es) (r ∷ []) h in
       ((and_parts (is_placed ss r) true k.1).0, placed_terms ss es k.0)
   placed_term ss (call f es) h = placed_terms ss es h
   placed_term ss (parentheses e) h = placed_term ss e h
   placed_term ss (unary p e) h = placed_term ss e h
-  placed_term ss (binary o a b) h = let k = both (λ r. is_placed ss r) (term_references a) (term_references b) h in (placed_term ss a k.0, placed_term ss b k.1)
+  placed_term ss (binary o a b) h = let k = all_parts (λ r. is_placed ss r) (term_references a) (term_references b) h in (placed_term ss a k.0, placed_term ss b k.1)
   placed_term ss (constant n) h = tt
   placed_term ss (truth b) h = tt
   placed_term ss (parameter x n) h = tt
 
   placed_terms : (ss : List Symbol) (es : Terms) → list_all (λ r. is_placed ss r) (terms_references es) ≡ true → PlacedTerms ss es
   placed_terms ss no_terms h = tt
-  placed_terms ss (then_term e es) h = let k = both (λ r. is_placed ss r) (term_references e) (terms_references es) h in (placed_term ss e k.0, placed_terms ss es k.1)
+  placed_terms ss (then_term e es) h = let k = all_parts (λ r. is_placed ss r) (term_references e) (terms_references es) h in (placed_term ss e k.0, placed_terms ss es k.1)
 
 all_placed : (ss : List Symbol) (es : List Term) → list_all (λ r. is_placed ss r) (expressions_references es) ≡ true → AllPlaced ss es
 all_placed ss [] h = tt
-all_placed ss (e ∷ es) h = let k = both (λ r. is_placed ss r) (term_references e) (expressions_references es) h in (placed_term ss e k.0, all_placed ss es k.1)
+all_placed ss (e ∷ es) h = let k = all_parts (λ r. is_placed ss r) (term_references e) (expressions_references es) h in (placed_term ss e k.0, all_placed ss es k.1)
 
 parted : (ss : List Symbol) (xs ys : List Term) → AllPlaced ss (xs ++ ys) → AllPlaced ss xs × AllPlaced ss ys
 parted ss [] ys h = (tt, h)

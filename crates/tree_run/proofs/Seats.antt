@@ -7,9 +7,10 @@ use Rattle.ast.specs.Store.{same_name, values_in}
 use Rattle.ast.specs.Symbols.{Symbol, names_of, dimensions_in, dimensions_of, elements, is_sized, most_elements}
 use Rattle.ast.specs.Tree.{Ref}
 use Rattle.ast.specs.Symbols.{shapes_of}
+use Rattle.ast.proofs.Symbols.{found, dimensions_told, sized_at, size_of_variable}
 use Rattle.tree_run.specs.Shapes.{shapes_in}
 use Rattle.tree_run.proofs.Cells.{names_fit, values_fit}
-use Rattle.tree_run.proofs.Finding.{found, dimensions_at, sized_at, size_of_variable, open_sort, few_elements}
+use Rattle.tree_run.proofs.Finding.{open_sort, few_elements}
 
 pub record Seat (ss : List Symbol) (cs : List (List ℕ × List ℤ)) (i : ℕ) (x : List ℕ) : Type 0 where
   pub within : i < length cs
@@ -21,7 +22,7 @@ pub seat : (ss : List Symbol) (cs : List (List ℕ × List ℤ)) (r : Ref) → s
 seat ss cs r fits distinct placed =
     let f = found ss r placed in
     let v = values_fit cs ss r.cell f.symbol fits f.at in
-    let dims : dimensions_in ss r.name ≡ dimensions_of f.symbol.sort = ap (dimensions_in ss) (sym f.named) ∙ dimensions_at ss r.cell f.symbol distinct f.at in
+    let dims : dimensions_in ss r.name ≡ dimensions_of f.symbol.sort = ap (dimensions_in ss) (sym f.named) ∙ dimensions_told ss r.cell f.symbol distinct f.at in
     record {
       within = v.2;
       named = v.1 ∙ f.named;
@@ -38,7 +39,7 @@ pub held : (ss : List Symbol) (r : Ref) → list_all is_sized ss ≡ true → Is
 held ss r sized distinct placed =
     let f = found ss r placed in
     let s = sized_at ss r.cell f.symbol sized f.at in
-    let dims : dimensions_in ss r.name ≡ dimensions_of f.symbol.sort = ap (dimensions_in ss) (sym f.named) ∙ dimensions_at ss r.cell f.symbol distinct f.at in
+    let dims : dimensions_in ss r.name ≡ dimensions_of f.symbol.sort = ap (dimensions_in ss) (sym f.named) ∙ dimensions_told ss r.cell f.symbol distinct f.at in
     record {
       open_bounds = ap (list_all (λ d. not (int_lt d.upper d.lower))) dims ∙ open_sort f.symbol.sort s;
       few = subst (λ (n : ℕ). n ≤ most_elements) (size_of_variable f.symbol.sort f.is_variable ∙ ap elements (sym dims)) (few_elements f.symbol.sort s);

@@ -19,6 +19,7 @@ abbrev mutual
   PlacedTerms ss no_terms = ⊤
   PlacedTerms ss (then_term e es) = PlacedTerm ss e × PlacedTerms ss es
 
+-- so it is in each of these expressions
 abbrev pub AllPlaced : List Symbol → List Term → Type 0
 AllPlaced ss es = AllByRecursion (λ e. PlacedTerm ss e) es
 

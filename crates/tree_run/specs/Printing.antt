@@ -1,24 +1,10 @@
 -- Accounts of PRINT, item by item.
-use Rattle.std.specs.Prelude.{◌≡◌, ◌≤◌, ◌++◌, ℕ, Bool, true, false, List, [], ◌∷◌, length, take, Result, Ok}
+use Rattle.std.specs.Prelude.{◌++◌, ℕ, Bool, true, false, List, [], ◌∷◌, Result, Ok}
 use Rattle.ast.specs.Meaning.{LookUp, value}
-use Rattle.ast.specs.Record.{Printed, number, text, first_printed, next_printed, items_printed, rest_printed}
+use Rattle.ast.specs.Record.{number, shown, text}
 use Rattle.ast.specs.Results.{◌>>=◌}
 use Rattle.ast.specs.Tree.{PrintItem, value_item, text_item}
 use Rattle.ast.specs.declared.fault.Fault.{Fault}
-
--- The new bytes begin with the old ones.
-abbrev pub Keeps : List ℕ → List ℕ → Type 0
-Keeps old new = (length old ≤ length new) × (take (length old) new ≡ old)
-
--- what an item prints, the first item or a later one
-abbrev pub shown : Bool → Printed → List ℕ
-shown true p = first_printed p
-shown false p = next_printed p
-
--- what items print, from the first item on or from a later one
-abbrev pub all_shown : Bool → List Printed → List ℕ
-all_shown true ps = items_printed ps
-all_shown false ps = rest_printed ps
 
 -- an output with what an item prints
 abbrev pub item_onto : List ℕ → Bool → PrintItem → LookUp → Result (List ℕ) Fault

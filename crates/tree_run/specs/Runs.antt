@@ -19,6 +19,7 @@ left i = drop i.given i.integers.items
 abbrev pub run_of : Machine → End → Run
 run_of m end = record { store = store_in m.memory; input = m.input.records; output = m.output.items; end = end }
 
+-- the symbols of the program that a machine runs
 abbrev pub symbols_of : Machine → List Symbol
 symbols_of m = symbols_in m.memory
 

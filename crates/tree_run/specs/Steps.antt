@@ -15,8 +15,9 @@ abbrev pub evaluated : LookUp → Terms → Result (Unit {0}) Fault
 evaluated look no_terms = Ok tt
 evaluated look (then_term e es) = value look e >>= λ x. evaluated look es
 
--- how far the subscripts of an element have led: the dimensions that are left, how many elements lie
--- between two neighbours by the next subscript, and the place, unless a subscript left its bounds
+-- how far the subscripts of an element have led: the dimensions that are left, how many elements
+-- lie between two neighbours by the next subscript, and the place, unless a subscript left its
+-- bounds
 pub record Way : Type 0 where
   pub rest : List Extent
   pub stride : ℕ

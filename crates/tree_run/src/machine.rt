@@ -23,6 +23,10 @@ impl<'p> Machine<'p> {
     ghost use Rattle.tree_run.specs.Runs.{run_of, symbols_of};
 
     /// Before the first statement: all values are zero, and nothing was read or printed.
+    ///
+    /// # Errors
+    ///
+    /// `AllocError` where memory is refused.
     pub fn new(
         alloc: Global,
         program: &'p Program,

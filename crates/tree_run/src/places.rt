@@ -26,7 +26,7 @@ pub struct Walk<'d> {
 }
 
 /// How far a subscript is from its lower bound.
-#[tactic(auto, using(crate::proofs::Offsets::below))]
+#[tactic(auto, using(ast::proofs::Places::below))]
 fn offset(dimension: &Dimension, subscript: i64) -> usize
     requires open { int_lt dimension.now.upper dimension.now.lower ≡ false }
     requires few { width (extent dimension.now) ≤ most_elements }
@@ -38,7 +38,7 @@ fn offset(dimension: &Dimension, subscript: i64) -> usize
 }
 
 /// The place one subscript further.
-#[tactic(auto, using(crate::proofs::Offsets::narrow))]
+#[tactic(auto, using(ast::proofs::Places::narrow))]
 fn further(
     place: Option<usize>,
     stride: usize,
@@ -65,7 +65,7 @@ fn further(
 }
 
 /// The stride of the next subscript.
-#[tactic(auto, using(crate::proofs::Offsets::narrow))]
+#[tactic(auto, using(ast::proofs::Places::narrow))]
 fn longer(stride: usize, dimension: &Dimension) -> usize
     requires open { int_lt dimension.now.upper dimension.now.lower ≡ false }
     requires positive { 1 ≤ stride }

@@ -2,12 +2,12 @@
 
 ghost use Rattle.std.specs.Prelude.{◌≡◌, ◌++◌, ◌∷◌, [], OnOk, map, true};
 ghost use Rattle.ast.specs.Meaning.{exec_plain};
-ghost use Rattle.ast.specs.Record.{number};
+ghost use Rattle.ast.specs.Record.{Keeps, number, shown};
 ghost use Rattle.ast.specs.Tree.{print};
 ghost use Rattle.ast.specs.View.{item as item_of};
 ghost use Rattle.ast.specs.declared.fault.End.TheVariants.{Done};
 ghost use Rattle.tree_run.specs.Placed.{PlacedItems};
-ghost use Rattle.tree_run.specs.Printing.{Keeps, item_onto, items_onto, record_onto, shown};
+ghost use Rattle.tree_run.specs.Printing.{item_onto, items_onto, record_onto};
 ghost use Rattle.tree_run.specs.Runs.{Gives, Reaches, run_of, symbols_of};
 ghost use Rattle.tree_run.specs.View.{look, symbols_in};
 
@@ -20,6 +20,10 @@ use itoa::Buffer;
 use std::alloc::AllocError;
 
 /// Appends an integer, with a blank before it unless it is the first item.
+///
+/// # Errors
+///
+/// `AllocError` where memory is refused; a part may have been appended then.
 pub fn append_number(output: &mut Vec<u8>, is_first: bool, n: i64) -> Result<(), AllocError>
     ensures appended { OnOk result (output.new.items ≡ output.old.items
         ++ shown is_first (number n)) }

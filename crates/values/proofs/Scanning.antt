@@ -10,6 +10,7 @@ use Rattle.std.specs.Char.{digit_value, is_ascii_digit}
 use Rattle.std.specs.Str.Parse.{digits_value, digits_value_after}
 use Rattle.ast.specs.Exact.{fits}
 use Rattle.ast.specs.Input.{begun, cut_at, is_blank, is_comma, is_empty, integer_of, integer_in, integers_in, integers_of, all_words, commas_part, with_first, words}
+use Rattle.ast.proofs.Digits.{digit_is}
 use Rattle.values.specs.Scanning.{piece_length, pieces, magnitude_from, magnitude_in, if_some, number_onto, words_onto, part_onto, parts_onto}
 use Rattle.values.specs.declared.scanner.Separator.TheVariants.{Comma}
 
@@ -44,9 +45,6 @@ cut_nowhere test (c ∷ cs) h = by (test c) (cut_nowhere test cs) h
     by false ih h = ap (begun c) (ih (omega (arith, h)))
 
 -- ---- numbers
-
-digit_is : (c : ℕ) → is_ascii_digit c ≡ true → digit_value c ≡ c - 48
-digit_is c h = grind (arith, nat_tests)
 
 grows : (n : ℕ) (cs : List ℕ) → n ≤ digits_value_after 10 n cs
 grows n [] = omega arith

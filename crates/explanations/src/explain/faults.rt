@@ -82,7 +82,9 @@ is 1 where none is declared, to the upper one. Here I is 4 in the last trip:
         input: "",
     },
     advice: "print the subscripts before the line, and look at the limits of the loops
-around it. If the subscripts are right, declare more elements:
+around it. Of .AND. and .OR. both sides have to have a value, so one side guards
+nothing in the other: put one IF into another. If the subscripts are right, declare
+more elements:
 ",
     cure: Trial {
         source: "      INTEGER A(4)
@@ -108,7 +110,8 @@ was never assigned is 0, so this line faults wherever N has no value yet:
         input: "",
     },
     advice: "assign the divisor before the line, and look for a name that is spelled in
-two ways:
+two ways. Of .AND. and .OR. both sides have to have a value, so one side guards
+nothing in the other: put one IF into another. Here a value was missing:
 ",
     cure: Trial {
         source: "      N=5

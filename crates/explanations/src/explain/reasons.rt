@@ -152,6 +152,7 @@ since the value is then one from before:
     cure: "      INTEGER A(10)
       DO 20 I=1,10
       A(I)=4
+      IF (I.EQ.1) A(I)=0
       DO 10 J=1,3
    10 A(I)=A(I)+J
    20 CONTINUE
@@ -183,8 +184,8 @@ inside run one iteration after another, in each of its iterations:
    10 B(I,J)=I*J
       END
 ",
-    advice: "nothing, where iterations of the outer loop seldom wait. Where they do so much, exchange the
-loops.
+    advice: "nothing, where iterations of the outer loop seldom wait. Where they mostly wait, exchange
+the loops, if the answer stays the same.
 ",
     cure: "",
 };

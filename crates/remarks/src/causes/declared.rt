@@ -1,13 +1,10 @@
 //! What statements declare, and what a declaration may not have.
 
 use super::{Cause, arguments_of};
-use crate::mentions::{LONGEST_NAME, Mention, mentions};
-use crate::squeezed::Squeezed;
-use ast::{Line, Name};
+use crate::mentions::{Mention, mentions};
+use crate::squeezed::{PROGRAM, Squeezed};
+use ast::{LONGEST_NAME, Line, Name};
 use std::alloc::{AllocError, Global};
-
-/// What begins the statement that gives a program its name.
-const PROGRAM: &[u8] = b"PROGRAM";
 
 /// What a statement declares of a name.
 #[derive(Clone, Copy)]
@@ -97,9 +94,12 @@ impl Declared {
         for mention in names {
             let name = mention.name;
             if let (0, Some(line)) = (mention.depth, self.constant(name)) {
-                return Some(Cause::Constant { name, line });
+                return Some(Cause::Constant {
+                    mention: *mention,
+                    line,
+                });
             }
-            if !statement.text.starts_with(b"READ") {
+            if !statement.is_read() {
                 return None;
             }
         }
@@ -110,16 +110,22 @@ impl Declared {
     pub fn twice(mut self, statement: &Squeezed, names: &[Mention]) -> Option<Cause> {
         for mention in names {
             let name = mention.name;
-            if arguments_of(name).is_some() && mention.count == 0 {
-                return Some(Cause::Function(name));
+            let is_own = mention.depth == 0 && (mention.is_given || statement.is_declaration());
+            if arguments_of(name).is_some() && (is_own || mention.count == 0) {
+                return Some(Cause::Function(*mention));
             }
             if self.program == Some(name) {
-                return Some(Cause::Program(name));
+                return Some(Cause::Program(*mention));
             }
             let entry = Entry::of(statement, mention);
             match entry.and_then(|entry| self.opposed(entry)) {
-                Some(line) if line == statement.line => return Some(Cause::Repeated(name)),
-                Some(line) => return Some(Cause::Declared { name, line }),
+                Some(line) if line == statement.line => return Some(Cause::Repeated(*mention)),
+                Some(line) => {
+                    return Some(Cause::Declared {
+                        mention: *mention,
+                        line,
+                    });
+                }
                 None => {}
             }
             self.add(entry).ok()?;
@@ -154,7 +160,7 @@ impl Declared {
                     last = Some(entry);
                 }
                 None if self.constant(mention.name).is_none() => {
-                    return Some(Cause::Unknown(mention.name));
+                    return Some(Cause::Unknown(*mention));
                 }
                 None => {}
             }

@@ -2,9 +2,8 @@
 //! or the other way round.
 
 use super::Cause;
-use crate::mentions::{LONGEST_NAME, Mention};
+use crate::mentions::Mention;
 use crate::squeezed::{Squeezed, behind_parentheses, has_outer};
-use ast::Name;
 use bstr::ByteSlice;
 
 /// The operators that compare integers.
@@ -16,19 +15,25 @@ const RELATION_LEN: usize = 3;
 /// The operators between logical values, and the one before a logical value.
 const CONNECTIVES: [&[u8]; 5] = [b".AND.", b".OR.", b".EQV.", b".NEQV.", b".NOT."];
 
-/// What is of the wrong kind in a statement that does this, with these names, as far as that can be
-/// told.
-pub fn wrong_kind(statement: &Squeezed, done: &Squeezed, names: &[Mention]) -> Option<Cause> {
+/// What is of the wrong kind in a statement with these names that does what has the second names,
+/// as far as that can be told.
+pub fn wrong_kind(
+    statement: &Squeezed,
+    names: &[Mention],
+    done: &Squeezed,
+    names_done: &[Mention],
+) -> Option<Cause> {
     let text = statement.text.as_slice();
     let operand = CONNECTIVES
         .iter()
         .find_map(|operator| beside(text, operator));
-    if let Some(name) = operand.or(condition(text)) {
-        return Some(Cause::Integer(name));
+    if let Some(place) = operand.or(condition(text)) {
+        let named = names.iter().find(|mention| mention.place == place);
+        return named.map(|mention| Cause::Integer(*mention));
     }
-    match names.first() {
+    match names_done.first() {
         Some(mention) if mention.is_given && mention.depth == 0 && gives_logical(done) => {
-            Some(Cause::Logical(mention.name))
+            Some(Cause::Logical(*mention))
         }
         _ if wants_numbers(done) && done.text.contains(&b'.') => Some(Cause::Truth),
         _ if compares_logical(text) => Some(Cause::Truth),
@@ -86,58 +91,54 @@ fn has_logical(before: &[u8], behind: &[u8]) -> bool {
 }
 
 fn last_operand(text: &[u8]) -> &[u8] {
-    let start = text.len().saturating_sub(last_len(text));
-    text.get(start..).unwrap_or(text)
+    text.get(last_start(text)..).unwrap_or(text)
 }
 
 fn first_operand(text: &[u8]) -> &[u8] {
-    let end = first_len(text);
+    let end = first_length(text);
     text.get(..end).unwrap_or(text)
 }
 
-/// The integer beside the first of these operators, if there is one.
-fn beside(text: &[u8], operator: &[u8]) -> Option<Name> {
+/// The place of the integer beside the first of these operators, if there is one.
+fn beside(text: &[u8], operator: &[u8]) -> Option<usize> {
     let at = text.find(operator)?;
-    let end = at.saturating_add(operator.len());
     let before = integer_before(text.get(..at)?);
-    before.or(integer_behind(text.get(end..)?))
+    before.or(integer_behind(text, at.saturating_add(operator.len())))
 }
 
-/// The condition of an IF that is an integer alone.
-fn condition(text: &[u8]) -> Option<Name> {
-    let text = text.strip_prefix(b"ELSE".as_slice()).unwrap_or(text);
-    let text = text.strip_prefix(b"IF(".as_slice())?;
-    let end = first_len(text);
-    match text.get(end) {
-        Some(b')') => name_in(text.get(..end)?),
+/// The place of the condition of an IF that is an integer alone.
+fn condition(text: &[u8]) -> Option<usize> {
+    let front: &[u8] = if text.starts_with(b"ELSE") {
+        b"ELSEIF("
+    } else {
+        b"IF("
+    };
+    let rest = text.strip_prefix(front)?;
+    let length = first_length(rest);
+    match rest.get(length) {
+        Some(b')') => name_in(rest.get(..length)?, front.len()),
         _ => None,
     }
 }
 
-/// The integer at the end of a text, unless it is compared there.
-fn integer_before(text: &[u8]) -> Option<Name> {
-    let start = text.len().saturating_sub(last_len(text));
-    let is_compared = RELATIONS.iter().any(|relation| text
-        .get(..start)
-        .is_some_and(|before| before.ends_with(relation)));
-    if is_compared {
+/// The place of the integer at the end of a text, unless it is compared there.
+fn integer_before(text: &[u8]) -> Option<usize> {
+    let start = last_start(text);
+    let front = text.get(..start)?;
+    if RELATIONS.iter().any(|relation| front.ends_with(relation)) {
         return None;
     }
-    name_in(text.get(start..)?)
+    name_in(text.get(start..)?, start)
 }
 
-/// The integer at the beginning of a text, unless it is compared there.
-fn integer_behind(text: &[u8]) -> Option<Name> {
-    let end = first_len(text);
-    let behind = text.get(end..)?;
-    let behind = behind.strip_prefix(b".".as_slice()).unwrap_or(b"");
-    if RELATIONS
-        .iter()
-        .any(|relation| behind.starts_with(relation))
-    {
+/// The place of the integer that begins at a place, unless it is compared there.
+fn integer_behind(text: &[u8], start: usize) -> Option<usize> {
+    let rest = text.get(start..)?;
+    let length = first_length(rest);
+    if behind_relation(rest.get(length..)?).is_some() {
         return None;
     }
-    name_in(text.get(..end)?)
+    name_in(rest.get(..length)?, start)
 }
 
 /// An operand as far as it was read.
@@ -147,7 +148,7 @@ struct Operand {
     opening: u8,
     depth: usize,
     /// How many bytes it has.
-    len: usize,
+    length: usize,
 }
 
 impl Operand {
@@ -155,7 +156,7 @@ impl Operand {
         Operand {
             opening,
             depth: 0,
-            len: 0,
+            length: 0,
         }
     }
 
@@ -167,44 +168,38 @@ impl Operand {
             b'(' | b')' => self.depth = self.depth.saturating_sub(1),
             _ => {}
         }
-        self.len = self.len.saturating_add(1);
+        self.length = self.length.saturating_add(1);
         true
     }
 }
 
 /// How many bytes the operand at the beginning of a text has.
-fn first_len(text: &[u8]) -> usize {
+fn first_length(text: &[u8]) -> usize {
     let mut operand = Operand::new(b'(');
     for byte in text {
         if !operand.takes(*byte) {
             break;
         }
     }
-    operand.len
+    operand.length
 }
 
-/// How many bytes the operand at the end of a text has.
-fn last_len(text: &[u8]) -> usize {
+/// Where the operand at the end of a text begins.
+fn last_start(text: &[u8]) -> usize {
     let mut operand = Operand::new(b')');
     for byte in text.iter().rev() {
         if !operand.takes(*byte) {
             break;
         }
     }
-    operand.len
+    text.len().saturating_sub(operand.length)
 }
 
-/// The first name in an operand without points.
-fn name_in(operand: &[u8]) -> Option<Name> {
+/// The place of the first name in an operand without points that begins at a place.
+fn name_in(operand: &[u8], start: usize) -> Option<usize> {
     if operand.contains(&b'.') {
         return None;
     }
-    let start = operand.iter().position(|byte| byte.is_ascii_alphabetic())?;
-    let text = operand.get(start..)?;
-    let end = text.iter().position(|byte| !byte.is_ascii_alphanumeric());
-    let word = text.get(..end.unwrap_or(text.len()))?;
-    match word.first() {
-        Some(b'A'..=b'Z') if word.len() <= LONGEST_NAME => Some(Name::padded(word)),
-        _ => None,
-    }
+    let front = operand.iter().position(|byte| byte.is_ascii_alphabetic())?;
+    Some(start.saturating_add(front))
 }

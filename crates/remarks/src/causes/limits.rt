@@ -1,32 +1,61 @@
 //! Which limit a program is past.
 
-use super::{Before, Cause};
-use crate::squeezed::Squeezed;
-use ast::Line;
-
-/// How many statements a program has at most.
-const MOST_STATEMENTS: usize = 4_096;
-
-/// How many DO ranges and IF blocks are open at once at most.
-const MOST_OPEN: usize = 16;
+use super::{Before, Cause, arguments_of};
+use crate::mentions::{Mention, mentions};
+use crate::squeezed::{PROGRAM, Squeezed};
+use ast::{Line, MOST_NAMES, MOST_NESTED, MOST_STATEMENTS, Name};
+use std::alloc::{AllocError, Global};
 
 /// The limit that a program is past at a statement.
-pub fn limit(statements: &[Squeezed], before: &Before, statement: &Squeezed) -> Cause {
+pub fn limit(
+    alloc: Global,
+    statements: &[Squeezed],
+    before: &Before,
+    statement: &Squeezed,
+) -> Result<Cause, AllocError> {
     let is_opened = statement.is_loop() || statement.is_block();
-    if count_before(statements, statement.line) >= MOST_STATEMENTS {
-        Cause::Limit("a program has 4,096 statements at most")
-    } else if is_opened && before.opened.len() >= MOST_OPEN {
-        Cause::Limit("16 DO ranges and IF blocks are open at once at most")
-    } else if statement.is_declaration() && statement.text.contains(&b'(') {
-        Cause::Limit("arrays have 1,048,576 elements together at most, and a program 512 names")
+    let count = statements
+        .iter()
+        .filter(|other| other.line < statement.line)
+        .count();
+    Ok(Cause::Limit(if count >= MOST_STATEMENTS {
+        "a program has 4,096 statements at most"
+    } else if is_opened && before.opened.len() >= MOST_NESTED {
+        "16 DO ranges and IF blocks are open at once at most"
+    } else if has_too_many_names(alloc, statements, statement.line)? {
+        "a program has 512 names at most"
     } else {
-        Cause::Limit("a program has 512 names at most")
-    }
+        "arrays have 1,048,576 elements together at most"
+    }))
 }
 
-fn count_before(statements: &[Squeezed], line: Line) -> usize {
-    statements
-        .iter()
-        .filter(|statement| statement.line < line)
-        .count()
+/// Whether the statements to the one in a line have more names than a program may have.
+fn has_too_many_names(
+    alloc: Global,
+    statements: &[Squeezed],
+    line: Line,
+) -> Result<bool, AllocError> {
+    let mut names: Vec<Name> = Vec::new(alloc);
+    for statement in statements {
+        if statement.line > line || names.len() > MOST_NAMES {
+            break;
+        }
+        if !statement.text.starts_with(PROGRAM) {
+            add(&mut names, &mentions(alloc, statement)?)?;
+        }
+    }
+    Ok(names.len() > MOST_NAMES)
+}
+
+/// Adds the names of variables and constants to names that are in order.
+fn add(names: &mut Vec<Name>, mentions: &[Mention]) -> Result<(), AllocError> {
+    for mention in mentions {
+        match names.binary_search(&mention.name) {
+            Err(place) if arguments_of(mention.name).is_none() => {
+                names.insert(place, mention.name)?;
+            }
+            _ => {}
+        }
+    }
+    Ok(())
 }

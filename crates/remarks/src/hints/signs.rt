@@ -9,7 +9,17 @@ pub struct Sign {
 }
 
 /// What stands in a line that is refused by rule 1.
-pub const CHARACTERS: [Sign; 7] = [
+pub const CHARACTERS: [Sign; 9] = [
+    Sign {
+        begins: b"",
+        holds: b"\x1A",
+        hint: "a Ctrl-Z stands in the line; take it out",
+    },
+    Sign {
+        begins: b"",
+        holds: b"\x0C",
+        hint: "a form feed stands in the line; take it out",
+    },
     Sign {
         begins: b"",
         holds: b"\t",
@@ -64,11 +74,14 @@ pub const TYPOGRAPHY: [&[u8]; 10] = [
 /// What is said of a power.
 const POWER: &str = "there is no power; write a product";
 
+/// What is said of files.
+const FILES: &str = "READ takes the records of the one input, and PRINT writes the one output";
+
 /// What is said of a DO with a condition.
 pub const WHILE: &str = "there is no DO WHILE; give a DO a last value, and write an IF in it";
 
 /// Signs of other languages, in a statement that is none or is not well formed.
-pub const FOREIGN: [Sign; 20] = [
+pub const FOREIGN: [Sign; 21] = [
     Sign {
         begins: b"",
         holds: b"**",
@@ -136,23 +149,28 @@ pub const FOREIGN: [Sign; 20] = [
     },
     Sign {
         begins: b"",
-        holds: b"++",
-        hint: "write K=K+1",
-    },
-    Sign {
-        begins: b"",
         holds: b"+=",
-        hint: "write K=K+1",
+        hint: "write it out, as in K=K+1",
     },
     Sign {
         begins: b"",
         holds: b"-=",
-        hint: "write K=K-1",
+        hint: "write it out, as in K=K-1",
     },
     Sign {
         begins: b"",
         holds: b"*=",
-        hint: "write K=K*2",
+        hint: "write it out, as in K=K*2",
+    },
+    Sign {
+        begins: b"",
+        holds: b"//",
+        hint: "texts are not joined; print one behind another",
+    },
+    Sign {
+        begins: b"",
+        holds: b"$",
+        hint: "a name has letters and digits alone",
     },
     Sign {
         begins: b"",
@@ -172,26 +190,36 @@ pub const FOREIGN: [Sign; 20] = [
 ];
 
 /// What a statement begins with and holds that is none or is not well formed.
-pub const BEGINNINGS: [Sign; 11] = [
+pub const BEGINNINGS: [Sign; 13] = [
     Sign {
         begins: b"INTEGER(",
         holds: b"",
         hint: "INTEGER has 64 bits as it is; write INTEGER alone",
     },
     Sign {
-        begins: b"PRINT",
-        holds: b"=",
-        hint: "there is no implied DO; name the elements, or print in a loop",
+        begins: b"TYPE*",
+        holds: b"",
+        hint: "write PRINT *, and what is printed",
     },
     Sign {
-        begins: b"READ",
-        holds: b"=",
-        hint: "there is no implied DO; name the elements, or read in a loop",
+        begins: b"ACCEPT*",
+        holds: b"",
+        hint: "write READ *, and what is read",
     },
     Sign {
-        begins: b"WRITE(*,*)",
-        holds: b"=",
-        hint: "there is no implied DO; name the elements, or print in a loop",
+        begins: b"WHILE(",
+        holds: b"",
+        hint: WHILE,
+    },
+    Sign {
+        begins: b"CASE",
+        holds: b"",
+        hint: "of a later FORTRAN; write IF and ELSE IF",
+    },
+    Sign {
+        begins: b"ENDSELECT",
+        holds: b"",
+        hint: "of a later FORTRAN; write IF and ELSE IF",
     },
     Sign {
         begins: b"",
@@ -231,7 +259,16 @@ pub const BEGINNINGS: [Sign; 11] = [
 ];
 
 /// Operators side by side.
-pub const NEIGHBOURS: [&[u8]; 7] = [b"*-", b"*+", b"/-", b"/+", b"+-", b"-+", b"--"];
+pub const NEIGHBOURS: [&[u8]; 8] = [b"*-", b"*+", b"/-", b"/+", b"+-", b"-+", b"--", b"++"];
+
+/// What begins the statements that read and print.
+pub const TRANSFERS: [&[u8]; 4] = [b"PRINT*", b"WRITE(*,*)", b"READ*", b"READ(*,*)"];
+
+/// What begins the text of a line that was to go on with the one above.
+pub const CONTINUED: &[u8] = b"+-/,.)=";
+
+/// What begins the parts of a program of several parts.
+pub const SUBPROGRAMS: [&[u8]; 3] = [b"SUBROUTINE", b"FUNCTION", b"BLOCKDATA"];
 
 /// What a statement begins with and holds whose name is too long.
 pub const LENGTHS: [Sign; 2] = [
@@ -255,7 +292,82 @@ pub const GREAT: [Sign; 1] = [Sign {
 }];
 
 /// What a statement begins with that is left out for good.
-pub const LEFT_OUT: [Sign; 20] = [
+pub const LEFT_OUT: [Sign; 35] = [
+    Sign {
+        begins: b"CALLEXIT",
+        holds: b"",
+        hint: "write STOP",
+    },
+    Sign {
+        begins: b"READ(",
+        holds: b"END=",
+        hint: "there is no END=; let the first record say how many there are",
+    },
+    Sign {
+        begins: b"SAVE",
+        holds: b"",
+        hint: "leave it out",
+    },
+    Sign {
+        begins: b"EXTERNAL",
+        holds: b"",
+        hint: "leave it out: there are no functions but MOD, ABS, IABS, MAX, MAX0, MIN and MIN0",
+    },
+    Sign {
+        begins: b"INTRINSIC",
+        holds: b"",
+        hint: "leave it out",
+    },
+    Sign {
+        begins: b"EQUIVALENCE",
+        holds: b"",
+        hint: "each name has elements of its own; use one name for both",
+    },
+    Sign {
+        begins: b"OPEN",
+        holds: b"",
+        hint: FILES,
+    },
+    Sign {
+        begins: b"CLOSE",
+        holds: b"",
+        hint: FILES,
+    },
+    Sign {
+        begins: b"INQUIRE",
+        holds: b"",
+        hint: FILES,
+    },
+    Sign {
+        begins: b"REWIND",
+        holds: b"",
+        hint: FILES,
+    },
+    Sign {
+        begins: b"BACKSPACE",
+        holds: b"",
+        hint: FILES,
+    },
+    Sign {
+        begins: b"ENDFILE",
+        holds: b"",
+        hint: FILES,
+    },
+    Sign {
+        begins: b"ASSIGN",
+        holds: b"",
+        hint: "there are no jumps; write an IF block or a DO",
+    },
+    Sign {
+        begins: b"PAUSE",
+        holds: b"",
+        hint: "leave it out, or write STOP",
+    },
+    Sign {
+        begins: b"BLOCKDATA",
+        holds: b"",
+        hint: "all variables are 0 at first; assign other values",
+    },
     Sign {
         begins: b"INTEGER*",
         holds: b"",

@@ -1,8 +1,9 @@
 use Rattle.std.proofs.Common.{◌++◌, ◌∷◌, [], ℕ, List, true, drop, length, map, sym, ap, arith}
 use Rattle.std.proofs.lemmas.List.{drop_all}
+use Rattle.ast.proofs.Records.{keeps_on}
 use Rattle.machine.specs.CodeView.{part}
 use Rattle.activities.specs.Printing.{to_print}
-use Rattle.activities.proofs.Records.{goes_on, is_whole, keeps_more, keeps_on, keeps_same}
+use Rattle.activities.proofs.Records.{goes_on, is_whole, keeps_more, keeps_same}
 use Rattle.activities.proofs.printing.append_record.Goals as goal
 
 pub returns-in_err-push-clause-kept : goal.returns-in_err-push-clause-kept

@@ -1,7 +1,8 @@
 use Rattle.std.proofs.Common.{◌≡◌, ◌≤◌, ◌++◌, ◌∷◌, [], true, map, drop, length}
 use Rattle.machine.specs.CodeView.{part}
 use Rattle.machine.specs.View.{values_wanted}
-use Rattle.activities.specs.Printing.{Keeps, to_print}
+use Rattle.ast.specs.Record.{Keeps}
+use Rattle.activities.specs.Printing.{to_print}
 use Rattle.activities.proofs.printing.append_record.Given as goal
 
 abbrev pub invariant-loop-piece : goal.invariant-loop-piece

@@ -6,6 +6,7 @@ use Rattle.ast.specs.Tree.{arms as arms_tree}
 use Rattle.ast.specs.declared.tree.Arm.{Arm}
 use Rattle.ast.specs.declared.tree.Node.{Node}
 use Rattle.ast.specs.View.{arm as arm_of, block_view, node as node_of, ref, term}
+use Rattle.ast.proofs.Lists.{part_left}
 use Rattle.dependence.specs.Plan.{then_arm}
 use Rattle.expr_code.specs.Emitted.{term_code}
 use Rattle.expr_code.specs.Places.{Places}
@@ -17,7 +18,7 @@ use Rattle.codegen.specs.Emitted.{arms_code, arms_records, block_code, block_rec
 use Rattle.codegen.specs.Plain.{plain_arms, plain_block, plain_node}
 use Rattle.codegen.specs.Records.{records_of}
 use Rattle.codegen.specs.declared.skips.Pending.{Pending}
-use Rattle.codegen.proofs.Emitting.{rest_of, arm_next, arm_records_next, block_next, body_emitted, count_on, records_next, trips_emitted}
+use Rattle.codegen.proofs.Emitting.{arm_next, arm_records_next, block_next, body_emitted, count_on, records_next, trips_emitted}
 use Rattle.codegen.proofs.Ending.{last_appended, last_closed, nothing_left, stop_code, stop_records, stop_told}
 use Rattle.codegen.proofs.NodeParts.{arm_here, goes_on, node_here}
 use Rattle.codegen.proofs.Waiting.{block_waits, node_waits}
@@ -84,7 +85,7 @@ emit_block-returns-then-is_last_stop-clause-code t c =
     let opens = opens_in c.args.opened.now in
     let p = places_of c.args.places.now in
     let b = block_view (drop c.loop-i.i c.args.nodes.now) in
-    let stops : true ≡ is_last_stop_of b = sym c.if-is_last_stop.true ∙ c.is_last_stop.ensures ∙ ap (λ (ms : List Node). is_last_stop_of (block_view ms)) (rest_of c.args.nodes.now c.loop-i.i) in
+    let stops : true ≡ is_last_stop_of b = sym c.if-is_last_stop.true ∙ c.is_last_stop.ensures ∙ ap (λ (ms : List Node). is_last_stop_of (block_view ms)) (part_left c.args.nodes.now c.loop-i.i) in
     nothing_left c.loop-i.code.items (block_code p opens (length c.loop-i.records.items) 0 (plain_block b)) (c.args.code.now.items ++ code_of_block opens p (length c.args.records.now.items) (block_view c.args.nodes.now)) (stop_code p opens (plain_block b) (length c.loop-i.records.items) 0 (stop_told b stops)) c.loop-i.invariant.code
 
 pub emit_block-returns-clause-code : goal.emit_block-returns-clause-code
@@ -100,7 +101,7 @@ emit_block-returns-then-is_last_stop-clause-records t c =
     let opens = opens_in c.args.opened.now in
     let p = places_of c.args.places.now in
     let b = block_view (drop c.loop-i.i c.args.nodes.now) in
-    let stops : true ≡ is_last_stop_of b = sym c.if-is_last_stop.true ∙ c.is_last_stop.ensures ∙ ap (λ (ms : List Node). is_last_stop_of (block_view ms)) (rest_of c.args.nodes.now c.loop-i.i) in
+    let stops : true ≡ is_last_stop_of b = sym c.if-is_last_stop.true ∙ c.is_last_stop.ensures ∙ ap (λ (ms : List Node). is_last_stop_of (block_view ms)) (part_left c.args.nodes.now c.loop-i.i) in
     nothing_left (records_of c.loop-i.records) (block_records p opens (plain_block b)) (records_of c.args.records.now ++ records_in_block opens p (block_view c.args.nodes.now)) (stop_records p opens (plain_block b) (stop_told b stops)) c.loop-i.invariant.records
 
 pub emit_block-returns-clause-records : goal.emit_block-returns-clause-records

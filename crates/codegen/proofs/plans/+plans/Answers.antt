@@ -2,6 +2,7 @@ use Rattle.std.proofs.Common.{rules, ◌≡◌, ◌+◌, ◌-◌, ◌≤◌, ◌
 use Rattle.std.proofs.lemmas.List.{drop_all}
 use Rattle.std.proofs.lemmas.Result.{on_ok_weaker}
 use Rattle.ast.specs.View.{ref, term}
+use Rattle.ast.proofs.Lists.{part_left}
 use Rattle.dependence.specs.Plan.{then_arm}
 use Rattle.dependence.specs.declared.plan.PlanArm.{PlanArm}
 use Rattle.dependence.specs.declared.plan.PlanStmt.{PlanStmt}
@@ -15,7 +16,7 @@ use Rattle.codegen.specs.PlanParts.{arms_of, ends_with_stop, made_arms}
 use Rattle.codegen.specs.Program.{none_open}
 use Rattle.codegen.specs.Records.{records_of}
 use Rattle.codegen.specs.declared.skips.Pending.{Pending}
-use Rattle.codegen.proofs.Emitting.{rest_of, arm_awaits_next, arm_next, arm_records_next, awaits_count, awaits_next, block_next, body_emitted, count_on, records_next, trips_emitted}
+use Rattle.codegen.proofs.Emitting.{arm_awaits_next, arm_next, arm_records_next, awaits_count, awaits_next, block_next, body_emitted, count_on, records_next, trips_emitted}
 use Rattle.codegen.proofs.Ending.{last_appended, last_closed, nothing_left, stop_awaits, stop_code, stop_records}
 use Rattle.codegen.proofs.PlanPieces.{plan_arm_here, plan_goes_on, statement_here}
 use Rattle.codegen.proofs.plans.+plans.Goals as goal
@@ -83,7 +84,7 @@ pub emit_plan-returns-then-is_last_stop-clause-code : goal.emit_plan-returns-the
 emit_plan-returns-then-is_last_stop-clause-code t c =
     let p = places_of c.args.places.now in
     let b = plan_block (drop c.loop-i.i c.args.body.now) in
-    let stops : true ≡ ends_with_stop b = sym c.if-is_last_stop.true ∙ c.is_last_stop.ensures ∙ ap (λ (ms : List PlanStmt). ends_with_stop (plan_block ms)) (rest_of c.args.body.now c.loop-i.i) in
+    let stops : true ≡ ends_with_stop b = sym c.if-is_last_stop.true ∙ c.is_last_stop.ensures ∙ ap (λ (ms : List PlanStmt). ends_with_stop (plan_block ms)) (part_left c.args.body.now c.loop-i.i) in
     nothing_left c.loop-i.code.items (block_code p none_open (length c.loop-i.records.items) (length c.loop-i.awaits.items) b) (c.args.code.now.items ++ block_code p none_open (length c.args.records.now.items) (length c.args.awaits.now.items) (plan_block c.args.body.now)) (stop_code p none_open b (length c.loop-i.records.items) (length c.loop-i.awaits.items) stops) c.loop-i.invariant.code
 
 pub emit_plan-returns-clause-code : goal.emit_plan-returns-clause-code
@@ -97,7 +98,7 @@ pub emit_plan-returns-then-is_last_stop-clause-records : goal.emit_plan-returns-
 emit_plan-returns-then-is_last_stop-clause-records t c =
     let p = places_of c.args.places.now in
     let b = plan_block (drop c.loop-i.i c.args.body.now) in
-    let stops : true ≡ ends_with_stop b = sym c.if-is_last_stop.true ∙ c.is_last_stop.ensures ∙ ap (λ (ms : List PlanStmt). ends_with_stop (plan_block ms)) (rest_of c.args.body.now c.loop-i.i) in
+    let stops : true ≡ ends_with_stop b = sym c.if-is_last_stop.true ∙ c.is_last_stop.ensures ∙ ap (λ (ms : List PlanStmt). ends_with_stop (plan_block ms)) (part_left c.args.body.now c.loop-i.i) in
     nothing_left (records_of c.loop-i.records) (block_records p none_open b) (records_of c.args.records.now ++ block_records p none_open (plan_block c.args.body.now)) (stop_records p none_open b stops) c.loop-i.invariant.records
 
 pub emit_plan-returns-clause-records : goal.emit_plan-returns-clause-records
@@ -111,7 +112,7 @@ pub emit_plan-returns-then-is_last_stop-clause-awaits : goal.emit_plan-returns-t
 emit_plan-returns-then-is_last_stop-clause-awaits t c =
     let p = places_of c.args.places.now in
     let b = plan_block (drop c.loop-i.i c.args.body.now) in
-    let stops : true ≡ ends_with_stop b = sym c.if-is_last_stop.true ∙ c.is_last_stop.ensures ∙ ap (λ (ms : List PlanStmt). ends_with_stop (plan_block ms)) (rest_of c.args.body.now c.loop-i.i) in
+    let stops : true ≡ ends_with_stop b = sym c.if-is_last_stop.true ∙ c.is_last_stop.ensures ∙ ap (λ (ms : List PlanStmt). ends_with_stop (plan_block ms)) (part_left c.args.body.now c.loop-i.i) in
     nothing_left c.loop-i.awaits.items (block_awaits p none_open b) (c.args.awaits.now.items ++ block_awaits p none_open (plan_block c.args.body.now)) (stop_awaits p none_open b stops) c.loop-i.invariant.awaits
 
 pub emit_plan-returns-clause-awaits : goal.emit_plan-returns-clause-awaits

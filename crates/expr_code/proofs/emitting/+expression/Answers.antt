@@ -2,11 +2,12 @@ use Rattle.std.proofs.Common.{◌≡◌, ◌∙◌, ap, map, refl, rules, sym, t
 use Rattle.ast.specs.Tree.{constant, parameter, terms}
 use Rattle.ast.specs.View.{ref, term}
 use Rattle.ast.specs.declared.expression.Intrinsic.TheVariants.{Abs, Iabs, Max, Max0, Min, Min0, Mod}
-use Rattle.loop_tree.proofs.Terms.{binary_of, call_of, constant_of, element_of, parameter_of, parentheses_of, unary_of}
+use Rattle.ast.proofs.Terms.{binary_of, call_of, constant_of, element_of, parameter_of, parentheses_of, unary_of}
+use Rattle.ast.proofs.Calls.{no_answer, behind, behind_two}
 use Rattle.expr_code.specs.Emitted.{term_code}
 use Rattle.expr_code.specs.PlacesView.{places_of}
 use Rattle.expr_code.proofs.Accesses.{element_code_law}
-use Rattle.expr_code.proofs.Appending.{all_further, all_kept, applied_of, behind, behind_two, chosen_none, chosen_some, element_by, next_further, no_answer, of_call, of_either, of_tree, same_code}
+use Rattle.expr_code.proofs.Appending.{all_further, all_kept, applied_of, chosen_none, chosen_some, element_by, next_further, of_call, of_either, of_tree, same_code}
 use Rattle.expr_code.proofs.Beginnings.{begins_more, begins_same}
 use Rattle.expr_code.proofs.emitting.+expression.Goals as goal
 
@@ -48,7 +49,7 @@ pub all-returns-in_err-kept-clause-exactly : goal.all-returns-in_err-kept-clause
 all-returns-in_err-kept-clause-exactly t c = no_answer _ _ c.from_residual.ensures.0
 
 pub all-returns-clause-exactly : goal.all-returns-clause-exactly
-all-returns-clause-exactly t c = behind _ _ _ _ _ _ _ c.in_ok-kept.ensures.exactly (applied_of (places_of c.args.places.now) (terms (map term c.args.arguments.now)) c.args.wanted c.arguments_kept-operands.result c.args.act c.applied.result c.arguments_kept-operands.ensures c.applied.ensures) c.put.ensures.exactly
+all-returns-clause-exactly t c = behind _ _ _ _ _ _ _ c.in_ok-kept.ensures.exactly (sym (applied_of (places_of c.args.places.now) (terms (map term c.args.arguments.now)) c.args.wanted c.arguments_kept-operands.result c.args.act c.applied.result c.arguments_kept-operands.ensures c.applied.ensures)) c.put.ensures.exactly
 
 pub call-returns-in-Mod-clause-exactly : goal.call-returns-in-Mod-clause-exactly
 call-returns-in-Mod-clause-exactly t c = of_call _ _ _ (places_of c.args.places.now) (terms (map term c.args.arguments.now)) c.args.intrinsic Mod c.in-Mod.is c.all.ensures.exactly
@@ -69,7 +70,7 @@ pub chosen-returns-in-empty-clause-exactly : goal.chosen-returns-in-empty-clause
 chosen-returns-in-empty-clause-exactly t c = same_code _ _ _ _ _ (chosen_none (places_of c.args.places.now) c.args.arguments.now c.args.act c.in-empty.len_below) c.put.ensures.exactly
 
 pub chosen-returns-in_ok-term_of-in-len1-up-clause-exactly : goal.chosen-returns-in_ok-term_of-in-len1-up-clause-exactly
-chosen-returns-in_ok-term_of-in-len1-up-clause-exactly t c = behind _ _ _ _ _ _ _ c.in_ok-term_of-in-len1-up.ensures.exactly (chosen_some (places_of c.args.places.now) c.args.arguments.now c.first-item.result c.args.act c.in-len1-up.len_at_least c.first-item.is) c.further.ensures.exactly
+chosen-returns-in_ok-term_of-in-len1-up-clause-exactly t c = behind _ _ _ _ _ _ _ c.in_ok-term_of-in-len1-up.ensures.exactly (sym (chosen_some (places_of c.args.places.now) c.args.arguments.now c.first-item.result c.args.act c.in-len1-up.len_at_least c.first-item.is)) c.further.ensures.exactly
 
 pub element-returns-clause-exactly : goal.element-returns-clause-exactly
 element-returns-clause-exactly t c = same_code _ _ _ _ _ (sym (element_code_law (places_of c.args.places.now) c.args.access.now c.deref.result.now c.deref.ensures.value)) c.element_of.ensures.exactly
@@ -78,7 +79,7 @@ pub element_of-returns-in_err-kept-clause-exactly : goal.element_of-returns-in_e
 element_of-returns-in_err-kept-clause-exactly t c = no_answer _ _ c.from_residual.ensures.0
 
 pub element_of-returns-clause-exactly : goal.element_of-returns-clause-exactly
-element_of-returns-clause-exactly t c = behind _ _ _ _ _ _ _ c.in_ok-kept.ensures.exactly (element_by (places_of c.args.places.now) (ref c.args.reference.now) _ c.dimensions-dimensions.result.now _ c.dimensions-dimensions.ensures.dimensions c.subscripts_kept-operands.ensures) c.reached.ensures.exactly
+element_of-returns-clause-exactly t c = behind _ _ _ _ _ _ _ c.in_ok-kept.ensures.exactly (sym (element_by (places_of c.args.places.now) (ref c.args.reference.now) _ c.dimensions-dimensions.result.now _ c.dimensions-dimensions.ensures.dimensions c.subscripts_kept-operands.ensures)) c.reached.ensures.exactly
 
 pub further-loop-i-init : goal.further-loop-i-init
 further-loop-i-init t c = (refl, begins_same _ _ refl)
@@ -135,10 +136,10 @@ pub term_of-returns-in-Parentheses-clause-exactly : goal.term_of-returns-in-Pare
 term_of-returns-in-Parentheses-clause-exactly t c = of_tree _ _ _ (places_of c.args.places.now) _ _ (parentheses_of _ _ _ c.in-Parentheses.is c.deref-in-Parentheses.ensures) c.term_of.ensures.exactly
 
 pub term_of-returns-in_ok-term_of-in-Unary-clause-exactly : goal.term_of-returns-in_ok-term_of-in-Unary-clause-exactly
-term_of-returns-in_ok-term_of-in-Unary-clause-exactly t c = behind _ _ _ _ _ _ _ c.in_ok-term_of-in-Unary.ensures.exactly (ap (term_code (places_of c.args.places.now)) (unary_of _ _ _ _ c.in-Unary.is c.deref-in-Unary.ensures)) c.put-in-Unary.ensures.exactly
+term_of-returns-in_ok-term_of-in-Unary-clause-exactly t c = behind _ _ _ _ _ _ _ c.in_ok-term_of-in-Unary.ensures.exactly (sym (ap (term_code (places_of c.args.places.now)) (unary_of _ _ _ _ c.in-Unary.is c.deref-in-Unary.ensures))) c.put-in-Unary.ensures.exactly
 
 pub term_of-returns-in_ok-term_of-in-Binary-2-clause-exactly : goal.term_of-returns-in_ok-term_of-in-Binary-2-clause-exactly
-term_of-returns-in_ok-term_of-in-Binary-2-clause-exactly t c = behind_two _ _ _ _ _ _ _ _ _ c.in_ok-term_of-in-Binary.ensures.exactly c.in_ok-term_of-in-Binary-2.ensures.exactly (ap (term_code (places_of c.args.places.now)) (binary_of _ _ _ _ _ _ c.in-Binary.is c.deref-in-Binary.ensures c.deref-in-Binary-2.ensures)) c.put-in-Binary.ensures.exactly
+term_of-returns-in_ok-term_of-in-Binary-2-clause-exactly t c = behind_two _ _ _ _ _ _ _ _ _ c.in_ok-term_of-in-Binary.ensures.exactly c.in_ok-term_of-in-Binary-2.ensures.exactly (sym (ap (term_code (places_of c.args.places.now)) (binary_of _ _ _ _ _ _ c.in-Binary.is c.deref-in-Binary.ensures c.deref-in-Binary-2.ensures))) c.put-in-Binary.ensures.exactly
 
 pub term_of-returns-in-Constant-clause-exactly : goal.term_of-returns-in-Constant-clause-exactly
 term_of-returns-in-Constant-clause-exactly t c =

@@ -1,9 +1,10 @@
 use Rattle.std.proofs.Common.{◌∙◌, ap, map, refl, sym}
 use Rattle.ast.specs.Tree.{arms}
 use Rattle.ast.specs.View.{arm, block_view, node}
+use Rattle.ast.proofs.Nodes.{plain_of, loop_of, choice_of}
 use Rattle.loop_tree.specs.Loops.{with_arms, with_block, with_node}
 use Rattle.loop_tree.specs.ScalarsView.{scalars}
-use Rattle.loop_tree.proofs.Nodes.{body_of, choice_of, loop_of, of_node, plain_of}
+use Rattle.loop_tree.proofs.Nodes.{body_of, of_node}
 use Rattle.loop_tree.proofs.Passing.{next, passed}
 use Rattle.loop_tree.proofs.assigned.+assigned.Goals as goal
 

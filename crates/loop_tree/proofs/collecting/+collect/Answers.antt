@@ -2,10 +2,11 @@ use Rattle.std.proofs.Common.{◌≡◌, ◌∙◌, length, refl, rules, sym, ma
 use Rattle.std.proofs.lemmas.List.{length-map}
 use Rattle.ast.specs.Tree.{arms}
 use Rattle.ast.specs.View.{arm, block_view, head, node}
+use Rattle.ast.proofs.Nodes.{plain_of, loop_of, choice_of}
 use Rattle.loop_tree.specs.Collecting.{after_arms, after_block, after_node}
 use Rattle.loop_tree.specs.CollectedView.{collected, span}
 use Rattle.loop_tree.proofs.Added.{after_arm, after_choice, after_loop, next_arm}
-use Rattle.loop_tree.proofs.Nodes.{choice_of, loop_of, of_node, plain_of}
+use Rattle.loop_tree.proofs.Nodes.{of_node}
 use Rattle.loop_tree.proofs.Passing.{next, passed}
 use Rattle.loop_tree.proofs.collecting.+collect.Goals as goal
 

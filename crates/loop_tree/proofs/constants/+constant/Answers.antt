@@ -5,7 +5,7 @@ use Rattle.loop_tree.specs.Constants.{constant_value, constant_values}
 use Rattle.loop_tree.specs.ConstantsView.{listed}
 use Rattle.loop_tree.proofs.ConstantValues.{all_in, behind, called, element_law, from_none, none_in, not_called, not_prefixed, of_tree, operation_law, prefixed, some_in}
 use Rattle.loop_tree.proofs.Occurring.{no_answer}
-use Rattle.loop_tree.proofs.Terms.{binary_of, call_of, constant_of, element_of, parameter_of, parentheses_of, truth_of, unary_of}
+use Rattle.ast.proofs.Terms.{binary_of, call_of, constant_of, element_of, parameter_of, parentheses_of, truth_of, unary_of}
 use Rattle.loop_tree.proofs.constants.+constant.Goals as goal
 
 pub call_value-returns-in_err-values : goal.call_value-returns-in_err-values

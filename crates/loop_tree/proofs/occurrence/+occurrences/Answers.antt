@@ -1,9 +1,10 @@
-use Rattle.std.proofs.Common.{ap, map, refl}
+use Rattle.std.proofs.Common.{ap, map, refl, sym}
 use Rattle.ast.specs.Tree.{terms}
 use Rattle.ast.specs.View.{term}
 use Rattle.loop_tree.specs.Occurrences.{term_occurrences, terms_occurrences, used_at}
-use Rattle.loop_tree.proofs.Occurring.{all_occurred, element_more, further, next_occurs, no_answer, no_more, of_tree}
-use Rattle.loop_tree.proofs.Terms.{binary_of, call_of, element_of, parentheses_of, unary_of}
+use Rattle.loop_tree.proofs.Occurring.{all_occurred, element_more, next_occurs, no_answer, no_more, of_tree}
+use Rattle.ast.proofs.Terms.{binary_of, call_of, element_of, parentheses_of, unary_of}
+use Rattle.ast.proofs.Calls.{behind}
 use Rattle.loop_tree.proofs.occurrence.+occurrences.Goals as goal
 
 pub add_element-returns-in_err-add_terms : goal.add_element-returns-in_err-add_terms
@@ -30,8 +31,8 @@ add_term-returns-in-Unary t c = of_tree _ _ _ _ _ _ (unary_of _ _ _ _ c.in-Unary
 
 pub add_term-returns-in_ok-add_term-in-Binary : goal.add_term-returns-in_ok-add_term-in-Binary
 add_term-returns-in_ok-add_term-in-Binary t c =
-    further _ _ _ _ _ _ _ c.in_ok-add_term-in-Binary.ensures
-    (ap (term_occurrences c.args.statement) (binary_of _ _ _ _ _ _ c.in-Binary.is c.deref-in-Binary.ensures c.deref-in-Binary-2.ensures))
+    behind _ _ _ _ _ _ _ c.in_ok-add_term-in-Binary.ensures
+    (sym (ap (term_occurrences c.args.statement) (binary_of _ _ _ _ _ _ c.in-Binary.is c.deref-in-Binary.ensures c.deref-in-Binary-2.ensures)))
     c.add_term-in-Binary-2.ensures
 
 pub add_term-returns-in-Constant : goal.add_term-returns-in-Constant

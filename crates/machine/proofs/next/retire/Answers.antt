@@ -1,8 +1,9 @@
 use Rattle.std.proofs.Common.{ap, arith, length}
+use Rattle.ast.proofs.Lists.{mapped_none}
 use Rattle.machine.specs.CodeView.{code_of, loop_of}
 use Rattle.machine.specs.FrameView.{frame_of}
 use Rattle.machine.specs.View.{leaving_if}
-use Rattle.machine.proofs.Telling.{mapped_none, mapped_some, retire_law}
+use Rattle.machine.proofs.Telling.{mapped_some, retire_law}
 use Rattle.machine.proofs.next.retire.Goals as goal
 
 pub returns-then-number-loops : goal.returns-then-number-loops

@@ -1,8 +1,9 @@
 use Rattle.std.proofs.Common.{◌≡◌, ◌+◌, drop, map, refl, rules}
 use Rattle.ast.specs.View.{optional_term}
+use Rattle.ast.proofs.Calls.{no_answer}
 use Rattle.dependence.specs.Plan.{PlanArms}
 use Rattle.dependence.specs.PlanView.{arm_view, arms, plan_block}
-use Rattle.plan_check.proofs.Nodes.{advance_of, all_listed, arm_listed, arms_listed, as_choice, as_loop, as_made, as_node, await_of, choice_of, loop_of, made_of, next_listed, no_answer, plain_of}
+use Rattle.plan_check.proofs.Nodes.{advance_of, all_listed, arm_listed, arms_listed, as_choice, as_loop, as_made, as_node, await_of, choice_of, loop_of, made_of, next_listed, plain_of}
 use Rattle.plan_check.proofs.Passing.{arm_here}
 use Rattle.plan_check.proofs.events.+events.Goals as goal
 

@@ -1,6 +1,6 @@
 use Rattle.std.proofs.Common.{◌≡◌, ◌∙◌, ◌<◌, true, false, length, map, refl, rules, sym}
 use Rattle.ast.specs.View.{term}
-use Rattle.loop_tree.proofs.Terms.{binary_of, call_of, element_of, parameter_of, parentheses_of, unary_of}
+use Rattle.ast.proofs.Terms.{binary_of, call_of, element_of, parameter_of, parentheses_of, unary_of}
 use Rattle.plan_check.proofs.Comparing.{access_by, elements, in_parentheses, no_binary, no_call, no_constant, no_element, no_parameter, no_parentheses, no_truth, no_unary, other_call, other_left, other_operator, other_parameter, other_reference, other_unary, same_binary, same_call, same_reference, same_unary, seen}
 use Rattle.plan_check.proofs.Equal.{all_same, expressions_law, item_differs, item_same, lengths_differ}
 use Rattle.plan_check.proofs.expressions.+same.Goals as goal

@@ -3,10 +3,12 @@ use Rattle.std.specs.Prelude.{replicate}
 use Rattle.std.proofs.lemmas.List.{take_at}
 use Rattle.ast.specs.Tree.{arms}
 use Rattle.ast.specs.View.{arm, block_view, head}
+use Rattle.ast.proofs.Nodes.{loop_of, choice_of}
+use Rattle.ast.proofs.Calls.{no_answer}
 use Rattle.privatise.specs.Cells.{joined}
 use Rattle.privatise.specs.Flow.{after_arms}
 use Rattle.privatise.specs.declared.walk.Walk.TheVariants.{Defined}
-use Rattle.privatise.proofs.Passed.{all_passed, arm_passed, arms_passed, choice_of, else_passed, loop_of, looped, no_answer, node_passed, of_tree, plain_passed}
+use Rattle.privatise.proofs.Passed.{all_passed, arm_passed, arms_passed, else_passed, looped, node_passed, of_tree, plain_passed}
 use Rattle.privatise.proofs.flow.+flow.Goals as goal
 
 pub pass_arms-returns-in_err-ended : goal.pass_arms-returns-in_err-ended

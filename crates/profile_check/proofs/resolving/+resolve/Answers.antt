@@ -4,6 +4,7 @@ use Rattle.ast.specs.declared.expression.Expr.{Expr}
 use Rattle.profile_check.proofs.Weights.{weight_all, weight_at, weight_drop}
 use Rattle.profile_check.proofs.Turns.{count_at, tree_turn, count_turn, rest_turn, bound_turn}
 use Rattle.std.proofs.lemmas.List.{length-map}
+use Rattle.ast.specs.Spelling.{intrinsic_named}
 use Rattle.ast.specs.Tree.{Terms, terms}
 use Rattle.ast.specs.View.{ref, term}
 use Rattle.profile_check.specs.Resolving as spec
@@ -16,7 +17,7 @@ resolve_listed-returns-clause-tree t c =
     let table = table_of c.args.declarations.now in
     let access = c.args.access.now in
     let r = ref access.reference in
-    let f = spec.intrinsic_named access.reference.name.letters in
+    let f = intrinsic_named access.reference.name.letters in
     let es = terms (map term c.resolve_terms-after.new.list.items) in
     let some : 0 < length (map term access.subscripts.items) = subst (λ (n : ℕ). 0 < n) (sym (length-map access.subscripts.items term)) c.requires.some in
     c.resolve_name.ensures.tree

@@ -1,5 +1,6 @@
 use Rattle.std.proofs.Common.{◌≡◌, ◌∙◌, ◌+◌, ◌-◌, ◌<◌, pos, refl, drop, take, subst, ap, length, sym, List, Ok, Err, map, rules, to_z, of_z, w64}
 use Rattle.std.specs.Prelude.{IfOk}
+use Rattle.ast.proofs.Terms.{binary_of, reference_of, subscripts_of, unary_of}
 use Rattle.ast.specs.Exact.{absolute, greater, less, remainder}
 use Rattle.ast.specs.Meaning.{target, value}
 use Rattle.ast.specs.Symbols.{Extent, dimensions_in, elements}
@@ -11,7 +12,7 @@ use Rattle.tree_run.specs.Steps.{call_at, evaluated, greatest_at, least_at, open
 use Rattle.tree_run.specs.View.{look, store_in, symbols_in, way}
 use Rattle.tree_run.proofs.Evaluating.{absolute_called, called, ends_in, failed, goes_at, goes_in, greater_first, greater_second, greatest_called, least_called, less_first, less_second, no_value, nothing_called, only_term, placed_on, remainder_called, stops_at, stops_in}
 use Rattle.tree_run.proofs.Offsets.{room_kept}
-use Rattle.tree_run.proofs.Terms.{binary_of, binary_value, call_value, constant_value, element_value, parameter_value, parentheses_value, reference_of, second_value, subscripts_of, truth_value_of, unary_of, unary_value}
+use Rattle.tree_run.proofs.TermValues.{binary_value, call_value, constant_value, element_value, parameter_value, parentheses_value, second_value, truth_value_of, unary_value}
 use Rattle.tree_run.proofs.Values.{abs_other, call_law, element_law, mod_other, mod_zero, place_law}
 use Rattle.tree_run.proofs.expressions.+value.Goals as goal
 use Rattle.tree_run.proofs.expressions.+value.Goals.{greatest-then-best-x, greatest-else-best-x, least-then-x-best, least-else-x-best}

@@ -3,9 +3,10 @@ use Rattle.std.proofs.lemmas.List.{drop_all}
 use Rattle.ast.specs.Tree.{PrintItem}
 use Rattle.ast.specs.View.{item as item_of}
 use Rattle.ast.specs.declared.statement.Item.{Item}
+use Rattle.ast.proofs.Records.{keeps_on}
 use Rattle.tree_run.specs.Printing.{item_onto, items_onto}
 use Rattle.tree_run.specs.View.{look, symbols_in}
-use Rattle.tree_run.proofs.Items.{fails_on, goes_on, keeps_all, keeps_on, next_item, placed_first, placed_rest}
+use Rattle.tree_run.proofs.Items.{fails_on, goes_on, keeps_all, next_item, placed_first, placed_rest}
 use Rattle.tree_run.proofs.print.append_items.Goals as goal
 
 pub append_item-requires : goal.append_item-requires

@@ -1,7 +1,8 @@
 use Rattle.std.proofs.Common.{◌≡◌, true, map, drop}
 use Rattle.ast.specs.View.{item as item_of}
 use Rattle.tree_run.specs.Placed.{PlacedItems}
-use Rattle.tree_run.specs.Printing.{Keeps, items_onto}
+use Rattle.ast.specs.Record.{Keeps}
+use Rattle.tree_run.specs.Printing.{items_onto}
 use Rattle.tree_run.specs.View.{look, symbols_in}
 use Rattle.tree_run.proofs.print.append_items.Given as goal
 

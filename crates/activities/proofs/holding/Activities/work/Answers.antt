@@ -1,5 +1,6 @@
 use Rattle.std.proofs.Common.{◌≡◌, ◌∙◌, None, Some, refl, sym, ap}
 use Rattle.std.specs.Prelude.{option_map}
+use Rattle.ast.proofs.Calls.{not_some}
 use Rattle.machine.specs.FrameView as frames
 use Rattle.machine.specs.State.{the_main, iteration}
 use Rattle.activities.specs.Activities.{kept_in, who}
@@ -7,7 +8,7 @@ use Rattle.activities.specs.Parts.{held_of}
 use Rattle.activities.specs.declared.holding.Holder.{Holder}
 use Rattle.activities.specs.declared.holding.Holder.TheVariants as holder
 use Rattle.activities.proofs.Shares.{held_is}
-use Rattle.activities.proofs.Labour.{main_stands, none_worked, not_some, not_worked, stood_main, with_main_frame, worked}
+use Rattle.activities.proofs.Labour.{main_stands, none_worked, not_worked, stood_main, with_main_frame, worked}
 use Rattle.activities.proofs.holding.Activities.work.Goals as goal
 
 pub work_iteration-requires-clause-holds : goal.work_iteration-requires-clause-holds

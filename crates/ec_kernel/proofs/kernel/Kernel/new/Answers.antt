@@ -1,11 +1,12 @@
 use Rattle.std.proofs.Common.{subst, sym, ◌≡◌}
 use Rattle.ready_list.specs.Lists.{places_in}
-use Rattle.ec_kernel.proofs.Beginning.{made, places-none}
+use Rattle.ready_list.proofs.Fresh.{nowhere}
+use Rattle.ec_kernel.proofs.Beginning.{made}
 use Rattle.ec_kernel.proofs.kernel.Kernel.new.Goals as goal
 
 pub free_all-requires-clause-in_no_list : goal.free_all-requires-clause-in_no_list
 free_all-requires-clause-in_no_list c =
-    λ s. subst (λ a. places_in s a.lists ≡ 0) (sym c.in_ok-links.ensures.lists) (places-none s _)
+    λ s. subst (λ a. places_in s a.lists ≡ 0) (sym c.in_ok-links.ensures.lists) (nowhere s _)
 
 pub invariant_of-result : goal.invariant_of-result
 invariant_of-result c =

@@ -3,8 +3,9 @@ use Rattle.std.specs.Prelude.{map, int_lt}
 use Rattle.std.specs.List.{list_all}
 use Rattle.ast.specs.Symbols.{Extent, Symbol, dimensions_in, dimensions_of, elements, most_elements}
 use Rattle.ast.specs.View.{extent, ref}
+use Rattle.ast.proofs.Symbols.{found, dimensions_told}
 use Rattle.tree_run.specs.View.{symbols_in}
-use Rattle.tree_run.proofs.Finding.{found, dimensions_at, symbol_at}
+use Rattle.tree_run.proofs.Finding.{symbol_at}
 use Rattle.tree_run.proofs.Seats.{held}
 use Rattle.tree_run.proofs.memory.Memory.dimensions.Goals as goal
 
@@ -15,7 +16,7 @@ dimensions_are c =
     let f = found (symbols_in m) r c.requires.placed in
     c.dimensions.ensures
     ∙ ap (λ (s : Symbol). dimensions_of s.sort) (symbol_at m.symbols.now r.cell f.symbol c.index-self-reference.result f.at)
-    ∙ sym (dimensions_at (symbols_in m) r.cell f.symbol m.distinct f.at)
+    ∙ sym (dimensions_told (symbols_in m) r.cell f.symbol m.distinct f.at)
     ∙ ap (dimensions_in (symbols_in m)) f.named
 
 pub returns-clause-dimensions : goal.returns-clause-dimensions

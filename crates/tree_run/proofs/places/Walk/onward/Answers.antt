@@ -1,7 +1,7 @@
 use Rattle.std.proofs.Common.{◌≡◌, ◌≤◌, ◌*◌, ℕ, map, sym, subst, rules}
 use Rattle.ast.specs.Symbols.{elements, most_elements, width}
 use Rattle.ast.specs.View.{extent}
-use Rattle.tree_run.proofs.Offsets.{first_few, longer_positive, others_few}
+use Rattle.ast.proofs.Places.{first_few, others_few, longer_positive}
 use Rattle.tree_run.proofs.places.Walk.onward.Goals as goal
 
 pub longer-requires-clause-few : goal.longer-requires-clause-few

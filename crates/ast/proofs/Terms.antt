@@ -1,9 +1,9 @@
 -- Expressions, seen as trees.
-use Rattle.std.proofs.Common.{◌≡◌, ◌∙◌, Box, List, Vec, Global, Bool, ℤ, map, ap, sym}
+use Rattle.std.proofs.Common.{◌≡◌, ◌∙◌, Box, List, Vec, Global, Bool, ℤ, map, ap, rules, sym}
 use Rattle.ast.specs.Tree as tree
 use Rattle.ast.specs.Tree.{Term, accessed, binary, call, constant, parameter, parentheses, terms, truth, unary}
-use Rattle.ast.specs.View.{access, access_step, term, term_step}
-use Rattle.ast.specs.declared.expression.Access.{Access}
+use Rattle.ast.specs.View.{access, access_step, ref, term, term_step}
+use Rattle.ast.specs.declared.expression.Access.{Access, fold_out-Access}
 use Rattle.ast.specs.declared.expression.Expr.{Expr, Expr-F, fold-roll-Expr}
 use Rattle.ast.specs.declared.expression.Expr.TheVariants.{Binary, Call, Constant, Element, Parameter, Parentheses, Truth, Unary, rolls-Binary, rolls-Call, rolls-Constant, rolls-Element, rolls-Parameter, rolls-Parentheses, rolls-Truth, rolls-Unary}
 use Rattle.ast.specs.declared.expression.Intrinsic.{Intrinsic}
@@ -52,3 +52,13 @@ binary_of t o a b left right is one other =
     ∙ fold-roll-Expr Term tree.Access term_step access_step (Expr-F.Binary o a b)
     ∙ ap (λ (x : Expr). binary o (term x) (term b.value)) (sym one)
     ∙ ap (λ (x : Expr). binary o (term left) (term x)) (sym other)
+
+-- the parts of an access
+pub subscripts_of : (a : Access) → (access a).subscripts ≡ terms (map term a.subscripts.items)
+subscripts_of a = ap (λ (b : tree.Access). b.subscripts) (fold_out-Access Term tree.Access term_step access_step a) ∙ search rules
+
+pub reference_of : (a : Access) → (access a).ref ≡ ref a.reference
+reference_of a = ap (λ (b : tree.Access). b.ref) (fold_out-Access Term tree.Access term_step access_step a) ∙ search rules
+
+pub access_of : (a : Access) → access a ≡ record { ref = ref a.reference; subscripts = terms (map term a.subscripts.items) }
+access_of a = fold_out-Access Term tree.Access term_step access_step a ∙ search rules

@@ -1,0 +1,136 @@
+//! Where the first real constant, constant that is too large, or name that is too long stands, or
+//! the text that isn't finished.
+
+use ast::LONGEST_NAME;
+
+/// The operators that stand between points.
+pub const OPERATORS: [&[u8]; 11] = [
+    b"LT", b"LE", b"EQ", b"NE", b"GT", b"GE", b"AND", b"OR", b"EQV", b"NEQV", b"NOT",
+];
+
+/// The digits of the largest constant.
+const LARGEST: &[u8] = b"9223372036854775807";
+
+/// What a token may be that no statement has.
+#[derive(Clone, Copy)]
+pub enum Flaw {
+    RealConstant,
+    TooLarge,
+    TooLong,
+}
+
+impl Flaw {
+    /// The place of the first token with it in a text that is looked at from a place on.
+    pub fn place_in(self, text: &[u8], start: usize) -> Option<usize> {
+        let mut at = start;
+        for _ in start..text.len() {
+            let rest = text.get(at..)?;
+            if self.is_at(rest) {
+                return Some(at);
+            }
+            at = at.saturating_add(token_length(rest));
+        }
+        None
+    }
+
+    /// Whether the token that a text begins with has it.
+    fn is_at(self, text: &[u8]) -> bool {
+        match (self, text.first()) {
+            (Flaw::RealConstant, Some(b'.')) => digits_at(text, 1) > 0,
+            (Flaw::RealConstant, Some(b'0'..=b'9')) => is_real_behind(text, digits_at(text, 0)),
+            (Flaw::TooLarge, Some(b'0'..=b'9')) => is_too_large(text),
+            (Flaw::TooLong, Some(b'A'..=b'Z')) => word_length(text) > LONGEST_NAME,
+            _ => false,
+        }
+    }
+}
+
+/// The place of the text that isn't finished, if there is one.
+pub fn open_text(text: &[u8]) -> Option<usize> {
+    let mut start = None;
+    let mut is_open = false;
+    let mut before = 0;
+    for (place, byte) in text.iter().enumerate() {
+        if *byte == b'\'' {
+            is_open = !is_open;
+            // Two apostrophes within a text stand for one.
+            if is_open && before != b'\'' {
+                start = Some(place);
+            }
+        }
+        before = *byte;
+    }
+    if is_open { start } else { None }
+}
+
+/// How long the token is that a text begins with: a name, digits, a text between apostrophes, an
+/// operator between points, or one sign.
+fn token_length(text: &[u8]) -> usize {
+    match text.first() {
+        Some(b'A'..=b'Z') => word_length(text),
+        Some(b'0'..=b'9') => digits_at(text, 0),
+        Some(b'.') => operator_length(text).unwrap_or(1),
+        Some(b'\'') => quoted_length(text),
+        _ => 1,
+    }
+}
+
+/// How many letters and digits a text begins with.
+pub fn word_length(text: &[u8]) -> usize {
+    let end = text.iter().position(|byte| !byte.is_ascii_alphanumeric());
+    end.unwrap_or(text.len())
+}
+
+/// How many digits stand in a text from a place on.
+pub fn digits_at(text: &[u8], start: usize) -> usize {
+    let rest = text.get(start..).unwrap_or(&[]);
+    let end = rest.iter().position(|byte| !byte.is_ascii_digit());
+    end.unwrap_or(rest.len())
+}
+
+/// How long the operator is that a text begins with, with its points, if it begins with one.
+pub fn operator_length(text: &[u8]) -> Option<usize> {
+    let rest = text.strip_prefix(b".".as_slice())?;
+    let word = rest.get(..rest.iter().position(|byte| *byte == b'.')?)?;
+    if OPERATORS.contains(&word) {
+        Some(word.len().saturating_add(2))
+    } else {
+        None
+    }
+}
+
+/// How long the text between apostrophes is, with them, that a text begins with. Two apostrophes
+/// within it stand for one.
+pub fn quoted_length(text: &[u8]) -> usize {
+    let mut is_open = false;
+    for (place, byte) in text.iter().enumerate() {
+        if *byte == b'\'' {
+            is_open = !is_open;
+        } else if !is_open {
+            return place;
+        }
+    }
+    text.len()
+}
+
+/// Whether digits at the beginning of a text, so many, go on as a real constant.
+fn is_real_behind(text: &[u8], digits: usize) -> bool {
+    let rest = text.get(digits..).unwrap_or(&[]);
+    match rest {
+        [b'.', ..] => operator_length(rest).is_none(),
+        [b'E' | b'D', b'+' | b'-', ..] => digits_at(rest, 2) > 0,
+        [b'E' | b'D', ..] => digits_at(rest, 1) > 0,
+        _ => false,
+    }
+}
+
+/// Whether the digits at the beginning of a text are a constant that is too large.
+fn is_too_large(text: &[u8]) -> bool {
+    let digits = text.get(..digits_at(text, 0)).unwrap_or(&[]);
+    let zeros = digits.iter().position(|byte| *byte != b'0');
+    let figures = digits.get(zeros.unwrap_or(digits.len())..).unwrap_or(&[]);
+    match figures.len().checked_sub(LARGEST.len()) {
+        Some(0) => figures > LARGEST,
+        longer => longer.is_some(),
+    }
+}

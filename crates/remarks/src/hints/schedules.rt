@@ -1,0 +1,60 @@
+//! Hints at the commonest causes of a schedule's refusal, by the line that is refused.
+
+/// How many digits 2^128 has.
+const LONGEST_NUMBER: usize = 39;
+
+/// What may have caused the refusal of a schedule by this number, at a line with its end.
+pub fn hint_of_schedule(number: u8, line: &[u8]) -> Option<&'static str> {
+    let [text @ .., b'\n'] = line else {
+        return Some("no LF stands behind the line");
+    };
+    if text.ends_with(b"\r") {
+        return Some("a CR stands at the end of the line; a schedule's line ends in LF alone");
+    }
+    if text.starts_with(b" ") || text.ends_with(b" ") {
+        return Some("no blank stands before or behind what a line has");
+    }
+    match number {
+        51 => of_head(text),
+        52 => of_entry(text),
+        _ => None,
+    }
+}
+
+/// What is said of one of the first two lines.
+fn of_head(text: &[u8]) -> Option<&'static str> {
+    if text.first().is_some_and(|byte| byte.is_ascii_digit()) {
+        return Some("line 2 has the processors, 1 to 64, and the open iterations, 1 to 256");
+    }
+    Some("a schedule begins with DOACROSS SCHEDULE 1 or DOACROSS SCHEDULE 2")
+}
+
+/// What is said of an entry.
+fn of_entry(text: &[u8]) -> Option<&'static str> {
+    let blank = text
+        .iter()
+        .position(|byte| *byte == b' ')
+        .unwrap_or(text.len());
+    match text.get(blank.saturating_add(1)..) {
+        None | Some([]) => Some("an entry has a processor and what it does, as in 0 5"),
+        Some([b'M' | b'T']) => Some("M, T and I are of DOACROSS SCHEDULE 2"),
+        Some([b'I', b' ', number @ ..]) if are_digits(number) => of_iteration(number),
+        Some([b'm' | b't' | b'i', ..]) => Some("M, T and I are capitals"),
+        Some([b'1'..=b'9', rest @ ..]) if are_digits(rest) => {
+            Some("an entry has 1,024 local instructions at most; more take more lines")
+        }
+        Some(_) => None,
+    }
+}
+
+/// What is said of a pick of an iteration of this number.
+fn of_iteration(number: &[u8]) -> Option<&'static str> {
+    if number.len() < LONGEST_NUMBER {
+        return Some("M, T and I are of DOACROSS SCHEDULE 2");
+    }
+    Some("the number of an iteration is below 2^128")
+}
+
+fn are_digits(text: &[u8]) -> bool {
+    text.iter().all(|byte| byte.is_ascii_digit())
+}
