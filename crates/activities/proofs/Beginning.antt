@@ -8,11 +8,12 @@ use Rattle.ec_kernel.specs.View.{IsKernel, NoWaiter, places}
 use Rattle.machine.specs.Code.{Code}
 use Rattle.machine.specs.Laid.{count_of, number_at}
 use Rattle.machine.specs.State.{Active, Machine, Wait, Who, until_retired}
+use Rattle.machine.specs.StoreView.{store_of, value_in}
 use Rattle.machine.specs.Frame.{Frame}
 use Rattle.machine.specs.View.{Input, main_frame}
 use Rattle.machine.specs.declared.code.Variable.{Variable}
 use Rattle.activities.specs.Core.{IsCore}
-use Rattle.activities.specs.Parts.{Kept, Shared, Standing, active, held_of, machine_of, numbered, point_of, standing, store_of, value_in, wait_in}
+use Rattle.activities.specs.Parts.{Kept, Shared, Standing, active, held_of, machine_of, numbered, point_of, standing, wait_in}
 use Rattle.activities.specs.PartsView.{input_of, shared_of, wait}
 use Rattle.activities.specs.Points.{at_first, beginning}
 use Rattle.activities.specs.Waiting.{Stands}

@@ -12,15 +12,17 @@ use Rattle.machine.specs.Laid.{are_distinct, are_laid, cell_number, count_of, na
 use Rattle.machine.specs.Local.{going_on, without}
 use Rattle.machine.specs.Next.{Tells}
 use Rattle.machine.specs.State.{Machine, MainMove, until_retired, Who, the_main, put_at, put_cells}
+use Rattle.machine.specs.StoreView.{store_of}
 use Rattle.machine.specs.View.{View, storing, opening, joining, index_at, join_stores, joined_with, frame_joined, trips_of, with_operand}
 use Rattle.machine.specs.declared.code.Open.{Open}
 use Rattle.machine.specs.declared.next.Next.{Next}
 use Rattle.machine.specs.declared.next.Next.TheVariants.{Local, Load, Store, Print, TakeRecord, TakeValue, DropRecord, Await, Advance, Opens, Join, Retire, Report, Stop, Halt, Stuck}
 use Rattle.machine.proofs.Naming.{cells_below}
-use Rattle.activities.specs.Parts.{Standing, Kept, active, numbered, standing, held_of, counts_of, store_of, machine_of}
+use Rattle.machine.proofs.Stores.{store_is, store_put}
+use Rattle.activities.specs.Parts.{Standing, Kept, active, numbered, standing, held_of, counts_of, machine_of}
 use Rattle.activities.specs.Turns.{MainAfter, closes, joins, main_after, main_as, none_open, opens, put_main, set_if, with_last}
 use Rattle.activities.specs.declared.turn.Outcome.TheVariants.{Parks, Idle}
-use Rattle.activities.proofs.Maps.{held_put, store_put, store_is}
+use Rattle.activities.proofs.Maps.{held_put}
 use Rattle.activities.proofs.Turning.{Went, one_stored}
 
 -- processor q holds main

@@ -18,3 +18,5 @@ pub mod Picks
 pub mod Labour
 pub mod Beginning
 pub mod Leasts
+pub mod Strode
+mod Gone

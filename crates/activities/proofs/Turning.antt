@@ -14,6 +14,7 @@ use Rattle.machine.specs.Laid.{are_distinct, are_laid, cell_number, count_of, na
 use Rattle.machine.specs.Local.{going_on, without}
 use Rattle.machine.specs.Next.{Tells}
 use Rattle.machine.specs.State.{Active, Machine, Move, Wait, until_count, until_retired, Who, iteration, end_of, put_at, put_cell, put_cells, with_frame, park}
+use Rattle.machine.specs.StoreView.{store_of}
 use Rattle.machine.specs.ScalarView.{scalar_of, scalars_of}
 use Rattle.machine.specs.declared.scalar.Scalar.{Scalar}
 use Rattle.machine.specs.View.{Cause, View, defined_cells, stored_if, with_operand, loading, storing, awaiting, advancing, leaving, breaking, failure, stop_at, is_event}
@@ -22,11 +23,12 @@ use Rattle.machine.specs.declared.code.Variable.{Variable}
 use Rattle.machine.specs.declared.next.Next.{Next}
 use Rattle.machine.specs.declared.next.Next.TheVariants.{Local, Load, Store, Print, TakeRecord, TakeValue, DropRecord, Await, Advance, Opens, Join, Retire, Report, Stop, Halt, Stuck}
 use Rattle.machine.proofs.Naming.{cells_below, numbered, unnumbered}
-use Rattle.activities.specs.Parts.{Standing, Shared, Kept, standing, active, wait_in, held_of, counts_of, store_of, machine_of}
+use Rattle.machine.proofs.Stores.{store_is, store_put}
+use Rattle.activities.specs.Parts.{Standing, Shared, Kept, standing, active, wait_in, held_of, counts_of, machine_of}
 use Rattle.activities.specs.Turns.{After, cells_after, ends, idle, iteration_after, leaves, one_after, parks, put_back, set_if, stays, waits_its_turn}
 use Rattle.activities.specs.declared.turn.Outcome.{Outcome}
 use Rattle.activities.specs.declared.turn.Outcome.TheVariants.{Idle}
-use Rattle.activities.proofs.Maps.{Mine, held_put, standing_is, iterations_put, parked_put, put_same, counts_put, counts_first, count_is, store_put, store_is}
+use Rattle.activities.proofs.Maps.{Mine, held_put, standing_is, iterations_put, parked_put, put_same, counts_put, counts_first, count_is}
 
 -- processor q holds iteration k, which stands in its place
 pub record Runs (code : Code) (s q k : ℕ) (a : Standing) (x : Kept) : Type 0 where

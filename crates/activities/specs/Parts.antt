@@ -1,11 +1,10 @@
 -- What a core keeps, and the state of the machine that it stands for.
-use Rattle.std.specs.Prelude.{ℕ, ℤ, pos, ◌%◌, ◌==◌, eqb, cond, if◌then◌else◌, List, get_or, Option, Some, None}
-use Rattle.ast.specs.Store.{StoreOf}
+use Rattle.std.specs.Prelude.{ℕ, ℤ, ◌%◌, ◌==◌, eqb, cond, if◌then◌else◌, List, get_or, Option, Some, None}
 use Rattle.ast.specs.declared.fault.End.{End}
 use Rattle.ec_kernel.specs.View as kernel
 use Rattle.machine.specs.Frame.{Frame}
-use Rattle.machine.specs.Laid.{number_at}
 use Rattle.machine.specs.State.{Active, Machine, Wait, Who}
+use Rattle.machine.specs.StoreView.{store_of}
 use Rattle.machine.specs.View.{Input}
 use Rattle.machine.specs.declared.code.Open.{Open}
 use Rattle.machine.specs.declared.code.Variable.{Variable}
@@ -34,15 +33,6 @@ pub record Kept : Type 0 where
   pub waiting : Option Wait
   pub iterations : List (Option Standing)
   pub held : List (Option Who)
-
--- ---- the store, by name and place
-
-abbrev pub value_in : List ℤ → Option ℕ → ℤ
-value_in cells None = pos 0
-value_in cells (Some n) = get_or cells n (pos 0)
-
-unfoldable pub store_of : List Variable → List ℤ → StoreOf
-store_of xs cells = λ name place. value_in cells (number_at xs name place)
 
 -- ---- maps, by lists
 

@@ -98,6 +98,11 @@ abbrev pub Works : Code → ℕ → ℕ → Point → ℕ → Point → Type 0
 Works code s zero a q b = a ≡ b
 Works code s (suc n) a q b = (x : Point) × Moves code s true a q x × Works code s n x q b
 
+-- Processor q makes so many steps of what it holds, each a local or a shared one.
+abbrev pub Steps : Code → ℕ → ℕ → Point → ℕ → Point → Type 0
+Steps code s zero a q b = a ≡ b
+Steps code s (suc n) a q b = (x : Point) × (local : Bool) × Moves code s local a q x × Steps code s n x q b
+
 -- Main is ready, and nothing else has happened.
 abbrev pub at_first : ℕ → kernel.View
 at_first s = record (new_kernel (1 + s) (1 + most_events)) { ready = 0 ∷ []; free = [] }

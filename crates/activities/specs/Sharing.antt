@@ -1,11 +1,13 @@
 -- Accounts of the code: a step that was made, with the step that stood next.
-use Rattle.std.specs.Prelude.{◌≡◌, ◌==◌, ℕ, Bool, true, false, List, Option, Some}
+use Rattle.std.specs.Prelude.{◌≡◌, ◌==◌, ℕ, ℤ, Bool, true, false, List, Option, Some}
 use Rattle.ec_kernel.specs.View.{IsKernel}
 use Rattle.machine.specs.Code.{Code}
 use Rattle.machine.specs.Frame.{Frame}
 use Rattle.machine.specs.Local.{Works}
 use Rattle.machine.specs.declared.instr.Instr.{Instr}
 use Rattle.machine.specs.Next.{Tells}
+use Rattle.machine.specs.StoreView.{store_of}
+use Rattle.machine.specs.Strides.{strides}
 use Rattle.machine.specs.View.{view}
 use Rattle.machine.specs.declared.code.Open.{Open}
 use Rattle.machine.specs.declared.next.Next.{Next}
@@ -52,4 +54,10 @@ with_frame g a = record a { frame = g }
 pub record WorkedAt (code : List Instr) (n : ℕ) (done : Bool) (a : Standing) (b : Option Standing) : Type 0 where
   pub frame : Frame
   pub working : Working code n done a.frame frame
+  pub standing : b ≡ Some (with_frame frame a)
+
+-- So many strides were made of an iteration, on these cells, and this stands in its place then.
+pub record StrodeAt (code : Code) (made : ℕ) (cells : List ℤ) (a : Standing) (ds : List ℤ) (b : Option Standing) : Type 0 where
+  pub frame : Frame
+  pub leads : strides code made (record { frame = a.frame; store = store_of code.variables cells }) ≡ Some (record { frame = frame; store = store_of code.variables ds })
   pub standing : b ≡ Some (with_frame frame a)

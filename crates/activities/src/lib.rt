@@ -10,6 +10,7 @@ mod parts;
 mod picking;
 mod printing;
 mod sharing;
+mod striding;
 mod turn;
 mod values_at;
 

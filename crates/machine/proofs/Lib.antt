@@ -11,3 +11,5 @@ pub mod Naming
 pub mod Telling
 pub mod Forms
 pub mod Puts
+pub mod Stores
+mod Touching

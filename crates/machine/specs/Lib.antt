@@ -12,6 +12,8 @@ pub mod Short
 pub mod Shortcut
 pub mod Solo
 pub mod State
+pub mod StoreView
+pub mod Strides
 mod Taking
 pub mod View
 pub mod WorkView

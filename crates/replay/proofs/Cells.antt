@@ -7,7 +7,7 @@ use Rattle.ast.specs.Store.{StoreOf, dealt, values_from}
 use Rattle.machine.specs.Laid.{are_distinct, are_laid, cell_number, count_of, names_in}
 use Rattle.machine.specs.declared.code.Variable.{Variable}
 use Rattle.machine.proofs.Naming.{number_named}
-use Rattle.activities.specs.Parts.{store_of, value_in}
+use Rattle.machine.specs.StoreView.{store_of, value_in}
 use Rattle.replay.specs.Replayed.{shapes_of, stored}
 
 -- so many values from a place on

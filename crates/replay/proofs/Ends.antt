@@ -11,7 +11,7 @@ use Rattle.schedules.specs.Schedules.{Schedule}
 use Rattle.schedules.specs.declared.refusal.ReplayRefusal.{ReplayRefusal}
 use Rattle.activities.specs.Activities.{AreOf, Stays, code_in, point_in}
 use Rattle.replay.specs.Making.{LeadsOnly}
-use Rattle.activities.specs.Parts.{store_of}
+use Rattle.machine.specs.StoreView.{store_of}
 use Rattle.replay.specs.Replayed.{GivesNone, HasStop, IsReplay, IsUpgrade, LeadsNowhere, NamesPicks, NeverEnds, NoneLeads, NotEnded, StopsAt, stored}
 use Rattle.activities.specs.Points.{Point, beginning}
 use Rattle.activities.specs.declared.holding.Activities.{Activities}

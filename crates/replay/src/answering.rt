@@ -4,7 +4,7 @@ ghost use Rattle.std.specs.Prelude.{◌≡◌, IfOk, length, true};
 ghost use Rattle.ast.specs.View.{cells as named_values, shapes};
 ghost use Rattle.machine.specs.CodeView.{code_of};
 ghost use Rattle.machine.specs.Laid.{are_distinct, are_laid, count_of, names_in};
-ghost use Rattle.activities.specs.Parts.{store_of};
+ghost use Rattle.machine.specs.StoreView.{store_of};
 ghost use Rattle.replay.specs.Replayed.{shapes_of, stored};
 
 use activities::Shared;

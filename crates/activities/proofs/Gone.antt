@@ -1,0 +1,125 @@
+-- Activities of which one has another frame, and the store other values.
+use Rattle.std.proofs.Common.{◌≡◌, ◌∙◌, ℕ, ℤ, ◌<◌, ◌≤◌, List, length, get_or, Option, Some, None, refl, sym, ap, subst, arith}
+use Rattle.std.specs.Prelude.{IfSome, ◌%◌, option_map}
+use Rattle.std.specs.Vec.{with_item, with_items}
+use Rattle.std.proofs.Math.ListN.{set}
+use Rattle.machine.specs.Code.{Code}
+use Rattle.machine.specs.Frame.{Frame}
+use Rattle.machine.specs.FrameView as frames
+use Rattle.machine.specs.declared.frame.Frame.{Frame as FrameValue}
+use Rattle.machine.specs.State.{Machine, Wait, Who, the_main, iteration, put_at}
+use Rattle.machine.specs.declared.code.Variable.{Variable}
+use Rattle.activities.specs.Activities.{AreActivities, Stays, code_in, kept_in, point_in}
+use Rattle.activities.specs.Core.{IsCore, IsRunning}
+use Rattle.activities.specs.Parts.{Kept, Shared, Standing, active, held_of, machine_of, point_of, standing, wait_in}
+use Rattle.activities.specs.PartsView.{standing_of}
+use Rattle.activities.specs.Points.{Point, Steps}
+use Rattle.activities.specs.Sharing.{StrodeAt, with_frame}
+use Rattle.activities.specs.declared.holding.Activities.{Activities}
+use Rattle.activities.specs.declared.parts.Iteration.{Iteration}
+use Rattle.activities.proofs.Choosing.{placed_machine}
+use Rattle.activities.proofs.Entering.{place_below}
+use Rattle.activities.proofs.Labour.{stood_iteration, stood_main}
+use Rattle.activities.proofs.Led.{led_core}
+use Rattle.activities.proofs.Locals.{again}
+use Rattle.activities.proofs.Maps.{Mine, put_same, standing_is}
+use Rattle.activities.proofs.Remaining.{stays_core, still}
+use Rattle.activities.proofs.Shares.{at_place, place_put, stand_from}
+use Rattle.machine.specs.StoreView.{store_of}
+use Rattle.machine.specs.Strides.{Held, strides}
+use Rattle.activities.proofs.Strode.{gone_at, gone_to, strides_made}
+
+-- what is shared, with other cells
+abbrev pub with_cells : List ℤ → Shared → Shared
+with_cells cs y = record y { cells = cs }
+
+-- what is kept of iteration k with another frame, and other cells
+abbrev pub kept_gone : ℕ → ℕ → List ℤ → Standing → Kept → Kept
+kept_gone s k cs b x = record x { shared = with_cells cs x.shared; iterations = set x.iterations (k % s) (Some b) }
+
+iteration_gone : (q k : ℕ) (cs : List ℤ) (g : Frame) (old : Activities) (a : AreActivities old) (h : held_of (kept_in old).held q ≡ Some (iteration k))
+    → point_of (code_in old).variables old.slots (kept_gone old.slots k cs (with_frame g (a.core.runs q k h).standing) (kept_in old)) ≡ gone_at (iteration k) (record { frame = g; store = store_of (code_in old).variables cs }) (point_in old)
+iteration_gone q k cs g old a h =
+    ap (λ (m : Machine). record { machine = m; order = x.shared.order })
+    (placed_machine (code_in old) s k x y x.held (Some b) (omega (arith, place_below s k a.core.some, a.core.room)) (subst (λ (o : Option Standing). Mine k o) (sym r.here) r.number) r.number
+    ∙ ap (λ (w : ℕ → Option Wait). record M { iterations = put_at (λ i. active (standing x.iterations s i)) k (active (Some b)); parked = w }) (put_same (λ i. wait_in (standing x.iterations s i)) k r.standing.wait (ap wait_in here))
+    ∙ sym (ap (λ (o : Option Standing). framed_with o) here))
+  where
+    x : Kept
+    x = kept_in old
+
+    s : ℕ
+    s = old.slots
+
+    y : Shared
+    y = with_cells cs x.shared
+
+    M : Machine
+    M = machine_of (code_in old).variables s (record x { shared = y })
+
+    r : IsRunning s k x
+    r = a.core.runs q k h
+
+    b : Standing
+    b = with_frame g r.standing
+
+    here : standing x.iterations s k ≡ Some r.standing
+    here = standing_is x.iterations s k (Some r.standing) r.here r.number
+
+    framed_with : Option Standing → Machine
+    framed_with o = record M { iterations = put_at M.iterations k (again (active o) g) }
+
+gone_core : (q k : ℕ) (cs : List ℤ) (g : Frame) (old : Activities) (a : AreActivities old) (h : held_of (kept_in old).held q ≡ Some (iteration k)) → length cs ≡ length (kept_in old).shared.cells
+    → IsCore (code_in old) old.slots (kept_gone old.slots k cs (with_frame g (a.core.runs q k h).standing) (kept_in old))
+gone_core q k cs g old a h l =
+    let r = a.core.runs q k h in
+    let x = kept_in old in
+    stays_core (code_in old) old.slots k x r.standing (with_frame g r.standing) (with_cells cs x.shared) a.core r.here r.number r.wait (place_below old.slots k a.core.some) r.number r.wait (still x.shared.order a.core.kernel) l refl
+
+-- ---- an iteration
+
+pub there : (q k at made : ℕ) (o p : Option Iteration) (cs : List ℤ) (old : Activities) (a : AreActivities old) (h : held_of (kept_in old).held q ≡ Some (iteration k)) → at ≡ k % old.slots → o ≡ get_or old.iterations.items at o
+    → IfSome (option_map standing_of o) (λ z. StrodeAt (code_in old) made (kept_in old).shared.cells z cs (option_map standing_of p)) → StrodeAt (code_in old) made (kept_in old).shared.cells (a.core.runs q k h).standing cs (option_map standing_of p)
+there q k at made o p cs old a h e f w = subst (λ (u : Option Standing). IfSome u (λ z. StrodeAt (code_in old) made (kept_in old).shared.cells z cs (option_map standing_of p))) (at_place q k at o old a h e f) w
+
+abbrev pub with_both : ℕ → Option Iteration → List ℤ → Activities → Activities
+with_both at p cs old = record old { shared = record old.shared { cells = with_items old.shared.cells cs }; iterations = with_item old.iterations at p }
+
+kept_there : (k at : ℕ) (p : Option Iteration) (b : Standing) (cs : List ℤ) (old : Activities) → (with_items old.shared.cells cs).items ≡ cs → at ≡ k % old.slots → option_map standing_of p ≡ Some b → kept_in (with_both at p cs old) ≡ kept_gone old.slots k cs b (kept_in old)
+kept_there k at p b cs old i e f =
+    ap (λ (xs : List (Option Standing)). record (kept_in old) { shared = with_cells (with_items old.shared.cells cs).items (kept_in old).shared; iterations = xs })
+    (place_put old.iterations.items at (k % old.slots) p e ∙ ap (λ (o : Option Standing). set (kept_in old).iterations (k % old.slots) o) f)
+    ∙ ap (λ (ds : List ℤ). kept_gone old.slots k ds b (kept_in old)) i
+
+pub strode_iteration : (q k at made : ℕ) (p : Option Iteration) (cs : List ℤ) (old : Activities) (a : AreActivities old) → old.shared.ended ≡ None → (h : held_of (kept_in old).held q ≡ Some (iteration k)) → (with_items old.shared.cells cs).items ≡ cs → at ≡ k % old.slots
+    → StrodeAt (code_in old) made (kept_in old).shared.cells (a.core.runs q k h).standing cs (option_map standing_of p) → Steps (code_in old) old.slots made (point_in old) q (point_in (with_both at p cs old))
+strode_iteration q k at made p cs old a g h i e w =
+    let b : Held = record { frame = w.frame; store = store_of (code_in old).variables cs } in
+    let there : point_in (with_both at p cs old) ≡ gone_at (iteration k) b (point_in old) =
+    ap (λ (y : Kept). point_of (code_in old).variables old.slots y) (kept_there k at p (with_frame w.frame (a.core.runs q k h).standing) cs old i e w.standing) ∙ iteration_gone q k cs w.frame old a h in
+    subst (λ (z : Point). Steps (code_in old) old.slots made (point_in old) q z) (sym there)
+    (strides_made (code_in old) old.slots (iteration k) (point_in old) q made (a.core.runs q k h).standing.frame b (stood_iteration q k old a g h) w.leads)
+
+pub strode_stands : (q k at made : ℕ) (p : Option Iteration) (cs : List ℤ) (old : Activities) (a : AreActivities old) (h : held_of (kept_in old).held q ≡ Some (iteration k)) → (with_items old.shared.cells cs).items ≡ cs → at ≡ k % old.slots → length cs ≡ length (kept_in old).shared.cells
+    → StrodeAt (code_in old) made (kept_in old).shared.cells (a.core.runs q k h).standing cs (option_map standing_of p) → AreActivities (with_both at p cs old)
+strode_stands q k at made p cs old a h i e l w =
+    stand_from old (with_both at p cs old) a (record { code_is = refl; processors = refl; slots = refl })
+    (subst (λ (y : Kept). IsCore (code_in old) old.slots y) (sym (kept_there k at p (with_frame w.frame (a.core.runs q k h).standing) cs old i e w.standing)) (gone_core q k cs w.frame old a h l))
+
+-- ---- main
+
+abbrev pub with_main_both : FrameValue → List ℤ → Activities → Activities
+with_main_both f cs old = record old { shared = record old.shared { cells = with_items old.shared.cells cs }; main = record old.main { frame = f } }
+
+pub strode_main : (q made : ℕ) (f : FrameValue) (cs : List ℤ) (old : Activities) → AreActivities old → old.shared.ended ≡ None → held_of (kept_in old).held q ≡ Some the_main → (with_items old.shared.cells cs).items ≡ cs
+    → strides (code_in old) made (record { frame = frames.frame_of old.main.frame; store = store_of (code_in old).variables (kept_in old).shared.cells }) ≡ Some (record { frame = frames.frame_of f; store = store_of (code_in old).variables cs })
+    → Steps (code_in old) old.slots made (point_in old) q (point_in (with_main_both f cs old))
+strode_main q made f cs old a g h i e =
+    subst (λ (ds : List ℤ). Steps (code_in old) old.slots made (point_in old) q (gone_at the_main (record { frame = frames.frame_of f; store = store_of (code_in old).variables ds }) (point_in old))) (sym i)
+    (strides_made (code_in old) old.slots the_main (point_in old) q made (kept_in old).main (record { frame = frames.frame_of f; store = store_of (code_in old).variables cs }) (stood_main q old a g h) e)
+
+pub main_strode_stands : (f : FrameValue) (cs : List ℤ) (old : Activities) → AreActivities old → (with_items old.shared.cells cs).items ≡ cs → length cs ≡ length (kept_in old).shared.cells → AreActivities (with_main_both f cs old)
+main_strode_stands f cs old a i l = record {
+  core = led_core (code_in old) old.slots (kept_in old) (with_items old.shared.cells cs).items (kept_in old).shared.output (kept_in old).shared.loop (kept_in old).shared.ended (kept_in old).input (frames.frame_of f) a.core (ap (λ (ds : List ℤ). length ds) i ∙ l) a.core.indices;
+  processors = a.processors;
+}
