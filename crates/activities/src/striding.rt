@@ -60,7 +60,12 @@ impl<'c> Activities<'c> {
         ensures stays { Stays self.old self.new }
     {
         let at = self.place_from(k, place);
-        stride_at(self.code, &mut self.iterations[at], &mut self.shared.cells, n)
+        stride_at(
+            self.code,
+            &mut self.iterations[at],
+            &mut self.shared.cells,
+            n,
+        )
     }
 
     /// As many local instructions, loads and stores as stand next of what processor `q` holds, at

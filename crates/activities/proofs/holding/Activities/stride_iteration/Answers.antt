@@ -6,7 +6,7 @@ use Rattle.activities.specs.Activities.{code_in, kept_in}
 use Rattle.activities.specs.PartsView.{standing_of}
 use Rattle.activities.specs.Sharing.{StrodeAt}
 use Rattle.activities.proofs.Gone.{strode_iteration, strode_stands, there}
-use Rattle.activities.proofs.striding.Activities.stride_iteration.Goals as goal
+use Rattle.activities.proofs.holding.Activities.stride_iteration.Goals as goal
 
 pub returns-clause-made : goal.returns-clause-made
 returns-clause-made c =

@@ -2,7 +2,7 @@ use Rattle.std.proofs.Common.{◌≡◌, ◌∙◌, length, ap, arith}
 use Rattle.std.specs.Vec.{with_items}
 use Rattle.std.proofs.lemmas.List.{with_items_is}
 use Rattle.activities.proofs.Gone.{main_strode_stands, strode_main}
-use Rattle.activities.proofs.striding.Activities.stride_main.Goals as goal
+use Rattle.activities.proofs.holding.Activities.stride_main.Goals as goal
 
 pub returns-clause-made : goal.returns-clause-made
 returns-clause-made c =

@@ -6,7 +6,7 @@ use Rattle.activities.specs.Parts.{held_of}
 use Rattle.activities.specs.declared.holding.Holder.{Holder}
 use Rattle.activities.specs.declared.holding.Holder.TheVariants as holder
 use Rattle.activities.proofs.Shares.{held_is}
-use Rattle.activities.proofs.striding.Activities.stride.Goals as goal
+use Rattle.activities.proofs.holding.Activities.stride.Goals as goal
 
 pub stride_main-requires-clause-holds : goal.stride_main-requires-clause-holds
 stride_main-requires-clause-holds c =
