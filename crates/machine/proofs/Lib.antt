@@ -12,4 +12,7 @@ pub mod Telling
 pub mod Forms
 pub mod Puts
 pub mod Stores
-mod Touching
+mod Joining
+pub mod Elements
+mod Alone
+mod Goes

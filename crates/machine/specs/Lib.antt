@@ -4,12 +4,14 @@ pub mod Code
 pub mod CodeView
 pub mod Frame
 pub mod FrameView
+pub mod Gone
 pub mod Laid
 pub mod Local
 pub mod Next
 pub mod ScalarView
 pub mod Short
 pub mod Shortcut
+pub mod Sites
 pub mod Solo
 pub mod State
 pub mod StoreView

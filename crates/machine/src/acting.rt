@@ -44,7 +44,7 @@ pub enum Went {
 
 /// The next instruction, with a new top of the operands.
 #[inline(always)]
-fn next(cursor: Cursor, top: usize) -> Cursor
+pub fn next(cursor: Cursor, top: usize) -> Cursor
     requires { cursor.place < 2 ^ 63 }
     ensures { result ≡ record { place = cursor.place + 1; top = top; inner = cursor.inner } }
 {
