@@ -8,6 +8,7 @@ use Rattle.std.proofs.lemmas.List.{get_or-map}
 use Rattle.machine.specs.Frame.{Frame}
 use Rattle.machine.specs.FrameView as frames
 use Rattle.machine.specs.Local.{and_then, local, locals}
+use Rattle.machine.specs.Local.{Works as LocalWorks}
 use Rattle.machine.specs.State.{Machine, Wait, Who, the_main, iteration, put_at}
 use Rattle.machine.specs.declared.frame.Frame.{Frame as FrameValue}
 use Rattle.machine.specs.declared.instr.Instr.{Instr}
@@ -16,7 +17,7 @@ use Rattle.activities.specs.Core.{IsCore, IsRunning}
 use Rattle.activities.specs.Parts.{Kept, Standing, active, held_of, machine_of, point_of, standing, wait_in}
 use Rattle.activities.specs.PartsView.{standing_of}
 use Rattle.activities.specs.Points.{Point, Works, frame_in, wait_of}
-use Rattle.activities.specs.Sharing.{WorkedAt, Working, with_frame}
+use Rattle.activities.specs.Sharing.{MadeAt, WorkedAt, Working, with_frame}
 use Rattle.activities.specs.declared.holding.Activities.{Activities}
 use Rattle.activities.specs.declared.holding.Holder.{Holder}
 use Rattle.activities.specs.declared.parts.Iteration.{Iteration}
@@ -184,3 +185,12 @@ held_runs q (iteration k) old a h =
     let r = a.core.runs q k h in
     let here : standing (kept_in old).iterations old.slots k ≡ Some r.standing = standing_is (kept_in old).iterations old.slots k (Some r.standing) r.here r.number in
     ap wait_in here ∙ r.wait
+
+-- ---- as many as stand next, in place
+
+pub made_so_many : (u : Who) (q n made : ℕ) (f g : Frame) (old new : Activities) → Stood (point_in old) q u f → LocalWorks (code_in old).instructions n f made g → point_in new ≡ framed_at u g (point_in old) → Works (code_in old) old.slots made (point_in old) q (point_in new)
+made_so_many u q n made f g old new t w e = subst (λ (p : Point). Works (code_in old) old.slots made (point_in old) q p) (sym e) (works_made (code_in old) old.slots u (point_in old) q made f g t w.leads)
+
+pub made_there : (q k at n made : ℕ) (o p : Option Iteration) (old : Activities) (a : AreActivities old) (h : held_of (kept_in old).held q ≡ Some (iteration k)) → at ≡ k % old.slots → o ≡ get_or old.iterations.items at o
+    → IfSome (option_map standing_of o) (λ z. MadeAt (code_in old).instructions n made z (option_map standing_of p)) → MadeAt (code_in old).instructions n made (a.core.runs q k h).standing (option_map standing_of p)
+made_there q k at n made o p old a h e f w = subst (λ (u : Option Standing). IfSome u (λ z. MadeAt (code_in old).instructions n made z (option_map standing_of p))) (at_place q k at o old a h e f) w

@@ -50,6 +50,13 @@ pub record Working (code : List Instr) (n : ℕ) (done : Bool) (f g : Frame) : T
 abbrev pub with_frame : Frame → Standing → Standing
 with_frame g a = record a { frame = g }
 
+-- As many local instructions as stand next, at most n, were made of an iteration, and this stands in
+-- its place then.
+pub record MadeAt (code : List Instr) (n made : ℕ) (a : Standing) (b : Option Standing) : Type 0 where
+  pub frame : Frame
+  pub works : Works code n a.frame made frame
+  pub standing : b ≡ Some (with_frame frame a)
+
 -- the same of an iteration, and this stands in its place then
 pub record WorkedAt (code : List Instr) (n : ℕ) (done : Bool) (a : Standing) (b : Option Standing) : Type 0 where
   pub frame : Frame

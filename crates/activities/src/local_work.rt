@@ -1,11 +1,11 @@
 //! Local instructions of what processors hold.
 
-ghost use Rattle.std.specs.Prelude.{◌≡◌, IfSome, option_map};
+ghost use Rattle.std.specs.Prelude.{◌≡◌, ◌≤◌, IfSome, option_map};
 ghost use Rattle.machine.specs.CodeView.{code_of};
 ghost use Rattle.machine.specs.FrameView.{frame_of};
 ghost use Rattle.activities.specs.PartsView.{standing_of};
 ghost use Rattle.activities.specs.Putting.{HasGot};
-ghost use Rattle.activities.specs.Sharing.{WorkedAt, Working};
+ghost use Rattle.activities.specs.Sharing.{MadeAt, WorkedAt, Working};
 
 use crate::holding::{Activities, Holder};
 use crate::parts::Iteration;
@@ -29,6 +29,18 @@ fn work_at(code: &Code, place: &mut Option<Iteration>, n: u32) -> bool
     match place {
         Some(iteration) => work_on(code, &mut iteration.frame, n),
         None => false,
+    }
+}
+
+/// As many local instructions as stand next, at most `n`, of what stands in a place; how many.
+fn labour_at(code: &Code, place: &mut Option<Iteration>, n: u32) -> u32
+    ensures made { IfSome (option_map standing_of place.old) (λ a.
+        MadeAt (code_of code.now).instructions n result a (option_map standing_of place.new)) }
+    ensures few { result ≤ n }
+{
+    match place {
+        Some(iteration) => local(code, &mut iteration.frame, n).made,
+        None => 0,
     }
 }
 
@@ -87,6 +99,43 @@ impl<'c> Activities<'c> {
             None => false,
             Some(Holder::Main) => work_on(self.code, &mut self.main.frame, n),
             Some(Holder::Iteration { number, place }) => self.work_iteration(q, number, place, n),
+        }
+    }
+
+    /// As many local instructions as stand next of iteration `k`, at most `n`, which processor `q`
+    /// holds, and which may stand in this place; how many.
+    fn labour_iteration(&mut self, q: usize, k: u128, place: usize, n: u32) -> u32
+        requires stand { AreActivities self.old }
+        requires going { self.old.shared.ended ≡ None }
+        requires holds { held_of (kept_in self.old).held q ≡ Some (iteration k) }
+        ensures made { Works (code_in self.old) self.old.slots result (point_in self.old) q
+            (point_in self.new) }
+        ensures few { result ≤ n }
+        ensures stand { AreActivities self.new }
+        ensures stays { Stays self.old self.new }
+    {
+        let at = self.place_from(k, place);
+        labour_at(self.code, &mut self.iterations[at], n)
+    }
+
+    /// As many local instructions as stand next of what processor `q` holds, at most `n`, in its
+    /// own place; how many. It takes no memory.
+    pub fn labour(&mut self, q: usize, n: u32) -> u32
+        requires stand { AreActivities self.old }
+        requires processor { q < length self.old.held.items }
+        ensures made { Works (code_in self.old) self.old.slots result (point_in self.old) q
+            (point_in self.new) }
+        ensures few { result ≤ n }
+        ensures stand { AreActivities self.new }
+        ensures stays { Stays self.old self.new }
+    {
+        if self.shared.ended.is_some() {
+            return 0;
+        }
+        match self.held[q] {
+            None => 0,
+            Some(Holder::Main) => local(self.code, &mut self.main.frame, n).made,
+            Some(Holder::Iteration { number, place }) => self.labour_iteration(q, number, place, n),
         }
     }
 

@@ -5,7 +5,7 @@ use crate::sure::{compiled, sequential};
 use crate::worked::{TWO_APART, Worked, programs, same_answers, worked_out};
 use ast::Answer;
 use machine::Code;
-use processors::{NoGate, Report, RunRefusal, run};
+use processors::{NoGate, Report, RunRefusal, run, run_unrecorded};
 use schedules::ReplayRefusal;
 use std::alloc::Global;
 use std::process::Abort;
@@ -21,6 +21,17 @@ pub fn ran<R: Threads + Wait + Sync + AllocGlobal>(
     s: u64,
 ) -> Result<Report, RunRefusal> {
     run(rt, rt.alloc(), code, input, p, s, &NoGate)
+}
+
+/// A run in threads of which no schedule is kept.
+pub fn answered<R: Threads + Wait + Sync + AllocGlobal>(
+    rt: &R,
+    code: &Code,
+    input: &[u8],
+    p: u64,
+    s: u64,
+) -> Result<Answer, RunRefusal> {
+    run_unrecorded(rt, rt.alloc(), code, input, p, s, &NoGate)
 }
 
 /// What the schedule of a run leads to, once it was written and read.
@@ -82,7 +93,23 @@ fn is_right<R: Abort + AllocGlobal + Threads + Wait + Sync>(
     adds_up(&report, p, s) && is_answered(rt.alloc(), code, input, &report, answer)
 }
 
-/// The runs of code by so many processors, with so many iterations open, have this answer.
+/// Whether a run of which no schedule is kept has this answer.
+fn is_right_unrecorded<R: Threads + Wait + Sync + AllocGlobal>(
+    rt: &R,
+    code: &Code,
+    input: &[u8],
+    p: u64,
+    s: u64,
+    answer: &Answer,
+) -> bool {
+    match answered(rt, code, input, p, s) {
+        Ok(own) => same_answers(code, &own, answer),
+        Err(_) => false,
+    }
+}
+
+/// The runs of code by so many processors, with so many iterations open, have this answer, with a
+/// schedule and without.
 fn sizes_run<R: Abort + AllocGlobal + Threads + Wait + Sync>(
     rt: &R,
     code: &Code,
@@ -92,6 +119,7 @@ fn sizes_run<R: Abort + AllocGlobal + Threads + Wait + Sync>(
 ) {
     for (p, s) in sizes {
         assert!(rt; is_right(rt, code, input, *p, *s, answer), "p {p}, s {s}");
+        assert!(rt; is_right_unrecorded(rt, code, input, *p, *s, answer), "p {p}, s {s}");
     }
 }
 
@@ -175,6 +203,20 @@ fn refusal_of<R: Threads + Wait + Sync + AllocGlobal>(
     }
 }
 
+/// The same of a run of which no schedule is kept.
+fn unrecorded_refusal_of<R: Threads + Wait + Sync + AllocGlobal>(
+    rt: &R,
+    code: &Code,
+    p: u64,
+    s: u64,
+) -> Option<u8> {
+    match answered(rt, code, b"", p, s) {
+        Ok(_) => Some(0),
+        Err(RunRefusal::Refused { number }) => Some(number),
+        Err(RunRefusal::Memory { output: _output }) => None,
+    }
+}
+
 /// Numbers of processors and slots, and the number of the refusal of a run by so many.
 static NUMBERS: [(u64, u64, u8); 10] = [
     (0, 1, 57),
@@ -198,6 +240,10 @@ pub fn are_refused<R: Abort + AllocGlobal + Threads + Wait + Sync>(
     for (p, s, wanted) in numbers {
         assert!(rt;
             refusal_of(rt, code, *p, *s) == Some(*wanted),
+            "p {p}, s {s}"
+        );
+        assert!(rt;
+            unrecorded_refusal_of(rt, code, *p, *s) == Some(*wanted),
             "p {p}, s {s}"
         );
     }

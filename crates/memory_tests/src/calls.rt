@@ -148,3 +148,13 @@ pub fn ran<R: Threads + Wait + Sync + AllocGlobal>(
 ) -> Result<Report, RunRefusal> {
     processors::run(rt, rt.alloc(), code, input, p, s, &NoGate)
 }
+
+pub fn answered<R: Threads + Wait + Sync + AllocGlobal>(
+    rt: &R,
+    code: &Code,
+    input: &[u8],
+    p: u64,
+    s: u64,
+) -> Result<Answer, RunRefusal> {
+    processors::run_unrecorded(rt, rt.alloc(), code, input, p, s, &NoGate)
+}

@@ -1,16 +1,14 @@
 //! What lies under the lock.
 
-ghost use Rattle.processors.specs.Calls.{IsCoreOf};
-
 use crate::call::Call;
-use crate::report::{Effort, Report, RunRefusal};
+use crate::driven::{Advanced, Driven};
+use crate::report::Effort;
 use crate::work::Own;
-use ast::Answer;
-use replay::{Core, HandIn, Stepped};
+use replay::{HandIn, Stepped};
 use std::alloc::{AllocError, Global};
-use std::marker::{Model, PhantomData};
+use std::marker::PhantomData;
 
-/// How many shared steps are made in one turn, at most.
+/// How often in one turn steps are made in place and then a shared one, at most.
 const MOST_STEPS: u32 = 32;
 
 /// So many iterations are begun before it is asked how long they are.
@@ -20,13 +18,14 @@ const FIRST_FEW: u64 = 64;
 /// half as much, so that the loops of before are forgotten little by little.
 const MOST_COUNTED: u64 = 1024;
 
-/// Iterations are long where they do so many local instructions each. A processor that sleeps is
-/// woken for another iteration only where they are: to wake one takes longer than a shorter
-/// iteration.
+/// Iterations are long where they do so many local instructions each outside the lock. A processor
+/// that sleeps is woken for another iteration only where they are: to wake one takes longer than a
+/// shorter iteration.
 const LONG: u64 = 4096;
 
-/// Iterations are short where they do fewer local instructions each. Of several processors one
-/// alone begins them, and the others sleep: to hand the lock from one to another takes longer.
+/// Iterations are short where they do fewer local instructions each outside the lock. Of several
+/// processors one alone begins them, and the others sleep: to hand the lock from one to another
+/// takes longer.
 const SHORT: u64 = 512;
 
 /// How a run stands.
@@ -57,15 +56,18 @@ pub enum Next {
     Work(Option<u128>),
 }
 
-/// The core of a run, and what its processors tell each other.
+/// A run, and what its processors tell each other.
 #[derive(Drop)]
-pub struct Board<'c, C: Call> {
-    core: Core<'c>,
+pub struct Board<C: Call, D: Driven<C> + Drop> {
+    run: D,
     standing: Standing,
+    /// Whether the gate is to be told of iterations as they begin.
+    tells_gate: bool,
     /// How many processors sleep, or have been woken and have not had their turn yet. Each of them
     /// holds nothing.
     asleep: usize,
-    /// How many iterations have begun of late, and how many local instructions were done in them.
+    /// How many iterations have begun of late, and how many local instructions were done of them
+    /// outside the lock.
     begun: u64,
     worked: u64,
     overlap: u128,
@@ -73,36 +75,18 @@ pub struct Board<'c, C: Call> {
     of: PhantomData<C>,
 }
 
-impl<'c, C: Call> Model for Board<'c, C> {
-    ghost use Rattle.replay.specs.CoreView.{CoreView};
-    ghost use Rattle.processors.specs.Calls.{IsCoreOf};
-
-    ghost Value = { CoreView };
-
-    ghost view = { λ b. b.core };
-
-    ghost invariant = { λ b. IsCoreOf C.code C.input C.processors C.slots b.core };
-}
-
-impl<'c, C: Call> Board<'c, C> {
-    ghost use Rattle.std.specs.Prelude.{IfOk, IfErr};
-    ghost use Rattle.processors.specs.Calls.{IsCoreOf, IsRunOf};
-    ghost use Rattle.processors.specs.Refused.{IsGivenUp};
-    ghost use Rattle.replay.specs.CoreView.{point_at};
-    ghost use Rattle.replay.specs.Replayed.{IsAnswer};
-
-    /// A run in which nothing has happened.
+impl<C: Call, D: Driven<C> + Drop> Board<C, D> {
+    /// A run in which nothing has happened, and whether the gate is to be told of iterations.
     ///
     /// # Errors
     ///
     /// `AllocError` where memory is refused.
-    pub fn new(alloc: Global, core: Core<'c>) -> Result<Board<'c, C>, AllocError>
-        requires { IsCoreOf C.code C.input C.processors C.slots core }
-    {
-        let efforts = vec![in alloc; Effort::default(); core.processors()]?;
+    pub fn new(alloc: Global, run: D, tells_gate: bool) -> Result<Board<C, D>, AllocError> {
+        let efforts = vec![in alloc; Effort::default(); run.processors()]?;
         Ok(Board {
-            core,
+            run,
             standing: Standing::Going,
+            tells_gate,
             asleep: 0,
             begun: 0,
             worked: 0,
@@ -125,6 +109,17 @@ impl<'c, C: Call> Board<'c, C> {
         self.standing
     }
 
+    /// The run, what each processor did, and how many iterations were open at once, at most.
+    pub fn into_parts(self) -> (D, Vec<Effort>, u128) {
+        let Board {
+            run,
+            efforts,
+            overlap,
+            ..
+        } = self;
+        (run, efforts, overlap)
+    }
+
     /// Processor `q` falls asleep.
     pub fn fall_asleep(&mut self, q: usize) {
         self.asleep = self.asleep.wrapping_add(1);
@@ -140,10 +135,11 @@ impl<'c, C: Call> Board<'c, C> {
 
     /// Whether all are to leave.
     pub fn is_over(&self) -> bool {
-        self.standing != Standing::Going || self.core.has_ended()
+        self.standing != Standing::Going || self.run.has_ended()
     }
 
-    /// Whether iterations have done so many local instructions each, or too few have begun to tell.
+    /// Whether iterations have done so many local instructions each outside the lock, or too few
+    /// have begun to tell.
     fn have_done(&self, each: u64) -> bool {
         self.begun < FIRST_FEW || self.begun.saturating_mul(each) <= self.worked
     }
@@ -154,23 +150,23 @@ impl<'c, C: Call> Board<'c, C> {
         if self.asleep == 0 {
             return false;
         }
-        self.core.has_ready() || self.have_done(LONG) && self.core.has_ticket()
+        self.run.has_ready() || self.have_done(LONG) && self.run.has_ticket()
     }
 
     /// Whether all processors but one sleep.
     fn is_last_awake(&self) -> bool {
-        self.asleep.saturating_add(1) >= self.core.processors()
+        self.asleep.saturating_add(1) >= self.run.processors()
     }
 
     /// Whether a processor that holds nothing takes up nothing: there is nothing, or only an
     /// iteration that may begin, which it leaves to another one that is awake where iterations are
     /// short.
     fn takes_nothing(&self) -> bool {
-        if self.core.has_ready() || self.core.has_ended() {
+        if self.run.has_ready() || self.run.has_ended() {
             return false;
         }
         let leaves_it = !self.have_done(SHORT) && !self.is_last_awake();
-        leaves_it || !self.core.has_ticket()
+        leaves_it || !self.run.has_ticket()
     }
 
     /// Processor `q` made so many steps.
@@ -181,27 +177,23 @@ impl<'c, C: Call> Board<'c, C> {
     }
 
     /// Processor `q` hands in its local work, if it has done any.
-    fn hand_in(&mut self, q: usize, own: &mut Own<'c, C>) -> Result<(), HandIn> {
+    fn hand_in(&mut self, q: usize, own: &mut Own<'_, C>) -> Result<(), HandIn> {
         let made = own.work.made;
-        if made == 0 {
-            return Ok(());
-        }
-        self.core.hand_in_own(q, &mut own.work)?;
+        self.run.hand_in(q, own)?;
         self.worked = self.worked.wrapping_add(u64::from(made));
         self.count(q, made);
         Ok(())
     }
 
-    /// A shared step of processor `q`. Where it holds nothing it picks: main or the least iteration
-    /// that is ready, and a ticket only where nothing is.
+    /// A shared step of processor `q`. Where it holds nothing it picks.
     fn step(&mut self, q: usize) -> Result<Stepped, AllocError> {
-        if self.core.holds(q) {
-            return self.core.step(q);
+        if self.run.holds(q) {
+            return self.run.share(q);
         }
         if self.takes_nothing() {
             return Ok(Stepped::Idle);
         }
-        self.core.pick(q, self.core.least())
+        self.run.pick(q)
     }
 
     /// One more iteration has begun.
@@ -218,11 +210,14 @@ impl<'c, C: Call> Board<'c, C> {
         Next::Leave
     }
 
-    /// Processor `q` has taken the ticket of iteration `k`.
-    fn begin(&mut self, q: usize, k: u128, own: &mut Own<'c, C>) -> Next {
+    /// Processor `q` has taken the ticket of iteration `k`. It keeps the lock where nobody is told.
+    fn begin(&mut self, q: usize, k: u128, own: &mut Own<'_, C>) -> Next {
         self.count_begun();
-        self.overlap = self.overlap.max(self.core.overlap());
-        match self.core.load(q, &mut own.work) {
+        self.overlap = self.overlap.max(self.run.overlap());
+        if !self.tells_gate {
+            return Next::Again;
+        }
+        match self.run.load(q, own) {
             Ok(true) => Next::Work(Some(k)),
             Ok(false) => Next::Begin(k),
             Err(_) => self.no_memory(),
@@ -231,7 +226,7 @@ impl<'c, C: Call> Board<'c, C> {
 
     /// Processor `q` has no step. Where it holds something, or all others sleep, none will come.
     fn idle(&mut self, q: usize) -> Next {
-        if self.core.holds(q) || self.is_last_awake() {
+        if self.run.holds(q) || self.is_last_awake() {
             self.give_up(Standing::Stuck);
             return Next::Leave;
         }
@@ -239,7 +234,7 @@ impl<'c, C: Call> Board<'c, C> {
     }
 
     /// Processor `q`, before which no local instruction stands, makes a shared step.
-    fn share(&mut self, q: usize, own: &mut Own<'c, C>) -> Next {
+    fn share(&mut self, q: usize, own: &mut Own<'_, C>) -> Next {
         match self.step(q) {
             Ok(Stepped::Went(begun)) => {
                 self.count(q, 1);
@@ -254,17 +249,28 @@ impl<'c, C: Call> Board<'c, C> {
         }
     }
 
-    /// Processor `q` works on where a local instruction stands next, and else makes a shared step.
-    fn go_on(&mut self, q: usize, own: &mut Own<'c, C>) -> Next {
-        match self.core.load(q, &mut own.work) {
-            Ok(true) => Next::Work(None),
-            Ok(false) => self.share(q, own),
+    /// Processor `q` makes the steps that need nobody else, as many as a turn may have, and then,
+    /// where one stands next, a shared one; or it is to do local work.
+    fn go_on(&mut self, q: usize, own: &mut Own<'_, C>) -> Next {
+        match self.run.advance(q, own) {
+            Ok(Advanced::Loaded(made)) => {
+                self.count(q, made);
+                Next::Work(None)
+            }
+            Ok(Advanced::Further(made)) => {
+                self.count(q, made);
+                Next::Again
+            }
+            Ok(Advanced::Up(made)) => {
+                self.count(q, made);
+                self.share(q, own)
+            }
             Err(_) => self.no_memory(),
         }
     }
 
-    /// Processor `q` makes shared steps as long as one stands next, up to so many.
-    fn steps(&mut self, q: usize, own: &mut Own<'c, C>) -> Next {
+    /// Processor `q` makes steps as long as one stands next, up to so many.
+    fn steps(&mut self, q: usize, own: &mut Own<'_, C>) -> Next {
         let mut next = self.go_on(q, own);
         for _ in 1..MOST_STEPS {
             match next {
@@ -275,9 +281,9 @@ impl<'c, C: Call> Board<'c, C> {
         next
     }
 
-    /// A turn of processor `q`: it hands in its local work, if it has done any, and makes shared
-    /// steps. Work that the core doesn't take is forgotten.
-    pub fn turn(&mut self, q: usize, own: &mut Own<'c, C>) -> Next {
+    /// A turn of processor `q`: it hands in its local work, if it has done any, and makes steps.
+    /// Work that the run doesn't take is forgotten.
+    pub fn turn(&mut self, q: usize, own: &mut Own<'_, C>) -> Next {
         if self.standing != Standing::Going {
             return Next::Leave;
         }
@@ -285,59 +291,6 @@ impl<'c, C: Call> Board<'c, C> {
             Ok(()) | Err(HandIn::Stranger) => self.steps(q, own),
             Err(HandIn::Ended) => Next::Leave,
             Err(HandIn::Memory) => self.no_memory(),
-        }
-    }
-
-    /// What has come of a run that was given up for want of memory.
-    pub fn out_of_memory(self) -> RunRefusal
-        ensures { IsGivenUp C.code C.input C.processors C.slots result }
-    {
-        let Board { core, .. } = self;
-        // Their contracts say that this schedule leads to where the core is, and can be written.
-        let _ = core.schedule().entries();
-        let (output, _) = core.into_parts();
-        RunRefusal::Memory { output }
-    }
-
-    /// What has come of a run that has ended with this answer.
-    fn report_of(self, answer: Answer) -> Report
-        requires { IsAnswer self.code (point_at self).machine answer }
-        ensures { IsRunOf C.code C.input C.processors C.slots result.answer result.schedule }
-    {
-        let Board {
-            core,
-            efforts,
-            overlap,
-            ..
-        } = self;
-        let tally = core.tally();
-        // Their contracts say that this schedule leads to where the core is, and can be written.
-        let _ = core.schedule().entries();
-        let (_, schedule) = core.into_parts();
-        Report {
-            answer,
-            schedule,
-            tally,
-            efforts,
-            overlap,
-        }
-    }
-
-    /// What has come of a run that nobody gave up, or that can't go on.
-    ///
-    /// # Errors
-    ///
-    /// 59 where the run hasn't ended, and want of memory, with the output, where there is none for
-    /// the answer.
-    pub fn report(self) -> Result<Report, RunRefusal>
-        ensures ok { IfOk result (λ r.
-            IsRunOf C.code C.input C.processors C.slots r.answer r.schedule) }
-        ensures err { IfErr result (IsGivenUp C.code C.input C.processors C.slots) }
-    {
-        match self.core.answer() {
-            Ok(Some(answer)) => Ok(self.report_of(answer)),
-            Ok(None) => Err(RunRefusal::Refused { number: 59 }),
-            Err(_) => Err(self.out_of_memory()),
         }
     }
 }

@@ -2,20 +2,21 @@
 
 use crate::board::{Board, Next, Standing};
 use crate::call::Call;
+use crate::driven::Driven;
 use crate::work::Own;
 use std::sync::{Condvar, Mutex, Wait};
 
-/// A core under a lock, at which each processor takes its turns. One who finds nothing to do sleeps
+/// A run under a lock, at which each processor takes its turns. One who finds nothing to do sleeps
 /// there.
 #[derive(Drop)]
-pub struct Desk<'c, C: Call> {
-    board: Mutex<Board<'c, C>>,
+pub struct Desk<C: Call, D: Driven<C> + Drop> {
+    board: Mutex<Board<C, D>>,
     changed: Condvar,
 }
 
-impl<'c, C: Call> Desk<'c, C> {
+impl<C: Call, D: Driven<C> + Drop> Desk<C, D> {
     /// A desk at which nobody stands or sleeps yet.
-    pub fn new(board: Board<'c, C>) -> Desk<'c, C> {
+    pub fn new(board: Board<C, D>) -> Desk<C, D> {
         Desk {
             board: Mutex::new(board),
             changed: Condvar::new(),
@@ -25,7 +26,7 @@ impl<'c, C: Call> Desk<'c, C> {
     /// A turn of processor `q`, which hands in its local work. It sleeps until there is something
     /// to do. Who leaves the desk wakes another where that one could do something, and all when the
     /// run is over.
-    pub fn turn<R: Wait>(&self, rt: &R, q: usize, own: &mut Own<'c, C>) -> Next {
+    pub fn turn<R: Wait>(&self, rt: &R, q: usize, own: &mut Own<'_, C>) -> Next {
         let mut board = self.board.lock(rt);
         let mut next = board.turn(q, own);
         for _ in rt.forever() {
@@ -57,7 +58,7 @@ impl<'c, C: Call> Desk<'c, C> {
     }
 
     /// What lay under the lock.
-    pub fn into_board(self) -> Board<'c, C> {
+    pub fn into_board(self) -> Board<C, D> {
         let Desk { board, .. } = self;
         board.into_inner()
     }

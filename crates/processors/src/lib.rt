@@ -13,11 +13,13 @@
 mod board;
 mod call;
 mod desk;
+mod driven;
 mod gate;
 mod report;
 mod running;
+mod runs;
 mod work;
 
 pub use gate::{Gate, NoGate};
 pub use report::{Effort, Report, RunRefusal};
-pub use running::run;
+pub use running::{run, run_unrecorded};

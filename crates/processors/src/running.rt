@@ -5,27 +5,32 @@ ghost use Rattle.machine.specs.Code.{Code as PlainCode};
 ghost use Rattle.machine.specs.CodeView.{code_of};
 ghost use Rattle.machine.specs.State.{AreSizes};
 ghost use Rattle.processors.specs.Calls.{IsCoreOf, IsRunOf};
+ghost use Rattle.processors.specs.Reached.{IsAnswerOf, IsLeftAt, IsRunIn, IsUnanswered};
 ghost use Rattle.processors.specs.Refused.{IsGivenUp, IsRefused};
 
 use crate::board::{Board, Next, Standing};
 use crate::call::Call;
 use crate::desk::Desk;
+use crate::driven::Driven;
 use crate::gate::Gate;
 use crate::report::{Report, RunRefusal};
+use crate::runs::{Recorded, Unrecorded};
 use crate::work::{Coded, Own};
+use ast::Answer;
 use machine::Code;
 use replay::{Core, CoreRefusal};
-use std::alloc::Global;
+use std::alloc::{AllocError, Global};
 use std::marker::Brand;
 use std::sync::Wait;
 use std::thread;
 use std::thread::Threads;
+use unrecorded::Run;
 
 /// The turns of processor `q` until it leaves. What it does between two of them is `own`.
-fn take_turns<'c, C: Call, G: Gate, R: Wait>(
+fn take_turns<C: Call, D: Driven<C> + Drop, G: Gate, R: Wait>(
     rt: &R,
-    desk: &Desk<'c, C>,
-    own: &mut Own<'c, C>,
+    desk: &Desk<C, D>,
+    own: &mut Own<'_, C>,
     q: usize,
     gate: &G,
 ) {
@@ -47,10 +52,10 @@ fn take_turns<'c, C: Call, G: Gate, R: Wait>(
 }
 
 /// What processor `q` does. Where there is no memory for its work the run is given up.
-fn process<'c, C: Call, G: Gate, R: Wait>(
+fn process<C: Call, D: Driven<C> + Drop, G: Gate, R: Wait>(
     rt: &R,
-    desk: &Desk<'c, C>,
-    coded: &Coded<'c, C>,
+    desk: &Desk<C, D>,
+    coded: &Coded<'_, C>,
     q: usize,
     gate: &G,
 ) {
@@ -61,10 +66,10 @@ fn process<'c, C: Call, G: Gate, R: Wait>(
 }
 
 /// Starts a thread for each processor but the first, which the caller is, and joins all of them.
-fn run_all<'c, C: Call + Send + Sync, G: Gate + Sync, R: Threads + Wait + Sync>(
+fn run_all<C: Call + Send + Sync, D: Driven<C> + Drop + Send, G: Gate + Sync, R: Threads + Wait + Sync>(
     rt: &R,
-    desk: &Desk<'c, C>,
-    coded: &Coded<'c, C>,
+    desk: &Desk<C, D>,
+    coded: &Coded<'_, C>,
     processors: usize,
     gate: &G,
 ) {
@@ -82,35 +87,56 @@ fn run_all<'c, C: Call + Send + Sync, G: Gate + Sync, R: Threads + Wait + Sync>(
     });
 }
 
+/// A run is driven to its end by as many processors as it has, and is found on the board then.
+fn driven<C: Call + Send + Sync, D: Driven<C> + Drop + Send, G: Gate + Sync, R: Threads + Wait + Sync>(
+    rt: &R,
+    alloc: Global,
+    run: D,
+    code: &Code,
+    gate: &G,
+) -> Result<Board<C, D>, AllocError>
+    requires { code_of code.now ≡ C.code }
+{
+    let processors = run.processors();
+    let coded = Coded::<C>::new(alloc, code);
+    let desk = Desk::new(Board::<C, D>::new(alloc, run, gate.wants_calls())?);
+    run_all(rt, &desk, &coded, processors, gate);
+    Ok(desk.into_board())
+}
+
 /// There was no memory to begin with.
 fn nothing(alloc: Global) -> RunRefusal
-    ensures { (code : PlainCode) (input : List ℕ) (p s : ℕ) → AreSizes p s
+    ensures recorded { (code : PlainCode) (input : List ℕ) (p s : ℕ) → AreSizes p s
         → IsGivenUp code input p s result }
+    ensures unrecorded { (code : PlainCode) (input : List ℕ) (p s : ℕ) → AreSizes p s
+        → IsLeftAt code input p s result }
 {
     RunRefusal::Memory {
         output: Vec::new(alloc),
     }
 }
 
-/// What has come of a run when all threads have left.
-fn reported<'c, C: Call>(board: Board<'c, C>) -> Result<Report, RunRefusal>
+/// What has come of a recorded run when all threads have left.
+fn reported<'c, C: Call>(board: Board<C, Recorded<'c, C>>) -> Result<Report, RunRefusal>
     ensures ok { IfOk result (λ r.
         IsRunOf C.code C.input C.processors C.slots r.answer r.schedule) }
     ensures err { IfErr result (IsGivenUp C.code C.input C.processors C.slots) }
 {
-    match board.standing() {
-        Standing::Going | Standing::Stuck => board.report(),
-        Standing::NoMemory => Err(board.out_of_memory()),
+    let standing = board.standing();
+    let (run, efforts, overlap) = board.into_parts();
+    match standing {
+        Standing::Going | Standing::Stuck => run.report(efforts, overlap),
+        Standing::NoMemory => Err(run.out_of_memory()),
         Standing::NotStarted => Err(RunRefusal::Refused { number: 58 }),
     }
 }
 
-/// The run of a call.
+/// The recorded run of a call.
 fn run_call<'c, C: Call + Send + Sync, G: Gate + Sync, R: Threads + Wait + Sync>(
     rt: &R,
     alloc: Global,
     core: Core<'c>,
-    code: &'c Code,
+    code: &Code,
     gate: &G,
 ) -> Result<Report, RunRefusal>
     requires of { IsCoreOf C.code C.input C.processors C.slots core }
@@ -119,15 +145,10 @@ fn run_call<'c, C: Call + Send + Sync, G: Gate + Sync, R: Threads + Wait + Sync>
         IsRunOf C.code C.input C.processors C.slots r.answer r.schedule) }
     ensures err { IfErr result (IsGivenUp C.code C.input C.processors C.slots) }
 {
-    let processors = core.processors();
-    let coded = Coded::<C>::new(alloc, code);
-    let board = match Board::<C>::new(alloc, core) {
-        Ok(board) => board,
-        Err(_) => return Err(nothing(alloc)),
-    };
-    let desk = Desk::new(board);
-    run_all(rt, &desk, &coded, processors, gate);
-    reported(desk.into_board())
+    match driven::<C, Recorded<'c, C>, G, R>(rt, alloc, Recorded::new(core), code, gate) {
+        Ok(board) => reported(board),
+        Err(_) => Err(nothing(alloc)),
+    }
 }
 
 /// Runs code on an input by `p` processors, 1 to 64, each a thread of which the caller's is the
@@ -159,4 +180,63 @@ pub fn run<G: Gate + Sync, R: Threads + Wait + Sync>(
         Err(CoreRefusal::Memory) => return Err(nothing(alloc)),
     };
     run_call::<Brand, G, R>(rt, alloc, core, code, gate)
+}
+
+/// What has come of a run without a record when all threads have left.
+fn answered<'c, C: Call>(board: Board<C, Unrecorded<'c, C>>) -> Result<Answer, RunRefusal>
+    ensures ok { IfOk result (IsAnswerOf C.code C.input C.processors C.slots) }
+    ensures err { IfErr result (IsLeftAt C.code C.input C.processors C.slots) }
+{
+    let standing = board.standing();
+    let (run, _, _) = board.into_parts();
+    match standing {
+        Standing::Going | Standing::Stuck => run.answer(),
+        Standing::NoMemory => Err(run.out_of_memory()),
+        Standing::NotStarted => Err(RunRefusal::Refused { number: 58 }),
+    }
+}
+
+/// The run of a call without a record.
+fn answer_call<'c, C: Call + Send + Sync, G: Gate + Sync, R: Threads + Wait + Sync>(
+    rt: &R,
+    alloc: Global,
+    run: Run<'c>,
+    code: &Code,
+    gate: &G,
+) -> Result<Answer, RunRefusal>
+    requires of { IsRunIn C.code C.input C.processors C.slots run }
+    requires code { code_of code.now ≡ C.code }
+    ensures ok { IfOk result (IsAnswerOf C.code C.input C.processors C.slots) }
+    ensures err { IfErr result (IsLeftAt C.code C.input C.processors C.slots) }
+{
+    match driven::<C, Unrecorded<'c, C>, G, R>(rt, alloc, Unrecorded::new(run), code, gate) {
+        Ok(board) => answered(board),
+        Err(_) => Err(nothing(alloc)),
+    }
+}
+
+/// As `run`, but keeps no schedule: the memory that it takes doesn't grow with its steps, and steps
+/// are made in place. What it gives is the answer.
+///
+/// # Errors
+///
+/// Those of `run`.
+pub fn run_unrecorded<G: Gate + Sync, R: Threads + Wait + Sync>(
+    rt: &R,
+    alloc: Global,
+    code: &Code,
+    input: &[u8],
+    p: u64,
+    s: u64,
+    gate: &G,
+) -> Result<Answer, RunRefusal>
+    ensures ok { IfOk result (IsAnswerOf (code_of code.now) input.now p s) }
+    ensures err { IfErr result (IsUnanswered (code_of code.now) input.now p s) }
+{
+    let run = match Run::new(alloc, code, input, p, s) {
+        Ok(run) => run,
+        Err(CoreRefusal::Refused { number }) => return Err(RunRefusal::Refused { number }),
+        Err(CoreRefusal::Memory) => return Err(nothing(alloc)),
+    };
+    answer_call::<Brand, G, R>(rt, alloc, run, code, gate)
 }

@@ -13,6 +13,7 @@ mod upgrading;
 mod whole;
 
 pub use activities::{Activities, Choice, Holder};
+pub use answering::answer;
 pub use replaying::replay;
 pub use stepped::{CoreRefusal, HandIn, Stepped, Tally};
 pub use upgrading::upgrade;

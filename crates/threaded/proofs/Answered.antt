@@ -1,5 +1,5 @@
 -- What comes of a run of code is the sequential program's.
-use Rattle.std.proofs.Common.{◌≡◌, ◌∙◌, ℕ, ℤ, zero, suc, ◌+◌, Bool, true, false, List, [], ◌∷◌, ◌++◌, map, Option, Some, None, Vec, append-nil, inl, inr, ap, refl, subst, sym}
+use Rattle.std.proofs.Common.{◌≡◌, ◌∙◌, ◌⊎◌, ℕ, ℤ, zero, suc, ◌+◌, Bool, true, false, List, [], ◌∷◌, ◌++◌, map, Option, Some, None, Vec, append-nil, inl, inr, ap, refl, subst, sym}
 use Rattle.std.specs.Global.{Global}
 use Rattle.std.proofs.lemmas.Option.{same_Some}
 use Rattle.ast.specs.Meaning.{seq}
@@ -13,10 +13,12 @@ use Rattle.ast.specs.declared.fault.End.TheVariants.{Done, Stopped, Fault as Fau
 use Rattle.codegen.specs.Headline.{Headline, IsBeginning}
 use Rattle.codegen.specs.Program.{IsCompiled}
 use Rattle.machine.specs.Code.{Code}
-use Rattle.machine.specs.State.{Ended, Machine}
+use Rattle.machine.specs.State.{AreSizes, Ended, Machine}
 use Rattle.machine.specs.declared.code.Variable.{Variable}
 use Rattle.processors.specs.Calls.{IsOutputOf, IsRunOf}
+use Rattle.processors.specs.Reached.{IsAnswerOf, IsUnanswered}
 use Rattle.processors.specs.Refused.{IsRefused}
+use Rattle.processors.specs.declared.report.RunRefusal.{RunRefusal}
 use Rattle.processors.specs.declared.report.RunRefusal.TheVariants as runs
 use Rattle.replay.proofs.Running.{is_run}
 use Rattle.replay.specs.Replayed.{IsAnswer, stored}
@@ -28,9 +30,10 @@ use Rattle.pages.specs.declared.outcomes.Outcome.{Outcome}
 use Rattle.pages.proofs.StoreRows.{rows_whole}
 use Rattle.engines.specs.Engines.{ShowsRun}
 use Rattle.engines.specs.declared.given.Wants.{Wants}
-use Rattle.threaded.specs.Running.{ComesOf, IsScheduleOf, Shows, WhereWanted}
+use Rattle.threaded.specs.Running.{ComesOf, IsNumbered, IsRefusal, IsScheduleOf, IsWhole, Shows, ShowsAnswer, WhereWanted}
 use Rattle.threaded.specs.declared.ran.Ran.{Ran}
 use Rattle.threaded.specs.declared.ran.Ran.TheVariants.{Refused, Whole as Came, Memory, OutOfRange, NotStarted, Stuck}
+use Rattle.threaded.specs.declared.ran.Whole.{Whole}
 
 -- ---- the state at the end
 
@@ -42,7 +45,7 @@ ended_so tree code input p s answer x headline r =
     agrees.answer answer.end r.replay.is.end
 
 -- the output of a state is a beginning of what the sequential program prints
-pub begins : (tree : ProgramTree) (code : Code) (input : List ℕ) (p s : ℕ) (output : List ℕ) → Headline code tree → IsOutputOf code input p s output → IsBeginning output (seq tree input).output
+begins : (tree : ProgramTree) (code : Code) (input : List ℕ) (p s : ℕ) (output : List ℕ) → Headline code tree → IsOutputOf code input p s output → IsBeginning output (seq tree input).output
 begins tree code input p s output headline o =
     let run = is_run code input o.schedule o.point o.kept o.replays in
     let agrees = headline input o.schedule.processors o.schedule.slots run.0 o.point.machine o.kept.0 run.1 in
@@ -110,28 +113,87 @@ where_wanted false None P Q f h = h
 
 -- ---- what comes of the run
 
+-- what of an answer's page is shown, and the schedule that is kept
+came : (tree : ProgramTree) (code : Code) (input : List ℕ) (w : Wants) (m : Machine) (answer : Answer) (whole : Whole) → IsCompiled tree code → AreSizes w.processors w.slots
+    → Ended m (seq tree input).output (seq tree input).end (seq tree input).store → IsAnswer code m answer → whole.page.outcome ≡ outcome_of answer.end
+    → Extends (EndShown w.store (rows_from (cells answer.store) 0 tree.symbols) answer.end) answer.output.items whole.page.text.items
+    → WhereWanted w.schedule whole.schedule (IsScheduleOf tree code input w.processors w.slots) → IsWhole tree code input w whole
+came tree code input w m answer whole compiled sizes ended is out more kept = record {
+  sizes = sizes;
+  shown = shown_so w.store tree code input m answer whole.page.outcome whole.page.text.items compiled ended is out more;
+  schedule = kept;
+}
+
+-- the output of an answer is the whole that the sequential program prints
+all_printed : (tree : ProgramTree) (code : Code) (input : List ℕ) (m : Machine) (answer : Answer) (output : List ℕ) → Ended m (seq tree input).output (seq tree input).end (seq tree input).store → IsAnswer code m answer → output ≡ answer.output.items
+    → IsBeginning output (seq tree input).output
+all_printed tree code input m answer output ended is h = ([], sym ended.printed ∙ sym is.output ∙ sym h ∙ sym (append-nil output))
+
 pub comes_to : (tree : ProgramTree) (code : Code) (input : List ℕ) (w : Wants) (answer : Answer) (x : Schedule) (ran : Ran) → IsCompiled tree code → Headline code tree
     → IsRunOf code input w.processors w.slots answer x → Shows w tree.symbols answer x ran → ComesOf tree code input w ran
 comes_to tree code input w answer x (Came whole) compiled headline r h =
     let ended = ended_so tree code input w.processors w.slots answer x headline r in
-    record {
-      sizes = r.sizes;
-      shown = shown_so w.store tree code input r.replay.point.machine answer whole.page.outcome whole.page.text.items compiled ended r.replay.is h.0 h.1;
-      schedule = where_wanted w.schedule whole.schedule (SchedText x) (IsScheduleOf tree code input w.processors w.slots)
-          (λ xs spelled. record { schedule = x; spelled = spelled; processors = r.processors; slots = r.slots; point = r.replay.point; replays = r.replay.replays; ended = ended })
-          h.2;
-    }
+    came tree code input w r.replay.point.machine answer whole compiled r.sizes ended r.replay.is h.0 h.1
+    (where_wanted w.schedule whole.schedule (SchedText x) (IsScheduleOf tree code input w.processors w.slots)
+    (λ xs spelled. record { schedule = x; spelled = spelled; processors = r.processors; slots = r.slots; point = r.replay.point; replays = r.replay.replays; ended = ended })
+    h.2)
 comes_to tree code input w answer x (Memory output) compiled headline r h =
-    let ended = ended_so tree code input w.processors w.slots answer x headline r in
-    let all : (seq tree input).output ≡ output.items ++ [] = sym ended.printed ∙ sym r.replay.is.output ∙ sym h ∙ sym (append-nil output.items) in
-    ([], all)
+    all_printed tree code input r.replay.point.machine answer output.items (ended_so tree code input w.processors w.slots answer x headline r) r.replay.is h
 comes_to tree code input w answer x (Refused page) compiled headline r h = absurd h
 comes_to tree code input w answer x OutOfRange compiled headline r h = absurd h
 comes_to tree code input w answer x NotStarted compiled headline r h = absurd h
 comes_to tree code input w answer x Stuck compiled headline r h = absurd h
 
--- ---- why there is no report
+-- ---- the same where no schedule is kept
 
-pub gone_out : (tree : ProgramTree) (code : Code) (input : List ℕ) (p s : ℕ) (output : Vec ℕ Global) → Headline code tree → IsRefused code input p s (runs.Memory output) → IsBeginning output.items (seq tree input).output
-gone_out tree code input p s output headline (inl h) = absurd h
-gone_out tree code input p s output headline (inr h) = begins tree code input p s output.items headline h.1
+ended_at : (tree : ProgramTree) (code : Code) (input : List ℕ) (p s : ℕ) (answer : Answer) → Headline code tree → (r : IsAnswerOf code input p s answer) → Ended r.machine (seq tree input).output (seq tree input).end (seq tree input).store
+ended_at tree code input p s answer headline r = (headline input p s r.reached.turns r.machine r.sizes r.reached.run).answer answer.end r.holds.end
+
+unwanted : (wanted : Bool) (text : Option (Vec ℕ Global)) (P : List ℕ → Type 0) → wanted ≡ false → text ≡ None → WhereWanted wanted text P
+unwanted false None P e f = tt
+unwanted false (Some text) P e f = absurd cc
+unwanted true text P e f = absurd cc
+
+pub comes_unrecorded : (tree : ProgramTree) (code : Code) (input : List ℕ) (w : Wants) (answer : Answer) (ran : Ran) → IsCompiled tree code → Headline code tree → w.schedule ≡ false
+    → IsAnswerOf code input w.processors w.slots answer → ShowsAnswer w.store tree.symbols answer ran → ComesOf tree code input w ran
+comes_unrecorded tree code input w answer (Came whole) compiled headline e r h =
+    came tree code input w r.machine answer whole compiled r.sizes (ended_at tree code input w.processors w.slots answer headline r) r.holds h.0 h.1
+    (unwanted w.schedule whole.schedule (IsScheduleOf tree code input w.processors w.slots) e h.2)
+comes_unrecorded tree code input w answer (Memory output) compiled headline e r h =
+    all_printed tree code input r.machine answer output.items (ended_at tree code input w.processors w.slots answer headline r) r.holds h
+comes_unrecorded tree code input w answer (Refused page) compiled headline e r h = absurd h
+comes_unrecorded tree code input w answer OutOfRange compiled headline e r h = absurd h
+comes_unrecorded tree code input w answer NotStarted compiled headline e r h = absurd h
+comes_unrecorded tree code input w answer Stuck compiled headline e r h = absurd h
+
+-- ---- why there is no answer
+
+-- a number that isn't 57 is of a run that was begun, and 57 of numbers that are out of range
+numbered : (tree : ProgramTree) (code : Code) (input : List ℕ) (w : Wants) (number : ℕ) (ran : Ran) → IsNumbered number ran
+    → ((number ≡ 57) × (AreSizes w.processors w.slots → ⊥)) ⊎ (AreSizes w.processors w.slots × ((number ≡ 58) ⊎ (number ≡ 59))) → ComesOf tree code input w ran
+numbered tree code input w number OutOfRange e (inl h) = h.1
+numbered tree code input w number OutOfRange e (inr (sizes, inl h)) = absurd cc
+numbered tree code input w number OutOfRange e (inr (sizes, inr h)) = absurd cc
+numbered tree code input w number NotStarted e (inl h) = absurd cc
+numbered tree code input w number NotStarted e (inr h) = h.0
+numbered tree code input w number Stuck e (inl h) = absurd (e.0 h.0)
+numbered tree code input w number Stuck e (inr h) = h.0
+numbered tree code input w number (Refused page) e h = absurd e
+numbered tree code input w number (Came whole) e h = absurd e
+numbered tree code input w number (Memory output) e h = absurd e
+
+-- what is shown of a refusal, where its output is a beginning
+refused_so : (tree : ProgramTree) (code : Code) (input : List ℕ) (w : Wants) (output : Vec ℕ Global) (ran : Ran) → IsBeginning output.items (seq tree input).output → ran ≡ Memory output → ComesOf tree code input w ran
+refused_so tree code input w output ran h e = subst (λ (r : Ran). ComesOf tree code input w r) (sym e) h
+
+pub refused_recorded : (tree : ProgramTree) (code : Code) (input : List ℕ) (w : Wants) (why : RunRefusal) (ran : Ran) → Headline code tree → IsRefused code input w.processors w.slots why → IsRefusal why ran → ComesOf tree code input w ran
+refused_recorded tree code input w (runs.Memory output) ran headline (inl h) e = absurd h
+refused_recorded tree code input w (runs.Memory output) ran headline (inr h) e = refused_so tree code input w output ran (begins tree code input w.processors w.slots output.items headline h.1) e
+refused_recorded tree code input w (runs.Refused number) ran headline h e = numbered tree code input w number ran e h
+
+pub refused_unrecorded : (tree : ProgramTree) (code : Code) (input : List ℕ) (w : Wants) (why : RunRefusal) (ran : Ran) → Headline code tree → IsUnanswered code input w.processors w.slots why → IsRefusal why ran → ComesOf tree code input w ran
+refused_unrecorded tree code input w (runs.Memory output) ran headline (inl h) e = absurd h
+refused_unrecorded tree code input w (runs.Memory output) ran headline (inr h) e =
+    let agrees = headline input w.processors w.slots h.1.reached.turns h.1.machine h.1.sizes h.1.reached.run in
+    refused_so tree code input w output ran (subst (λ (xs : List ℕ). IsBeginning xs (seq tree input).output) (sym h.1.holds) agrees.beginning) e
+refused_unrecorded tree code input w (runs.Refused number) ran headline h e = numbered tree code input w number ran e h

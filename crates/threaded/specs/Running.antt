@@ -12,6 +12,8 @@ use Rattle.machine.specs.Code.{Code}
 use Rattle.machine.specs.State.{AreSizes, Ended}
 use Rattle.activities.specs.Points.{Point}
 use Rattle.replay.specs.Replays.{Replays}
+use Rattle.processors.specs.declared.report.RunRefusal.{RunRefusal}
+use Rattle.processors.specs.declared.report.RunRefusal.TheVariants as runs
 use Rattle.schedules.specs.Schedules.{SchedText, Schedule}
 use Rattle.handing.specs.Handing.{AppendsPart}
 use Rattle.pages.specs.Outcomes.{outcome_of, status_of}
@@ -66,6 +68,27 @@ Shows w symbols answer x (Memory output) = output.items ≡ answer.output.items
 Shows w symbols answer x OutOfRange = ⊥
 Shows w symbols answer x NotStarted = ⊥
 Shows w symbols answer x Stuck = ⊥
+
+-- What is shown of an answer where no schedule is wanted; where there is no memory for that, the
+-- records alone.
+abbrev pub ShowsAnswer : (store : Bool) → List Symbol → Answer → Ran → Type 0
+ShowsAnswer store symbols answer (Came whole) =
+    (whole.page.outcome ≡ outcome_of answer.end)
+    × Extends (EndShown store (rows_from (cells answer.store) 0 symbols) answer.end) answer.output.items whole.page.text.items
+    × (whole.schedule ≡ None)
+ShowsAnswer store symbols answer (Memory output) = output.items ≡ answer.output.items
+ShowsAnswer store symbols answer _ = ⊥
+
+-- the ending of a run that gives no answer: 57, 58 or any other number; or want of memory
+abbrev pub IsNumbered : ℕ → Ran → Type 0
+IsNumbered number OutOfRange = number ≡ 57
+IsNumbered number NotStarted = number ≡ 58
+IsNumbered number Stuck = (number ≡ 57 → ⊥) × (number ≡ 58 → ⊥)
+IsNumbered number _ = ⊥
+
+abbrev pub IsRefusal : RunRefusal → Ran → Type 0
+IsRefusal (runs.Memory output) ran = ran ≡ Memory output
+IsRefusal (runs.Refused number) ran = IsNumbered number ran
 
 -- a refusal is shown; or nothing, where there is no memory for that
 abbrev pub ShowsRefusal : (number line : ℕ) → Ran → Type 0

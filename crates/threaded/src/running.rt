@@ -1,6 +1,6 @@
 //! Runs in threads, and what comes of them.
 
-ghost use Rattle.std.specs.Prelude.{◌≡◌, ◌++◌, ℕ, List, IfOk, IfErr, length, map};
+ghost use Rattle.std.specs.Prelude.{◌≡◌, ◌++◌, ℕ, List, IfOk, IfErr, false, length, map};
 ghost use Rattle.ast.specs.ProgramView.{program as program_of};
 ghost use Rattle.ast.specs.View.{cells, symbol as symbol_of};
 ghost use Rattle.codegen.specs.Headline.{Headline};
@@ -8,15 +8,16 @@ ghost use Rattle.codegen.specs.Program.{IsCompiled};
 ghost use Rattle.machine.specs.CodeView.{code_of};
 ghost use Rattle.profile_check.specs.Reads.{Reads};
 ghost use Rattle.schedules.specs.Schedules.{SchedText};
+ghost use Rattle.pages.specs.Outcomes.{outcome_of};
 ghost use Rattle.pages.specs.Shown.{EndShown};
 ghost use Rattle.pages.specs.View.{rows_from};
 ghost use Rattle.engines.specs.Engines.{LeavesReaders};
-ghost use Rattle.threaded.specs.Running.{ComesOf, RunEnds, RunFails, Running, Shows};
-ghost use Rattle.threaded.specs.Running.{ShowsRefusal, WhereWanted};
+ghost use Rattle.threaded.specs.Running.{ComesOf, IsRefusal, RunEnds, RunFails, Running, Shows};
+ghost use Rattle.threaded.specs.Running.{ShowsAnswer, ShowsRefusal, WhereWanted};
 
 use crate::figures::Figures;
 use crate::ran::{Ran, Whole};
-use ast::{Answer, Line, Program};
+use ast::{Answer, End, Line, Program};
 use codegen::{CompileRefusal, compile};
 use engines::{Verdict, Wants, judged, read_given};
 use machine::Code;
@@ -87,14 +88,19 @@ fn beside_records(
     Ok(Beside { last, schedule })
 }
 
-/// Records, and behind them what follows; the records alone where there is no memory for that.
-fn joined(output: Vec<u8>, last: &[u8]) -> Result<Vec<u8>, Vec<u8>>
-    ensures ok { IfOk result (λ text. text.items ≡ output.items ++ last.now) }
+/// The page of a run that ended so: its records, and behind them what follows; the records alone
+/// where there is no memory for that.
+fn paged(output: Vec<u8>, last: &[u8], end: End) -> Result<Page, Vec<u8>>
+    ensures text { IfOk result (λ page. page.text.items ≡ output.items ++ last.now) }
+    ensures outcome { IfOk result (λ page. page.outcome ≡ outcome_of end) }
     ensures err { IfErr result (λ text. text.items ≡ output.items) }
 {
     let mut text = output;
     match text.extend_from_slice(last) {
-        Ok(()) => Ok(text),
+        Ok(()) => Ok(Page {
+            text,
+            outcome: outcome(end),
+        }),
         Err(_) => Err(text),
     }
 }
@@ -140,12 +146,9 @@ fn ended(alloc: Global, program: &Program, report: Report, wants: Wants, alone: 
     let Ok(Beside { last, schedule }) = beside else {
         return Ran::Memory(output);
     };
-    match joined(output, &last) {
-        Ok(text) => Ran::Whole(Whole {
-            page: Page {
-                text,
-                outcome: outcome(end),
-            },
+    match paged(output, &last, end) {
+        Ok(page) => Ran::Whole(Whole {
+            page,
             schedule,
             figures: wants.tally.then_some(Figures {
                 efforts,
@@ -158,8 +161,40 @@ fn ended(alloc: Global, program: &Program, report: Report, wants: Wants, alone: 
     }
 }
 
-/// What comes of a run of code.
-fn run_code<R: Threads + Wait + Sync>(
+/// What came of a run that has ended with this answer, and of which no schedule was kept.
+fn answered(alloc: Global, program: &Program, answer: Answer, store: bool) -> Ran
+    requires { length (cells answer.store) ≡ length program.now.symbols.items }
+    ensures { ShowsAnswer store (map symbol_of program.now.symbols.items) answer result }
+{
+    let last = last_lines(alloc, program, &answer, store);
+    let Answer { output, end, .. } = answer;
+    let Ok(last) = last else {
+        return Ran::Memory(output);
+    };
+    match paged(output, &last, end) {
+        Ok(page) => Ran::Whole(Whole {
+            page,
+            schedule: None,
+            figures: None,
+        }),
+        Err(output) => Ran::Memory(output),
+    }
+}
+
+/// What comes of a run that gives no answer.
+fn unanswered(refusal: RunRefusal) -> Ran
+    ensures { IsRefusal refusal result }
+{
+    match refusal {
+        RunRefusal::Memory { output } => Ran::Memory(output),
+        RunRefusal::Refused { number: 57 } => Ran::OutOfRange,
+        RunRefusal::Refused { number: 58 } => Ran::NotStarted,
+        RunRefusal::Refused { .. } => Ran::Stuck,
+    }
+}
+
+/// What comes of a run of code of which a schedule is kept.
+fn run_recorded<R: Threads + Wait + Sync>(
     rt: &R,
     alloc: Global,
     program: &Program,
@@ -184,10 +219,55 @@ fn run_code<R: Threads + Wait + Sync>(
             let alone = alone(rt, alloc, code, input, wants.tally);
             ended(alloc, program, report, wants, alone)
         }
-        Err(RunRefusal::Memory { output }) => Ran::Memory(output),
-        Err(RunRefusal::Refused { number: 57 }) => Ran::OutOfRange,
-        Err(RunRefusal::Refused { number: 58 }) => Ran::NotStarted,
-        Err(RunRefusal::Refused { .. }) => Ran::Stuck,
+        Err(refusal) => unanswered(refusal),
+    }
+}
+
+/// What comes of a run of code of which no schedule is wanted.
+fn run_unrecorded<R: Threads + Wait + Sync>(
+    rt: &R,
+    alloc: Global,
+    program: &Program,
+    code: &Code,
+    input: &[u8],
+    wants: Wants,
+) -> Ran
+    requires headline { Headline (code_of code.now) (program_of program.now) }
+    requires compiled { IsCompiled (program_of program.now) (code_of code.now) }
+    requires unwanted { wants.schedule ≡ false }
+    ensures { ComesOf (program_of program.now) (code_of code.now) input.now wants result }
+{
+    match processors::run_unrecorded(
+        rt,
+        alloc,
+        code,
+        input,
+        wants.processors,
+        wants.slots,
+        &NoGate,
+    ) {
+        Ok(answer) => answered(alloc, program, answer, wants.store),
+        Err(refusal) => unanswered(refusal),
+    }
+}
+
+/// What comes of a run of code. Its schedule is kept where it is wanted, or its figures are.
+fn run_code<R: Threads + Wait + Sync>(
+    rt: &R,
+    alloc: Global,
+    program: &Program,
+    code: &Code,
+    input: &[u8],
+    wants: Wants,
+) -> Ran
+    requires headline { Headline (code_of code.now) (program_of program.now) }
+    requires compiled { IsCompiled (program_of program.now) (code_of code.now) }
+    ensures { ComesOf (program_of program.now) (code_of code.now) input.now wants result }
+{
+    if wants.schedule || wants.tally {
+        run_recorded(rt, alloc, program, code, input, wants)
+    } else {
+        run_unrecorded(rt, alloc, program, code, input, wants)
     }
 }
 

@@ -8,4 +8,4 @@ use Rattle.processors.proofs.running.run.Goals as goal
 pub returns-in-Err-Memory-clause-err : goal.returns-in-Err-Memory-clause-err
 returns-in-Err-Memory-clause-err g c =
     let sizes : AreSizes c.args.p c.args.s = subst (λ (f : CoreRefusal). NoCore c.args.p c.args.s f) c.in-Err-Memory.field-0-is c.in-Err-Memory.ensures.refused in
-    inr (sizes, c.nothing.ensures (code_of c.args.code.now) c.args.input.now c.args.p c.args.s sizes)
+    inr (sizes, c.nothing.ensures.recorded (code_of c.args.code.now) c.args.input.now c.args.p c.args.s sizes)

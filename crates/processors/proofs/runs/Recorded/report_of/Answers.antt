@@ -3,7 +3,7 @@ use Rattle.replay.specs.CoreView.{CoreView, point_at}
 use Rattle.replay.specs.Replayed.{IsAnswer}
 use Rattle.schedules.specs.Schedules.{IsSchedule}
 use Rattle.processors.proofs.Keeping.{run_of}
-use Rattle.processors.proofs.board.Board.report_of.Goals as goal
+use Rattle.processors.proofs.runs.Recorded.report_of.Goals as goal
 
 pub returns : goal.returns
 returns g c =

@@ -1,7 +1,7 @@
 use Rattle.std.proofs.Common.{subst}
 use Rattle.schedules.specs.Schedules.{IsSchedule}
 use Rattle.processors.proofs.Keeping.{output_of}
-use Rattle.processors.proofs.board.Board.out_of_memory.Goals as goal
+use Rattle.processors.proofs.runs.Recorded.out_of_memory.Goals as goal
 
 pub returns : goal.returns
 returns g c =
