@@ -12,6 +12,15 @@ Example:
   doac check examples/sieve.f";
 
 pub const LIST: &str = "\
+What a line says of a loop:
+  DOACROSS EVENTS 0  no iteration waits for another; others call this DOALL
+  DOACROSS EVENTS n  iterations overlap, and wait for n places of earlier ones.
+                     AWAIT e d BEFORE LINE l: for event e of the iteration d back.
+                     ADVANCE e AFTER LINE l: there event e is told. Where d is 1
+                     and all work stands between the two, the loop is a chain:
+                     its iterations go one after another
+  SERIAL n           iterations go one after another, for the reason n
+
 Status:
   0  each loop is listed
   1  the source is refused
@@ -34,6 +43,11 @@ Example:
   doac code examples/recurrence.f";
 
 pub const SEQ: &str = "\
+The records of PRINT go to standard output, and behind them a line FAULT .. or
+STOPPED .. where the run comes to a fault or a STOP. Each record begins with a
+blank, such a line doesn't. A script tells a fault by the status. Where F and
+INPUT are both -, the source takes all of standard input, and the input is empty.
+
 Status:
   0  the run came to END or to a STOP
   1  the source is refused
@@ -56,6 +70,8 @@ Status:
 
 At a fault of a subscript or of the input the source is then run once more, as
 by seq, to say which subscript or which record it is.
+
+With --schedule the run keeps its schedule in memory until it has ended.
 
 Example:
   doac run examples/overlap.f -p 4 -s 8 --schedule overlap.schedule";

@@ -29,10 +29,10 @@ pub enum LineFault {
     NoCommand,
     /// They ask to explain a number that is no refusal's and no fault's, or, of a serial loop, no
     /// reason's.
-    #[error("error: nothing has this number; behind serial stands one from 1 to 6\n\nUsage: doac explain [N]\n       doac explain serial <REASON>\n\nFor more information, try '--help'.\n")]
+    #[error("error: nothing has this number; there are 1 to 8, 20 to 27, 30 to 43, 51 to 59 and 61, and behind serial 1 to 6\n\nUsage: doac explain [N]\n       doac explain serial <REASON>\n\nFor more information, try '--help'.\n")]
     NoSuchNumber,
     /// They name no whole number of 64 bits where one is wanted.
-    #[error("error: -p and -s take a whole number that 64 bits hold\n\nUsage: doac run [-p <N>] [-s <N>] <F> [INPUT]\n\nFor more information, try '--help'.\n")]
+    #[error("error: -p takes 1 to 64, -s 1 to 256\n\nUsage: doac run [-p <N>] [-s <N>] <F> [INPUT]\n\nFor more information, try '--help'.\n")]
     NoSize,
     /// They ask for a picture by no whole number of 64 bits, or of no 1 to 64 iterations.
     #[error("error: --loop takes a whole number, and --iterations one from 1 to 64\n\nUsage: doac draw [--loop <N>] [--iterations <K>] <F> <OUT>\n\nFor more information, try '--help'.\n")]

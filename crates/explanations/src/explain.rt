@@ -77,7 +77,7 @@ impl<'a> Display for Heading<'a> {
             ..
         } = self.explanation;
         match origin {
-            Origin::Refusal => write!(f, "REFUSED {number}: {sentence}"),
+            Origin::Refusal => write!(f, "{} {number}: {sentence}", word_of(*number)),
             Origin::Schedule => write!(f, "SCHEDULE {number}: {sentence}"),
             Origin::Fault(fault) => {
                 write!(
@@ -87,6 +87,16 @@ impl<'a> Display for Heading<'a> {
                 )
             }
         }
+    }
+}
+
+/// What stands before the number of a refusal: 57 to 59 are of a run in threads, whatever its
+/// source.
+fn word_of(number: u8) -> &'static str {
+    if is_within(57, 59, number) {
+        "RUN"
+    } else {
+        "REFUSED"
     }
 }
 
@@ -105,7 +115,7 @@ pub fn is_explained(number: u8) -> bool
     is_within(1, 8, number)
         || is_within(20, 27, number)
         || is_within(30, 43, number)
-        || is_within(51, 56, number)
+        || is_within(51, 59, number)
         || is_within(61, 61, number)
 }
 

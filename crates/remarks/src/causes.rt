@@ -3,6 +3,7 @@
 mod declared;
 mod kinds;
 mod limits;
+mod near;
 
 use crate::mentions::{Mention, mentions};
 use crate::squeezed::Squeezed;
@@ -11,22 +12,42 @@ use ast::{Intrinsic, Label, Line, Name};
 use declared::Declared;
 use kinds::wrong_kind;
 use limits::limit;
+use near::meant_by;
 use std::alloc::{AllocError, Global};
 use std::fmt::{Display, Formatter, Result as FmtResult, Write};
 
 /// What a refusal is of.
 #[derive(Clone, Copy)]
 pub enum Cause {
-    /// A name that isn't an integer.
-    Real(Mention),
+    /// A name that isn't an integer, and one that may be meant.
+    Real {
+        mention: Mention,
+        meant: Option<Name>,
+    },
+    /// A line that continues another, and may have been meant to begin with a label.
+    LateLabel(Line),
+    /// The line behind which a declaration or a PROGRAM comes too late.
+    Early(Line),
     /// A name with subscripts or arguments in another number than it has.
-    Misfit { mention: Mention, rank: usize },
+    Misfit {
+        mention: Mention,
+        rank: usize,
+    },
     /// The variable of an open DO.
-    Active { mention: Mention, line: Line },
+    Active {
+        mention: Mention,
+        line: Line,
+    },
     /// A label that stands in a line before.
-    Label { label: Label, line: Line },
+    Label {
+        label: Label,
+        line: Line,
+    },
     /// A DO that is open.
-    Loop { label: Label, line: Line },
+    Loop {
+        label: Label,
+        line: Line,
+    },
     /// The DO that a statement ends which can't end one.
     Terminal(Line),
     /// An IF that is open.
@@ -36,7 +57,10 @@ pub enum Cause {
     /// No IF that is open.
     NoBlock,
     /// A name that a statement before declares otherwise.
-    Declared { mention: Mention, line: Line },
+    Declared {
+        mention: Mention,
+        line: Line,
+    },
     /// A name that its own statement declares otherwise.
     Repeated(Mention),
     /// A function's name that is used otherwise.
@@ -44,7 +68,10 @@ pub enum Cause {
     /// The program's name that is used otherwise.
     Program(Mention),
     /// A constant that is given a value.
-    Constant { mention: Mention, line: Line },
+    Constant {
+        mention: Mention,
+        line: Line,
+    },
     /// A name that has no value in a constant expression.
     Unknown(Mention),
     /// A constant expression that has no value.
@@ -99,7 +126,7 @@ pub fn cause_of(
     number: u8,
     line: Line,
 ) -> Result<Option<Cause>, AllocError> {
-    if !matches!(number, 31..=38 | 40..=43) {
+    if !matches!(number, 20..=27 | 30..=38 | 40..=43) {
         return Ok(None);
     }
     let statements = Squeezed::all(alloc, source)?;
@@ -116,11 +143,15 @@ fn cause_in(
     statements: &[Squeezed],
     statement: &Squeezed,
 ) -> Result<Option<Cause>, AllocError> {
+    if number <= 27 {
+        return Ok(statement.late_label.map(Cause::LateLabel));
+    }
     if matches!(number, 37 | 38 | 43) {
         return cause_in_action(alloc, number, statements, statement);
     }
     let names = mentions(alloc, statement)?;
     match number {
+        30 => Ok(early(statements, statement.line)),
         31 => real(alloc, statements, &names),
         32 | 42 => by_declarations(alloc, number, statements, statement, &names),
         _ => by_place(alloc, number, statements, statement, &names),
@@ -180,6 +211,15 @@ fn by_place(
     })
 }
 
+/// The first executable statement before a line, or else the first statement of all.
+fn early(statements: &[Squeezed], line: Line) -> Option<Cause> {
+    let first = statements
+        .iter()
+        .find(|statement| statement.line < line && statement.is_executable())
+        .or(statements.first())?;
+    Some(Cause::Early(first.line))
+}
+
 /// The first name that isn't an integer.
 fn real(
     alloc: Global,
@@ -191,7 +231,10 @@ fn real(
         let is_call = mention.count > 0 && arguments_of(mention.name).is_some();
         let is_integer = matches!(mention.name.letters[0], b'I'..=b'N');
         if !is_call && !is_integer && !typed.contains(&mention.name) {
-            return Ok(Some(Cause::Real(*mention)));
+            return Ok(Some(Cause::Real {
+                mention: *mention,
+                meant: meant_by(mention.name, &typed),
+            }));
         }
     }
     Ok(None)
@@ -457,6 +500,9 @@ impl Display for Cause {
             Cause::Block(line) => write!(f, "the IF in line {line} is open"),
             Cause::Closed(line) => write!(f, "the IF in line {line} has its ELSE already"),
             Cause::Limit(limit) => f.write_str(limit),
+            Cause::Real { mention, meant } => write_real(f, mention, *meant),
+            Cause::LateLabel(line) => write_late(f, *line),
+            Cause::Early(line) => write_early(f, *line),
             _ => match self.named() {
                 Some((mention, text)) => write_of(f, &mention, text),
                 None => f.write_str(self.unnamed()),
@@ -483,7 +529,8 @@ impl Cause {
             Cause::Misfit { mention, .. }
             | Cause::Active { mention, .. }
             | Cause::Declared { mention, .. }
-            | Cause::Constant { mention, .. } => Some(*mention),
+            | Cause::Constant { mention, .. }
+            | Cause::Real { mention, .. } => Some(*mention),
             _ => {
                 let (mention, _) = self.named()?;
                 Some(mention)
@@ -494,10 +541,6 @@ impl Cause {
     /// The name that it is of, where nothing else is told, and what is told of that.
     fn named(&self) -> Option<(Mention, &'static str)> {
         match self {
-            Cause::Real(name) => Some((
-                *name,
-                " doesn't begin with I to N, and no INTEGER statement names it",
-            )),
             Cause::Repeated(name) => Some((*name, " is declared twice here")),
             Cause::Function(name) => Some((*name, " is a function of the language")),
             Cause::Program(name) => Some((*name, " is the program's name")),
@@ -524,6 +567,30 @@ impl Cause {
 fn write_of<W: Write>(f: &mut Formatter<W>, mention: &Mention, text: &str) -> FmtResult {
     write!(f, "{}", Visible::new(mention.name.trimmed()))?;
     f.write_str(text)
+}
+
+fn write_real<W: Write>(f: &mut Formatter<W>, mention: &Mention, meant: Option<Name>) -> FmtResult {
+    let text = " doesn't begin with I to N, and no INTEGER statement names it";
+    write_of(f, mention, text)?;
+    match meant {
+        Some(name) => write!(f, "; is {} meant?", Visible::new(name.trimmed())),
+        None => Ok(()),
+    }
+}
+
+fn write_late<W: Write>(f: &mut Formatter<W>, line: Line) -> FmtResult {
+    write!(
+        f,
+        "line {line} has a sign in column 6, so it goes on with the line above; \
+a label is in columns 1 to 5"
+    )
+}
+
+fn write_early<W: Write>(f: &mut Formatter<W>, line: Line) -> FmtResult {
+    write!(
+        f,
+        "behind line {line} it is too late; PROGRAM comes first, then declarations"
+    )
 }
 
 fn write_label<W: Write>(f: &mut Formatter<W>, label: Label, line: Line) -> FmtResult {

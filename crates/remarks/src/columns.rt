@@ -13,9 +13,15 @@ pub fn unread(line: &[u8]) -> &[u8] {
 }
 
 /// Whether past the last column something stands that may be of a statement: neither blanks nor
-/// digits alone, nor what names a card.
+/// digits alone, nor what names a card; or the rest of a number.
 pub fn is_cut(line: &[u8]) -> bool {
-    is_told(unread(line)) && !names_card(unread(line))
+    splits_number(line) || is_told(unread(line)) && !names_card(unread(line))
+}
+
+/// Whether a digit stands in the last column that is read, and one behind it.
+fn splits_number(line: &[u8]) -> bool {
+    line.get(LAST_COLUMN - 1).is_some_and(u8::is_ascii_digit)
+        && unread(line).first().is_some_and(u8::is_ascii_digit)
 }
 
 /// Whether a text has more than blanks and digits.
@@ -58,6 +64,19 @@ pub fn is_blank(line: &[u8]) -> bool {
 /// Whether a line that is no comment goes on with the statement above it.
 pub fn is_continuation(line: &[u8]) -> bool {
     !matches!(line.get(LAST_LABEL_COLUMN), None | Some(b' ' | b'0'))
+}
+
+/// Whether a line has a number of two digits or more that begins in column 6 or behind it, and a
+/// word behind that, as where a label stands too far to the right.
+pub fn has_late_label(line: &[u8]) -> bool {
+    let text = line.trim_start();
+    let digits = text.iter().position(|byte| !byte.is_ascii_digit());
+    let rest = text.get(digits.unwrap_or(text.len())..).unwrap_or(&[]);
+    let is_number = line.len().saturating_sub(text.len()) == LAST_LABEL_COLUMN
+        && rest.len().saturating_add(2) <= text.len();
+    let is_behind_blank = rest.first() == Some(&b' ');
+    let word = rest.trim_start();
+    is_number && is_behind_blank && word.first().is_some_and(u8::is_ascii_alphabetic)
 }
 
 /// The label of a line, if it has one.

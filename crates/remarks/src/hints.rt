@@ -11,8 +11,8 @@ use bstr::ByteSlice;
 use fixed_form::LAST_LABEL_COLUMN;
 pub use schedules::hint_of_schedule;
 use signs::{
-    BEGINNINGS, CHARACTERS, COMPARISONS, CONTINUED, FOREIGN, GREAT, LEFT_OUT, LENGTHS, NEIGHBOURS,
-    SUBPROGRAMS, Sign, TRANSFERS, TYPOGRAPHY, WHILE,
+    BEGINNINGS, CHARACTERS, COMPARISONS, CONTINUED, FOREIGN, FREE_FORM, GREAT, LEFT_OUT, LENGTHS,
+    NEIGHBOURS, SUBPROGRAMS, Sign, TRANSFERS, TYPOGRAPHY, WHILE,
 };
 use std::cmp::Ordering;
 
@@ -53,7 +53,8 @@ pub fn hint(number: u8, line: &[u8], statement: &Squeezed) -> Option<&'static st
         24 => of_signs(text)
             .or(first_of(&LENGTHS, text))
             .or(of_constant(text))
-            .or(of_form(line, statement)),
+            .or(of_form(line, statement))
+            .or(Some("a name has six characters at most")),
         21 => of_mark(text)
             .or(past_columns(statement))
             .or(of_apostrophes(text)),
@@ -137,6 +138,9 @@ fn of_columns(line: &[u8]) -> Option<&'static str> {
     if front.contains(&b':') {
         return Some("a label has no colon behind it");
     }
+    if is_free_form(line) {
+        return Some("this looks like free form; doac reads fixed form");
+    }
     if front.iter().any(|byte| byte.is_ascii_alphabetic()) {
         return of_letters(front);
     }
@@ -144,6 +148,18 @@ fn of_columns(line: &[u8]) -> Option<&'static str> {
         return Some(LABEL);
     }
     of_label_columns(line)
+}
+
+/// Whether a line looks as if it began in any column: a word of free form stands first, or a sign
+/// that goes on with the next line stands last.
+fn is_free_form(line: &[u8]) -> bool {
+    let text = line.trim();
+    text.ends_with(b"&")
+        || text.contains_str(b"::")
+        || FREE_FORM.iter().any(|word| {
+            text.get(..word.len())
+                .is_some_and(|front| front.eq_ignore_ascii_case(word))
+        })
 }
 
 /// What is said of letters in columns 1 to 6.

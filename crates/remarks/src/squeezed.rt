@@ -1,6 +1,8 @@
 //! Statements of a source as hints look at them.
 
-use crate::columns::{is_blank, is_comment, is_continuation, is_cut, label_of, text_of};
+use crate::columns::{
+    has_late_label, is_blank, is_comment, is_continuation, is_cut, label_of, text_of,
+};
 use crate::place::line_at;
 use ast::{Label, Line};
 use bstr::ByteSlice;
@@ -93,6 +95,8 @@ pub struct Squeezed {
     pub text: Vec<u8>,
     /// Whether something that may be of it stands past the columns that are read.
     pub is_cut: bool,
+    /// The first of its continuation lines that looks as if it began with a label, if one does.
+    pub late_label: Option<Line>,
     /// Whether a text has begun and not ended.
     is_open: bool,
 }
@@ -106,14 +110,14 @@ impl Squeezed {
             if is_comment(text) || is_blank(text) {
                 continue;
             }
+            let number = line_at(place);
             if !is_continuation(text) {
-                let number = line_at(place);
                 if number > line {
                     break;
                 }
                 statement = Squeezed::new(alloc, number, label_of(text));
             }
-            statement.add_line(text)?;
+            statement.add_line(number, text)?;
         }
         Ok(statement)
     }
@@ -129,7 +133,7 @@ impl Squeezed {
                 statements.push(Squeezed::new(alloc, line_at(place), label_of(text)))?;
             }
             if let Some(statement) = statements.last_mut() {
-                statement.add_line(text)?;
+                statement.add_line(line_at(place), text)?;
             }
         }
         Ok(statements)
@@ -142,6 +146,7 @@ impl Squeezed {
             front: 0,
             text: Vec::new(alloc),
             is_cut: false,
+            late_label: None,
             is_open: false,
         }
     }
@@ -222,8 +227,17 @@ impl Squeezed {
         self.text.starts_with(b"PARAMETER(")
     }
 
-    fn add_line(&mut self, line: &[u8]) -> Result<(), AllocError> {
+    /// Whether it is executable, if it is a statement.
+    pub fn is_executable(&self) -> bool {
+        let is_program = self.text.starts_with(PROGRAM) && !self.is_assignment();
+        !is_program && !self.is_declaration() && !self.is_parameter()
+    }
+
+    fn add_line(&mut self, number: Line, line: &[u8]) -> Result<(), AllocError> {
         self.is_cut = self.is_cut || is_cut(line);
+        if self.late_label.is_none() && is_continuation(line) && has_late_label(line) {
+            self.late_label = Some(number);
+        }
         for byte in text_of(line) {
             self.add(*byte)?;
         }

@@ -1,31 +1,34 @@
 //! Refusals of schedules, each with a schedule of the program of END alone that has it and one that
-//! is cured; and that of code that is too long.
+//! is cured; why a run in threads comes to nothing; and that of code that is too long.
 
 ghost use Rattle.std.specs.Prelude.{◌≡◌, ◌||◌, IfSome, is_some};
 ghost use Rattle.explanations.specs.Explained.{is_within};
 
 use crate::explain::{Explanation, Origin, Trial, page_in};
 
-/// What the refusal of a number means, if it is one of a schedule or of code.
+/// What the refusal of a number means, if it is one of a schedule, of a run or of code.
 pub fn page(number: u8) -> Option<Explanation>
     ensures number { IfSome result (λ explanation. explanation.number ≡ number) }
-    ensures whether { is_some result ≡ is_within 51 56 number || is_within 61 61 number }
+    ensures whether { is_some result ≡ is_within 51 59 number || is_within 61 61 number }
 {
     if number == 61 {
         page_in(&OF_CODE, 61, 61, number)
     } else {
-        page_in(&TABLE, 51, 56, number)
+        page_in(&TABLE, 51, 59, number)
     }
 }
 
-/// The pages of schedules in the order of their numbers.
-const PAGES: [Explanation; 6] = [
+/// The pages of schedules and of runs in the order of their numbers.
+const PAGES: [Explanation; 9] = [
     NO_HEADER,
     NO_ENTRY,
     NO_PROCESSOR,
     NOT_POSSIBLE,
     NOT_ENDED,
     BEHIND_THE_END,
+    NO_SIZE,
+    NO_THREAD,
+    STUCK,
 ];
 
 const _: () = prove!(PAGES[0].number == 51);
@@ -40,7 +43,13 @@ const _: () = prove!(PAGES[4].number == 55);
 
 const _: () = prove!(PAGES[5].number == 56);
 
-static TABLE: [Explanation; 6] = PAGES;
+const _: () = prove!(PAGES[6].number == 57);
+
+const _: () = prove!(PAGES[7].number == 58);
+
+const _: () = prove!(PAGES[8].number == 59);
+
+static TABLE: [Explanation; 9] = PAGES;
 
 const _: () = prove!(LONG_CODE.number == 61);
 
@@ -177,6 +186,50 @@ const BEHIND_THE_END: Explanation = Explanation {
     cure: WHOLE,
 };
 
+/// No text.
+const NO_TEXT: Trial = Trial {
+    source: "",
+    input: "",
+};
+
+const NO_SIZE: Explanation = Explanation {
+    number: 57,
+    origin: Origin::Refusal,
+    sentence: "a run has 1 to 64 processors and 1 to 256 open iterations",
+    meaning: "The number behind -p or -s is out of its range. Nothing is shown, and the status is 3.
+",
+    example: NO_TEXT,
+    advice: "give -p a number from 1 to 64, and -s one from 1 to 256.
+",
+    cure: NO_TEXT,
+};
+
+const NO_THREAD: Explanation = Explanation {
+    number: 58,
+    origin: Origin::Refusal,
+    sentence: "a thread could not be started",
+    meaning: "A run wants one thread less than it has processors, and the system refused one. Nothing is
+shown, and the status is 5.
+",
+    example: NO_TEXT,
+    advice: "give -p a smaller number, or let the system have more threads ('ulimit -u').
+",
+    cure: NO_TEXT,
+};
+
+const STUCK: Explanation = Explanation {
+    number: 59,
+    origin: Origin::Refusal,
+    sentence: "the run can't go on, and has not ended",
+    meaning: "No processor has anything to do, and the run hasn't ended. The code that doac makes of a source
+never comes to that, which is proved. Nothing is shown, and the status is 5.
+",
+    example: NO_TEXT,
+    advice: "report it, with the source, the input, and the numbers behind -p and -s.
+",
+    cure: NO_TEXT,
+};
+
 const LONG_CODE: Explanation = Explanation {
     number: 61,
     origin: Origin::Refusal,
@@ -184,14 +237,8 @@ const LONG_CODE: Explanation = Explanation {
     meaning: "The code of a program has at most 1,048,576 instructions. Only commands that compile it
 refuse a program for this; 'doac seq' runs it all the same. The refusal is of no line: LINE 0.
 ",
-    example: Trial {
-        source: "",
-        input: "",
-    },
+    example: NO_TEXT,
     advice: "put what is written many times into a loop.
 ",
-    cure: Trial {
-        source: "",
-        input: "",
-    },
+    cure: NO_TEXT,
 };

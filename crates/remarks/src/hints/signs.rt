@@ -9,7 +9,12 @@ pub struct Sign {
 }
 
 /// What stands in a line that is refused by rule 1.
-pub const CHARACTERS: [Sign; 9] = [
+pub const CHARACTERS: [Sign; 10] = [
+    Sign {
+        begins: b"",
+        holds: b"\0",
+        hint: "a byte of zero stands in the line; this is no text file, or one in UTF-16",
+    },
     Sign {
         begins: b"",
         holds: b"\x1A",
@@ -69,6 +74,15 @@ pub const TYPOGRAPHY: [&[u8]; 10] = [
     b"\xE2\x80\x99",
     b"\xE2\x80\x9C",
     b"\xE2\x80\x9D",
+];
+
+/// What begins the first line of a source in free form, which fixed form has from column 7 on.
+pub const FREE_FORM: [&[u8]; 5] = [
+    b"program ",
+    b"module ",
+    b"use ",
+    b"implicit ",
+    b"subroutine ",
 ];
 
 /// What is said of a power.

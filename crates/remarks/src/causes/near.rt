@@ -1,0 +1,40 @@
+//! Which name may have been meant by another one.
+
+use ast::Name;
+
+/// How short a name is that is like many others.
+const SHORT: usize = 2;
+
+/// The first of some names that is one letter or digit away from this one, or has two neighbours
+/// the other way round.
+pub fn meant_by(name: Name, names: &[Name]) -> Option<Name> {
+    let text = name.trimmed();
+    if text.len() <= SHORT {
+        return None;
+    }
+    names
+        .iter()
+        .find(|other| is_near(text, other.trimmed()))
+        .copied()
+}
+
+/// Whether one text comes of the other by one letter more, less or changed, or by two neighbours
+/// that change places.
+fn is_near(text: &[u8], other: &[u8]) -> bool {
+    let same = common(text, other);
+    let rest = text.get(same..).unwrap_or(&[]);
+    let others = other.get(same..).unwrap_or(&[]);
+    match (rest, others) {
+        ([_, behind @ ..], _) if behind == others => true,
+        (_, [_, behind @ ..]) if behind == rest => true,
+        ([_, behind @ ..], [_, others @ ..]) if behind == others => true,
+        ([a, b, behind @ ..], [c, d, others @ ..]) => a == d && b == c && behind == others,
+        _ => false,
+    }
+}
+
+/// How many letters two texts have in common from their beginning.
+fn common(text: &[u8], other: &[u8]) -> usize {
+    let differs = text.iter().zip(other.iter()).position(|(a, b)| a != b);
+    differs.unwrap_or(text.len().min(other.len()))
+}
