@@ -10,7 +10,7 @@ use crate::holding::{Activities, Holder};
 use crate::parts::Iteration;
 use machine::{Code, stride};
 
-/// As many local instructions, loads and stores as stand next, at most `n`, of what stands in a
+/// Local instructions, loads and stores, one after another, at most `n`, of what stands in a
 /// place; how many.
 fn stride_at(code: &Code, place: &mut Option<Iteration>, cells: &mut [i64], n: u32) -> u32
     requires cells { length cells.old ≡ count_of code.now.variables.items }
@@ -33,7 +33,7 @@ impl<'c> Activities<'c> {
     ghost use Rattle.activities.specs.Parts.{held_of};
     ghost use Rattle.activities.specs.Points.{Steps};
 
-    /// As many local instructions, loads and stores as stand next of main, which processor `q`
+    /// Local instructions, loads and stores of main, one after another, which processor `q`
     /// holds, at most `n`; how many.
     fn stride_main(&mut self, q: usize, n: u32) -> u32
         requires stand { AreActivities self.old }
@@ -68,7 +68,7 @@ impl<'c> Activities<'c> {
         )
     }
 
-    /// As many local instructions, loads and stores as stand next of what processor `q` holds, at
+    /// Local instructions, loads and stores of what processor `q` holds, one after another, at
     /// most `n`, in its own place; how many. It takes no memory.
     pub fn stride(&mut self, q: usize, n: u32) -> u32
         requires stand { AreActivities self.old }

@@ -282,6 +282,10 @@ impl<'c, C: Call> Driven<C> for Unrecorded<'c, C> {
         if strode == MOST_IN_PLACE {
             return Ok(Advanced::Further(made + strode));
         }
+        // No clause says that it makes a step wherever one stands next; local work always does.
+        if made + strode == 0 && self.run.load(q, &mut own.work)? {
+            return Ok(Advanced::Loaded(0));
+        }
         Ok(Advanced::Up(made + strode))
     }
 

@@ -175,8 +175,8 @@ impl<'c> Run<'c> {
         self.activities.labour(q, n)
     }
 
-    /// As many local instructions, loads and stores of what processor `q` holds as stand next, at
-    /// most `n`, in its own place; how many.
+    /// Local instructions, loads and stores of what processor `q` holds, one after another, at most
+    /// `n`, in its own place; how many.
     pub fn stride(&mut self, q: usize, n: u32) -> u32
         requires processor { q < self.old.processors }
         ensures drives { Drives self.old q result self.new }
