@@ -1,5 +1,5 @@
 -- What a program's type says makes each of its loops one that a good plan may open.
-use Rattle.std.proofs.Common.{◌≡◌, ◌∙◌, ◌≤◌, ◌<◌, ◌^◌, inl, inr, ℕ, Bool, true, false, List, [], ◌∷◌, length, get_or, refl, sym, ap, subst, ⊎_elim, arith}
+use Rattle.std.proofs.Common.{◌≡◌, ◌∙◌, ◌≤◌, ◌^◌, inl, inr, ℕ, Bool, true, false, List, [], ◌∷◌, length, refl, sym, ap, subst, arith}
 use Rattle.std.specs.Prelude.{◌||◌, not}
 use Rattle.std.specs.List.{IsDistinct, list_all}
 use Rattle.std.proofs.lemmas.Bool.{and_parts, eqb-true, or_parts}
@@ -14,17 +14,15 @@ use Rattle.ast.proofs.SameNames.{same_itself}
 use Rattle.dependence.specs.Plan.{awaits, advances, plain, loop, choose, PlanBlock, no_nodes, then_node, PlanArms, no_arms, made_else, then_arm}
 use Rattle.loop_tree.specs.Loops.{Loop, loops_of}
 use Rattle.loop_tree.specs.Occurrences.{Occurrence}
-use Rattle.loop_tree.specs.Private.{Private}
 use Rattle.loop_tree.proofs.RegularLoops.{Each, RegularLoop, inner_scalars, is_left, is_right, loops_regular}
 use Rattle.expr_code.specs.Places.{dimensions_at}
 use Rattle.expr_code.specs.Process.{count}
 use Rattle.expr_code.proofs.Finding.{dimensions_same}
 use Rattle.plan_check.specs.GoodPlan.{GoodPlan, SameBody, made_bare, made_bare_arms, only_events, stripped, stripped_arms}
-use Rattle.plan_check.proofs.Members.{In, all_in}
-use Rattle.privatise.specs.Privates.{ArePrivate, Picked}
+use Rattle.plan_check.proofs.Members.{In, all_in, among as found, contained}
 use Rattle.codegen.specs.Program.{Planned, most_symbols}
-use Rattle.codegen.proofs.AssignedOnce.{Apart, block_apart, few_scalars, names_once, picked_apart}
-use Rattle.codegen.proofs.ProgramFacts.{body_placed, parts_placed, reference_placed, regular, shape, shown_placed, unique}
+use Rattle.codegen.proofs.PrivateNames.{HasScalars, few_scalars, names_once, scalars_of}
+use Rattle.codegen.proofs.ProgramFacts.{body_placed, parts_placed, reference_placed, regular, shown_placed, unique}
 use Rattle.codegen.proofs.RegularPlans.{ArmsNoEnd, NoEnd, Regular}
 use Rattle.codegen.proofs.Theorem.{Opens}
 
@@ -90,30 +88,27 @@ module _ (t : ProgramTree) (distinct : IsDistinct same_name (names_of t.symbols)
           let y : false ≡ true = sym (ap (λ (b : Bool). not b || is_none_of (x.loop.head.variable.name ∷ []) o.ref.name) d ∙ ap (λ (b : Bool). not (b || false)) same) ∙ h in cc
 
   -- what the check's yes leaves open
-  pub accepted : GoodPlan x.loop x.plan → SameBody x.loop x.plan → ArePrivate x.loop x.plan.privates → Opens t.symbols x
-  accepted good same privates = record {
+  pub accepted : GoodPlan x.loop x.plan → SameBody x.loop x.plan → IsDistinct same_name x.plan.privates → Opens t.symbols x
+  accepted good same apart = record {
     good = good;
     same = same;
     regular = is_regular_loop;
     no_end = plan_ends x.plan.body (ap block_has_end same.same ∙ is.no_end) same.bare;
-    once = subst (λ (ns : List (List ℕ)). (i j : ℕ) → i < length ns → j < length ns → get_or ns i [] ≡ get_or ns j [] → i ≡ j) (sym privates.named)
-        (names_once t.symbols distinct privates.scalars apart scalars_placed);
-    few_privates = subst (λ (ns : List (List ℕ)). length ns ≤ 2 ^ 32) (sym privates.named) (let k = few_scalars t.symbols privates.scalars apart scalars_placed in omega (arith, k, few));
+    once = names_once x.plan.privates apart;
+    few_privates = subst (λ (ns : List (List ℕ)). length ns ≤ 2 ^ 32) scalars.named (let k = few_scalars t.symbols scalars.scalars scalars.apart (λ r i. assigned_placed r (scalars.among r i)) in omega (arith, k, few));
     inner_scalar = inner;
     unique = unique t distinct placed numbered x.loop among;
     placed = subst (λ (b : Block). list_all (λ r. is_placed t.symbols r) (expressions_references (block_expressions b)) ≡ true) (sym same.same) (body_placed t distinct placed numbered x.loop among);
   }
     where
-      apart : Apart privates.scalars
-      apart = picked_apart (λ r. Private x.loop r.cell) x.loop.assigned privates.scalars privates.picked (subst Apart (sym (shape t distinct placed numbered x.loop among).2) (block_apart [] x.loop.body tt))
+      assigned_placed : (r : Ref) → In r x.loop.assigned → is_placed t.symbols r ≡ true
+      assigned_placed r i = all_in (λ q. is_placed t.symbols q) x.loop.assigned r (parts_placed t distinct placed numbered x.loop among).1 i
 
-      picked_in : (P : Ref → Type 0) (rs ps : List Ref) → Picked P rs ps → (r : Ref) → In r ps → In r rs
-      picked_in P [] ps e r i = absurd (subst (λ (z : List Ref). In r z) e i)
-      picked_in P (q ∷ rs) ps (inl h) r i = ⊎_elim (λ z. inl z) (λ j. inr (picked_in P rs h.1 h.3 r j)) (subst (λ (z : List Ref). In r z) h.2 i)
-      picked_in P (q ∷ rs) ps (inr h) r i = inr (picked_in P rs ps h.1 r i)
+      scalar : (n : List ℕ) → In n x.plan.privates → (r : Ref) × In r x.loop.assigned × (r.name ≡ n)
+      scalar n i = let g = good.scalars n (contained n x.plan.privates i) in (g.0, found g.0 x.loop.assigned g.1, g.2)
 
-      scalars_placed : (r : Ref) → In r privates.scalars → is_placed t.symbols r ≡ true
-      scalars_placed r i = all_in (λ q. is_placed t.symbols q) x.loop.assigned r (parts_placed t distinct placed numbered x.loop among).1 (picked_in (λ q. Private x.loop q.cell) x.loop.assigned privates.scalars privates.picked r i)
+      scalars : HasScalars x.loop.assigned x.plan.privates
+      scalars = scalars_of t.symbols distinct x.loop.assigned assigned_placed x.plan.privates apart scalar
 
       inner : (lp : Loop) → In lp (loops_of x.loop.body) → dimensions_at t.symbols lp.head.variable.cell ≡ []
       inner lp i =

@@ -157,7 +157,7 @@ module _ (p : Program) (reports : List LoopReport) (code : Code) (is : IsMade p 
   opens : (n : ℕ) → n < length (opened_of (program_of p) reports) → Opens (program_of p).symbols (get_or (opened_of (program_of p) reports) n none_such)
   opens n h =
       let k = known n h in
-      accepted (program_of p) p.distinct p.placed p.numbered p.regular w.few_symbols (get_or (opened_of (program_of p) reports) n none_such) k.among k.good k.same (k.placed).privates
+      accepted (program_of p) p.distinct p.placed p.numbered p.regular w.few_symbols (get_or (opened_of (program_of p) reports) n none_such) k.among k.good k.same k.once
 
   pub opened_law : AreOpened (program_of p) (opened_of (program_of p) reports)
   opened_law = are_opened (loops_of (program_of p).block) (block_lines (program_of p).block) (loops_of (program_of p).block) reports is.told

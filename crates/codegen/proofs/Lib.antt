@@ -1,7 +1,6 @@
 pub mod AcceptedLoops
 pub mod AcceptedPlans
 pub mod AloneRuns
-pub mod AssignedOnce
 pub mod AssignedScalars
 pub mod Awaited
 pub mod Beside
@@ -39,7 +38,9 @@ pub mod Nested
 pub mod Nesting
 pub mod NodeParts
 pub mod Numbering
+pub mod OneCode
 pub mod OnePlace
+pub mod OnePlan
 pub mod OneStep
 pub mod OpenedLoop
 pub mod OpenedProgram
@@ -51,6 +52,7 @@ pub mod OwnFates
 pub mod OwnRun
 pub mod PlanPaths
 pub mod PlanPieces
+pub mod PrivateNames
 pub mod ProgramBound
 pub mod ProgramClaims
 pub mod ProgramFacts

@@ -1,18 +1,20 @@
 -- What reports say of the loops that are opened.
 use Rattle.std.proofs.Common.{◌≡◌, ◌∙◌, ◌<◌, ◌⊎◌, inl, inr, ℕ, zero, suc, Bool, true, false, List, [], ◌∷◌, ◌++◌, Option, Some, None, length, get_or, map, refl, sym, ap, subst, arith}
 use Rattle.std.specs.Prelude.{◌==◌, ◌+◌, if◌then◌else◌}
+use Rattle.std.specs.List.{IsDistinct}
 use Rattle.std.proofs.lemmas.Option.{same_Some}
+use Rattle.ast.specs.Store.{same_name}
 use Rattle.dependence.specs.Kept.{EligibleIn, Suits}
 use Rattle.dependence.specs.Plan.{PlanTree}
 use Rattle.dependence.specs.PlanView.{plan_of}
 use Rattle.dependence.specs.declared.plan.LoopPlan.{LoopPlan}
 use Rattle.dependence.specs.declared.plan.LoopPlan.TheVariants.{Serial, Body}
 use Rattle.loop_tree.specs.Loops.{Loop}
-use Rattle.placement.specs.Judged.{IsInside, IsOpened, IsOpenedUnless}
+use Rattle.placement.specs.Judged.{IsInside, IsOpened, IsOpenedUnless, IsSerial}
 use Rattle.placement.specs.Opening.{NoneSuits}
 use Rattle.placement.specs.Placement.{IsPlacedBody, IsPlacement, SomeEligible, loops_around}
 use Rattle.placement.proofs.Eligible.{is_outermost}
-use Rattle.plan_check.specs.Checks.{HasBody, IsGood}
+use Rattle.plan_check.specs.Checks.{HasBody, HasNamesOnce, IsGood}
 use Rattle.plan_check.specs.GoodPlan.{GoodPlan, SameBody}
 use Rattle.plan_check.proofs.Members.{In}
 use Rattle.codegen.specs.OpenedView.{number_of}
@@ -32,6 +34,7 @@ pub record Known (all ls : List Loop) (x : Planned) : Type 0 where
   pub placed : IsPlacedBody x.loop x.plan
   pub good : GoodPlan x.loop x.plan
   pub same : SameBody x.loop x.plan
+  pub once : IsDistinct same_name x.plan.privates
 
 some_none : (around : List Loop) → SomeEligible around → NoneSuits around → ⊥
 some_none [] s n = s
@@ -43,13 +46,13 @@ not_none p e = cc
 
 module _ (all : List Loop) (lines : List ℕ) where
   opened_one : (l : Loop) (ls : List Loop) (r : LoopReport) → IsPlacedReport all lines l r → (p : PlanTree) → plan_of r.plan ≡ Some p → Known all (l ∷ ls) (record { loop = l; plan = p })
-  opened_one l ls r w p e = by r.plan w.plan w.good w.body e
+  opened_one l ls r w p e = by r.plan w.plan w.good w.body w.once e
     where
-      by : (plan : LoopPlan) → IsPlacement all l plan → IsGood l (plan_of plan) → HasBody l (plan_of plan) → plan_of plan ≡ Some p → Known all (l ∷ ls) (record { loop = l; plan = p })
-      by (Serial n) i g h e = absurd (not_none p (sym e))
-      by (Body b ps rs) i g h e =
+      by : (plan : LoopPlan) → IsPlacement all l plan → IsGood l (plan_of plan) → HasBody l (plan_of plan) → HasNamesOnce (plan_of plan) → plan_of plan ≡ Some p → Known all (l ∷ ls) (record { loop = l; plan = p })
+      by (Serial n) i g h o e = absurd (not_none p (sym e))
+      by (Body b ps rs) i g h o e =
           let is : i.1.0 ≡ p = same_Some i.1.0 p (sym i.1.1 ∙ e) in
-          record { among = inl refl; eligible = i.0; placed = subst (λ (z : PlanTree). IsPlacedBody l z) is i.1.2; good = subst (λ (o : Option PlanTree). IsGood l o) e g; same = subst (λ (o : Option PlanTree). HasBody l o) e h }
+          record { among = inl refl; eligible = i.0; placed = subst (λ (z : PlanTree). IsPlacedBody l z) is i.1.2; good = subst (λ (o : Option PlanTree). IsGood l o) e g; same = subst (λ (o : Option PlanTree). HasBody l o) e h; once = subst (λ (o : Option PlanTree). HasNamesOnce o) e o }
 
   serial_one : (l : Loop) (r : LoopReport) → IsPlacedReport all lines l r → plan_of r.plan ≡ None → EligibleIn l (loops_around all l) → ⊥
   serial_one l r w e eligible = by w.is_placed
@@ -64,7 +67,7 @@ module _ (all : List Loop) (lines : List ℕ) where
       unless true i o = some_none (loops_around all l) i outermost.1
       unless false i o = opened o
 
-      by : (((w.placed).suits ≡ true) × Suits l × IsOpenedUnless w.inside l w.placed) ⊎ (((w.placed).suits ≡ false) × (Suits l → ⊥) × ((n : ℕ) × ((w.placed).plan ≡ Serial n) × Rattle.placement.specs.Placement.IsLowest l [] n)) → ⊥
+      by : (((w.placed).suits ≡ true) × Suits l × IsOpenedUnless w.inside l w.placed) ⊎ (((w.placed).suits ≡ false) × (Suits l → ⊥) × ((n : ℕ) × IsSerial n w.placed × Rattle.placement.specs.Placement.IsLowest l [] n)) → ⊥
       by (inl a) = unless w.inside w.is_inside a.2
       by (inr a) = a.1 outermost.0
 
@@ -85,7 +88,7 @@ module _ (all : List Loop) (lines : List ℕ) where
   as_many (l ∷ ls) (r ∷ rs) w = ap suc (as_many ls rs w.1)
 
   wider : (l : Loop) (ls : List Loop) (x : Planned) → Known all ls x → Known all (l ∷ ls) x
-  wider l ls x k = record { among = inr k.among; eligible = k.eligible; placed = k.placed; good = k.good; same = k.same }
+  wider l ls x k = record { among = inr k.among; eligible = k.eligible; placed = k.placed; good = k.good; same = k.same; once = k.once }
 
   pub known_at : (some : Planned) (ls : List Loop) (rs : List LoopReport) → AreReports all lines ls rs → (n : ℕ) → n < length (planned_in ls rs) → Known all ls (get_or (planned_in ls rs) n some)
   known_at some [] rs w n h = absurd (omega (arith, h))

@@ -1,6 +1,7 @@
 pub mod Alone
 pub mod Awaited
 pub mod Blocks
+pub mod Determined
 pub mod Emitted
 pub mod Headline
 pub mod Made

@@ -9,7 +9,7 @@ use Rattle.placement.specs.Judged.{IsInside, IsPlaced}
 use Rattle.placement.specs.Placement.{IsPlacement, loops_around}
 use Rattle.placement.specs.declared.analysis.Kept.{Kept}
 use Rattle.placement.specs.declared.planning.Placed.{Placed}
-use Rattle.plan_check.specs.Checks.{HasBody, IsGood}
+use Rattle.plan_check.specs.Checks.{HasBody, HasNamesOnce, IsGood}
 use Rattle.codegen.specs.Program.{Planned}
 use Rattle.codegen.specs.declared.reports.LoopReport.{LoopReport}
 
@@ -48,6 +48,7 @@ pub record IsPlacedReport (all : List Loop) (lines : List ℕ) (l : Loop) (repor
   pub plan : IsPlacement all l report.plan
   pub good : IsGood l (plan_of report.plan)
   pub body : HasBody l (plan_of report.plan)
+  pub once : HasNamesOnce (plan_of report.plan)
   pub reported : IsReport lines l.line placed report
 
 -- each of these loops has its report, in order

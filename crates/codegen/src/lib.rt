@@ -1,6 +1,7 @@
 //! Code of programs.
 #![tactic(auto)]
 
+mod laws;
 mod loops;
 mod nodes;
 mod opened;
@@ -13,5 +14,6 @@ mod skips;
 mod statements;
 
 pub use ast::Refusal as CompileRefusal;
+pub use laws::one_code;
 pub use programs::{Compiled, compile};
 pub use reports::LoopReport;

@@ -6,7 +6,7 @@ ghost use Rattle.loop_tree.specs.TreeView.{all_seen, lines_seen, loops_seen, see
 ghost use Rattle.codegen.specs.Noted.{AreNested, AreNoted, is_noted};
 ghost use Rattle.dependence.specs.PlanView.{plan_of};
 ghost use Rattle.placement.specs.Placement.{IsPlacement};
-ghost use Rattle.plan_check.specs.Checks.{HasBody, IsGood};
+ghost use Rattle.plan_check.specs.Checks.{HasBody, HasNamesOnce, IsGood};
 ghost use Rattle.codegen.specs.Reports as spec;
 ghost use Rattle.codegen.specs.Reports.{AreReports, IsPlacedReport, IsReport};
 
@@ -131,6 +131,7 @@ fn checked(alloc: Global, view: &LoopView<'_, '_>, placed: Placed) -> Result<Pla
     ensures same { IfOk result (λ given. given ≡ placed) }
     ensures good { IfOk result (λ given. IsGood (seen view.now) (plan_of given.plan)) }
     ensures body { IfOk result (λ given. HasBody (seen view.now) (plan_of given.plan)) }
+    ensures once { IfOk result (λ given. HasNamesOnce (plan_of given.plan)) }
 {
     match check(alloc, view, &placed.plan) {
         Ok(()) => Ok(placed),

@@ -395,6 +395,12 @@ static CHANGED: [Row<'static>; 25] = [
         1,
         Question::Changed(&[Change::PrivateK], EARLY),
     ),
+    // K is given twice, which is told before that it is used early.
+    (
+        Source::Whole(CARRIED_BETWEEN_ARMS),
+        1,
+        Question::Changed(&[Change::PrivateK, Change::PrivateK], UNFIT),
+    ),
     (
         Source::Whole(SOURCE_IN_ONE_BRANCH),
         1,

@@ -17,6 +17,7 @@ use Rattle.loop_tree.specs.Told.{are_in_turn, are_told, known, references}
 use Rattle.placement.specs.Acceptance.{IsAccepted}
 use Rattle.placement.specs.Placement.{IsEvent, IsPlacedBody}
 use Rattle.placement.specs.Placing.{block_size}
+use Rattle.placement.proofs.AssignedOnce.{private_once}
 use Rattle.placement.proofs.Cells.{has_private, known_reference, known_variable, private_cell, private_name}
 use Rattle.placement.proofs.Claims.{are_claimed}
 use Rattle.placement.proofs.Early.{never_early_of}
@@ -32,7 +33,7 @@ use Rattle.placement.proofs.Ranges.{block_within}
 use Rattle.plan_check.proofs.Members.{In, among, contained}
 use Rattle.plan_check.proofs.Parallel.{block_are}
 use Rattle.plan_check.proofs.Sound.{at_point, in_any, in_entries, is_same, ref_of}
-use Rattle.plan_check.specs.Checking.{Checked, all_ahead, all_held, all_true, at_references, claimed, distance_of, first, fits, has_name, has_named, is_looked_at, is_proper, is_step, never_early, reference_tokens, tokens_of}
+use Rattle.plan_check.specs.Checking.{Checked, all_ahead, all_held, all_true, are_once, at_references, claimed, distance_of, first, fits, has_name, has_named, is_looked_at, is_proper, is_step, never_early, reference_tokens, tokens_of}
 use Rattle.plan_check.specs.Flow.{Known, block_points}
 use Rattle.plan_check.specs.GoodPlan.{SameBody, named}
 use Rattle.privatise.proofs.Exactly.{isnt_private}
@@ -116,7 +117,8 @@ module _ (cells : ℕ) (l : Loop) (p : PlanTree) (around : List Loop) (whole : I
       and_from (is_step l.step) _ (steps l.step suit.step)
       (and_from (not (block_reads l.body)) _ (not_from_false (block_reads l.body) suit.no_read)
       (and_from (list_all (λ (r : Ref). has_name p.privates r.name) (block_variables l.body)) _ (all_from (λ (r : Ref). has_name p.privates r.name) (block_variables l.body) variable)
-      (and_from (list_all (λ (x : List ℕ). has_named l.assigned x) p.privates) _ (all_from (λ (x : List ℕ). has_named l.assigned x) p.privates scalar) all_proper)))
+      (and_from (list_all (λ (x : List ℕ). has_named l.assigned x) p.privates) _ (all_from (λ (x : List ℕ). has_named l.assigned x) p.privates scalar)
+      (and_from (are_once p.privates) _ (private_once l whole told p.privates placed.privates) all_proper))))
 
   -- ---- pairs
 

@@ -73,6 +73,6 @@ opens all l placed (Body b privates relations) e s none o =
     ((is_outermost l (loops_around all l)).1 (s, none), (o.tree, ap plan_of (sym e) ∙ o.is, o.body))
 
 pub is_placement : (all : List Loop) (l : Loop) (inside : Bool) (placed : Placed) → IsWhole l → are_told (known l) ≡ true → IsInside (loops_around all l) inside → IsPlaced l inside placed → IsPlacement all l placed.plan
-is_placement all l true placed whole told some (inl (e, suits, p)) = subst (λ q. IsPlacement all l q) (sym p) (lowest_fifth l whole told (loops_around all l) suits some)
+is_placement all l true placed whole told some (inl (e, suits, p)) = subst (λ q. IsPlacement all l q) (sym p.plan) (lowest_fifth l whole told (loops_around all l) suits some)
 is_placement all l false placed whole told none (inl (e, suits, o)) = opens all l placed placed.plan refl suits none o
-is_placement all l inside placed whole told around (inr (e, never, (n, p, lowest))) = subst (λ q. IsPlacement all l q) (sym p) (lowest_own l (loops_around all l) n lowest)
+is_placement all l inside placed whole told around (inr (e, never, (n, p, lowest))) = subst (λ q. IsPlacement all l q) (sym p.plan) (lowest_own l (loops_around all l) n lowest)

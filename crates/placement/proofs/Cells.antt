@@ -18,7 +18,7 @@ use Rattle.plan_check.proofs.Sound.{any_in, in_any, in_map, is_same, told_same}
 use Rattle.plan_check.specs.Checking.{has_name}
 use Rattle.privatise.specs.Privates.{ArePrivate}
 
-one_cell : (rs : List Ref) (q r : Ref) → are_told rs ≡ true → In q rs → In r rs → q.name ≡ r.name → q.cell ≡ r.cell
+pub one_cell : (rs : List Ref) (q r : Ref) → are_told rs ≡ true → In q rs → In r rs → q.name ≡ r.name → q.cell ≡ r.cell
 one_cell rs q r h i j e =
     let row = all_in (λ (x : Ref). list_all (λ (s : Ref). is_told x s) rs) rs q h i in
     let one = all_in (λ (s : Ref). is_told q s) rs r row j in

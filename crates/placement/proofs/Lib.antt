@@ -2,6 +2,7 @@ pub mod Acceptance
 pub mod Analysing
 pub mod Appended
 pub mod Around
+pub mod AssignedOnce
 pub mod Awaiting
 pub mod Cells
 pub mod Claims

@@ -4,12 +4,11 @@ use Rattle.ast.specs.Tree.{Block}
 use Rattle.dependence.specs.Hiding.{hides}
 use Rattle.dependence.specs.Kept.{Suits}
 use Rattle.dependence.specs.Plan.{PlanTree}
-use Rattle.dependence.specs.declared.plan.LoopPlan.TheVariants.{Serial}
 use Rattle.dependence.specs.Related.{relations as relations_in}
 use Rattle.loop_tree.specs.Loops.{IsWhole, Loop}
 use Rattle.loop_tree.specs.Told.{are_told, known}
 use Rattle.placement.specs.Analysed.{AreAnalysed, AreTriples, triple}
-use Rattle.placement.specs.Judged.{IsHindered, IsOpened, IsPlaced, IsPlain}
+use Rattle.placement.specs.Judged.{IsHindered, IsOpened, IsPlaced, IsPlain, IsSerial}
 use Rattle.placement.specs.Listed.{awaited}
 use Rattle.placement.specs.Placement.{AreAwaits, AreSources, IsPlacedBody}
 use Rattle.placement.specs.Placing.{placed_block}
@@ -36,13 +35,13 @@ placed_body l p a s o b plain found same spots e f h r = record {
 }
 
 module _ (l : Loop) (whole : IsWhole l) (told : are_told (known l) ≡ true) (placed : Placed) where
-  pub stays_serial : (inside : Bool) (n : ℕ) → IsHindered l n → placed.plan ≡ Serial n → placed.suits ≡ false → IsPlaced l inside placed
+  pub stays_serial : (inside : Bool) (n : ℕ) → IsHindered l n → IsSerial n placed → placed.suits ≡ false → IsPlaced l inside placed
   stays_serial inside n h p s = let g = hindered l whole told n h in inr (s, g.0, (n, p, g.1))
 
   suits : (names : List (List ℕ)) (a : Analysis) → IsPlain l names → hides names l ≡ true → AreAnalysed l names a → Suits l
   suits names a plain h found = suiting l whole told names a plain h found
 
-  pub stays_inside : (names : List (List ℕ)) (a : Analysis) → IsPlain l names → hides names l ≡ true → AreAnalysed l names a → placed.plan ≡ Serial 5 → placed.suits ≡ true → IsPlaced l true placed
+  pub stays_inside : (names : List (List ℕ)) (a : Analysis) → IsPlain l names → hides names l ≡ true → AreAnalysed l names a → IsSerial 5 placed → placed.suits ≡ true → IsPlaced l true placed
   stays_inside names a plain h found p s = inl (s, suits names a plain h found, p)
 
   pub is_open : (names : List (List ℕ)) (a : Analysis) → IsPlain l names → hides names l ≡ true → AreAnalysed l names a → IsOpened l placed → placed.suits ≡ true → IsPlaced l false placed

@@ -6,7 +6,7 @@ use Rattle.loop_tree.specs.Private.{Private}
 use Rattle.plan_check.proofs.Members.{In}
 use Rattle.privatise.specs.Privates.{ArePrivate, Picked}
 
-picked_in : (P : Ref → Type 0) (rs ps : List Ref) → Picked P rs ps → (r : Ref) → In r ps → In r rs × P r
+pub picked_in : (P : Ref → Type 0) (rs ps : List Ref) → Picked P rs ps → (r : Ref) → In r ps → In r rs × P r
 picked_in P [] ps e r i = absurd (subst (λ (z : List Ref). In r z) e i)
 picked_in P (x ∷ rs) ps (inl h) r i =
     ⊎_elim

@@ -55,16 +55,23 @@ pub record IsOpened (l : Loop) (placed : Placed) : Type 0 where
   pub sources : AreSources l placed.sources.items
   pub triples : AreTriples l (map triple placed.kept.items)
 
+-- The loop stays serial, for this reason, and beside its plan stand no sources and nothing that is
+-- kept.
+pub record IsSerial (n : ℕ) (placed : Placed) : Type 0 where
+  pub plan : placed.plan ≡ Serial n
+  pub sources : placed.sources.items ≡ []
+  pub kept : placed.kept.items ≡ []
+
 -- the loop is opened, but where a loop around is open: then it stays serial for reason 5
 abbrev pub IsOpenedUnless : Bool → Loop → Placed → Type 0
-IsOpenedUnless true l placed = placed.plan ≡ Serial 5
+IsOpenedUnless true l placed = IsSerial 5 placed
 IsOpenedUnless false l placed = IsOpened l placed
 
 -- What placement gives for a loop of which it is told whether it stands in an open one.
 abbrev pub IsPlaced : Loop → Bool → Placed → Type 0
 IsPlaced l inside placed =
     ((placed.suits ≡ true) × Suits l × IsOpenedUnless inside l placed)
-    ⊎ ((placed.suits ≡ false) × (Suits l → ⊥) × ((n : ℕ) × (placed.plan ≡ Serial n) × IsLowest l [] n))
+    ⊎ ((placed.suits ≡ false) × (Suits l → ⊥) × ((n : ℕ) × IsSerial n placed × IsLowest l [] n))
 
 -- whether one of the loops around a loop may be open
 abbrev pub IsInside : List Loop → Bool → Type 0

@@ -2,10 +2,10 @@
 
 ghost use Rattle.std.specs.Prelude.{◌≡◌, IfOk, false, true};
 ghost use Rattle.dependence.specs.Kept.{IsNonzero};
-ghost use Rattle.dependence.specs.declared.plan.LoopPlan.TheVariants.{Serial};
 ghost use Rattle.loop_tree.specs.Loops.{AreWhole, IsWhole};
 ghost use Rattle.loop_tree.specs.TreeView.{all_seen, seen};
-ghost use Rattle.placement.specs.Judged.{IsInside, IsJudged, IsOpened, IsPlaced, IsSuiting};
+ghost use Rattle.placement.specs.Judged.{IsInside, IsJudged, IsOpened, IsPlaced, IsSerial};
+ghost use Rattle.placement.specs.Judged.{IsSuiting};
 ghost use Rattle.placement.specs.Placement.{IsPlacement, around_in};
 ghost use Rattle.placement.specs.declared.planning.Judged.TheVariants as judged;
 
@@ -116,7 +116,8 @@ fn opened(
 
 /// A loop that stays serial.
 fn serial(alloc: Global, reason: u8, suits: bool) -> Placed
-    ensures { result.plan ≡ Serial reason × (result.suits ≡ suits) }
+    ensures serial { IsSerial reason result }
+    ensures suits { result.suits ≡ suits }
 {
     Placed {
         plan: LoopPlan::Serial(reason),

@@ -11,7 +11,7 @@ use Rattle.loop_tree.specs.Occurrences.{Occurrence}
 use Rattle.loop_tree.specs.Paths.{Token}
 use Rattle.loop_tree.specs.Told.{are_told, is_told, known}
 use Rattle.plan_check.specs.Checking as checking
-use Rattle.plan_check.specs.Checking.{cells_of, claimed, entries_of, fits, has_named, in_order, is_in_order, is_proper, is_step, tokens_of}
+use Rattle.plan_check.specs.Checking.{are_once, cells_of, claimed, entries_of, fits, has_named, in_order, is_in_order, is_proper, is_step, tokens_of}
 use Rattle.plan_check.specs.Entries.{entries_by, joined_entry}
 use Rattle.plan_check.specs.Flow.{Known, Point, flag_at, outside}
 use Rattle.plan_check.specs.GoodPlan.{named, token_of}
@@ -48,16 +48,17 @@ ordered_by l p k s ns w e a c r h i j =
     twice true = refl
     twice false = refl
 
-pub fit_by : (l : Loop) (p : PlanTree) (ns : List (ℕ × ℕ)) (a b h s q r : Bool) → ns ≡ named p.body → r ≡ (a && (not b && (h && (s && q)))) → a ≡ is_step l.step → b ≡ block_reads l.body → h ≡ hides p.privates l
-    → s ≡ list_all (λ (n : List ℕ). has_named l.assigned n) p.privates → q ≡ list_all (λ (n : ℕ × ℕ). is_proper n) ns → r ≡ fits l p
-fit_by l p ns a b h s q r e is ea eb eh es eq =
+pub fit_by : (l : Loop) (p : PlanTree) (ns : List (ℕ × ℕ)) (a b h s o q r : Bool) → ns ≡ named p.body → r ≡ (a && (not b && (h && (s && (o && q))))) → a ≡ is_step l.step → b ≡ block_reads l.body → h ≡ hides p.privates l
+    → s ≡ list_all (λ (n : List ℕ). has_named l.assigned n) p.privates → o ≡ are_once p.privates → q ≡ list_all (λ (n : ℕ × ℕ). is_proper n) ns → r ≡ fits l p
+fit_by l p ns a b h s o q r e is ea eb eh es eo eq =
     let named_all = list_all (λ (n : List ℕ). has_named l.assigned n) p.privates in
     is
-    ∙ ap (λ x. x && (not b && (h && (s && q)))) ea
-    ∙ ap (λ x. is_step l.step && (not x && (h && (s && q)))) eb
-    ∙ ap (λ x. is_step l.step && (not (block_reads l.body) && (x && (s && q)))) eh
-    ∙ ap (λ x. is_step l.step && (not (block_reads l.body) && (hides p.privates l && (x && q)))) es
-    ∙ ap (λ x. is_step l.step && (not (block_reads l.body) && (hides p.privates l && (named_all && x)))) (eq ∙ ap (λ ms. list_all (λ (n : ℕ × ℕ). is_proper n) ms) e)
+    ∙ ap (λ x. x && (not b && (h && (s && (o && q))))) ea
+    ∙ ap (λ x. is_step l.step && (not x && (h && (s && (o && q))))) eb
+    ∙ ap (λ x. is_step l.step && (not (block_reads l.body) && (x && (s && (o && q))))) eh
+    ∙ ap (λ x. is_step l.step && (not (block_reads l.body) && (hides p.privates l && (x && (o && q))))) es
+    ∙ ap (λ x. is_step l.step && (not (block_reads l.body) && (hides p.privates l && (named_all && (x && q))))) eo
+    ∙ ap (λ x. is_step l.step && (not (block_reads l.body) && (hides p.privates l && (named_all && (are_once p.privates && x))))) (eq ∙ ap (λ ms. list_all (λ (n : ℕ × ℕ). is_proper n) ms) e)
 
 pub judged : (l : Loop) (p : PlanTree) (k : Known) (s : Seen) → IsWalked l p k s → are_told (known l) ≡ true
     → (events : List ℕ) (ns : List (ℕ × ℕ)) → ((test : ℕ → Bool) → list_any test events ≡ list_any (λ (n : ℕ × ℕ). test n.0) ns) → ns ≡ named p.body

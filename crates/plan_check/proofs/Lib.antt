@@ -15,6 +15,7 @@ pub mod Judged
 pub mod Members
 pub mod Naming
 pub mod Nodes
+pub mod Once
 pub mod Parallel
 pub mod Passing
 pub mod Ranks

@@ -1,5 +1,7 @@
 -- Of several mistakes the first is told.
 use Rattle.std.proofs.Common.{◌≡◌, ◌<◌, true, false, arith, Result, Ok, Err, IfOk}
+use Rattle.std.specs.List.{IsDistinct}
+use Rattle.ast.specs.Store.{same_name}
 use Rattle.dependence.specs.Plan.{PlanTree}
 use Rattle.loop_tree.specs.Loops.{Loop}
 use Rattle.loop_tree.specs.Told.{are_in_turn, are_told, known, references}
@@ -7,6 +9,7 @@ use Rattle.plan_check.specs.Checking.{IsBody, IsChecked, all_ahead, all_held, al
 use Rattle.plan_check.specs.GoodPlan.{GoodPlan}
 use Rattle.plan_check.specs.Mistakes.{Has, IsFirst, rank_of}
 use Rattle.plan_check.specs.Walked.{IsOrderly}
+use Rattle.plan_check.proofs.Once.{names_once}
 use Rattle.plan_check.proofs.Sound.{accepted_is_good}
 use Rattle.plan_check.specs.declared.fault.Mistake.{Mistake}
 use Rattle.plan_check.specs.declared.fault.Mistake.TheVariants.{Early, Disorder, Behind, Unawaited, Untrue, OtherBody, Unfit}
@@ -106,6 +109,10 @@ module _ (l : Loop) (p : PlanTree) where
     held = held;
     true_claims = claims;
   }
+
+pub once_if : {X E : Type 0} (l : Loop) (p : PlanTree) (r : Result X E) → IfOk r (λ _. IsChecked l p) → IfOk r (λ _. IsDistinct same_name p.privates)
+once_if l p (Ok x) ok = names_once l p ok.fit
+once_if l p (Err e) ok = tt
 
 pub good_if : {X E : Type 0} (l : Loop) (p : PlanTree) (r : Result X E) → are_in_turn (references l.references) ≡ true → are_told (known l) ≡ true → IfOk r (λ _. IsChecked l p) → IfOk r (λ _. GoodPlan l p)
 good_if l p (Ok x) turn told ok = accepted_is_good (cells_of l) l p turn told ok

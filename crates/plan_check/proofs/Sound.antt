@@ -21,7 +21,7 @@ use Rattle.loop_tree.specs.Loops.{Loop}
 use Rattle.loop_tree.specs.Occurrences.{Occurrence}
 use Rattle.loop_tree.specs.Paths.{Token, uses, defines, await, advance, at_end}
 use Rattle.loop_tree.specs.Told.{are_in_turn, are_told, is_told, iff, known, references}
-use Rattle.plan_check.specs.Checking.{reference_tokens, tokens_of, Checked, Entry, at_references, claim_of, distance_of, each_pair, entries, entries_of, first, has_name, has_named, is_held, is_held_if, is_in_order, is_late, is_looked_at, is_proper, is_step, is_true_claim}
+use Rattle.plan_check.specs.Checking.{are_once, reference_tokens, tokens_of, Checked, Entry, at_references, claim_of, distance_of, each_pair, entries, entries_of, first, has_name, has_named, is_held, is_held_if, is_in_order, is_late, is_looked_at, is_proper, is_step, is_true_claim}
 use Rattle.plan_check.proofs.Facts.{Below, Fact, defined, near, free, advanced, run, runs}
 use Rattle.plan_check.specs.Flow.{Known, Point, after_block, block_points, has_advanced, has_awaited, is_defined, is_free, is_near, outside}
 use Rattle.plan_check.specs.GoodPlan.{Begins, GoodPlan, IsPrivate, Keeps, Names, Together, named, token_of}
@@ -367,7 +367,8 @@ module _ (promised : (l : Loop) (a b : Occurrence) (r : Relation) → is_verifie
       let b = and_parts (not (block_reads l.body)) _ a.1 in
       let c = and_parts (list_all (λ (r : Ref). has_name p.privates r.name) (block_variables l.body)) _ b.1 in
       let d = and_parts (list_all (λ (n : List ℕ). has_named l.assigned n) p.privates) _ c.1 in
-      (a.0, b.0, c.0, d.0, d.1)
+      let e = and_parts (are_once p.privates) _ d.1 in
+      (a.0, b.0, c.0, d.0, e.1)
 
   proper : (e d : ℕ) → Names p e d → (1 ≤ e) × (e ≤ most_events) × (1 ≤ d)
   proper e d i =

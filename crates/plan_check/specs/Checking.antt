@@ -32,15 +32,21 @@ is_proper n = nat_le 1 n.0 && (nat_le n.0 most_events && nat_le 1 n.1)
 abbrev pub has_named : List Ref → List ℕ → Bool
 has_named rs name = list_any (λ (r : Ref). same_name r.name name) rs
 
+-- no name stands twice
+abbrev pub are_once : List (List ℕ) → Bool
+are_once [] = true
+are_once (n ∷ ns) = not (has_name ns n) && are_once ns
+
 -- Otherwise 76. The loop's step is a constant other than 0, its range has no READ, the variables of
--- the loops inside are private, private names are scalars that the range gives values, and events
--- and distances are in range.
+-- the loops inside are private, private names are scalars that the range gives values, each given
+-- once, and events and distances are in range.
 abbrev pub fits : Loop → PlanTree → Bool
 fits l p =
     is_step l.step
     && (not (block_reads l.body)
     && (list_all (λ (r : Ref). has_name p.privates r.name) (block_variables l.body)
-    && (list_all (λ (n : List ℕ). has_named l.assigned n) p.privates && list_all (λ (n : ℕ × ℕ). is_proper n) (named p.body))))
+    && (list_all (λ (n : List ℕ). has_named l.assigned n) p.privates
+    && (are_once p.privates && list_all (λ (n : ℕ × ℕ). is_proper n) (named p.body)))))
 
 -- ---- by paths
 

@@ -1,5 +1,7 @@
 -- What the answer of the check says of a plan; of one without a body nothing.
 use Rattle.std.specs.Prelude.{Option, Some, None, ⊤}
+use Rattle.std.specs.List.{IsDistinct}
+use Rattle.ast.specs.Store.{same_name}
 use Rattle.dependence.specs.Plan.{PlanTree}
 use Rattle.loop_tree.specs.Loops.{Loop}
 use Rattle.plan_check.specs.Checking.{IsChecked}
@@ -14,6 +16,11 @@ Accepted l (Some p) = IsChecked l p
 abbrev pub IsGood : Loop → Option PlanTree → Type 0
 IsGood l None = ⊤
 IsGood l (Some p) = GoodPlan l p
+
+-- no private name of it is given twice
+abbrev pub HasNamesOnce : Option PlanTree → Type 0
+HasNamesOnce None = ⊤
+HasNamesOnce (Some p) = IsDistinct same_name p.privates
 
 -- without what was put in, its body is the loop's range
 abbrev pub HasBody : Loop → Option PlanTree → Type 0

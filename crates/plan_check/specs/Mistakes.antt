@@ -18,6 +18,11 @@ number_of Untrue = 74
 number_of OtherBody = 75
 number_of Unfit = 76
 
+-- the number of what the check answers; none of want of memory
+abbrev pub fault_number : PlanFault → Option ℕ
+fault_number Memory = None
+fault_number (Refused m) = Some (number_of m)
+
 -- Of several mistakes that of the lowest rank is told.
 abbrev pub rank_of : Mistake → ℕ
 rank_of Unfit = 0

@@ -2,11 +2,13 @@
 
 ghost use Rattle.std.specs.Prelude.{◌≡◌, ◌&&◌, IfErr, IfOk, Some, not, true};
 ghost use Rattle.std.specs.Bool.{Decides};
+ghost use Rattle.std.specs.List.{IsDistinct};
+ghost use Rattle.ast.specs.Store.{same_name};
 ghost use Rattle.dependence.specs.PlanView.{plan_of};
 ghost use Rattle.loop_tree.specs.TreeView.{seen};
 ghost use Rattle.plan_check.specs.Checking.{IsChecked, cells_of, fits as is_fit, in_order};
 ghost use Rattle.plan_check.specs.Checking.{reference_tokens, tokens_of};
-ghost use Rattle.plan_check.specs.Checks.{Accepted, HasBody, IsGood};
+ghost use Rattle.plan_check.specs.Checks.{Accepted, HasBody, HasNamesOnce, IsGood};
 ghost use Rattle.plan_check.specs.EntryView.{verdict as verdict_of};
 ghost use Rattle.plan_check.specs.GivenView.{given};
 ghost use Rattle.plan_check.specs.GoodPlan.{GoodPlan, SameBody, named};
@@ -181,6 +183,7 @@ fn check_body(
 fn check_given(alloc: Global, view: &LoopView<'_, '_>, plan: &Given<'_>) -> Result<(), PlanFault>
     ensures accepted { IfOk result (λ _. IsChecked (seen view.now) (given plan.now)) }
     ensures good { IfOk result (λ _. GoodPlan (seen view.now) (given plan.now)) }
+    ensures once { IfOk result (λ _. IsDistinct same_name (given plan.now).privates) }
     ensures refused { IfErr result (Refuses (seen view.now) (Some (given plan.now))) }
 {
     let events = events_of(alloc, plan.body)?;
@@ -191,12 +194,14 @@ fn check_given(alloc: Global, view: &LoopView<'_, '_>, plan: &Given<'_>) -> Resu
 }
 
 /// Whether a loop may be run by a plan. A serial plan is accepted. A plan with a body is accepted
-/// where it meets all conditions; then it is a good plan, and its body is the loop's. Of several
-/// mistakes the first is told, in the order of 76, 75, 70, 71, 72, 73, 74.
+/// where it meets all conditions; then it is a good plan, its body is the loop's, and it gives no
+/// private name twice. Of several mistakes the first is told, in the order of 76, 75, 70, 71, 72,
+/// 73, 74.
 pub fn check(alloc: Global, view: &LoopView<'_, '_>, plan: &LoopPlan) -> Result<(), PlanFault>
     ensures accepted { IfOk result (λ _. Accepted (seen view.now) (plan_of plan.now)) }
     ensures good { IfOk result (λ _. IsGood (seen view.now) (plan_of plan.now)) }
     ensures same { IfOk result (λ _. HasBody (seen view.now) (plan_of plan.now)) }
+    ensures once { IfOk result (λ _. HasNamesOnce (plan_of plan.now)) }
     ensures refused { IfErr result (Refuses (seen view.now) (plan_of plan.now)) }
 {
     match plan {

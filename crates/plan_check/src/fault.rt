@@ -22,8 +22,8 @@ pub enum Mistake {
     /// The body isn't the loop's with awaits, advances and made ELSEs that hold nothing else.
     OtherBody,
     /// The step is no constant other than 0, there is a READ inside, an inner DO variable isn't
-    /// private, a private name is no scalar that the range gives a value, an event isn't from 1 to
-    /// 64, or a distance isn't at least 1.
+    /// private, a private name is no scalar that the range gives a value or is given twice, an
+    /// event isn't from 1 to 64, or a distance isn't at least 1.
     Unfit,
 }
 
@@ -54,6 +54,21 @@ pub enum PlanFault {
     Memory,
     /// The plan has this mistake.
     Refused(Mistake),
+}
+
+impl PlanFault {
+    ghost use Rattle.std.specs.Prelude.{◌≡◌};
+    ghost use Rattle.plan_check.specs.Mistakes.{fault_number};
+
+    /// The number of the refusal, from 70 to 76; none where there was no memory.
+    pub fn number(self) -> Option<u8>
+        ensures { result ≡ fault_number self }
+    {
+        match self {
+            PlanFault::Memory => None,
+            PlanFault::Refused(mistake) => Some(mistake.number()),
+        }
+    }
 }
 
 impl From<AllocError> for PlanFault {

@@ -10,7 +10,7 @@ ghost use Rattle.plan_check.specs.GoodPlan.{named};
 
 use crate::given::Given;
 use ast::{MOST_EVENTS, Name, Reference};
-use dependence::{has_read, hides_inner};
+use dependence::{has_name, has_read, hides_inner};
 use loop_tree::LoopView;
 
 /// Whether a step is a constant other than 0.
@@ -47,6 +47,18 @@ fn are_assigned(scalars: &[Reference], names: &[Name]) -> bool
     true
 }
 
+/// Whether no name stands twice.
+fn are_once(names: &[Name]) -> bool
+    ensures { result ≡ spec.are_once (map letters names.now) }
+{
+    for place in 0..names.len() {
+        if has_name(&names[place + 1..], names[place]) {
+            return false;
+        }
+    }
+    true
+}
+
 fn is_proper(event: usize, distance: u128) -> bool
     ensures { result ≡ spec.is_proper (event, distance) }
 {
@@ -64,15 +76,15 @@ fn are_proper(events: &[(usize, u128)]) -> bool
     true
 }
 
-fn is_fit(step: bool, read: bool, hidden: bool, assigned: bool, proper: bool) -> bool
-    ensures { result ≡ (step && (not read && (hidden && (assigned && proper)))) }
+fn is_fit(step: bool, read: bool, hidden: bool, assigned: bool, once: bool, proper: bool) -> bool
+    ensures { result ≡ (step && (not read && (hidden && (assigned && (once && proper))))) }
 {
-    step && !read && hidden && assigned && proper
+    step && !read && hidden && assigned && once && proper
 }
 
 /// Whether the step is a constant other than 0, there is no READ, inner DO variables are private,
-/// private names are those of scalars that the range gives values, and the events that the plan
-/// names are from 1 to 64, at distances of at least 1.
+/// private names are those of scalars that the range gives values, none of them given twice, and
+/// the events that the plan names are from 1 to 64, at distances of at least 1.
 pub fn fits(view: &LoopView<'_, '_>, plan: &Given<'_>, events: &[(usize, u128)]) -> bool
     requires { events.now ≡ named (given plan.now).body }
     ensures { result ≡ spec.fits (seen view.now) (given plan.now) }
@@ -82,6 +94,7 @@ pub fn fits(view: &LoopView<'_, '_>, plan: &Given<'_>, events: &[(usize, u128)])
         has_read(view),
         hides_inner(view, plan.privates),
         are_assigned(view.assigned(), plan.privates),
+        are_once(plan.privates),
         are_proper(events),
     )
 }

@@ -6,7 +6,7 @@ use Rattle.loop_tree.specs.TreeView.{all_seen, seen}
 use Rattle.placement.specs.Judged.{IsInside, IsPlaced}
 use Rattle.placement.specs.Placement.{IsPlacement, loops_around}
 use Rattle.placement.proofs.Around.{is_placement}
-use Rattle.plan_check.specs.Checks.{HasBody, IsGood}
+use Rattle.plan_check.specs.Checks.{HasBody, HasNamesOnce, IsGood}
 use Rattle.codegen.specs.Noted.{AreNoted, is_noted}
 use Rattle.codegen.specs.Reports.{IsReport}
 use Rattle.codegen.proofs.Nested.{noted_inside, noted_next}
@@ -42,6 +42,7 @@ returns-clause-report c =
       plan = subst (λ p. IsPlacement all l p) (sym reported.plan_is) (is_placement all l inside given c.requires.whole c.args.view.now.told is_inside is_placed);
       good = subst (λ p. IsGood l (plan_of p)) (sym reported.plan_is) c.in_ok-accepted.ensures.good;
       body = subst (λ p. HasBody l (plan_of p)) (sym reported.plan_is) c.in_ok-accepted.ensures.body;
+      once = subst (λ p. HasNamesOnce (plan_of p)) (sym reported.plan_is) c.in_ok-accepted.ensures.once;
       reported = subst (λ n. IsReport c.args.lines.now n given r) c.line.ensures reported;
     })
     c.report.ensures

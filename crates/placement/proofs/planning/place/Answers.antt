@@ -10,7 +10,7 @@ use Rattle.placement.proofs.planning.place.Goals as goal
 pub returns-in-Serial : goal.returns-in-Serial
 returns-in-Serial c = λ whole.
     let l = seen c.args.view.now in
-    stays_serial l whole c.args.view.now.told c.serial.result c.args.inside c.in-Serial.reason (subst (λ j. IsJudged l j) c.in-Serial.is c.in_ok-reason.ensures) c.serial.ensures.0 c.serial.ensures.1
+    stays_serial l whole c.args.view.now.told c.serial.result c.args.inside c.in-Serial.reason (subst (λ j. IsJudged l j) c.in-Serial.is c.in_ok-reason.ensures) c.serial.ensures.serial c.serial.ensures.suits
 
 pub returns-in-Suits : goal.returns-in-Suits
 returns-in-Suits c = λ whole.
@@ -18,7 +18,7 @@ returns-in-Suits c = λ whole.
     let found = subst (λ j. IsJudged l j) c.in-Suits.is c.in_ok-reason.ensures in
     let placed = c.serial-in-Suits.result in
     subst (λ b. IsPlaced l b placed) (sym c.if-inside.true)
-    (stays_inside l whole c.args.view.now.told placed (map letters c.in-Suits.privates.names.items) c.in-Suits.analysis found.0 found.1 found.2 c.serial-in-Suits.ensures.0 c.serial-in-Suits.ensures.1)
+    (stays_inside l whole c.args.view.now.told placed (map letters c.in-Suits.privates.names.items) c.in-Suits.analysis found.0 found.1 found.2 c.serial-in-Suits.ensures.serial c.serial-in-Suits.ensures.suits)
 
 pub returns-in-Suits-2 : goal.returns-in-Suits-2
 returns-in-Suits-2 c =
