@@ -119,7 +119,10 @@ fn sizes_run<R: Abort + AllocGlobal + Threads + Wait + Sync>(
 ) {
     for (p, s) in sizes {
         assert!(rt; is_right(rt, code, input, *p, *s, answer), "p {p}, s {s}");
-        assert!(rt; is_right_unrecorded(rt, code, input, *p, *s, answer), "p {p}, s {s}");
+        assert!(rt;
+            is_right_unrecorded(rt, code, input, *p, *s, answer),
+            "p {p}, s {s}"
+        );
     }
 }
 

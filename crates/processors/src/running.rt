@@ -66,13 +66,12 @@ fn process<C: Call, D: Driven<C> + Drop, G: Gate, R: Wait>(
 }
 
 /// Starts a thread for each processor but the first, which the caller is, and joins all of them.
-fn run_all<C: Call + Send + Sync, D: Driven<C> + Drop + Send, G: Gate + Sync, R: Threads + Wait + Sync>(
-    rt: &R,
-    desk: &Desk<C, D>,
-    coded: &Coded<'_, C>,
-    processors: usize,
-    gate: &G,
-) {
+fn run_all<
+    C: Call + Send + Sync,
+    D: Driven<C> + Drop + Send,
+    G: Gate + Sync,
+    R: Threads + Wait + Sync,
+>(rt: &R, desk: &Desk<C, D>, coded: &Coded<'_, C>, processors: usize, gate: &G) {
     thread::scope(thread::scope_env(), rt, |scope| {
         for q in 1..processors {
             if scope
@@ -88,13 +87,12 @@ fn run_all<C: Call + Send + Sync, D: Driven<C> + Drop + Send, G: Gate + Sync, R:
 }
 
 /// A run is driven to its end by as many processors as it has, and is found on the board then.
-fn driven<C: Call + Send + Sync, D: Driven<C> + Drop + Send, G: Gate + Sync, R: Threads + Wait + Sync>(
-    rt: &R,
-    alloc: Global,
-    run: D,
-    code: &Code,
-    gate: &G,
-) -> Result<Board<C, D>, AllocError>
+fn driven<
+    C: Call + Send + Sync,
+    D: Driven<C> + Drop + Send,
+    G: Gate + Sync,
+    R: Threads + Wait + Sync,
+>(rt: &R, alloc: Global, run: D, code: &Code, gate: &G) -> Result<Board<C, D>, AllocError>
     requires { code_of code.now ≡ C.code }
 {
     let processors = run.processors();

@@ -14,6 +14,6 @@ returns-clause-made c = (
   c.requires.going,
   c.requires.from,
   worked c.self.inside.input.now c.self.inside.activities c.put.new.self c.args.self.now c.args.q c.args.work.now.made c.self.view_is c.put.ensures.stays
-  (put_works c.self.inside.input.now c.self.inside.activities c.put.new.self c.args.self.now (code_of c.args.work.now.code.now) c.args.q c.args.work.now.made (frame_of c.args.work.now.from) (frame_of c.args.work.now.to)
-  c.self.view_is c.requires.own c.requires.from (c.args.work.now.leads c.requires.some) c.put.ensures.works),
+      (put_works c.self.inside.input.now c.self.inside.activities c.put.new.self c.args.self.now (code_of c.args.work.now.code.now) c.args.q c.args.work.now.made (frame_of c.args.work.now.from) (frame_of c.args.work.now.to)
+      c.self.view_is c.requires.own c.requires.from (c.args.work.now.leads c.requires.some) c.put.ensures.works),
 )
