@@ -312,7 +312,7 @@ const WRITE_THEN_READ: Places = (1, 0);
 /// The one of two elements that is read, and later the assigned one.
 const READ_THEN_WRITE: Places = (0, 1);
 
-static CHANGED: [Row<'static>; 25] = [
+static CHANGED: [Row<'static>; 26] = [
     // plans with an await changed
     // The sink's await is taken out, the order await is kept.
     (
