@@ -10,7 +10,6 @@ use Rattle.ast.specs.Symbols.{Extent, Symbol, dimensions_in, elements, is_sized,
 use Rattle.ast.specs.Tree.{Ref, Terms}
 use Rattle.ast.proofs.SameNames.{same_itself, same_is}
 use Rattle.dependence.specs.Plan.{PlanPaths}
-use Rattle.loop_tree.specs.Loops.{Loop}
 use Rattle.loop_tree.specs.Occurrences.{Occurrence, block_occurrences}
 use Rattle.loop_tree.specs.Paths.{Token, defines, Ending}
 use Rattle.machine.specs.Code as machine

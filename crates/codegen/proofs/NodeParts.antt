@@ -2,7 +2,7 @@
 use Rattle.std.proofs.Common.{◌≡◌, ◌∙◌, ◌+◌, ◌<◌, ℕ, false, List, length, map, drop, take, Option, ap, get_or}
 use Rattle.std.specs.Prelude.{◌-◌}
 use Rattle.ast.specs.Meaning.{is_last_stop_of}
-use Rattle.ast.specs.Tree.{Term, Block, then_node, then_arm, arms as arms_tree}
+use Rattle.ast.specs.Tree.{Term, Block, then_arm, arms as arms_tree}
 use Rattle.ast.specs.View.{arm as arm_of, block_view, node as node_of, optional_term}
 use Rattle.ast.specs.declared.expression.Expr.{Expr}
 use Rattle.ast.specs.declared.tree.Arm.{Arm}

@@ -1,5 +1,5 @@
 -- A run of the machine goes on.
-use Rattle.std.proofs.Common.{◌≡◌, ◌∙◌, ℕ, zero, suc, ◌+◌, ◌<◌, Bool, true, false, List, [], ◌∷◌, ◌++◌, length, Option, Some, None, refl, sym, ap, subst, arith}
+use Rattle.std.proofs.Common.{◌≡◌, ◌∙◌, ℕ, zero, suc, ◌<◌, Bool, true, false, List, [], ◌∷◌, ◌++◌, length, Option, Some, refl, sym, ap, subst}
 use Rattle.std.specs.Prelude.{Result, Ok, Err, IfOk, OnErr}
 use Rattle.std.specs.declared.alloc.AllocError.{AllocError}
 use Rattle.machine.specs.Code.{Code}
@@ -8,14 +8,14 @@ use Rattle.machine.specs.Local.{locals}
 use Rattle.machine.specs.State.{Choice, CodeRun, CodeStep, Init, Machine, Turn, Who}
 use Rattle.machine.specs.View.{view, trips_of, begin}
 use Rattle.machine.specs.declared.code.Open.{Open}
-use Rattle.activities.specs.Activities.{AreActivities, Stays, code_in, frame_at, kept_in, point_in}
+use Rattle.activities.specs.Activities.{AreActivities, Stays, code_in, kept_in, point_in}
 use Rattle.activities.specs.Activities.{Did as Goes}
 use Rattle.activities.specs.Parts.{Kept, point_of}
 use Rattle.activities.specs.Points.{Moves, Picks, Point, Steps, Works}
 use Rattle.activities.specs.Putting.{PutsOn}
 use Rattle.activities.specs.declared.holding.Activities.{Activities}
 use Rattle.unrecorded.specs.Handing.{HasFrame, WorksOn}
-use Rattle.unrecorded.specs.View.{Did, Drives, IsReached, IsSameRun, RunView, Shares, TakesUp, point_at}
+use Rattle.unrecorded.specs.View.{Did, Drives, IsReached, IsSameRun, RunView, Shares, TakesUp}
 use Rattle.unrecorded.specs.Whole.{IsWhole, seen_as}
 
 -- a run, and one turn more

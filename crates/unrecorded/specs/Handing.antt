@@ -1,6 +1,5 @@
 -- Local work that is done elsewhere and handed in.
 use Rattle.std.specs.Prelude.{◌≡◌, ℕ, Bool, true, false, Some}
-use Rattle.machine.specs.CodeView.{code_of}
 use Rattle.machine.specs.Frame.{Frame}
 use Rattle.machine.specs.FrameView.{frame_of}
 use Rattle.machine.specs.WorkView.{work_of}
