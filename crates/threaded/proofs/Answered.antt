@@ -1,5 +1,5 @@
 -- What comes of a run of code is the sequential program's.
-use Rattle.std.proofs.Common.{◌≡◌, ◌∙◌, ◌⊎◌, ℕ, ℤ, zero, suc, ◌+◌, Bool, true, false, List, [], ◌∷◌, ◌++◌, map, Option, Some, None, Vec, append-nil, inl, inr, ap, refl, subst, sym}
+use Rattle.std.proofs.Common.{◌≡◌, ◌∙◌, ◌⊎◌, ℕ, ℤ, zero, suc, ◌+◌, Bool, true, false, List, [], ◌∷◌, ◌++◌, map, Option, Some, None, Vec, append-nil, inl, inr, ap, refl, subst, sym, arith}
 use Rattle.std.specs.Global.{Global}
 use Rattle.std.proofs.lemmas.Option.{same_Some}
 use Rattle.ast.specs.Meaning.{seq}
@@ -168,13 +168,17 @@ comes_unrecorded tree code input w answer Stuck compiled headline e r h = absurd
 
 -- ---- why there is no answer
 
+-- 57 is neither of the numbers of a run that was begun
+not_begun : (number : ℕ) → number ≡ 57 → (number ≡ 58) ⊎ (number ≡ 59) → ⊥
+not_begun number e (inl h) = omega (arith, e, h)
+not_begun number e (inr h) = omega (arith, e, h)
+
 -- a number that isn't 57 is of a run that was begun, and 57 of numbers that are out of range
 numbered : (tree : ProgramTree) (code : Code) (input : List ℕ) (w : Wants) (number : ℕ) (ran : Ran) → IsNumbered number ran
     → ((number ≡ 57) × (AreSizes w.processors w.slots → ⊥)) ⊎ (AreSizes w.processors w.slots × ((number ≡ 58) ⊎ (number ≡ 59))) → ComesOf tree code input w ran
 numbered tree code input w number OutOfRange e (inl h) = h.1
-numbered tree code input w number OutOfRange e (inr (sizes, inl h)) = absurd cc
-numbered tree code input w number OutOfRange e (inr (sizes, inr h)) = absurd cc
-numbered tree code input w number NotStarted e (inl h) = absurd cc
+numbered tree code input w number OutOfRange e (inr h) = absurd (not_begun number e h.1)
+numbered tree code input w number NotStarted e (inl h) = absurd (omega (arith, e, h.0))
 numbered tree code input w number NotStarted e (inr h) = h.0
 numbered tree code input w number Stuck e (inl h) = absurd (e.0 h.0)
 numbered tree code input w number Stuck e (inr h) = h.0
