@@ -18,6 +18,10 @@ const MOST_IN_PLACE: u32 = 128;
 /// the lock. To load and hand in fewer takes longer.
 const LONG_STRETCH: u32 = 256;
 
+/// How many local instructions in a row the only processor does before it is looked whether the turn
+/// is over, at most.
+const STRETCH_ALONE: u32 = 4096;
+
 /// The core of a call's run, with the schedule of what its processors did.
 #[derive(Drop)]
 pub struct Recorded<'c, C: Call> {
@@ -272,10 +276,17 @@ impl<'c, C: Call> Driven<C> for Unrecorded<'c, C> {
         if q >= processors {
             return Ok(Advanced::Up(0));
         }
-        let mut made = 0;
-        if processors > 1 {
-            made = self.run.work(q, LONG_STRETCH);
-            if made == LONG_STRETCH && self.run.load(q, &mut own.work)? {
+        let stretch = if processors == 1 {
+            STRETCH_ALONE
+        } else {
+            LONG_STRETCH
+        };
+        let made = self.run.work(q, stretch);
+        if made == stretch {
+            if processors == 1 {
+                return Ok(Advanced::Further(made));
+            }
+            if self.run.load(q, &mut own.work)? {
                 return Ok(Advanced::Loaded(made));
             }
         }
