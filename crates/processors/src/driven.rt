@@ -45,7 +45,7 @@ pub trait Driven<C: Call> {
     /// `AllocError` where memory is refused.
     fn load(&self, q: usize, own: &mut Own<'_, C>) -> Result<bool, AllocError>;
 
-    /// Processor `q` hands in local work, of which some has been done.
+    /// Processor `q` hands in its local work, if it has done any.
     ///
     /// # Errors
     ///

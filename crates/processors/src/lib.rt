@@ -6,8 +6,9 @@
 //!
 //! What is proved: where `run` answers, the schedule that it gives, of that code, input and
 //! numbers, leads to a state that has ended, and the answer is that state's; where it finds no
-//! memory, the output is that of a state to which such a schedule leads. What is not: that it
-//! returns, that two threads work at once, and how fast they are.
+//! memory, the output is that of a state to which such a schedule leads. Of `run_unrecorded` the
+//! same is proved of some run of the machine in the place of a schedule. What is not: that they
+//! return, that two threads work at once, and how fast they are.
 #![tactic(auto)]
 
 mod board;

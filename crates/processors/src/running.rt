@@ -213,8 +213,8 @@ fn answer_call<'c, C: Call + Send + Sync, G: Gate + Sync, R: Threads + Wait + Sy
     }
 }
 
-/// As `run`, but keeps no schedule: the memory that it takes doesn't grow with its steps, and steps
-/// are made in place. What it gives is the answer.
+/// As `run`, but keeps no schedule: the memory that it takes grows only with what is printed, and
+/// steps are made in place. What it gives is the answer.
 ///
 /// # Errors
 ///

@@ -10,8 +10,8 @@ use std::alloc::AllocError;
 use std::marker::{Model, PhantomData};
 use unrecorded::Run;
 
-/// How many steps are made in place before it is looked whether the turn is over, at most. A turn has
-/// 32 times as many, so that it holds the lock for some 50 microseconds.
+/// How many steps are made in place before it is looked whether the turn is over, at most, beside
+/// local instructions in a row.
 const MOST_IN_PLACE: u32 = 128;
 
 /// Of several processors one that has so many local instructions to do in a row does them outside

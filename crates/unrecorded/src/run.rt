@@ -19,8 +19,8 @@ fn output_of(activities: Activities<'_>) -> Vec<u8>
     output
 }
 
-/// A run of code on an input, of which no schedule is kept. It takes no more memory the longer it
-/// is.
+/// A run of code on an input, of which no schedule is kept. Its memory grows only with what is
+/// printed.
 pub struct Run<'c> {
     input: &'c [u8],
     activities: Activities<'c>,
