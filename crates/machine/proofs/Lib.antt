@@ -12,7 +12,10 @@ pub mod Telling
 pub mod Forms
 pub mod Puts
 pub mod Stores
+pub mod Restarting
 mod Joining
-pub mod Elements
+mod Formulas
+pub mod Moves
+pub mod Places
 mod Alone
 mod Goes

@@ -2,6 +2,7 @@ mod ActCode
 pub mod Alike
 pub mod Code
 pub mod CodeView
+pub mod Formulas
 pub mod Frame
 pub mod FrameView
 pub mod Gone

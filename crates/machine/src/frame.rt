@@ -1,6 +1,8 @@
 //! Frames.
 
-ghost use Rattle.std.specs.Prelude.{◌≡◌, IfOk, None, replicate};
+ghost use Rattle.std.specs.Prelude.{◌≡◌, ◌≤◌, IfOk, None, length, replicate};
+ghost use Rattle.machine.specs.Code.{loop_at};
+ghost use Rattle.machine.specs.CodeView.{code_of};
 ghost use Rattle.machine.specs.ScalarView.{scalars_of};
 
 use crate::code::{Code, Open};
@@ -9,6 +11,7 @@ use crate::scalar::Scalar;
 use ast::{Fault, Line};
 use smallvec::SmallVec;
 use std::alloc::{AllocError, Global};
+use std::default::MadeWith;
 
 /// A serial loop under way: the trips that it has left, and its step.
 #[derive(Clone, Copy, Default, PartialEq, Eq)]
@@ -60,6 +63,58 @@ fn undefined(alloc: Global, count: usize) -> Result<SmallVec<Scalar, 8>, AllocEr
     ensures { IfOk result (λ v. scalars_of v.items ≡ replicate count None) }
 {
     SmallVec::from_elem(alloc, Scalar::default(), count)
+}
+
+/// So many elements, each of them this one.
+fn fill_up<T: MadeWith<Global> + Copy, const N: usize>(
+    vector: &mut SmallVec<T, N>,
+    element: T,
+    len: usize,
+)
+    requires room { len ≤ vector.old.capacity }
+    ensures { vector.new.items ≡ replicate len element }
+{
+    vector.clear();
+    while vector.len() < len {
+        vector.push_reserved(element);
+    }
+}
+
+/// So many elements, whatever they are; this one where there were another number of them.
+fn set_length<T: MadeWith<Global> + Copy, const N: usize>(
+    vector: &mut SmallVec<T, N>,
+    element: T,
+    len: usize,
+)
+    requires room { len ≤ vector.old.capacity }
+    ensures { length vector.new.items ≡ len }
+{
+    if vector.len() != len {
+        fill_up(vector, element, len);
+    }
+}
+
+/// So many private scalars, none of them defined.
+#[tactic(auto, using(crate::proofs::Privates::undefined_law))]
+fn undefine(privates: &mut SmallVec<Scalar, 8>, count: usize)
+    requires room { count ≤ privates.old.capacity }
+    ensures { scalars_of privates.new.items ≡ replicate count None }
+{
+    fill_up(privates, Scalar::default(), count);
+}
+
+/// Where an iteration of a loop begins in the code, and how many private scalars it has.
+fn first_place(code: &Code, number: u32) -> (usize, usize)
+    ensures body { result.0 ≡ (loop_at (code_of code.now) number).body }
+    ensures privates { result.1 ≡ length (loop_at (code_of code.now) number).privates }
+{
+    let number = number as usize;
+    if number < code.loops.len() {
+        let one = &code.loops[number];
+        (one.body, one.privates.len())
+    } else {
+        (code.instructions.len(), 0)
+    }
 }
 
 impl Frame {
@@ -121,13 +176,42 @@ impl Frame {
         requires { index ≡ index_at (code_of code.now) opened k }
         ensures { IfOk result (λ frame. frame_of frame ≡ begin (code_of code.now) opened k) }
     {
-        let number = opened.number as usize;
-        if number < code.loops.len() {
-            let one = &code.loops[number];
-            Frame::at(alloc, code, one.body, one.privates.len(), Some(k), index)
-        } else {
-            Frame::at(alloc, code, code.instructions.len(), 0, Some(k), index)
-        }
+        let (place, privates) = first_place(code, opened.number);
+        Frame::at(alloc, code, place, privates, Some(k), index)
+    }
+
+    /// Becomes the frame of iteration `k` of an open loop as it begins, in the room that it has. It
+    /// takes memory only where that is too little; where memory is refused it is as before.
+    ///
+    /// # Errors
+    ///
+    /// `AllocError` where memory is refused.
+    #[tactic(auto, using(crate::proofs::Restarting::whole_law))]
+    pub fn restart(
+        &mut self,
+        code: &Code,
+        opened: Open,
+        k: u128,
+        index: i64,
+    ) -> Result<(), AllocError>
+        requires { index ≡ index_at (code_of code.now) opened k }
+        ensures ok { OnOk result (frame_of self.new ≡ begin (code_of code.now) opened k) }
+        ensures err { OnErr result (frame_of self.new ≡ frame_of self.old) }
+    {
+        let (place, privates) = first_place(code, opened.number);
+        make_room(&mut self.slots, code.operands)?;
+        make_room(&mut self.privates, privates)?;
+        make_room(&mut self.counters, code.counters)?;
+        set_length(&mut self.slots, 0, code.operands);
+        undefine(&mut self.privates, privates);
+        set_length(&mut self.counters, Counter::default(), code.counters);
+        self.place = place;
+        self.top = code.operands;
+        self.inner = code.counters;
+        self.number = Some(k);
+        self.index = index;
+        self.fault = None;
+        Ok(())
     }
 
     /// An equal frame, with the same room, or `AllocError` where memory is refused.
