@@ -1,15 +1,13 @@
 -- Activities of which one has another frame, and the store other values.
-use Rattle.std.proofs.Common.{◌≡◌, ◌∙◌, ℕ, ℤ, ◌<◌, ◌≤◌, List, length, get_or, Option, Some, None, refl, sym, ap, subst, arith}
+use Rattle.std.proofs.Common.{◌≡◌, ◌∙◌, ℕ, ℤ, List, length, get_or, Option, Some, None, refl, sym, ap, subst, arith}
 use Rattle.std.specs.Prelude.{IfSome, ◌%◌, option_map}
 use Rattle.std.specs.Vec.{with_item, with_items}
 use Rattle.std.proofs.Math.ListN.{set}
-use Rattle.machine.specs.Code.{Code}
 use Rattle.machine.specs.Frame.{Frame}
 use Rattle.machine.specs.FrameView as frames
 use Rattle.machine.specs.declared.frame.Frame.{Frame as FrameValue}
-use Rattle.machine.specs.State.{Machine, Wait, Who, the_main, iteration, put_at}
-use Rattle.machine.specs.declared.code.Variable.{Variable}
-use Rattle.activities.specs.Activities.{AreActivities, Stays, code_in, kept_in, point_in}
+use Rattle.machine.specs.State.{Machine, Wait, the_main, iteration, put_at}
+use Rattle.activities.specs.Activities.{AreActivities, code_in, kept_in, point_in}
 use Rattle.activities.specs.Core.{IsCore, IsRunning}
 use Rattle.activities.specs.Parts.{Kept, Shared, Standing, active, held_of, machine_of, point_of, standing, wait_in}
 use Rattle.activities.specs.PartsView.{standing_of}
@@ -27,7 +25,7 @@ use Rattle.activities.proofs.Remaining.{stays_core, still}
 use Rattle.activities.proofs.Shares.{at_place, place_put, stand_from}
 use Rattle.machine.specs.StoreView.{store_of}
 use Rattle.machine.specs.Strides.{Held, strides}
-use Rattle.activities.proofs.Strode.{gone_at, gone_to, strides_made}
+use Rattle.activities.proofs.Strode.{gone_at, strides_made}
 
 -- what is shared, with other cells
 abbrev pub with_cells : List ℤ → Shared → Shared

@@ -16,7 +16,7 @@ use Rattle.activities.specs.Activities.{AreActivities, code_in, frame_at, frame_
 use Rattle.activities.specs.Core.{IsCore, IsRunning}
 use Rattle.activities.specs.Parts.{Kept, Standing, active, held_of, machine_of, point_of, standing, wait_in}
 use Rattle.activities.specs.PartsView.{standing_of}
-use Rattle.activities.specs.Points.{Point, Works, frame_in, wait_of}
+use Rattle.activities.specs.Points.{Moves, NoLocal, Point, Works, frame_in, wait_of}
 use Rattle.activities.specs.Sharing.{MadeAt, WorkedAt, Working, with_frame}
 use Rattle.activities.specs.declared.holding.Activities.{Activities}
 use Rattle.activities.specs.declared.holding.Holder.{Holder}
@@ -24,7 +24,7 @@ use Rattle.activities.specs.declared.parts.Iteration.{Iteration}
 use Rattle.activities.proofs.Choosing.{placed_machine}
 use Rattle.activities.proofs.Entering.{place_below}
 use Rattle.activities.proofs.Led.{led_core}
-use Rattle.activities.proofs.Locals.{Stood, again, framed_at, works_made, works_only}
+use Rattle.activities.proofs.Locals.{Stood, again, framed_at, one_only, stood_on, works_made, works_only}
 use Rattle.activities.proofs.Maps.{Mine, put_same, standing_is}
 use Rattle.activities.proofs.Remaining.{stays_core, still}
 use Rattle.activities.proofs.Shares.{at_place, place_put, stand_from}
@@ -194,3 +194,16 @@ made_so_many u q n made f g old new t w e = subst (λ (p : Point). Works (code_i
 pub made_there : (q k at n made : ℕ) (o p : Option Iteration) (old : Activities) (a : AreActivities old) (h : held_of (kept_in old).held q ≡ Some (iteration k)) → at ≡ k % old.slots → o ≡ get_or old.iterations.items at o
     → IfSome (option_map standing_of o) (λ z. MadeAt (code_in old).instructions n made z (option_map standing_of p)) → MadeAt (code_in old).instructions n made (a.core.runs q k h).standing (option_map standing_of p)
 made_there q k at n made o p old a h e f w = subst (λ (u : Option Standing). IfSome u (λ z. MadeAt (code_in old).instructions n made z (option_map standing_of p))) (at_place q k at o old a h e f) w
+
+-- no more than those stand next
+pub no_more : (u : Who) (q n made : ℕ) (f g : Frame) (old new : Activities) → Stood (point_in old) q u f → LocalWorks (code_in old).instructions n f made g → point_in new ≡ framed_at u g (point_in old) → made < n → NoLocal (code_in old) old.slots (point_in new) q
+no_more u q n made f g old new t w e l b m =
+    let o = one_only (code_in old) old.slots u (framed_at u g (point_in old)) b q g (stood_on u (point_in old) q f g t) (subst (λ (p : Point). Moves (code_in old) old.slots true p q b) e m) in
+    let z : None ≡ Some o.0 = sym (w.greatest l) ∙ o.1 in
+    cc
+
+pub none_at_end : (q : ℕ) (old : Activities) → is_some old.shared.ended ≡ true → NoLocal (code_in old) old.slots (point_in old) q
+none_at_end q old e b m = let z : false ≡ true = sym (ap is_some m.step.going) ∙ e in cc
+
+pub none_of_none : (q : ℕ) (old : Activities) → held_of (kept_in old).held q ≡ None → NoLocal (code_in old) old.slots (point_in old) q
+none_of_none q old e b m = let z : None ≡ Some m.who = sym e ∙ m.holds in cc

@@ -69,7 +69,7 @@ framed_same the_main m f e = let same : m.main ≡ f = cc in ap (λ (g : Frame).
 framed_same (iteration k) m f e =
     ap (λ (i : ℕ → Option (Active Frame)). record m { iterations = i }) (sym (put_same m.iterations k (again (m.iterations k) f) (sym (again_same (m.iterations k) f e))))
 
-stood_on : (u : Who) (p : Point) (q : ℕ) (f g : Frame) → Stood p q u f → Stood (framed_at u g p) q u g
+pub stood_on : (u : Who) (p : Point) (q : ℕ) (f g : Frame) → Stood p q u f → Stood (framed_at u g p) q u g
 stood_on the_main p q f g s = record { holds = s.holds; frame = refl; running = s.running; going = s.going }
 stood_on (iteration k) p q f g s = record { holds = s.holds; frame = framed_frame (iteration k) p.machine f g s.frame; running = s.running; going = s.going }
 
@@ -143,7 +143,7 @@ turned_to code s (iteration k) p q f g m e v (a, h, i) =
     subst (λ (w : View Frame Open). Move w a p.machine q k m) (ap (λ (j : Frame). view code j) same ∙ v) i
     ∙ sym (ap (λ (o : Option (Active Frame)). record p.machine { iterations = put_at p.machine.iterations k (again o g) }) h)
 
-one_only : (code : Code) (s : ℕ) (u : Who) (p b : Point) (q : ℕ) (f : Frame) → Stood p q u f → Moves code s true p q b → (g : Frame) × (local code.instructions f ≡ Some g) × Stood b q u g
+pub one_only : (code : Code) (s : ℕ) (u : Who) (p b : Point) (q : ℕ) (f : Frame) → Stood p q u f → Moves code s true p q b → (g : Frame) × (local code.instructions f ≡ Some g) × Stood b q u g
 one_only code s u p b q f t m =
     let o = step_of code s true p b q u t.holds m in
     let l = local_from code (frame_of p.machine u) f t.frame o.kind in

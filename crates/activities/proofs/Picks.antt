@@ -10,8 +10,9 @@ use Rattle.machine.specs.State.{Choice, take_main, take_iteration, take_ticket, 
 use Rattle.machine.specs.declared.code.Open.{Open}
 use Rattle.activities.specs.Activities.{AreActivities, Stays, code_in, kept_in, point_in, who}
 use Rattle.activities.specs.Core.{IsCore}
+use Rattle.activities.specs.Parts as plain
 use Rattle.activities.specs.Parts.{Kept, Standing, held_of, numbered, point_of, standing, wait_in}
-use Rattle.activities.specs.PartsView.{standing_of}
+use Rattle.activities.specs.PartsView.{shared_of, standing_of}
 use Rattle.activities.specs.Picking.{begun, is_due, iteration_up, main_up, no_longer_ready, ticket_up, unparked}
 use Rattle.activities.specs.Points.{ByRule, Picks, Point}
 use Rattle.activities.specs.Waiting.{Stands}
@@ -19,6 +20,7 @@ use Rattle.activities.specs.declared.holding.Activities.{Activities}
 use Rattle.activities.specs.declared.holding.Holder.{Holder}
 use Rattle.activities.specs.declared.holding.Holder.TheVariants as holder
 use Rattle.activities.specs.declared.parts.Iteration.{Iteration}
+use Rattle.activities.specs.declared.parts.Shared.{Shared}
 use Rattle.activities.proofs.Choosing.{by_rule_iteration, iteration_not_picked, iteration_picked, main_picked, ready_stands, ticket_picked}
 use Rattle.activities.proofs.Entering.{place_below}
 use Rattle.activities.proofs.Maps.{standing_there}
@@ -158,10 +160,14 @@ iteration_taken q k at z o p b old a g i l e f d n zi pi ki = by (standing (kept
 abbrev pub may_take : Open → Activities → Bool
 may_take l old = nat_lt old.shared.kernel.ticket l.trips && nat_lt old.shared.kernel.ticket (count_at old.shared.kernel 0 + old.slots)
 
-pub ticket_taken : (q k at : ℕ) (l : Open) (z : View) (it : Iteration) (old : Activities) → AreActivities old → old.shared.ended ≡ None → held_of (kept_in old).held q ≡ None → q < length old.held.items → old.shared.open ≡ Some l → may_take l old ≡ true → old.shared.kernel.ticket < 2 ^ 128 - 1
-    → k ≡ old.shared.kernel.ticket → at ≡ k % old.slots → z ≡ record old.shared.kernel { ticket = old.shared.kernel.ticket + 1 } → standing_of it ≡ begun (code_in old) l old.shared.kernel.ticket → IsKernel z
-    → TakenBy take_ticket q old (with_iteration q k at z (Some it) old)
-ticket_taken q k at l z it old a g i b o m r ki e zi si kk =
+-- what is shared is changed too: the ticket, and the frames that no iteration has
+abbrev pub with_ticket : ℕ → ℕ → ℕ → Shared → Iteration → Activities → Activities
+with_ticket q k at y it old = record old { shared = y; iterations = with_item old.iterations at (Some it); held = with_item old.held q (Some (holder.Iteration k at)) }
+
+pub ticket_taken : (q k at : ℕ) (l : Open) (z : View) (y : Shared) (it : Iteration) (old : Activities) → AreActivities old → old.shared.ended ≡ None → held_of (kept_in old).held q ≡ None → q < length old.held.items → old.shared.open ≡ Some l → may_take l old ≡ true → old.shared.kernel.ticket < 2 ^ 128 - 1
+    → k ≡ old.shared.kernel.ticket → at ≡ k % old.slots → z ≡ record old.shared.kernel { ticket = old.shared.kernel.ticket + 1 } → shared_of y ≡ record (shared_of old.shared) { order = z } → standing_of it ≡ begun (code_in old) l old.shared.kernel.ticket → IsKernel z
+    → TakenBy take_ticket q old (with_ticket q k at y it old)
+ticket_taken q k at l z y it old a g i b o m r ki e zi yi si kk =
     taken_by take_ticket q old new (ticket_up (code_in old) s q l x) a (record { code_is = refl; processors = length-set old.held.items q (Some (holder.Iteration k at)); slots = refl }) is
     (ticket_picked (code_in old) s q l x a.core g i (within q old b) below free o t u)
     (ticket_up_core (code_in old) s q l x a.core free below (omega (arith, r)) (within q old b) (subst (λ (y : View). IsKernel y) zi kk))
@@ -176,7 +182,7 @@ ticket_taken q k at l z it old a g i b o m r ki e zi si kk =
     n = old.shared.kernel.ticket
 
     new : Activities
-    new = with_iteration q k at z (Some it) old
+    new = with_ticket q k at y it old
 
     t : n < l.trips
     t = ltb-true n l.trips (and_parts (nat_lt n l.trips) (nat_lt n (count_at old.shared.kernel 0 + s)) m).0
@@ -192,7 +198,8 @@ ticket_taken q k at l z it old a g i b o m r ki e zi si kk =
 
     is : kept_in new ≡ ticket_up (code_in old) s q l x
     is =
-        ap (λ (y : View). record x { shared = record x.shared { order = y }; iterations = standings (set old.iterations.items at (Some it)); held = holders (set old.held.items q (Some (holder.Iteration k at))) }) zi
+        ap (λ (w : plain.Shared). record x { shared = w; iterations = standings (set old.iterations.items at (Some it)); held = holders (set old.held.items q (Some (holder.Iteration k at))) }) yi
+        ∙ ap (λ (y : View). record x { shared = record x.shared { order = y }; iterations = standings (set old.iterations.items at (Some it)); held = holders (set old.held.items q (Some (holder.Iteration k at))) }) zi
         ∙ ap (λ (ys : List (Option Standing)). record x { shared = record x.shared { order = record old.shared.kernel { ticket = n + 1 } }; iterations = ys; held = holders (set old.held.items q (Some (holder.Iteration k at))) })
         (place_put old.iterations.items at (n % s) (Some it) (e ∙ ap (λ (j : ℕ). j % s) ki) ∙ ap (λ (y : Standing). set x.iterations (n % s) (Some y)) si)
         ∙ ap (λ (hs : List (Option Who)). record x { shared = record x.shared { order = record old.shared.kernel { ticket = n + 1 } }; iterations = set x.iterations (n % s) (Some (begun (code_in old) l n)); held = hs })

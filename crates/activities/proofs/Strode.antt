@@ -1,18 +1,16 @@
 -- Strides of what a processor holds are its steps.
-use Rattle.std.proofs.Common.{◌≡◌, ◌∙◌, ℕ, zero, suc, ◌+◌, Bool, true, false, Option, Some, None, refl, sym, ap, subst, arith}
-use Rattle.std.specs.Prelude.{is_some, eqb, cond}
+use Rattle.std.proofs.Common.{◌≡◌, ◌∙◌, ℕ, zero, suc, Bool, true, false, Option, Some, None, refl, sym, ap, subst}
+use Rattle.std.specs.Prelude.{eqb, cond}
 use Rattle.ast.specs.Store.{StoreOf}
 use Rattle.machine.specs.Code.{Code}
 use Rattle.machine.specs.Frame.{Frame}
-use Rattle.machine.specs.Local.{and_then, is_local, local, locals}
+use Rattle.machine.specs.Local.{and_then}
 use Rattle.machine.specs.State.{Active, Machine, MainMove, Move, Turn, Wait, Who, the_main, iteration, put_at, put_cell}
 use Rattle.machine.specs.View.{View, doing, loading, storing, view, trips_of, begin}
-use Rattle.machine.specs.View as views
 use Rattle.machine.specs.declared.code.Open.{Open}
-use Rattle.machine.proofs.Views.{local_is_doing}
 use Rattle.machine.proofs.Puts.{put_same as put_got}
-use Rattle.activities.specs.Points.{Moves, Point, Steps, counted, frame_in, frame_of, local_in, moved, slot, view_in, wait_of}
-use Rattle.activities.proofs.Locals.{Stood, again, framed, framed_at}
+use Rattle.activities.specs.Points.{Moves, Point, Steps, counted, frame_in, frame_of, local_in, moved, slot, view_in}
+use Rattle.activities.proofs.Locals.{Stood, again}
 use Rattle.activities.proofs.Maps.{put_same}
 use Rattle.machine.specs.Strides.{Held, gone, stride, strides}
 

@@ -18,7 +18,7 @@ wait (Retired v) = until_retired v
 
 -- an open iteration
 abbrev pub standing_of : Iteration → plain.Standing
-standing_of a = record { number = a.number; frame = frame_of a.frame; out = a.out.items; wait = option_map wait a.wait }
+standing_of a = record { number = a.number; frame = frame_of a.frame.value; out = a.out.items; wait = option_map wait a.wait }
 
 -- what all activities share
 abbrev pub shared_of : Shared → plain.Shared

@@ -98,6 +98,10 @@ abbrev pub Works : Code → ℕ → ℕ → Point → ℕ → Point → Type 0
 Works code s zero a q b = a ≡ b
 Works code s (suc n) a q b = (x : Point) × Moves code s true a q x × Works code s n x q b
 
+-- Processor q can make no local step.
+abbrev pub NoLocal : Code → ℕ → Point → ℕ → Type 0
+NoLocal code s a q = (b : Point) → Moves code s true a q b → ⊥
+
 -- Processor q makes so many steps of what it holds, each a local or a shared one.
 abbrev pub Steps : Code → ℕ → ℕ → Point → ℕ → Point → Type 0
 Steps code s zero a q b = a ≡ b

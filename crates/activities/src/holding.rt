@@ -88,6 +88,7 @@ fn first_shared(alloc: Global, code: &Code, slots: usize) -> Result<Shared, Allo
         output: Vec::new(alloc),
         open: None,
         ended: None,
+        spare: Vec::with_capacity(alloc, slots)?,
     })
 }
 

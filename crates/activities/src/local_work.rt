@@ -49,7 +49,7 @@ fn put_at(place: &mut Option<Iteration>, to: &mut Frame)
     ensures { HasGot (frame_of to.old) place.old place.new }
 {
     if let Some(iteration) = place {
-        swap(&mut iteration.frame, to);
+        swap(&mut *iteration.frame, to);
     }
 }
 
@@ -60,7 +60,7 @@ impl<'c> Activities<'c> {
     ghost use Rattle.activities.specs.Activities.{AreActivities, Stays, code_in, kept_in, point_in};
     ghost use Rattle.activities.specs.Parts.{held_of};
     ghost use Rattle.activities.specs.Putting.{PutsOn};
-    ghost use Rattle.activities.specs.Points.{Point, Works};
+    ghost use Rattle.activities.specs.Points.{NoLocal, Point, Works};
 
     /// `n` local instructions of iteration `k`, which processor `q` holds, and which may stand in
     /// this place.
@@ -110,6 +110,7 @@ impl<'c> Activities<'c> {
         requires holds { held_of (kept_in self.old).held q ≡ Some (iteration k) }
         ensures made { Works (code_in self.old) self.old.slots result (point_in self.old) q
             (point_in self.new) }
+        ensures all { result < n → NoLocal (code_in self.old) self.old.slots (point_in self.new) q }
         ensures few { result ≤ n }
         ensures stand { AreActivities self.new }
         ensures stays { Stays self.old self.new }
@@ -125,6 +126,7 @@ impl<'c> Activities<'c> {
         requires processor { q < length self.old.held.items }
         ensures made { Works (code_in self.old) self.old.slots result (point_in self.old) q
             (point_in self.new) }
+        ensures all { result < n → NoLocal (code_in self.old) self.old.slots (point_in self.new) q }
         ensures few { result ≤ n }
         ensures stand { AreActivities self.new }
         ensures stays { Stays self.old self.new }

@@ -18,7 +18,7 @@ pub enum Until {
 #[derive(Drop)]
 pub struct Iteration {
     pub number: u128,
-    pub frame: Frame,
+    pub frame: Box<Frame>,
     /// What it has printed.
     pub out: Vec<u8>,
     /// What it is parked on.
@@ -38,6 +38,8 @@ pub struct Shared {
     pub open: Option<Open>,
     /// How the run has ended.
     pub ended: Option<End>,
+    /// The frames of iterations that have retired, in whose room others begin.
+    pub spare: Vec<Box<Frame>>,
 }
 
 /// What main has of its own.

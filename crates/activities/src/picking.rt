@@ -4,7 +4,8 @@ ghost use Rattle.std.specs.Prelude.{◌≡◌, ◌+◌, ◌<◌, IfOk, Some, fal
 ghost use Rattle.ast.specs.Exact.{fits};
 ghost use Rattle.ec_kernel.specs.View.{IsKernel};
 ghost use Rattle.machine.specs.CodeView.{code_of};
-ghost use Rattle.machine.specs.View.{index_at};
+ghost use Rattle.machine.specs.FrameView.{frame_of};
+ghost use Rattle.machine.specs.View.{begin, index_at};
 ghost use Rattle.activities.specs.Parts.{numbered, wait_in};
 ghost use Rattle.activities.specs.PartsView.{standing_of, wait};
 ghost use Rattle.activities.specs.Picking.{IsCounted, begun, is_due, no_longer_ready, unparked};
@@ -79,16 +80,59 @@ fn index_in(code: &Code, opened: Open, k: u128) -> i64
     }
 }
 
+/// A new frame of iteration `k` of an open loop as it begins.
+// Out of line, since its caller would clear room for a frame at each ticket.
+#[inline(never)]
+fn new_frame(
+    alloc: Global,
+    code: &Code,
+    opened: Open,
+    k: u128,
+    index: i64,
+) -> Result<Box<Frame>, AllocError>
+    requires { index ≡ index_at (code_of code.now) opened k }
+    ensures { IfOk result (λ b. frame_of b.value ≡ begin (code_of code.now) opened k) }
+{
+    let frame = Frame::begin(alloc, code, opened, k, index)?;
+    Ok(Box::new(alloc, frame)?)
+}
+
+/// The frame of iteration `k` of an open loop as it begins, in the room of a spare one where there
+/// is one.
+fn first_frame(
+    spare: &mut Vec<Box<Frame>>,
+    code: &Code,
+    opened: Open,
+    k: u128,
+) -> Result<Box<Frame>, AllocError>
+    requires { fits (index_at (code_of code.now) opened k) ≡ true }
+    ensures { IfOk result (λ b. frame_of b.value ≡ begin (code_of code.now) opened k) }
+{
+    let index = index_in(code, opened, k);
+    match spare.pop() {
+        Some(mut frame) => {
+            frame.restart(code, opened, k, index)?;
+            Ok(frame)
+        }
+        None => new_frame(*spare.allocator(), code, opened, k, index),
+    }
+}
+
 /// Iteration `k` of an open loop as it begins.
-fn begin(alloc: Global, code: &Code, opened: Open, k: u128) -> Result<Iteration, AllocError>
+fn begin(
+    spare: &mut Vec<Box<Frame>>,
+    code: &Code,
+    opened: Open,
+    k: u128,
+) -> Result<Iteration, AllocError>
     requires { fits (index_at (code_of code.now) opened k) ≡ true }
     ensures { IfOk result (λ a. standing_of a ≡ begun (code_of code.now) opened k) }
 {
-    let index = index_in(code, opened, k);
+    let frame = first_frame(spare, code, opened, k)?;
     Ok(Iteration {
         number: k,
-        frame: Frame::begin(alloc, code, opened, k, index)?,
-        out: Vec::new(alloc),
+        frame,
+        out: Vec::new(*spare.allocator()),
         wait: None,
     })
 }
@@ -194,8 +238,8 @@ impl<'c> Activities<'c> {
         if !self.has_ticket(opened) {
             return Ok(false);
         }
-        let alloc = *self.shared.output.allocator();
-        let iteration = begin(alloc, self.code, opened, self.shared.kernel.next_ticket())?;
+        let next = self.shared.kernel.next_ticket();
+        let iteration = begin(&mut self.shared.spare, self.code, opened, next)?;
         let k = self.shared.kernel.ticket();
         let at = self.place_of(k);
         self.iterations[at] = Some(iteration);

@@ -14,7 +14,7 @@ ghost use Rattle.activities.specs.Core.{HaveIndices};
 ghost use Rattle.activities.specs.MainTurns.{MayLead, after_of, kept_of, main_part};
 ghost use Rattle.activities.specs.PartsView.{shared_of, standing_of};
 ghost use Rattle.activities.specs.Sharing.{Led, Turned};
-ghost use Rattle.activities.specs.Turns.{May, none_open};
+ghost use Rattle.activities.specs.Turns.{May, none_open, staying};
 
 use crate::holding::{Activities, Holder};
 use crate::main_turn::main_turn;
@@ -70,13 +70,35 @@ fn may_open(code: &Code, frame: &Frame, next: Next<'_>, iterations: &[Option<Ite
     }
 }
 
-/// Nothing stands in a place any more.
+/// Nothing stands in a place any more. What stood there leaves its frame; where that finds no room
+/// it is dropped.
 // Out of line, since its caller would clear room for an iteration at each other step.
 #[inline(never)]
-fn clear(place: &mut Option<Iteration>)
+fn clear(place: &mut Option<Iteration>, spare: &mut Vec<Box<Frame>>)
     ensures { place.new ≡ None }
 {
-    *place = None;
+    if let Some(Iteration { frame, .. }) = place.take() {
+        let _ = spare.push(frame);
+    }
+}
+
+/// An iteration, in this slot, makes the step that stands next. Where memory is refused nothing
+/// changes.
+fn step_of(
+    shared: &mut Shared,
+    iteration: &mut Iteration,
+    slot: usize,
+    code: &Code,
+) -> Result<Outcome, AllocError>
+    requires may { May (code_of code.now) slot (shared_of shared.old) (standing_of iteration.old) }
+    ensures ok { IfOk result (λ o.
+        Turned (code_of code.now) slot (shared_of shared.old) (standing_of iteration.old) o
+        (shared_of shared.new) (staying o (standing_of iteration.new))) }
+    ensures err { OnErr result ((shared_of shared.new ≡ shared_of shared.old)
+        × (standing_of iteration.new ≡ standing_of iteration.old)) }
+{
+    let next = stands_next(code, &iteration.frame);
+    iteration_turn(shared, iteration, slot, code, next)
 }
 
 /// What stands in a place, in this slot, makes the step that stands next. Where memory is refused
@@ -97,16 +119,14 @@ fn step_at(
         × (option_map standing_of place.new ≡ option_map standing_of place.old)) }
 {
     let outcome = match place {
-        Some(iteration) => {
-            let next = stands_next(code, &iteration.frame);
-            iteration_turn(shared, iteration, slot, code, next)?
-        }
+        Some(iteration) => step_of(shared, iteration, slot, code)?,
         None => return Ok(Outcome::Idle),
     };
-    if outcome == Outcome::Leaves {
-        clear(place);
+    if outcome != Outcome::Leaves {
+        return Ok(outcome);
     }
-    Ok(outcome)
+    clear(place, &mut shared.spare);
+    Ok(Outcome::Leaves)
 }
 
 /// Main makes the step that stands next. Where memory is refused nothing changes.

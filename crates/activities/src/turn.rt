@@ -107,7 +107,7 @@ pub fn await_event(
     requires event { event < length shared.old.kernel.counts }
     requires slot { slot < shared.old.kernel.slots }
     requires nowhere { places slot shared.old.kernel ≡ 0 }
-    requires goes { Goes (frame_of iteration.old.frame) 0 }
+    requires goes { Goes (frame_of iteration.old.frame.value) 0 }
     requires number { iteration.old.number < 2 ^ 128 - 1 }
     ensures after { (code : Plain)
         → record {
@@ -133,7 +133,7 @@ pub fn await_event(
 pub fn advance(shared: &mut Shared, iteration: &mut Iteration, event: u32) -> Outcome
     requires kept { IsKernel shared.old.kernel }
     requires event { event < length shared.old.kernel.counts }
-    requires goes { Goes (frame_of iteration.old.frame) 0 }
+    requires goes { Goes (frame_of iteration.old.frame.value) 0 }
     requires number { iteration.old.number < 2 ^ 128 - 1 }
     ensures after { (code : Plain) (slot : ℕ)
         → record {
@@ -286,7 +286,7 @@ fn report(
 
 /// A record goes to the iteration's own output.
 fn print_own(iteration: &mut Iteration, pieces: &[Piece], values: usize) -> Result<(), AllocError>
-    requires goes { Goes (frame_of iteration.old.frame) values }
+    requires goes { Goes (frame_of iteration.old.frame.value) values }
     requires wanted { values ≡ values_wanted (map part pieces.now) }
     ensures ok { OnOk result (standing_of iteration.new
         ≡ printed_own pieces.now values (standing_of iteration.old)) }
@@ -310,8 +310,8 @@ pub fn iteration_turn(
     next: Next<'_>,
 ) -> Result<Outcome, AllocError>
     requires may { May (code_of code.now) slot (shared_of shared.old) (standing_of iteration.old) }
-    requires tells { Tells (code_of code.now) (frame_of iteration.old.frame)
-        (view (code_of code.now) (frame_of iteration.old.frame)) next }
+    requires tells { Tells (code_of code.now) (frame_of iteration.old.frame.value)
+        (view (code_of code.now) (frame_of iteration.old.frame.value)) next }
     ensures ok { IfOk result (λ o.
         record { outcome = o; shared = shared_of shared.new; standing = standing_of iteration.new }
         ≡ iteration_after (code_of code.now) slot next.entry (shared_of shared.old)

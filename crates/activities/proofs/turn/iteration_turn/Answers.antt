@@ -14,7 +14,7 @@ load-requires-clause-cell c =
 pub store-requires-clause-cell : goal.store-requires-clause-cell
 store-requires-clause-cell c =
     let t = rw c.in-Store.is at c.requires.tells in
-    omega (arith, cells_below c.args.code.now.variables.items t.0.name t.0.place c.in-Store.cell c.args.code.now.laid t.1, c.requires.may.cells, ap (λ xs. length xs) c.deref_mut.ensures.value)
+    omega (arith, cells_below c.args.code.now.variables.items t.0.name t.0.place c.in-Store.cell c.args.code.now.laid t.1, c.requires.may.cells, ap (λ xs. length xs) c.deref_mut-in-Store-2.ensures.value)
 
 pub retire-requires-clause-number : goal.retire-requires-clause-number
 retire-requires-clause-number c =

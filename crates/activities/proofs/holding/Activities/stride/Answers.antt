@@ -1,8 +1,6 @@
 use Rattle.std.proofs.Common.{◌≡◌, ◌∙◌, Some, ap}
 use Rattle.std.specs.Prelude.{option_map}
-use Rattle.machine.specs.State.{the_main, iteration}
-use Rattle.activities.specs.Activities.{kept_in, who}
-use Rattle.activities.specs.Parts.{held_of}
+use Rattle.activities.specs.Activities.{who}
 use Rattle.activities.specs.declared.holding.Holder.{Holder}
 use Rattle.activities.specs.declared.holding.Holder.TheVariants as holder
 use Rattle.activities.proofs.Shares.{held_is}

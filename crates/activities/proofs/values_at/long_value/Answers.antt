@@ -2,7 +2,7 @@ use Rattle.std.proofs.Common.{◌≡◌, ◌∙◌, ◌≤◌, ◌^◌, Ok, sym,
 use Rattle.std.specs.Prelude.{pos, unsigned_abs}
 use Rattle.std.proofs.lemmas.Int.{ints}
 use Rattle.activities.proofs.Values.{far_off, standing_still}
-use Rattle.activities.proofs.values_at.value_after.Goals as goal
+use Rattle.activities.proofs.values_at.long_value.Goals as goal
 
 pub returns-then-step-eq0 : goal.returns-then-step-eq0
 returns-then-step-eq0 c =
