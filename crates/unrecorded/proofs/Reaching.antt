@@ -11,11 +11,11 @@ use Rattle.machine.specs.declared.code.Open.{Open}
 use Rattle.activities.specs.Activities.{AreActivities, Stays, code_in, kept_in, point_in}
 use Rattle.activities.specs.Activities.{Did as Goes}
 use Rattle.activities.specs.Parts.{Kept, point_of}
-use Rattle.activities.specs.Points.{Moves, Picks, Point, Steps, Works}
+use Rattle.activities.specs.Points.{Moves, NoLocal, Picks, Point, Steps, Works}
 use Rattle.activities.specs.Putting.{PutsOn}
 use Rattle.activities.specs.declared.holding.Activities.{Activities}
 use Rattle.unrecorded.specs.Handing.{HasFrame, WorksOn}
-use Rattle.unrecorded.specs.View.{Did, Drives, IsReached, IsSameRun, RunView, Shares, TakesUp}
+use Rattle.unrecorded.specs.View.{Did, Drives, IsReached, IsSameRun, RunView, Shares, TakesUp, point_at}
 use Rattle.unrecorded.specs.Whole.{IsWhole, seen_as}
 
 -- a run, and one turn more
@@ -114,6 +114,9 @@ driven_whole = whole_more
 
 pub driven : (input : List ℕ) (a b : Activities) (x : RunView) (q n : ℕ) → seen_as input a ≡ x → Stays a b → Steps (code_in a) a.slots n (point_in a) q (point_in b) → Drives x q n (seen_as input b)
 driven input a b x q n e t d = subst (λ (y : RunView). Drives y q n (seen_as input b)) e (same_run input a b t, d)
+
+pub no_local_seen : (input : List ℕ) (a b : Activities) (x : RunView) (q : ℕ) → seen_as input a ≡ x → NoLocal (code_in a) a.slots (point_in b) q → NoLocal x.code x.slots (point_at (seen_as input b)) q
+no_local_seen input a b x q e h = subst (λ (y : RunView). NoLocal y.code y.slots (point_in b) q) e h
 
 pub worked_whole : (input : List ℕ) (a b : Activities) (x : RunView) (q n : ℕ) → seen_as input a ≡ x → IsWhole input a → AreActivities b → Stays a b → q < x.processors → Works (code_in a) a.slots n (point_in a) q (point_in b) → IsWhole input b
 worked_whole input a b x q n e w stand t h d = whole_more input a b x q n e w stand t h (works_are_steps (code_in a) a.slots n (point_in a) q (point_in b) d)

@@ -57,6 +57,7 @@ impl<'c> Run<'c> {
     ghost use Rattle.machine.specs.WorkView.{IsSpent, work_of};
     ghost use Rattle.activities.specs.Activities.{chosen, frame_at};
     ghost use Rattle.activities.specs.Least.{IsLeast, has_ticket};
+    ghost use Rattle.activities.specs.Points.{NoLocal};
     ghost use Rattle.replay.specs.Replayed.{IsAnswer};
     ghost use Rattle.replay.specs.Stepping.{NoCore};
     ghost use Rattle.unrecorded.specs.Handing.{CannotHandIn, HandsIn, HasFrame, Loads, is_local};
@@ -170,6 +171,7 @@ impl<'c> Run<'c> {
     pub fn work(&mut self, q: usize, n: u32) -> u32
         requires processor { q < self.old.processors }
         ensures drives { Drives self.old q result self.new }
+        ensures all { result < n → NoLocal self.old.code self.old.slots (point_at self.new) q }
         ensures few { result ≤ n }
     {
         self.activities.labour(q, n)
