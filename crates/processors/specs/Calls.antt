@@ -5,9 +5,11 @@ use Rattle.machine.specs.Code.{Code}
 use Rattle.machine.specs.State.{AreSizes, Machine}
 use Rattle.replay.specs.CoreView.{CoreView}
 use Rattle.replay.specs.Replayed.{IsReplay}
-use Rattle.activities.specs.Points.{Point}
+use Rattle.activities.specs.Points.{Point, beginning}
 use Rattle.replay.specs.Replays.{Replays}
+use Rattle.replay.specs.Tallies.{Tallies}
 use Rattle.schedules.specs.Schedules.{IsSchedule, Schedule}
+use Rattle.schedules.specs.declared.entry.Version.TheVariants.{Second}
 
 -- a core with this code and input, and so many processors and slots
 pub record IsCoreOf (code : Code) (input : List ℕ) (p s : ℕ) (x : CoreView) : Type 0 where
@@ -40,3 +42,8 @@ pub record IsStateOf (code : Code) (input : List ℕ) (p s : ℕ) (P : Machine �
 -- to a state with this output
 abbrev pub IsOutputOf : Code → List ℕ → (p s : ℕ) → (output : List ℕ) → Type 0
 IsOutputOf code input p s output = IsStateOf code input p s (λ m. output ≡ m.output)
+
+-- The entries of a schedule lead somewhere by so many steps, of which so many park an activity or
+-- take up a parked one.
+abbrev pub HasTally : Code → List ℕ → (s : ℕ) → Schedule → (made again : ℕ) → Type 0
+HasTally code input s x made again = (b : Point) × Tallies Second code s (beginning code input s) x.entries b made again

@@ -1,3 +1,4 @@
 pub mod Calls
+pub mod Left
 pub mod Reached
 pub mod Refused

@@ -1,8 +1,8 @@
 //! What lies under the lock.
 
 use crate::call::Call;
-use crate::driven::{Advanced, Driven};
-use crate::report::Effort;
+use crate::driven::{Advanced, Driven, Onward};
+use crate::report::{Effort, StartFailure};
 use crate::work::Own;
 use replay::{HandIn, Stepped};
 use std::alloc::{AllocError, Global};
@@ -35,7 +35,7 @@ pub enum Standing {
     /// A processor has found no memory.
     NoMemory,
     /// A thread couldn't be started.
-    NotStarted,
+    NotStarted(StartFailure),
     /// It hasn't ended, and no step is possible.
     Stuck,
 }
@@ -99,7 +99,7 @@ impl<C: Call, D: Driven<C> + Drop> Board<C, D> {
     /// The run is given up for this reason. That a thread couldn't be started counts before all
     /// else.
     pub fn give_up(&mut self, standing: Standing) {
-        if self.standing == Standing::Going || standing == Standing::NotStarted {
+        if self.standing == Standing::Going || matches!(standing, Standing::NotStarted(_)) {
             self.standing = standing;
         }
     }
@@ -158,6 +158,12 @@ impl<C: Call, D: Driven<C> + Drop> Board<C, D> {
         self.asleep.saturating_add(1) >= self.run.processors()
     }
 
+    /// Whether iterations that may begin are left to another processor that is awake, since
+    /// iterations are short.
+    fn leaves_tickets(&self) -> bool {
+        !self.have_done(SHORT) && !self.is_last_awake()
+    }
+
     /// Whether a processor that holds nothing takes up nothing: there is nothing, or only an
     /// iteration that may begin, which it leaves to another one that is awake where iterations are
     /// short.
@@ -165,8 +171,7 @@ impl<C: Call, D: Driven<C> + Drop> Board<C, D> {
         if self.run.has_ready() || self.run.has_ended() {
             return false;
         }
-        let leaves_it = !self.have_done(SHORT) && !self.is_last_awake();
-        leaves_it || !self.run.has_ticket()
+        self.leaves_tickets() || !self.run.has_ticket()
     }
 
     /// Processor `q` made so many steps.
@@ -196,13 +201,13 @@ impl<C: Call, D: Driven<C> + Drop> Board<C, D> {
         self.run.pick(q)
     }
 
-    /// One more iteration has begun.
-    fn count_begun(&mut self) {
+    /// So many more iterations have begun.
+    fn count_begun(&mut self, begun: u32) {
         if self.begun >= MOST_COUNTED {
             self.begun /= 2;
             self.worked /= 2;
         }
-        self.begun = self.begun.wrapping_add(1);
+        self.begun = self.begun.wrapping_add(u64::from(begun));
     }
 
     fn no_memory(&mut self) -> Next {
@@ -211,17 +216,17 @@ impl<C: Call, D: Driven<C> + Drop> Board<C, D> {
     }
 
     /// Processor `q` has taken the ticket of iteration `k`. It keeps the lock where nobody is told.
-    fn begin(&mut self, q: usize, k: u128, own: &mut Own<'_, C>) -> Next {
-        self.count_begun();
+    fn begin(&mut self, q: usize, k: u128, own: &mut Own<'_, C>) -> Option<Next> {
+        self.count_begun(1);
         self.overlap = self.overlap.max(self.run.overlap());
         if !self.tells_gate {
-            return Next::Again;
+            return None;
         }
-        match self.run.load(q, own) {
+        Some(match self.run.load(q, own) {
             Ok(true) => Next::Work(Some(k)),
             Ok(false) => Next::Begin(k),
             Err(_) => self.no_memory(),
-        }
+        })
     }
 
     /// Processor `q` has no step. Where it holds something, or all others sleep, none will come.
@@ -233,52 +238,62 @@ impl<C: Call, D: Driven<C> + Drop> Board<C, D> {
         Next::Wait
     }
 
-    /// Processor `q`, before which no local instruction stands, makes a shared step.
-    fn share(&mut self, q: usize, own: &mut Own<'_, C>) -> Next {
+    /// Processor `q`, before which no local instruction stands, makes a shared step; what it does
+    /// next, where its turn is over.
+    fn share(&mut self, q: usize, own: &mut Own<'_, C>) -> Option<Next> {
         match self.step(q) {
             Ok(Stepped::Went(begun)) => {
                 self.count(q, 1);
-                match begun {
-                    Some(k) => self.begin(q, k, own),
-                    None => Next::Again,
+                self.begin(q, begun?, own)
+            }
+            Ok(Stepped::Idle) => Some(self.idle(q)),
+            Ok(Stepped::Ended) => Some(Next::Leave),
+            Err(_) => Some(self.no_memory()),
+        }
+    }
+
+    /// How many iterations a processor may begin in one go: none where the gate is told of each, or
+    /// where they are left to another processor.
+    fn tickets(&self) -> u32 {
+        if self.tells_gate || self.leaves_tickets() {
+            0
+        } else {
+            u32::MAX
+        }
+    }
+
+    /// Processor `q` makes steps in one go, and then, where one of another kind stands next, that;
+    /// what it does next, where its turn is over.
+    fn go_on(&mut self, q: usize, own: &mut Own<'_, C>) -> Option<Next> {
+        let tickets = self.tickets();
+        match self.run.advance(q, own, tickets) {
+            Ok(
+                Advanced {
+                    steps,
+                    begun,
+                    onward,
+                },
+            ) => {
+                self.count(q, steps);
+                self.count_begun(begun);
+                match onward {
+                    Onward::Works => Some(Next::Work(None)),
+                    Onward::Pauses => Some(Next::Again),
+                    Onward::Shares => self.share(q, own),
                 }
             }
-            Ok(Stepped::Idle) => self.idle(q),
-            Ok(Stepped::Ended) => Next::Leave,
-            Err(_) => self.no_memory(),
+            Err(_) => Some(self.no_memory()),
         }
     }
 
-    /// Processor `q` makes the steps that need nobody else, as many as a turn may have, and then,
-    /// where one stands next, a shared one; or it is to do local work.
-    fn go_on(&mut self, q: usize, own: &mut Own<'_, C>) -> Next {
-        match self.run.advance(q, own) {
-            Ok(Advanced::Loaded(made)) => {
-                self.count(q, made);
-                Next::Work(None)
-            }
-            Ok(Advanced::Further(made)) => {
-                self.count(q, made);
-                Next::Again
-            }
-            Ok(Advanced::Up(made)) => {
-                self.count(q, made);
-                self.share(q, own)
-            }
-            Err(_) => self.no_memory(),
-        }
-    }
-
-    /// Processor `q` makes steps as long as one stands next, up to so many.
+    /// Processor `q` makes steps as long as one stands next and its turn isn't over, up to so many.
     fn steps(&mut self, q: usize, own: &mut Own<'_, C>) -> Next {
-        let mut next = self.go_on(q, own);
-        for _ in 1..MOST_STEPS {
-            match next {
-                Next::Again => next = self.go_on(q, own),
-                _ => break,
+        for _ in 0..MOST_STEPS {
+            if let Some(next) = self.go_on(q, own) {
+                return next;
             }
         }
-        next
+        Next::Again
     }
 
     /// A turn of processor `q`: it hands in its local work, if it has done any, and makes steps.

@@ -5,15 +5,25 @@ use crate::work::Own;
 use replay::{HandIn, Stepped};
 use std::alloc::AllocError;
 
-/// How far a processor came with the steps that need nobody else.
+/// What a processor that made steps in one go does next.
 #[derive(Clone, Copy, PartialEq, Eq)]
-pub enum Advanced {
-    /// It made so many steps, and loaded local work, which is done outside the lock.
-    Loaded(u32),
-    /// It made so many steps, and more of them stand next.
-    Further(u32),
-    /// It made so many steps, and a step of another kind stands next, if any does.
-    Up(u32),
+pub enum Onward {
+    /// It does local work, which is loaded, outside the lock.
+    Works,
+    /// It has made as many steps as it may in one go, and makes more in its next turn.
+    Pauses,
+    /// A step of another kind stands next, if any does.
+    Shares,
+}
+
+/// How far a processor came in one go.
+#[derive(Clone, Copy, PartialEq, Eq)]
+pub struct Advanced {
+    /// How many steps it made.
+    pub steps: u32,
+    /// How many iterations it began, of those steps.
+    pub begun: u32,
+    pub onward: Onward,
 }
 
 /// A run of a call, whether or not its schedule is kept. Its type says what is so of it, so that
@@ -52,12 +62,18 @@ pub trait Driven<C: Call> {
     /// Those of `replay::Core::hand_in`.
     fn hand_in(&mut self, q: usize, own: &mut Own<'_, C>) -> Result<(), HandIn>;
 
-    /// Processor `q` makes steps that need nobody else, or loads local work.
+    /// Processor `q` makes steps in one go, or loads local work. It begins as many iterations as
+    /// there are `tickets` for it, at most.
     ///
     /// # Errors
     ///
     /// `AllocError` where memory is refused.
-    fn advance(&mut self, q: usize, own: &mut Own<'_, C>) -> Result<Advanced, AllocError>;
+    fn advance(
+        &mut self,
+        q: usize,
+        own: &mut Own<'_, C>,
+        tickets: u32,
+    ) -> Result<Advanced, AllocError>;
 
     /// Processor `q` makes the shared step of what it holds.
     ///

@@ -3,6 +3,7 @@
 use ast::Answer;
 use replay::Tally;
 use schedules::Schedule;
+use std::thread::SpawnError;
 
 /// What one processor of a run did.
 #[derive(Clone, Copy, Default, PartialEq, Eq)]
@@ -27,12 +28,45 @@ pub struct Report {
     pub overlap: u128,
 }
 
+/// That a thread couldn't be started. It is made of the error of a start alone.
+#[derive(Clone, Copy, Debug, PartialEq, Eq)]
+pub struct StartFailure {
+    made: (),
+}
+
+impl StartFailure {
+    /// What the error of a start comes to.
+    pub(crate) fn of<F>(_error: &SpawnError<F>) -> StartFailure {
+        StartFailure { made: () }
+    }
+}
+
 /// Why there is no report.
 #[derive(Debug, Drop)]
 pub enum RunRefusal {
     /// There was no memory. The output is what had gone out by then.
     Memory { output: Vec<u8> },
-    /// 57: there are not 1 to 64 processors and 1 to 256 open iterations. 58: a thread couldn't be
-    /// started. 59: the run can't go on, and hasn't ended.
-    Refused { number: u8 },
+    /// There are not 1 to 64 processors and 1 to 256 open iterations.
+    OutOfRange,
+    /// A thread couldn't be started.
+    NotStarted(StartFailure),
+    /// The run hasn't ended, and no processor has a step.
+    Stuck,
+}
+
+impl RunRefusal {
+    ghost use Rattle.std.specs.Prelude.{◌≡◌};
+    ghost use Rattle.processors.specs.Refused.{refusal_number};
+
+    /// The number of the refusal, from 57 to 59; none where there was no memory.
+    pub fn number(&self) -> Option<u8>
+        ensures { result ≡ refusal_number self.now }
+    {
+        match self {
+            RunRefusal::Memory { output: _ } => None,
+            RunRefusal::OutOfRange => Some(57),
+            RunRefusal::NotStarted(_) => Some(58),
+            RunRefusal::Stuck => Some(59),
+        }
+    }
 }

@@ -4,7 +4,7 @@ ghost use Rattle.std.specs.Prelude.{◌≡◌, ℕ, List, IfOk, IfErr};
 ghost use Rattle.machine.specs.Code.{Code as PlainCode};
 ghost use Rattle.machine.specs.CodeView.{code_of};
 ghost use Rattle.machine.specs.State.{AreSizes};
-ghost use Rattle.processors.specs.Calls.{IsCoreOf, IsRunOf};
+ghost use Rattle.processors.specs.Calls.{HasTally, IsCoreOf, IsRunOf};
 ghost use Rattle.processors.specs.Reached.{IsAnswerOf, IsLeftAt, IsRunIn, IsUnanswered};
 ghost use Rattle.processors.specs.Refused.{IsGivenUp, IsRefused};
 
@@ -13,7 +13,7 @@ use crate::call::Call;
 use crate::desk::Desk;
 use crate::driven::Driven;
 use crate::gate::Gate;
-use crate::report::{Report, RunRefusal};
+use crate::report::{Report, RunRefusal, StartFailure};
 use crate::runs::{Recorded, Unrecorded};
 use crate::work::{Coded, Own};
 use ast::Answer;
@@ -74,11 +74,8 @@ fn run_all<
 >(rt: &R, desk: &Desk<C, D>, coded: &Coded<'_, C>, processors: usize, gate: &G) {
     thread::scope(thread::scope_env(), rt, |scope| {
         for q in 1..processors {
-            if scope
-                .spawn(move || process(rt, desk, coded, q, gate))
-                .is_err()
-            {
-                desk.give_up(rt, Standing::NotStarted);
+            if let Err(error) = scope.spawn(move || process(rt, desk, coded, q, gate)) {
+                desk.give_up(rt, Standing::NotStarted(StartFailure::of(&error)));
                 break;
             }
         }
@@ -92,13 +89,16 @@ fn driven<
     D: Driven<C> + Drop + Send,
     G: Gate + Sync,
     R: Threads + Wait + Sync,
->(rt: &R, alloc: Global, run: D, code: &Code, gate: &G) -> Result<Board<C, D>, AllocError>
-    requires { code_of code.now ≡ C.code }
-{
+>(
+    rt: &R,
+    alloc: Global,
+    run: D,
+    coded: &Coded<'_, C>,
+    gate: &G,
+) -> Result<Board<C, D>, AllocError> {
     let processors = run.processors();
-    let coded = Coded::<C>::new(alloc, code);
     let desk = Desk::new(Board::<C, D>::new(alloc, run, gate.wants_calls())?);
-    run_all(rt, &desk, &coded, processors, gate);
+    run_all(rt, &desk, coded, processors, gate);
     Ok(desk.into_board())
 }
 
@@ -115,17 +115,23 @@ fn nothing(alloc: Global) -> RunRefusal
 }
 
 /// What has come of a recorded run when all threads have left.
-fn reported<'c, C: Call>(board: Board<C, Recorded<'c, C>>) -> Result<Report, RunRefusal>
+fn reported<'c, C: Call, R: Wait>(
+    rt: &R,
+    board: Board<C, Recorded<'c, C>>,
+    coded: &Coded<'_, C>,
+) -> Result<Report, RunRefusal>
     ensures ok { IfOk result (λ r.
         IsRunOf C.code C.input C.processors C.slots r.answer r.schedule) }
+    ensures tally { IfOk result (λ r.
+        HasTally C.code C.input C.slots r.schedule r.tally.made r.tally.again) }
     ensures err { IfErr result (IsGivenUp C.code C.input C.processors C.slots) }
 {
     let standing = board.standing();
     let (run, efforts, overlap) = board.into_parts();
     match standing {
-        Standing::Going | Standing::Stuck => run.report(efforts, overlap),
+        Standing::Going | Standing::Stuck => run.report(rt, coded, efforts, overlap),
         Standing::NoMemory => Err(run.out_of_memory()),
-        Standing::NotStarted => Err(RunRefusal::Refused { number: 58 }),
+        Standing::NotStarted(failure) => Err(RunRefusal::NotStarted(failure)),
     }
 }
 
@@ -141,10 +147,13 @@ fn run_call<'c, C: Call + Send + Sync, G: Gate + Sync, R: Threads + Wait + Sync>
     requires code { code_of code.now ≡ C.code }
     ensures ok { IfOk result (λ r.
         IsRunOf C.code C.input C.processors C.slots r.answer r.schedule) }
+    ensures tally { IfOk result (λ r.
+        HasTally C.code C.input C.slots r.schedule r.tally.made r.tally.again) }
     ensures err { IfErr result (IsGivenUp C.code C.input C.processors C.slots) }
 {
-    match driven::<C, Recorded<'c, C>, G, R>(rt, alloc, Recorded::new(core), code, gate) {
-        Ok(board) => reported(board),
+    let coded = Coded::<C>::new(alloc, code);
+    match driven::<C, Recorded<'c, C>, G, R>(rt, alloc, Recorded::new(core), &coded, gate) {
+        Ok(board) => reported(rt, board, &coded),
         Err(_) => Err(nothing(alloc)),
     }
 }
@@ -157,9 +166,8 @@ fn run_call<'c, C: Call + Send + Sync, G: Gate + Sync, R: Threads + Wait + Sync>
 /// # Errors
 ///
 /// 57 where p or s is out of its range; 58 where a thread couldn't be started, whatever else was
-/// met; 59 where code, made by hand, has come to a state in which a processor holds an activity
-/// that has no step, or from which no step leads; and want of memory, with the output of the state
-/// in which it was met.
+/// met; 59 where code, made by hand, has come to a state that hasn't ended and from which no step
+/// leads; and want of memory, with the output of the state in which it was met.
 pub fn run<G: Gate + Sync, R: Threads + Wait + Sync>(
     rt: &R,
     alloc: Global,
@@ -170,27 +178,33 @@ pub fn run<G: Gate + Sync, R: Threads + Wait + Sync>(
     gate: &G,
 ) -> Result<Report, RunRefusal>
     ensures ok { IfOk result (λ r. IsRunOf (code_of code.now) input.now p s r.answer r.schedule) }
+    ensures tally { IfOk result (λ r.
+        HasTally (code_of code.now) input.now s r.schedule r.tally.made r.tally.again) }
     ensures err { IfErr result (IsRefused (code_of code.now) input.now p s) }
 {
     let core = match Core::new(alloc, code, input, p, s) {
         Ok(core) => core,
-        Err(CoreRefusal::Refused { number }) => return Err(RunRefusal::Refused { number }),
+        Err(CoreRefusal::Refused { number: _ }) => return Err(RunRefusal::OutOfRange),
         Err(CoreRefusal::Memory) => return Err(nothing(alloc)),
     };
     run_call::<Brand, G, R>(rt, alloc, core, code, gate)
 }
 
 /// What has come of a run without a record when all threads have left.
-fn answered<'c, C: Call>(board: Board<C, Unrecorded<'c, C>>) -> Result<Answer, RunRefusal>
+fn answered<'c, C: Call, R: Wait>(
+    rt: &R,
+    board: Board<C, Unrecorded<'c, C>>,
+    coded: &Coded<'_, C>,
+) -> Result<Answer, RunRefusal>
     ensures ok { IfOk result (IsAnswerOf C.code C.input C.processors C.slots) }
     ensures err { IfErr result (IsLeftAt C.code C.input C.processors C.slots) }
 {
     let standing = board.standing();
     let (run, _, _) = board.into_parts();
     match standing {
-        Standing::Going | Standing::Stuck => run.answer(),
+        Standing::Going | Standing::Stuck => run.answer(rt, coded),
         Standing::NoMemory => Err(run.out_of_memory()),
-        Standing::NotStarted => Err(RunRefusal::Refused { number: 58 }),
+        Standing::NotStarted(failure) => Err(RunRefusal::NotStarted(failure)),
     }
 }
 
@@ -207,8 +221,9 @@ fn answer_call<'c, C: Call + Send + Sync, G: Gate + Sync, R: Threads + Wait + Sy
     ensures ok { IfOk result (IsAnswerOf C.code C.input C.processors C.slots) }
     ensures err { IfErr result (IsLeftAt C.code C.input C.processors C.slots) }
 {
-    match driven::<C, Unrecorded<'c, C>, G, R>(rt, alloc, Unrecorded::new(run), code, gate) {
-        Ok(board) => answered(board),
+    let coded = Coded::<C>::new(alloc, code);
+    match driven::<C, Unrecorded<'c, C>, G, R>(rt, alloc, Unrecorded::new(run), &coded, gate) {
+        Ok(board) => answered(rt, board, &coded),
         Err(_) => Err(nothing(alloc)),
     }
 }
@@ -233,7 +248,7 @@ pub fn run_unrecorded<G: Gate + Sync, R: Threads + Wait + Sync>(
 {
     let run = match Run::new(alloc, code, input, p, s) {
         Ok(run) => run,
-        Err(CoreRefusal::Refused { number }) => return Err(RunRefusal::Refused { number }),
+        Err(CoreRefusal::Refused { number: _ }) => return Err(RunRefusal::OutOfRange),
         Err(CoreRefusal::Memory) => return Err(nothing(alloc)),
     };
     answer_call::<Brand, G, R>(rt, alloc, run, code, gate)

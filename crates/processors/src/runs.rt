@@ -1,26 +1,56 @@
 //! Runs of a call, with a schedule of what is done and without one.
 
 use crate::call::Call;
-use crate::driven::{Advanced, Driven};
+use crate::driven::{Advanced, Driven, Onward};
 use crate::report::{Effort, Report, RunRefusal};
-use crate::work::Own;
+use crate::work::{Coded, Own};
 use ast::Answer;
 use replay::{Choice, Core, HandIn, Stepped};
 use std::alloc::AllocError;
 use std::marker::{Model, PhantomData};
+use std::sync::Wait;
 use unrecorded::Run;
 
-/// How many steps are made in place before it is looked whether the turn is over, at most, beside
-/// local instructions in a row.
+/// How many local instructions, loads and stores are made in a row, at most, before it is looked
+/// whether local work stands next.
 const MOST_IN_PLACE: u32 = 128;
 
 /// Of several processors one that has so many local instructions to do in a row does them outside
 /// the lock. To load and hand in fewer takes longer.
 const LONG_STRETCH: u32 = 256;
 
-/// How many local instructions in a row the only processor does before it is looked whether the turn
-/// is over, at most.
-const STRETCH_ALONE: u32 = 4096;
+/// How many local instructions, loads and stores the only processor makes in a row, at most.
+const MOST_ALONE: u32 = 4096;
+
+/// How often in one go steps are made in place and then one of another kind, at most.
+const MOST_ROUNDS: u32 = 64;
+
+/// In one go no more rounds are begun after so many steps.
+const MOST_STEPS: u32 = 4096;
+
+/// What a processor made in one go.
+#[derive(Clone, Copy, Default)]
+struct Made {
+    steps: u32,
+    /// How many iterations it began.
+    begun: u32,
+}
+
+impl Made {
+    /// So many steps more.
+    fn add(&mut self, steps: u32) {
+        self.steps = self.steps.saturating_add(steps);
+    }
+
+    /// With what the processor does next.
+    fn and(self, onward: Onward) -> Advanced {
+        Advanced {
+            steps: self.steps,
+            begun: self.begun,
+            onward,
+        }
+    }
+}
 
 /// The core of a call's run, with the schedule of what its processors did.
 #[derive(Drop)]
@@ -41,11 +71,13 @@ impl<'c, C: Call> Model for Recorded<'c, C> {
 }
 
 impl<'c, C: Call> Recorded<'c, C> {
-    ghost use Rattle.std.specs.Prelude.{IfOk, IfErr};
-    ghost use Rattle.processors.specs.Calls.{IsCoreOf, IsRunOf};
+    ghost use Rattle.std.specs.Prelude.{◌≡◌, IfOk, IfErr, OnOk, false};
+    ghost use Rattle.processors.specs.Calls.{HasTally, IsCoreOf, IsRunOf};
+    ghost use Rattle.processors.specs.Left.{HasNoLocal, HasNoStep, NoneSteps};
     ghost use Rattle.processors.specs.Refused.{IsGivenUp};
     ghost use Rattle.replay.specs.CoreView.{point_at};
     ghost use Rattle.replay.specs.Replayed.{IsAnswer};
+    ghost use Rattle.replay.specs.Stepping.{IsGoing};
 
     /// The run of a core of the call.
     pub fn new(core: Core<'c>) -> Recorded<'c, C>
@@ -71,7 +103,9 @@ impl<'c, C: Call> Recorded<'c, C> {
     /// What has come of a run that has ended with this answer.
     fn report_of(self, answer: Answer, efforts: Vec<Effort>, overlap: u128) -> Report
         requires { IsAnswer self.code (point_at self).machine answer }
-        ensures { IsRunOf C.code C.input C.processors C.slots result.answer result.schedule }
+        ensures run { IsRunOf C.code C.input C.processors C.slots result.answer result.schedule }
+        ensures tally { HasTally C.code C.input C.slots result.schedule result.tally.made
+            result.tally.again }
     {
         let Recorded { core, .. } = self;
         let tally = core.tally();
@@ -87,22 +121,123 @@ impl<'c, C: Call> Recorded<'c, C> {
         }
     }
 
-    /// What has come of a run that nobody gave up, or that can't go on.
+    /// Processor `q` does local work, if any stands next.
+    fn work(&mut self, q: usize, own: &mut Own<'_, C>) -> Result<bool, AllocError>
+        ensures { IfOk result (λ did. did ≡ false → (self.new ≡ self.old) × HasNoLocal self.old q) }
+    {
+        if !self.core.load(q, &mut own.work)? {
+            return Ok(false);
+        }
+        own.run()?;
+        match self.hand_in(q, own) {
+            Err(HandIn::Memory) => Err(AllocError),
+            Ok(()) | Err(HandIn::Ended | HandIn::Stranger) => Ok(true),
+        }
+    }
+
+    /// Processor `q` makes steps, if it has any.
+    fn go_on(&mut self, q: usize, own: &mut Own<'_, C>) -> Result<bool, AllocError>
+        ensures { IfOk result (λ did. did ≡ false → (self.new ≡ self.old) × HasNoStep self.old q) }
+    {
+        if self.core.has_ended() {
+            return Ok(false);
+        }
+        if self.work(q, own)? {
+            return Ok(true);
+        }
+        match self.core.step(q)? {
+            Stepped::Went(_) => Ok(true),
+            Stepped::Idle | Stepped::Ended => Ok(false),
+        }
+    }
+
+    /// A processor makes steps, if any has one.
+    fn one_goes_on(&mut self, own: &mut Own<'_, C>) -> Result<bool, AllocError>
+        ensures { IfOk result (λ did. did ≡ false → NoneSteps self.new) }
+    {
+        for q in 0..self.core.processors() {
+            if self.go_on(q, own)? {
+                return Ok(true);
+            }
+        }
+        Ok(false)
+    }
+
+    /// Processors make steps one after another until none has one.
+    fn go_on_alone<R: Wait>(&mut self, rt: &R, own: &mut Own<'_, C>) -> Result<(), AllocError>
+        ensures { OnOk result (NoneSteps self.new) }
+    {
+        for _ in rt.forever() {
+            if !self.one_goes_on(own)? {
+                return Ok(());
+            }
+        }
+        unreachable!()
+    }
+
+    /// What is left to do of a run is done: its threads leave nothing, but their type doesn't say
+    /// so.
+    fn finish<R: Wait>(&mut self, rt: &R, coded: &Coded<'_, C>) -> Result<(), AllocError>
+        ensures { OnOk result (NoneSteps self.new) }
+    {
+        let mut own = coded.own()?;
+        self.go_on_alone(rt, &mut own)
+    }
+
+    /// What has come of a run that hasn't ended, and in which no processor has a step.
+    fn stuck(self) -> RunRefusal
+        requires going { IsGoing self }
+        requires none { NoneSteps self }
+        ensures { IsGivenUp C.code C.input C.processors C.slots result }
+    {
+        // Their contracts say that this schedule leads to where the core is, and can be written.
+        let _ = self.core.schedule().entries();
+        RunRefusal::Stuck
+    }
+
+    /// What has come of a run that has ended, or in which no processor has a step.
     ///
     /// # Errors
     ///
-    /// 59 where the run hasn't ended, and want of memory, with the output, where there is none for
-    /// the answer.
-    pub fn report(self, efforts: Vec<Effort>, overlap: u128) -> Result<Report, RunRefusal>
+    /// That it is stuck where it hasn't ended; and want of memory for the answer.
+    fn ended(self, efforts: Vec<Effort>, overlap: u128) -> Result<Report, RunRefusal>
+        requires none { IsGoing self → NoneSteps self }
         ensures ok { IfOk result (λ r.
             IsRunOf C.code C.input C.processors C.slots r.answer r.schedule) }
+        ensures tally { IfOk result (λ r.
+            HasTally C.code C.input C.slots r.schedule r.tally.made r.tally.again) }
         ensures err { IfErr result (IsGivenUp C.code C.input C.processors C.slots) }
     {
         match self.core.answer() {
             Ok(Some(answer)) => Ok(self.report_of(answer, efforts, overlap)),
-            Ok(None) => Err(RunRefusal::Refused { number: 59 }),
+            Ok(None) => Err(self.stuck()),
             Err(_) => Err(self.out_of_memory()),
         }
+    }
+
+    /// What has come of a run that nobody gave up, or that can't go on.
+    ///
+    /// # Errors
+    ///
+    /// That it is stuck where it hasn't ended and no processor has a step; and want of memory, with
+    /// the output.
+    pub fn report<R: Wait>(
+        mut self,
+        rt: &R,
+        coded: &Coded<'_, C>,
+        efforts: Vec<Effort>,
+        overlap: u128,
+    ) -> Result<Report, RunRefusal>
+        ensures ok { IfOk result (λ r.
+            IsRunOf C.code C.input C.processors C.slots r.answer r.schedule) }
+        ensures tally { IfOk result (λ r.
+            HasTally C.code C.input C.slots r.schedule r.tally.made r.tally.again) }
+        ensures err { IfErr result (IsGivenUp C.code C.input C.processors C.slots) }
+    {
+        if !self.core.has_ended() && self.finish(rt, coded).is_err() {
+            return Err(self.out_of_memory());
+        }
+        self.ended(efforts, overlap)
     }
 }
 
@@ -142,11 +277,22 @@ impl<'c, C: Call> Driven<C> for Recorded<'c, C> {
         self.core.hand_in_own(q, &mut own.work)
     }
 
-    fn advance(&mut self, q: usize, own: &mut Own<'_, C>) -> Result<Advanced, AllocError> {
-        if self.core.load(q, &mut own.work)? {
-            return Ok(Advanced::Loaded(0));
-        }
-        Ok(Advanced::Up(0))
+    fn advance(
+        &mut self,
+        q: usize,
+        own: &mut Own<'_, C>,
+        _tickets: u32,
+    ) -> Result<Advanced, AllocError> {
+        let onward = if self.core.load(q, &mut own.work)? {
+            Onward::Works
+        } else {
+            Onward::Shares
+        };
+        Ok(Advanced {
+            steps: 0,
+            begun: 0,
+            onward,
+        })
     }
 
     fn share(&mut self, q: usize) -> Result<Stepped, AllocError> {
@@ -178,8 +324,10 @@ impl<'c, C: Call> Model for Unrecorded<'c, C> {
 }
 
 impl<'c, C: Call> Unrecorded<'c, C> {
-    ghost use Rattle.std.specs.Prelude.{IfOk, IfErr};
+    ghost use Rattle.std.specs.Prelude.{◌≡◌, ◌<◌, IfOk, IfErr, OnOk, false};
+    ghost use Rattle.processors.specs.Left.{NoLocalIn, NoPickIn, NoStepIn, NoneStepsIn};
     ghost use Rattle.processors.specs.Reached.{IsAnswerOf, IsLeftAt, IsRunIn};
+    ghost use Rattle.unrecorded.specs.View.{IsGoing};
 
     /// A run of the call.
     pub fn new(run: Run<'c>) -> Unrecorded<'c, C>
@@ -201,20 +349,214 @@ impl<'c, C: Call> Unrecorded<'c, C> {
         }
     }
 
-    /// What has come of a run that nobody gave up, or that can't go on.
+    /// Processor `q` does local work, if any stands next.
+    fn work(&mut self, q: usize, own: &mut Own<'_, C>) -> Result<bool, AllocError>
+        requires processor { q < self.old.processors }
+        ensures { IfOk result (λ did. did ≡ false → (self.new ≡ self.old) × NoLocalIn self.old q) }
+    {
+        if !self.run.load(q, &mut own.work)? {
+            return Ok(false);
+        }
+        own.run()?;
+        match self.hand_in(q, own) {
+            Err(HandIn::Memory) => Err(AllocError),
+            Ok(()) | Err(HandIn::Ended | HandIn::Stranger) => Ok(true),
+        }
+    }
+
+    /// Processor `q` takes something up, if it holds nothing and may.
+    fn take(&mut self, q: usize) -> Result<bool, AllocError>
+        requires processor { q < self.old.processors }
+        ensures { IfOk result (λ did. did ≡ false → (self.new ≡ self.old) × NoPickIn self.old q) }
+    {
+        let choice = self.run.least();
+        self.run.pick(q, choice)
+    }
+
+    /// Processor `q` makes steps, if it has any.
+    fn go_on(&mut self, q: usize, own: &mut Own<'_, C>) -> Result<bool, AllocError>
+        requires processor { q < self.old.processors }
+        ensures { IfOk result (λ did. did ≡ false → (self.new ≡ self.old) × NoStepIn self.old q) }
+    {
+        if self.run.has_ended() {
+            return Ok(false);
+        }
+        if self.work(q, own)? || self.run.share(q)? {
+            return Ok(true);
+        }
+        self.take(q)
+    }
+
+    /// A processor makes steps, if any has one.
+    fn one_goes_on(&mut self, own: &mut Own<'_, C>) -> Result<bool, AllocError>
+        ensures { IfOk result (λ did. did ≡ false → NoneStepsIn self.new) }
+    {
+        for q in 0..self.run.processors() {
+            if self.go_on(q, own)? {
+                return Ok(true);
+            }
+        }
+        Ok(false)
+    }
+
+    /// Processors make steps one after another until none has one.
+    fn go_on_alone<R: Wait>(&mut self, rt: &R, own: &mut Own<'_, C>) -> Result<(), AllocError>
+        ensures { OnOk result (NoneStepsIn self.new) }
+    {
+        for _ in rt.forever() {
+            if !self.one_goes_on(own)? {
+                return Ok(());
+            }
+        }
+        unreachable!()
+    }
+
+    /// What is left to do of a run is done: its threads leave nothing, but their type doesn't say
+    /// so.
+    fn finish<R: Wait>(&mut self, rt: &R, coded: &Coded<'_, C>) -> Result<(), AllocError>
+        ensures { OnOk result (NoneStepsIn self.new) }
+    {
+        let mut own = coded.own()?;
+        self.go_on_alone(rt, &mut own)
+    }
+
+    /// What has come of a run that has ended, or in which no processor has a step.
     ///
     /// # Errors
     ///
-    /// 59 where the run hasn't ended, and want of memory, with the output, where there is none for
-    /// the answer.
-    pub fn answer(self) -> Result<Answer, RunRefusal>
+    /// That it is stuck where it hasn't ended; and want of memory for the answer.
+    fn ended(self) -> Result<Answer, RunRefusal>
+        requires none { IsGoing self → NoneStepsIn self }
         ensures ok { IfOk result (IsAnswerOf C.code C.input C.processors C.slots) }
         ensures err { IfErr result (IsLeftAt C.code C.input C.processors C.slots) }
     {
         match self.run.answer() {
-            Ok(answer) => answer.ok_or(RunRefusal::Refused { number: 59 }),
+            Ok(Some(answer)) => Ok(answer),
+            Ok(None) => Err(RunRefusal::Stuck),
             Err(_) => Err(self.out_of_memory()),
         }
+    }
+
+    /// Local instructions, loads and stores of processor `q`; whether as many as are made in a row.
+    fn stride(&mut self, q: usize, made: &mut Made) -> bool {
+        let processors = self.run.processors();
+        if q >= processors {
+            return false;
+        }
+        let most = if processors == 1 {
+            MOST_ALONE
+        } else {
+            MOST_IN_PLACE
+        };
+        let strode = self.run.stride(q, most);
+        made.add(strode);
+        strode == most
+    }
+
+    /// Processor `q`, before which more of these stand, makes the local instructions that stand next
+    /// in a row, or, where they are many and another processor could have the lock meanwhile, loads
+    /// them.
+    fn stretch(
+        &mut self,
+        q: usize,
+        own: &mut Own<'_, C>,
+        made: &mut Made,
+    ) -> Result<Option<Onward>, AllocError> {
+        let processors = self.run.processors();
+        if q >= processors || processors == 1 {
+            return Ok(None);
+        }
+        let worked = self.run.work(q, LONG_STRETCH);
+        made.add(worked);
+        if worked == LONG_STRETCH && self.run.load(q, &mut own.work)? {
+            return Ok(Some(Onward::Works));
+        }
+        Ok(None)
+    }
+
+    /// The shared step of processor `q`, or what it takes up; what it does next, where it is not to
+    /// make more steps in place.
+    fn move_on(
+        &mut self,
+        q: usize,
+        tickets: u32,
+        made: &mut Made,
+    ) -> Result<Option<Onward>, AllocError> {
+        if q >= self.run.processors() {
+            return Ok(Some(Onward::Shares));
+        }
+        if !self.run.holds(q) {
+            return self.take_up(q, tickets, made);
+        }
+        if self.run.share(q)? {
+            made.add(1);
+            return self.take_up(q, tickets, made);
+        }
+        // No clause says that strides are made wherever one stands next; local work always is.
+        let worked = self.run.work(q, LONG_STRETCH);
+        made.add(worked);
+        Ok(if worked == 0 {
+            Some(Onward::Shares)
+        } else {
+            None
+        })
+    }
+
+    /// Processor `q` takes something up, if it holds nothing: an iteration that begins only where
+    /// there is a ticket for it.
+    fn take_up(
+        &mut self,
+        q: usize,
+        tickets: u32,
+        made: &mut Made,
+    ) -> Result<Option<Onward>, AllocError> {
+        if q >= self.run.processors() {
+            return Ok(Some(Onward::Shares));
+        }
+        if self.run.holds(q) {
+            return Ok(None);
+        }
+        let choice = self.run.least();
+        let begins = choice == Choice::Ticket;
+        if begins && made.begun >= tickets || !self.run.pick(q, choice)? {
+            return Ok(Some(Onward::Shares));
+        }
+        made.add(1);
+        if begins {
+            made.begun = made.begun.saturating_add(1);
+        }
+        Ok(None)
+    }
+
+    /// Steps of processor `q` in place, and then one of another kind; what it does next, where it
+    /// is not to make more.
+    fn round(
+        &mut self,
+        q: usize,
+        own: &mut Own<'_, C>,
+        tickets: u32,
+        made: &mut Made,
+    ) -> Result<Option<Onward>, AllocError> {
+        if self.stride(q, made) {
+            return self.stretch(q, own, made);
+        }
+        self.move_on(q, tickets, made)
+    }
+
+    /// What has come of a run that nobody gave up, or that can't go on.
+    ///
+    /// # Errors
+    ///
+    /// That it is stuck where it hasn't ended and no processor has a step; and want of memory, with
+    /// the output.
+    pub fn answer<R: Wait>(mut self, rt: &R, coded: &Coded<'_, C>) -> Result<Answer, RunRefusal>
+        ensures ok { IfOk result (IsAnswerOf C.code C.input C.processors C.slots) }
+        ensures err { IfErr result (IsLeftAt C.code C.input C.processors C.slots) }
+    {
+        if !self.run.has_ended() && self.finish(rt, coded).is_err() {
+            return Err(self.out_of_memory());
+        }
+        self.ended()
     }
 
     /// What a step that was made or wasn't comes to.
@@ -271,34 +613,22 @@ impl<'c, C: Call> Driven<C> for Unrecorded<'c, C> {
         self.run.hand_in(q, &mut own.work)
     }
 
-    fn advance(&mut self, q: usize, own: &mut Own<'_, C>) -> Result<Advanced, AllocError> {
-        let processors = self.run.processors();
-        if q >= processors {
-            return Ok(Advanced::Up(0));
-        }
-        let stretch = if processors == 1 {
-            STRETCH_ALONE
-        } else {
-            LONG_STRETCH
-        };
-        let made = self.run.work(q, stretch);
-        if made == stretch {
-            if processors == 1 {
-                return Ok(Advanced::Further(made));
+    fn advance(
+        &mut self,
+        q: usize,
+        own: &mut Own<'_, C>,
+        tickets: u32,
+    ) -> Result<Advanced, AllocError> {
+        let mut made = Made::default();
+        for _ in 0..MOST_ROUNDS {
+            if let Some(onward) = self.round(q, own, tickets, &mut made)? {
+                return Ok(made.and(onward));
             }
-            if self.run.load(q, &mut own.work)? {
-                return Ok(Advanced::Loaded(made));
+            if made.steps >= MOST_STEPS {
+                break;
             }
         }
-        let strode = self.run.stride(q, MOST_IN_PLACE);
-        if strode == MOST_IN_PLACE {
-            return Ok(Advanced::Further(made + strode));
-        }
-        // No clause says that it makes a step wherever one stands next; local work always does.
-        if made + strode == 0 && self.run.load(q, &mut own.work)? {
-            return Ok(Advanced::Loaded(0));
-        }
-        Ok(Advanced::Up(made + strode))
+        Ok(made.and(Onward::Pauses))
     }
 
     fn share(&mut self, q: usize) -> Result<Stepped, AllocError> {

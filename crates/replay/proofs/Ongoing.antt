@@ -24,7 +24,7 @@ use Rattle.replay.specs.declared.stepped.Tally.{Tally}
 use Rattle.replay.proofs.Onwards.{rule_picks}
 
 -- a local instruction, a shared step, or a pick
-abbrev IsOne : Code → ℕ → Point → ℕ → Type 0
+abbrev pub IsOne : Code → ℕ → Point → ℕ → Type 0
 IsOne code s a q =
     (local_in code (frame_at q a) ≡ true) ⊎ ((b : Point) × Moves code s false a q b) ⊎ ((c : Choice) × (b : Point) × Picks code s c a q b)
 
@@ -39,7 +39,7 @@ held_one code s a q m u h t = by (local_in code (frame_of a.machine u)) refl
     by false e = inr (inl (next, record { who = u; holds = h; kind = e; step = t; order = refl }))
 
 -- a step of the machine is one of them
-step_is_one : (code : Code) (s : ℕ) (a : Point) (q : ℕ) (m : Machine) → CodeStep code s a.machine q m → IsOne code s a q
+pub step_is_one : (code : Code) (s : ℕ) (a : Point) (q : ℕ) (m : Machine) → CodeStep code s a.machine q m → IsOne code s a q
 step_is_one code s a q m t = by (a.machine.held q) refl t.turn
   where
     by : (o : Option Who) → a.machine.held q ≡ o → Turn Frame Open (view code) trips_of (begin code) s o a.machine q m → IsOne code s a q

@@ -1,0 +1,16 @@
+use Rattle.std.proofs.Common.{subst, sym}
+use Rattle.replay.specs.Stepping.{IsGoing}
+use Rattle.schedules.specs.Schedules.{IsSchedule}
+use Rattle.processors.specs.Left.{NoneSteps}
+use Rattle.processors.specs.Refused.{IsStuckAt}
+use Rattle.processors.proofs.Keeping.{state_of}
+use Rattle.processors.proofs.Left.{stuck_at}
+use Rattle.processors.proofs.runs.Recorded.stuck.Goals as goal
+
+pub returns : goal.returns
+returns g c =
+    let x = c.self.inside.core in
+    let o = c.self.invariant in
+    state_of g.C.Call.code g.C.Call.input g.C.Call.processors g.C.Call.slots x (IsStuckAt g.C.Call.code g.C.Call.processors g.C.Call.slots) o c.schedule.ensures.replays
+    (subst IsSchedule c.schedule.ensures.schedule c.entries.ensures.kept)
+    (stuck_at g.C.Call.code g.C.Call.processors g.C.Call.slots x o.code_is o.processors o.slots (subst IsGoing (sym c.self.view_is) c.requires.going) (subst NoneSteps (sym c.self.view_is) c.requires.none))
