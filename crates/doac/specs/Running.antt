@@ -33,7 +33,7 @@ ShowsRan (ran.Refused page) old new result = WritesText page.text.items (Ok page
 ShowsRan (ran.Whole whole) old new result = WritesText whole.page.text.items (Ok whole.page.outcome) old new result
 ShowsRan (ran.Memory output) old new result = WritesText output.items (Err faults.Memory) old new result
 ShowsRan ran.OutOfRange old new result = (result ≡ Err faults.OutOfRange) × (new ≡ old)
-ShowsRan ran.NotStarted old new result = (result ≡ Err faults.NotStarted) × (new ≡ old)
+ShowsRan (ran.NotStarted failure) old new result = (result ≡ Err faults.NotStarted) × (new ≡ old)
 ShowsRan ran.Stuck old new result = (result ≡ Err faults.Stuck) × (new ≡ old)
 
 -- it is shown, and this is the status of that

@@ -338,8 +338,8 @@ pub fn upgrade<R: Read, I: Read, S: Read, W: Write, V: Write>(
     source: &mut R,
     input: &mut I,
     schedule: &mut S,
-    out: &mut W,
     upgraded: &mut V,
+    out: &mut W,
 ) -> Result<u8, EngineFault>
     ensures ok { IfOk result (UpgradeEnds (R.remaining source.old) (I.remaining input.old)
         (S.remaining schedule.old) (W.contents out.old) (W.contents out.new)

@@ -10,19 +10,23 @@ use Rattle.ast.specs.View.{cells}
 use Rattle.ast.specs.declared.answer.Answer.{Answer}
 use Rattle.ast.specs.declared.fault.End.{End}
 use Rattle.ast.specs.declared.fault.End.TheVariants.{Done, Stopped, Fault as FaultedAt}
-use Rattle.codegen.specs.Headline.{Headline, IsBeginning}
+use Rattle.codegen.specs.Headline.{Agrees, Headline, IsBeginning}
 use Rattle.codegen.specs.Program.{IsCompiled}
 use Rattle.machine.specs.Code.{Code}
 use Rattle.machine.specs.State.{AreSizes, Ended, Machine}
 use Rattle.machine.specs.declared.code.Variable.{Variable}
-use Rattle.processors.specs.Calls.{IsOutputOf, IsRunOf}
+use Rattle.processors.specs.Calls.{IsOutputOf, IsRunOf, IsStateOf}
 use Rattle.processors.specs.Reached.{IsAnswerOf, IsUnanswered}
-use Rattle.processors.specs.Refused.{IsRefused}
+use Rattle.processors.specs.Refused.{IsRefused, IsStuckAt}
 use Rattle.processors.specs.declared.report.RunRefusal.{RunRefusal}
 use Rattle.processors.specs.declared.report.RunRefusal.TheVariants as runs
 use Rattle.replay.proofs.Running.{is_run}
+use Rattle.replay.specs.CoreView.{CoreView, point_at}
 use Rattle.replay.specs.Replayed.{IsAnswer, stored}
-use Rattle.schedules.specs.Schedules.{SchedText, Schedule}
+use Rattle.replay.specs.Replays.{Replays}
+use Rattle.replay.specs.Stepping.{HasLocal, IsWent}
+use Rattle.replay.specs.declared.stepped.Stepped.{Stepped}
+use Rattle.schedules.specs.Schedules.{IsSchedule, SchedText, Schedule}
 use Rattle.pages.specs.Outcomes.{outcome_of}
 use Rattle.pages.specs.Shown.{EndShown, Extends, Row, row_of}
 use Rattle.pages.specs.View.{rows_from}
@@ -30,7 +34,8 @@ use Rattle.pages.specs.declared.outcomes.Outcome.{Outcome}
 use Rattle.pages.proofs.StoreRows.{rows_whole}
 use Rattle.engines.specs.Engines.{ShowsRun}
 use Rattle.engines.specs.declared.given.Wants.{Wants}
-use Rattle.threaded.specs.Running.{ComesOf, IsNumbered, IsRefusal, IsScheduleOf, IsWhole, Shows, ShowsAnswer, WhereWanted}
+use Rattle.threaded.specs.Joined.{AnswersAreSequential, GoesOn, IsSequential, NoAnswerIsStuck, NoRunIsStuck, ReplaysAreSequential, RunsAreSequential}
+use Rattle.threaded.specs.Running.{ComesOf, IsRefusal, IsScheduleOf, IsWhole, Shows, ShowsAnswer, WhereWanted}
 use Rattle.threaded.specs.declared.ran.Ran.{Ran}
 use Rattle.threaded.specs.declared.ran.Ran.TheVariants.{Refused, Whole as Came, Memory, OutOfRange, NotStarted, Stuck}
 use Rattle.threaded.specs.declared.ran.Whole.{Whole}
@@ -78,6 +83,16 @@ stored_as (x ∷ xs) (s ∷ ss) a b same are =
     let rest : variables_in xs ≡ variables_for ss = cc in
     rw (name, many, same_values (a s.name) (b s.name) (same s.name) 0 (size s.sort), stored_as xs ss a b same rest) refl
 
+-- the answer of a state that has ended as the sequential program does
+sequential : (tree : ProgramTree) (code : Code) (input : List ℕ) (m : Machine) (answer : Answer) → IsCompiled tree code → Ended m (seq tree input).output (seq tree input).end (seq tree input).store → IsAnswer code m answer → IsSequential tree input answer
+sequential tree code input m answer compiled ended is =
+    let same : answer.end ≡ (seq tree input).end = same_Some answer.end (seq tree input).end (sym is.end ∙ ended.is) in
+    record {
+      output = is.output ∙ ended.printed;
+      end = same;
+      store = λ done. is.store ∙ stored_as code.variables tree.symbols m.store (seq tree input).store (ended.stored (sym same ∙ done)) compiled.2.variables;
+    }
+
 -- ---- what is shown of the answer
 
 -- the rows count at END alone
@@ -91,9 +106,10 @@ shown_so : (wanted : Bool) (tree : ProgramTree) (code : Code) (input : List ℕ)
     → Extends (EndShown wanted (rows_from (cells answer.store) 0 tree.symbols) answer.end) answer.output.items text → ShowsRun wanted tree input outcome text
 shown_so wanted tree code input m answer outcome text compiled ended is out more =
     let store = (seq tree input).store in
-    let same : answer.end ≡ (seq tree input).end = same_Some answer.end (seq tree input).end (sym is.end ∙ ended.is) in
+    let own = sequential tree code input m answer compiled ended is in
+    let same : answer.end ≡ (seq tree input).end = own.end in
     let rows : answer.end ≡ Done → rows_from (cells answer.store) 0 tree.symbols ≡ map (row_of store) tree.symbols =
-    λ done. ap (λ cs. rows_from cs 0 tree.symbols) (is.store ∙ stored_as code.variables tree.symbols m.store store (ended.stored (sym same ∙ done)) compiled.2.variables) ∙ rows_whole store tree.symbols in
+    λ done. ap (λ cs. rows_from cs 0 tree.symbols) (own.store done) ∙ rows_whole store tree.symbols in
     record {
       ended = out ∙ ap outcome_of same;
       shown = record {
@@ -141,7 +157,7 @@ comes_to tree code input w answer x (Memory output) compiled headline r h =
     all_printed tree code input r.replay.point.machine answer output.items (ended_so tree code input w.processors w.slots answer x headline r) r.replay.is h
 comes_to tree code input w answer x (Refused page) compiled headline r h = absurd h
 comes_to tree code input w answer x OutOfRange compiled headline r h = absurd h
-comes_to tree code input w answer x NotStarted compiled headline r h = absurd h
+comes_to tree code input w answer x (NotStarted failure) compiled headline r h = absurd h
 comes_to tree code input w answer x Stuck compiled headline r h = absurd h
 
 -- ---- the same where no schedule is kept
@@ -163,41 +179,77 @@ comes_unrecorded tree code input w answer (Memory output) compiled headline e r 
     all_printed tree code input r.machine answer output.items (ended_at tree code input w.processors w.slots answer headline r) r.holds h
 comes_unrecorded tree code input w answer (Refused page) compiled headline e r h = absurd h
 comes_unrecorded tree code input w answer OutOfRange compiled headline e r h = absurd h
-comes_unrecorded tree code input w answer NotStarted compiled headline e r h = absurd h
+comes_unrecorded tree code input w answer (NotStarted failure) compiled headline e r h = absurd h
 comes_unrecorded tree code input w answer Stuck compiled headline e r h = absurd h
 
 -- ---- why there is no answer
 
--- 57 is neither of the numbers of a run that was begun
-not_begun : (number : ℕ) → number ≡ 57 → (number ≡ 58) ⊎ (number ≡ 59) → ⊥
-not_begun number e (inl h) = omega (arith, e, h)
-not_begun number e (inr h) = omega (arith, e, h)
+-- a run of code that the headline holds of never stands where no step leads
+going : (tree : ProgramTree) (code : Code) (input : List ℕ) (p s : ℕ) (m : Machine) → Agrees code tree input p s m → IsStuckAt code p s m → ⊥
+going tree code input p s m agrees stuck = let next = agrees.next stuck.0 in stuck.1 next.0 next.1 next.2 next.3
 
--- a number that isn't 57 is of a run that was begun, and 57 of numbers that are out of range
-numbered : (tree : ProgramTree) (code : Code) (input : List ℕ) (w : Wants) (number : ℕ) (ran : Ran) → IsNumbered number ran
-    → ((number ≡ 57) × (AreSizes w.processors w.slots → ⊥)) ⊎ (AreSizes w.processors w.slots × ((number ≡ 58) ⊎ (number ≡ 59))) → ComesOf tree code input w ran
-numbered tree code input w number OutOfRange e (inl h) = h.1
-numbered tree code input w number OutOfRange e (inr h) = absurd (not_begun number e h.1)
-numbered tree code input w number NotStarted e (inl h) = absurd (omega (arith, e, h.0))
-numbered tree code input w number NotStarted e (inr h) = h.0
-numbered tree code input w number Stuck e (inl h) = absurd (e.0 h.0)
-numbered tree code input w number Stuck e (inr h) = h.0
-numbered tree code input w number (Refused page) e h = absurd e
-numbered tree code input w number (Came whole) e h = absurd e
-numbered tree code input w number (Memory output) e h = absurd e
+never_stuck : (tree : ProgramTree) (code : Code) (input : List ℕ) (p s : ℕ) → Headline code tree → IsStateOf code input p s (IsStuckAt code p s) → ⊥
+never_stuck tree code input p s headline o =
+    let run = is_run code input o.schedule o.point o.kept o.replays in
+    let agrees = headline input o.schedule.processors o.schedule.slots run.0 o.point.machine o.kept.0 run.1 in
+    going tree code input p s o.point.machine (subst (λ (n : ℕ). Agrees code tree input n s o.point.machine) o.processors (subst (λ (n : ℕ). Agrees code tree input o.schedule.processors n o.point.machine) o.slots agrees)) o.holds
 
--- what is shown of a refusal, where its output is a beginning
-refused_so : (tree : ProgramTree) (code : Code) (input : List ℕ) (w : Wants) (output : Vec ℕ Global) (ran : Ran) → IsBeginning output.items (seq tree input).output → ran ≡ Memory output → ComesOf tree code input w ran
-refused_so tree code input w output ran h e = subst (λ (r : Ran). ComesOf tree code input w r) (sym e) h
+came_of : (tree : ProgramTree) (code : Code) (input : List ℕ) (w : Wants) (x ran : Ran) → ran ≡ x → ComesOf tree code input w x → ComesOf tree code input w ran
+came_of tree code input w x ran e h = subst (λ (r : Ran). ComesOf tree code input w r) (sym e) h
 
 pub refused_recorded : (tree : ProgramTree) (code : Code) (input : List ℕ) (w : Wants) (why : RunRefusal) (ran : Ran) → Headline code tree → IsRefused code input w.processors w.slots why → IsRefusal why ran → ComesOf tree code input w ran
 refused_recorded tree code input w (runs.Memory output) ran headline (inl h) e = absurd h
-refused_recorded tree code input w (runs.Memory output) ran headline (inr h) e = refused_so tree code input w output ran (begins tree code input w.processors w.slots output.items headline h.1) e
-refused_recorded tree code input w (runs.Refused number) ran headline h e = numbered tree code input w number ran e h
+refused_recorded tree code input w (runs.Memory output) ran headline (inr h) e = came_of tree code input w (Memory output) ran e (begins tree code input w.processors w.slots output.items headline h.1)
+refused_recorded tree code input w runs.OutOfRange ran headline (inl h) e = came_of tree code input w OutOfRange ran e h
+refused_recorded tree code input w runs.OutOfRange ran headline (inr h) e = absurd h.1
+refused_recorded tree code input w (runs.NotStarted failure) ran headline (inl h) e = absurd h
+refused_recorded tree code input w (runs.NotStarted failure) ran headline (inr h) e = came_of tree code input w (NotStarted failure) ran e h.0
+refused_recorded tree code input w runs.Stuck ran headline (inl h) e = absurd h
+refused_recorded tree code input w runs.Stuck ran headline (inr h) e = absurd (never_stuck tree code input w.processors w.slots headline h.1)
 
 pub refused_unrecorded : (tree : ProgramTree) (code : Code) (input : List ℕ) (w : Wants) (why : RunRefusal) (ran : Ran) → Headline code tree → IsUnanswered code input w.processors w.slots why → IsRefusal why ran → ComesOf tree code input w ran
 refused_unrecorded tree code input w (runs.Memory output) ran headline (inl h) e = absurd h
 refused_unrecorded tree code input w (runs.Memory output) ran headline (inr h) e =
     let agrees = headline input w.processors w.slots h.1.reached.turns h.1.machine h.1.sizes h.1.reached.run in
-    refused_so tree code input w output ran (subst (λ (xs : List ℕ). IsBeginning xs (seq tree input).output) (sym h.1.holds) agrees.beginning) e
-refused_unrecorded tree code input w (runs.Refused number) ran headline h e = numbered tree code input w number ran e h
+    came_of tree code input w (Memory output) ran e (subst (λ (xs : List ℕ). IsBeginning xs (seq tree input).output) (sym h.1.holds) agrees.beginning)
+refused_unrecorded tree code input w runs.OutOfRange ran headline (inl h) e = came_of tree code input w OutOfRange ran e h
+refused_unrecorded tree code input w runs.OutOfRange ran headline (inr h) e = absurd h.1
+refused_unrecorded tree code input w (runs.NotStarted failure) ran headline (inl h) e = absurd h
+refused_unrecorded tree code input w (runs.NotStarted failure) ran headline (inr h) e = came_of tree code input w (NotStarted failure) ran e h.0
+refused_unrecorded tree code input w runs.Stuck ran headline (inl h) e = absurd h
+refused_unrecorded tree code input w runs.Stuck ran headline (inr h) e =
+    let agrees = headline input w.processors w.slots h.1.reached.turns h.1.machine h.1.sizes h.1.reached.run in
+    absurd (going tree code input w.processors w.slots h.1.machine agrees h.1.holds)
+
+-- ---- what compiler, machine and runs promise together
+
+pub replays : ReplaysAreSequential
+replays t code input x answer given kept r =
+    let run = is_run code input x r.point kept r.replays in
+    let agrees = given.1 input x.processors x.slots run.0 r.point.machine kept.0 run.1 in
+    sequential t code input r.point.machine answer given.0 (agrees.answer answer.end r.is.end) r.is
+
+pub runs_recorded : RunsAreSequential
+runs_recorded t code input p s answer x given r = sequential t code input r.replay.point.machine answer given.0 (ended_so t code input p s answer x given.1 r) r.replay.is
+
+pub runs_unrecorded : AnswersAreSequential
+runs_unrecorded t code input p s answer given r = sequential t code input r.machine answer given.0 (ended_at t code input p s answer given.1 r) r.holds
+
+pub no_run_stuck : NoRunIsStuck
+no_run_stuck t code input p s given (inl h) = absurd h
+no_run_stuck t code input p s given (inr h) = never_stuck t code input p s given.1 h.1
+
+pub no_answer_stuck : NoAnswerIsStuck
+no_answer_stuck t code input p s given (inl h) = absurd h
+no_answer_stuck t code input p s given (inr h) = going t code input p s h.1.machine (given.1 input p s h.1.reached.turns h.1.machine h.1.sizes h.1.reached.run) h.1.holds
+
+pub goes_on : (x : CoreView) → Replays x.code x.input x.schedule (point_at x) → IsSchedule x.schedule → GoesOn x
+goes_on x replays kept t given on =
+    let run = is_run x.code x.input x.schedule (point_at x) kept replays in
+    let agrees = given.1 x.input x.schedule.processors x.schedule.slots run.0 (point_at x).machine kept.0 run.1 in
+    let next = agrees.next on in
+    (next.0, next.2, λ answer went. either x next.0 answer (went next.1 (next.2, next.3)))
+  where
+    either : (x : CoreView) (q : ℕ) (answer : Stepped) → HasLocal x q ⊎ IsWent answer → IsWent answer ⊎ HasLocal x q
+    either x q answer (inl h) = inr h
+    either x q answer (inr h) = inl h

@@ -66,7 +66,7 @@ Shows w symbols answer x (Came whole) =
     × WhereWanted w.schedule whole.schedule (SchedText x)
 Shows w symbols answer x (Memory output) = output.items ≡ answer.output.items
 Shows w symbols answer x OutOfRange = ⊥
-Shows w symbols answer x NotStarted = ⊥
+Shows w symbols answer x (NotStarted failure) = ⊥
 Shows w symbols answer x Stuck = ⊥
 
 -- What is shown of an answer where no schedule is wanted; where there is no memory for that, the
@@ -79,16 +79,12 @@ ShowsAnswer store symbols answer (Came whole) =
 ShowsAnswer store symbols answer (Memory output) = output.items ≡ answer.output.items
 ShowsAnswer store symbols answer _ = ⊥
 
--- the ending of a run that gives no answer: 57, 58 or any other number; or want of memory
-abbrev pub IsNumbered : ℕ → Ran → Type 0
-IsNumbered number OutOfRange = number ≡ 57
-IsNumbered number NotStarted = number ≡ 58
-IsNumbered number Stuck = (number ≡ 57 → ⊥) × (number ≡ 58 → ⊥)
-IsNumbered number _ = ⊥
-
+-- what comes of a run that gives no answer
 abbrev pub IsRefusal : RunRefusal → Ran → Type 0
 IsRefusal (runs.Memory output) ran = ran ≡ Memory output
-IsRefusal (runs.Refused number) ran = IsNumbered number ran
+IsRefusal runs.OutOfRange ran = ran ≡ OutOfRange
+IsRefusal (runs.NotStarted failure) ran = ran ≡ NotStarted failure
+IsRefusal runs.Stuck ran = ran ≡ Stuck
 
 -- a refusal is shown; or nothing, where there is no memory for that
 abbrev pub ShowsRefusal : (number line : ℕ) → Ran → Type 0
@@ -101,14 +97,14 @@ abbrev pub IsNoCodeAs : List ℕ → Outcome → List ℕ → Type 0
 IsNoCodeAs source (outcomes.Refused number line) text = IsNoCode source number line text
 IsNoCodeAs source _ text = ⊥
 
--- what a run of code may come to
+-- What a run of code may come to. Code of a program is never stuck.
 abbrev pub ComesOf : ProgramTree → Code → (input : List ℕ) → Wants → Ran → Type 0
 ComesOf tree code input w (Refused page) = ⊥
 ComesOf tree code input w (Came whole) = IsWhole tree code input w whole
 ComesOf tree code input w (Memory output) = IsBeginning output.items (seq tree input).output
 ComesOf tree code input w OutOfRange = AreSizes w.processors w.slots → ⊥
-ComesOf tree code input w NotStarted = AreSizes w.processors w.slots
-ComesOf tree code input w Stuck = AreSizes w.processors w.slots
+ComesOf tree code input w (NotStarted failure) = AreSizes w.processors w.slots
+ComesOf tree code input w Stuck = ⊥
 
 -- What `run` may come to with a source: where there is no memory for its code, nothing has gone
 -- out.
@@ -117,8 +113,8 @@ Running source input w (Refused page) = IsNoCodeAs source page.outcome page.text
 Running source input w (Came whole) = WithCode source (λ tree code. ComesOf tree code input w (Came whole))
 Running source input w (Memory output) = (output.items ≡ []) ⊎ WithCode source (λ tree code. ComesOf tree code input w (Memory output))
 Running source input w OutOfRange = WithCode source (λ tree code. ComesOf tree code input w OutOfRange)
-Running source input w NotStarted = WithCode source (λ tree code. ComesOf tree code input w NotStarted)
-Running source input w Stuck = WithCode source (λ tree code. ComesOf tree code input w Stuck)
+Running source input w (NotStarted failure) = WithCode source (λ tree code. ComesOf tree code input w (NotStarted failure))
+Running source input w Stuck = ⊥
 
 -- ---- what is written: the schedule's writer has bytes from `before` to `after`, the other one's from
 -- `old` to `new`
@@ -158,7 +154,7 @@ WritesRan (Refused page) before after old new result = (after ≡ before) × Wri
 WritesRan (Came whole) before after old new result = WritesWhole whole before after old new result
 WritesRan (Memory output) before after old new result = (after ≡ before) × WritesText output.items (Err faults.Memory) old new result
 WritesRan OutOfRange before after old new result = (result ≡ Err faults.OutOfRange) × (after ≡ before) × (new ≡ old)
-WritesRan NotStarted before after old new result = (result ≡ Err faults.NotStarted) × (after ≡ before) × (new ≡ old)
+WritesRan (NotStarted failure) before after old new result = (result ≡ Err faults.NotStarted) × (after ≡ before) × (new ≡ old)
 WritesRan Stuck before after old new result = (result ≡ Err faults.Stuck) × (after ≡ before) × (new ≡ old)
 
 -- what may come of a run was written, with this answer

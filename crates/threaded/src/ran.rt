@@ -8,6 +8,7 @@ ghost use Rattle.threaded.specs.Running.{Grows, GrowsPart, WritesText, text_of};
 use crate::figures::Figures;
 use handing::write_all;
 use pages::{EngineFault, Outcome, Page};
+use processors::StartFailure;
 use std::io::Write;
 
 /// A run that came to its end.
@@ -33,7 +34,7 @@ pub enum Ran {
     /// There aren't 1 to 64 processors and 1 to 256 open iterations.
     OutOfRange,
     /// A thread couldn't be started.
-    NotStarted,
+    NotStarted(StartFailure),
     /// The run couldn't go on, and hadn't ended.
     Stuck,
 }
@@ -103,7 +104,7 @@ impl Ran {
             Ran::Whole(whole) => whole.write(schedule, out),
             Ran::Memory(output) => write_output(out, output),
             Ran::OutOfRange => Err(EngineFault::OutOfRange),
-            Ran::NotStarted => Err(EngineFault::NotStarted),
+            Ran::NotStarted(_) => Err(EngineFault::NotStarted),
             Ran::Stuck => Err(EngineFault::Stuck),
         }
     }

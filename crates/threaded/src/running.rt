@@ -187,9 +187,9 @@ fn unanswered(refusal: RunRefusal) -> Ran
 {
     match refusal {
         RunRefusal::Memory { output } => Ran::Memory(output),
-        RunRefusal::Refused { number: 57 } => Ran::OutOfRange,
-        RunRefusal::Refused { number: 58 } => Ran::NotStarted,
-        RunRefusal::Refused { .. } => Ran::Stuck,
+        RunRefusal::OutOfRange => Ran::OutOfRange,
+        RunRefusal::NotStarted(failure) => Ran::NotStarted(failure),
+        RunRefusal::Stuck => Ran::Stuck,
     }
 }
 
