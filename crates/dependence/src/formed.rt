@@ -7,6 +7,7 @@ ghost use Rattle.dependence.specs.Tests.{says_apart};
 ghost use Rattle.loop_tree.specs.Occurrences.{Occurrence as Occurring};
 ghost use Rattle.loop_tree.specs.TreeView.{seen};
 ghost use Rattle.loop_tree.specs.View.{occurrence as occurrence_of};
+ghost use Rattle.subscripts.specs.SharesView.{share};
 ghost use Rattle.subscripts.specs.View.{form, form_in};
 
 use crate::relating::{before, by_forms};
@@ -14,7 +15,7 @@ use crate::relation::{Reason, Relation};
 use crate::verifying::{are_apart, are_distant};
 use loop_tree::{LoopView, Occurrence};
 use std::alloc::{AllocError, Global};
-use subscripts::{Affine, Form, affine};
+use subscripts::{Affine, Form, Share, affine};
 
 /// The affine forms of a reference's subscripts, dimension by dimension; none of a scalar.
 ///
@@ -36,7 +37,7 @@ pub fn forms(
     Ok(forms)
 }
 
-/// Whether two forms are seen to be the same: those with shares of other scalars aren't compared.
+/// Whether two forms are the same.
 fn is_same(first: &Affine, second: &Affine) -> bool
     ensures { result ≡ true → form_in first.now ≡ form_in second.now }
 {
@@ -49,18 +50,34 @@ fn is_same(first: &Affine, second: &Affine) -> bool
     }
 }
 
-/// Whether two forms have the same constant and the same coefficient, and no shares.
+/// Whether shares are the same, one after another.
+fn are_same_shares(first: &[Share], second: &[Share]) -> bool
+    ensures { result ≡ true → map share first.now ≡ map share second.now }
+{
+    match first {
+        [] => second.is_empty(),
+        [one, others @ ..] => match second {
+            [] => false,
+            [other, rest @ ..] => {
+                one.cell == other.cell
+                    && one.factor == other.factor
+                    && are_same_shares(others, rest)
+            }
+        },
+    }
+}
+
+/// Whether two forms have the same constant, the same coefficient and the same shares.
 fn is_same_line(first: &Form, second: &Form) -> bool
     ensures { result ≡ true → form first.now ≡ form second.now }
 {
-    first.shares.is_empty()
-        && second.shares.is_empty()
-        && first.constant == second.constant
+    first.constant == second.constant
         && first.coefficient == second.coefficient
+        && are_same_shares(first.shares.as_slice(), second.shares.as_slice())
 }
 
 /// Whether the forms of two references are seen to be the same, dimension by dimension. So they are
-/// where this is true; where they have shares of other scalars it is false.
+/// where this is true; where their shares stand in another order it is false.
 pub fn have_same_forms(first: &[Affine], second: &[Affine]) -> bool
     ensures { result ≡ true → map form_in first.now ≡ map form_in second.now }
 {
@@ -88,10 +105,10 @@ fn by_dimensions(
         [] => Relation::Any,
         [a, others @ ..] => match second {
             [] => Relation::Any,
-            [b, rest @ ..] => before(
-                by_forms(view, dimension, a, b),
-                by_dimensions(view, dimension + 1, others, rest),
-            ),
+            [b, rest @ ..] => match by_forms(view, dimension, a, b) {
+                Relation::Apart(number, reason) => Relation::Apart(number, reason),
+                relation => before(relation, by_dimensions(view, dimension + 1, others, rest)),
+            },
         },
     }
 }

@@ -1,5 +1,6 @@
 -- An account of the code: what is found by looking at a reference with its partners, in order.
-use Rattle.std.specs.Prelude.{◌≡◌, ◌<◌, ◌≤◌, ◌==◌, ◌+◌, nat_lt, ℕ, Bool, true, false, ◌&&◌, ◌||◌, List, [], ◌∷◌, ◌++◌, length, map, Option, Some, None, is_some, if◌then◌else◌, slice_get, IfSome}
+use Rattle.std.specs.Prelude.{◌≡◌, ◌<◌, ◌≤◌, ◌==◌, Vec, ◌+◌, nat_lt, ℕ, Bool, true, false, ◌&&◌, ◌||◌, List, [], ◌∷◌, ◌++◌, length, map, Option, Some, None, is_some, if◌then◌else◌, slice_get, IfSome}
+use Rattle.std.specs.Global.{Global}
 use Rattle.std.specs.List.{All}
 use Rattle.ast.specs.Store.{same_name}
 use Rattle.ast.specs.Tree.{Ref}
@@ -21,7 +22,9 @@ use Rattle.placement.specs.declared.analysis.Analysis.{Analysis}
 use Rattle.placement.specs.declared.analysis.Earlier.{Earlier}
 use Rattle.placement.specs.declared.pairs.Pairs.{Pairs}
 use Rattle.placement.specs.declared.pairs.Shared.{Shared}
+use Rattle.subscripts.specs.Forms.{Form}
 use Rattle.subscripts.specs.View.{form_in}
+use Rattle.subscripts.specs.declared.form.Affine.{Affine}
 
 -- ---- the references that iterations share
 
@@ -38,9 +41,25 @@ shared_of l privates (o ∷ os) = if is_own l privates o.ref then shared_of l pr
 abbrev pub occurrence_in : Shared → Occurrence
 occurrence_in s = occurrence s.occurrence
 
--- the forms that are kept with it are those of its subscripts
-abbrev pub HasForms : Loop → Shared → Type 0
-HasForms l s = map form_in s.forms.items ≡ forms_of l (occurrence_in s).subscripts
+-- kinds of references: the forms of their subscripts
+abbrev pub Kinds : Type 0
+Kinds = List (Vec Affine Global)
+
+-- the forms of a kind, by its number
+abbrev pub forms_at : Kinds → ℕ → List (Option Form)
+forms_at kinds n = map form_in (list_at kinds n)
+
+-- its kind is that of the forms of its subscripts
+abbrev pub HasForms : Loop → Kinds → Shared → Type 0
+HasForms l kinds s = (s.kind < length kinds) × (forms_at kinds s.kind ≡ forms_of l (occurrence_in s).subscripts)
+
+-- so are those of all that are kept
+abbrev pub HaveForms : Loop → Pairs → Type 0
+HaveForms l p = All (HasForms l p.kinds.items) p.shared.items
+
+-- where kinds are added those before them stay
+abbrev pub AreKept : (old new : Kinds) → Type 0
+AreKept old new = (n : ℕ) → n < length old → (n < length new) × (list_at new n ≡ list_at old n)
 
 -- the places of those that meet a test, from place n on
 abbrev pub places : (Occurrence → Bool) → ℕ → List Occurrence → List ℕ
@@ -80,7 +99,7 @@ HasOneMore l privates o old new = (more : List Occurrence) → shared_in new ++ 
 pub record ArePairs (l : Loop) (privates : List (List ℕ)) (p : Pairs) : Type 0 where
   pub told : are_told (known l) ≡ true
   pub shared : shared_in p ≡ shared_of l privates l.references
-  pub forms : All (HasForms l) p.shared.items
+  pub forms : HaveForms l p
   pub grouped : AreGrouped p
 
 -- the places of those with which a reference is looked at
@@ -118,14 +137,14 @@ abbrev pub triple_of : Occurrence → Occurrence → Option ℕ → List Triple
 triple_of a b None = []
 triple_of a b (Some d) = (b.statement, a.statement, d) ∷ []
 
--- the relation that was found is that to each reference with these forms
-abbrev pub Relates : Loop → Occurrence → Earlier → Type 0
-Relates l a earlier = (b : Occurrence) → map form_in earlier.forms.now ≡ forms_of l b.subscripts → earlier.relation ≡ relation l a b
+-- the relation that was found is that to each reference of this kind
+abbrev pub Relates : Loop → Kinds → Occurrence → Earlier → Type 0
+Relates l kinds a earlier = (b : Occurrence) → forms_at kinds earlier.kind ≡ forms_of l b.subscripts → earlier.relation ≡ relation l a b
 
 -- so are the newest of what was found
-pub record AllRelate (l : Loop) (a : Occurrence) (recent : Recent Earlier) : Type 0 where
-  pub newest : IfSome recent.newest (Relates l a)
-  pub older : IfSome recent.older (Relates l a)
+pub record AllRelate (l : Loop) (kinds : Kinds) (a : Occurrence) (recent : Recent Earlier) : Type 0 where
+  pub newest : IfSome recent.newest (Relates l kinds a)
+  pub older : IfSome recent.older (Relates l kinds a)
 
 -- what is kept of two references
 abbrev pub kept_by : Loop → Occurrence → Occurrence → List Triple

@@ -1,6 +1,6 @@
 //! What is kept of a loop's dependences.
 
-ghost use Rattle.std.specs.List.{All, Contains};
+ghost use Rattle.std.specs.List.{Contains};
 ghost use Rattle.std.specs.Prelude.{◌≡◌, ◌↔◌, IfOk, IfSome, OnOk, map, slice_get, true};
 ghost use Rattle.ast.specs.View.{letters};
 ghost use Rattle.dependence.specs.Formed.{forms_of};
@@ -10,14 +10,15 @@ ghost use Rattle.loop_tree.specs.Occurrences.{Occurrence as Occurring};
 ghost use Rattle.loop_tree.specs.TreeView.{seen};
 ghost use Rattle.placement.specs.Analysed.{IsFound, Triple, are_sorted, triple};
 ghost use Rattle.placement.specs.Looked as spec;
-ghost use Rattle.placement.specs.Looked.{AllRelate, HasForms, Relates, found_in, occurrence_in};
+ghost use Rattle.placement.specs.Looked.{AllRelate, HasForms, HaveForms, Kinds, Relates, forms_at};
+ghost use Rattle.placement.specs.Looked.{found_in, occurrence_in, shared_in};
 ghost use Rattle.placement.specs.Placement.{is_ascending};
 ghost use Rattle.privatise.specs.Privates.{ArePrivate};
-ghost use Rattle.subscripts.specs.View.{form_in};
 
+use crate::nested::at;
 use crate::pairs::{Pairs, Shared};
 use ast::{MOST_EVENTS, Name};
-use dependence::{Recent, Relation, Relations, have_same_forms, relate_forms};
+use dependence::{Recent, Relation, Relations, relate_forms};
 use loop_tree::LoopView;
 use std::alloc::{AllocError, Global};
 use subscripts::Affine;
@@ -65,57 +66,59 @@ pub fn add_source(sources: &mut Vec<usize>, statement: usize) -> Result<(), Allo
     }
 }
 
-/// The relation of a reference to an earlier one with these forms.
+/// The relation of a reference to an earlier one of this kind.
 #[derive(Clone, Copy)]
-pub struct Earlier<'s> {
-    pub forms: &'s [Affine],
+pub struct Earlier {
+    pub kind: usize,
     pub relation: Relation,
 }
 
-/// What was found, if these are its forms.
-fn like(earlier: &Option<Earlier<'_>>, forms: &[Affine]) -> Option<Relation>
-    ensures { (l : Loop) (a b : Occurring) → IfSome earlier.now (Relates l a)
-        → map form_in forms.now ≡ forms_of l b.subscripts
+/// What was found, if it is of this kind.
+fn like(earlier: &Option<Earlier>, kind: usize) -> Option<Relation>
+    ensures { (l : Loop) (kinds : Kinds) (a b : Occurring)
+        → IfSome earlier.now (Relates l kinds a) → forms_at kinds kind ≡ forms_of l b.subscripts
         → IfSome result (λ r. r ≡ relation_of l a b) }
 {
     match earlier {
-        Some(earlier) if have_same_forms(earlier.forms, forms) => Some(earlier.relation),
+        Some(earlier) if earlier.kind == kind => Some(earlier.relation),
         _ => None,
     }
 }
 
-/// What was found of the same forms, if it is among the newest.
-fn found_like(recent: &Recent<Earlier<'_>>, forms: &[Affine]) -> Option<Relation>
-    ensures { (l : Loop) (a b : Occurring) → AllRelate l a recent.now → map form_in forms.now
-        ≡ forms_of l b.subscripts → IfSome result (λ r. r ≡ relation_of l a b) }
+/// What was found of the same kind, if it is among the newest.
+fn found_like(recent: &Recent<Earlier>, kind: usize) -> Option<Relation>
+    ensures { (l : Loop) (kinds : Kinds) (a b : Occurring)
+        → AllRelate l kinds a recent.now → forms_at kinds kind ≡ forms_of l b.subscripts
+        → IfSome result (λ r. r ≡ relation_of l a b) }
 {
-    match like(&recent.newest, forms) {
+    match like(&recent.newest, kind) {
         Some(relation) => Some(relation),
-        None => like(&recent.older, forms),
+        None => like(&recent.older, kind),
     }
 }
 
-/// The relation of a reference to another, which is found anew only where its forms are none of the
+/// The relation of a reference to another, which is found anew only where its kind is none of the
 /// newest.
-pub fn related<'s>(
+pub fn related(
     view: &LoopView<'_, '_>,
+    kinds: &[Vec<Affine>],
     first: &Shared<'_>,
-    second: &'s Shared<'_>,
-    recent: &mut Recent<Earlier<'s>>,
+    second: &Shared<'_>,
+    recent: &mut Recent<Earlier>,
 ) -> Relation
-    requires first { HasForms (seen view.now) first.now }
-    requires second { HasForms (seen view.now) second.now }
-    requires recent { AllRelate (seen view.now) (occurrence_in first.now) recent.old }
-    ensures recent { AllRelate (seen view.now) (occurrence_in first.now) recent.new }
+    requires first { HasForms (seen view.now) kinds.now first.now }
+    requires second { HasForms (seen view.now) kinds.now second.now }
+    requires recent { AllRelate (seen view.now) kinds.now (occurrence_in first.now) recent.old }
+    ensures recent { AllRelate (seen view.now) kinds.now (occurrence_in first.now) recent.new }
     ensures relation { result
         ≡ relation_of (seen view.now) (occurrence_in first.now) (occurrence_in second.now) }
 {
-    if let Some(relation) = found_like(recent, &second.forms) {
+    let kind = second.kind;
+    if let Some(relation) = found_like(recent, kind) {
         return relation;
     }
-    let relation = relate_forms(view, &first.forms, &second.forms);
-    let forms = &second.forms;
-    recent.add(Earlier { forms, relation });
+    let relation = relate_forms(view, at(kinds, first.kind), at(kinds, kind));
+    recent.add(Earlier { kind, relation });
     relation
 }
 
@@ -145,26 +148,28 @@ fn look_at(
 }
 
 /// Looks at a reference in one iteration with the one at a place, if there is one, in a later one.
-fn look_at_place<'s>(
+fn look_at_place(
     view: &LoopView<'_, '_>,
-    shared: &'s [Shared<'_>],
+    pairs: &Pairs<'_>,
     first: &Shared<'_>,
     place: usize,
-    recent: &mut Recent<Earlier<'s>>,
+    recent: &mut Recent<Earlier>,
     analysis: &mut Analysis,
 ) -> Result<(), AllocError>
-    requires first { HasForms (seen view.now) first.now }
-    requires all { All (HasForms (seen view.now)) shared.now }
-    requires recent { AllRelate (seen view.now) (occurrence_in first.now) recent.old }
-    ensures recent { AllRelate (seen view.now) (occurrence_in first.now) recent.new }
+    requires first { HasForms (seen view.now) pairs.now.kinds.items first.now }
+    requires all { HaveForms (seen view.now) pairs.now }
+    requires recent { AllRelate (seen view.now) pairs.now.kinds.items
+        (occurrence_in first.now) recent.old }
+    ensures recent { AllRelate (seen view.now) pairs.now.kinds.items
+        (occurrence_in first.now) recent.new }
     ensures sources { analysis.new.sources ≡ analysis.old.sources }
     ensures found { OnOk result (found_in analysis.new
         ≡ spec.after_some (seen view.now) (occurrence_in first.now)
-        (slice_get (map occurrence_in shared.now) place) (found_in analysis.old)) }
+        (slice_get (shared_in pairs.now) place) (found_in analysis.old)) }
 {
-    match shared.get(place) {
+    match pairs.shared.get(place) {
         Some(second) => {
-            let relation = related(view, first, second, recent);
+            let relation = related(view, &pairs.kinds, first, second, recent);
             look_at(first, second, relation, analysis)
         }
         None => Ok(()),
@@ -174,21 +179,21 @@ fn look_at_place<'s>(
 /// Looks at a reference in one iteration with those at places in a later one.
 fn look_at_all(
     view: &LoopView<'_, '_>,
-    shared: &[Shared<'_>],
+    pairs: &Pairs<'_>,
     first: &Shared<'_>,
     places: &[usize],
     analysis: &mut Analysis,
 ) -> Result<(), AllocError>
-    requires first { HasForms (seen view.now) first.now }
-    requires all { All (HasForms (seen view.now)) shared.now }
+    requires first { HasForms (seen view.now) pairs.now.kinds.items first.now }
+    requires all { HaveForms (seen view.now) pairs.now }
     ensures sources { OnOk result (analysis.new.sources ≡ analysis.old.sources) }
     ensures found { OnOk result (found_in analysis.new
-        ≡ spec.after_places (seen view.now) (map occurrence_in shared.now) (occurrence_in first.now)
+        ≡ spec.after_places (seen view.now) (shared_in pairs.now) (occurrence_in first.now)
         places.now (found_in analysis.old)) }
 {
     let mut recent = Recent::none();
     for place in places {
-        look_at_place(view, shared, first, *place, &mut recent, analysis)?;
+        look_at_place(view, pairs, first, *place, &mut recent, analysis)?;
     }
     Ok(())
 }
@@ -200,8 +205,8 @@ fn look(
     first: &Shared<'_>,
     analysis: &mut Analysis,
 ) -> Result<(), AllocError>
-    requires first { HasForms (seen view.now) first.now }
-    requires all { All (HasForms (seen view.now)) pairs.now.shared.items }
+    requires first { HasForms (seen view.now) pairs.now.kinds.items first.now }
+    requires all { HaveForms (seen view.now) pairs.now }
     requires ascending { is_ascending analysis.old.sources.items ≡ true }
     ensures found { OnOk result (found_in analysis.new
         ≡ spec.after_first (seen view.now) pairs.now (occurrence_in first.now)
@@ -210,7 +215,7 @@ fn look(
 {
     let before = analysis.kept.len();
     let places = pairs.partners(&first.occurrence);
-    look_at_all(view, &pairs.shared, first, places, analysis)?;
+    look_at_all(view, pairs, first, places, analysis)?;
     if before < analysis.kept.len() {
         add_source(&mut analysis.sources, first.occurrence.statement)?;
     }
@@ -224,7 +229,7 @@ fn look_at_each(
     view: &LoopView<'_, '_>,
     pairs: &Pairs<'_>,
 ) -> Result<Option<Analysis>, AllocError>
-    requires { All (HasForms (seen view.now)) pairs.now.shared.items }
+    requires { HaveForms (seen view.now) pairs.now }
     ensures { IfOk result (λ found.
         spec.IsAllFound (spec.all_found (seen view.now) pairs.now) found) }
 {

@@ -1,11 +1,10 @@
 //! Which statements are sources, however many there are.
 
-ghost use Rattle.std.specs.List.{All};
 ghost use Rattle.std.specs.Prelude.{◌≡◌, [], IfOk, OnOk, map, slice_get, true};
 ghost use Rattle.ast.specs.View.{letters};
 ghost use Rattle.loop_tree.specs.TreeView.{seen};
 ghost use Rattle.placement.specs.Looked as spec;
-ghost use Rattle.placement.specs.Looked.{AllRelate, HasForms, occurrence_in};
+ghost use Rattle.placement.specs.Looked.{AllRelate, HasForms, HaveForms, occurrence_in, shared_in};
 ghost use Rattle.placement.specs.Placement.{AreSources, is_ascending};
 ghost use Rattle.privatise.specs.Privates.{ArePrivate};
 
@@ -18,43 +17,40 @@ use std::alloc::{AllocError, Global};
 
 /// Whether something is kept of a reference in one iteration and the one at a place, if there is
 /// one, in a later one.
-fn keeps_at<'s>(
+fn keeps_at(
     view: &LoopView<'_, '_>,
-    shared: &'s [Shared<'_>],
+    pairs: &Pairs<'_>,
     first: &Shared<'_>,
     place: usize,
-    recent: &mut Recent<Earlier<'s>>,
+    recent: &mut Recent<Earlier>,
 ) -> bool
-    requires first { HasForms (seen view.now) first.now }
-    requires all { All (HasForms (seen view.now)) shared.now }
-    requires recent { AllRelate (seen view.now) (occurrence_in first.now) recent.old }
-    ensures recent { AllRelate (seen view.now) (occurrence_in first.now) recent.new }
+    requires first { HasForms (seen view.now) pairs.now.kinds.items first.now }
+    requires all { HaveForms (seen view.now) pairs.now }
+    requires recent { AllRelate (seen view.now) pairs.now.kinds.items
+        (occurrence_in first.now) recent.old }
+    ensures recent { AllRelate (seen view.now) pairs.now.kinds.items
+        (occurrence_in first.now) recent.new }
     ensures kept { result
         ≡ spec.keeps_at (seen view.now) (occurrence_in first.now)
-        (slice_get (map occurrence_in shared.now) place) }
+        (slice_get (shared_in pairs.now) place) }
 {
-    match shared.get(place) {
-        Some(second) => distance(related(view, first, second, recent)).is_some(),
+    match pairs.shared.get(place) {
+        Some(second) => { distance(related(view, &pairs.kinds, first, second, recent)).is_some() }
         None => false,
     }
 }
 
 /// Whether something is kept of a reference in one iteration and one of those at places in a later
 /// one.
-fn keeps(
-    view: &LoopView<'_, '_>,
-    shared: &[Shared<'_>],
-    first: &Shared<'_>,
-    places: &[usize],
-) -> bool
-    requires first { HasForms (seen view.now) first.now }
-    requires all { All (HasForms (seen view.now)) shared.now }
+fn keeps(view: &LoopView<'_, '_>, pairs: &Pairs<'_>, first: &Shared<'_>, places: &[usize]) -> bool
+    requires first { HasForms (seen view.now) pairs.now.kinds.items first.now }
+    requires all { HaveForms (seen view.now) pairs.now }
     ensures { result
-        ≡ spec.keeps (seen view.now) (map occurrence_in shared.now) (occurrence_in first.now) places.now }
+        ≡ spec.keeps (seen view.now) (shared_in pairs.now) (occurrence_in first.now) places.now }
 {
     let mut recent = Recent::none();
     for place in places {
-        if keeps_at(view, shared, first, *place, &mut recent) {
+        if keeps_at(view, pairs, first, *place, &mut recent) {
             return true;
         }
     }
@@ -68,15 +64,15 @@ fn add_if_source(
     first: &Shared<'_>,
     sources: &mut Vec<usize>,
 ) -> Result<(), AllocError>
-    requires first { HasForms (seen view.now) first.now }
-    requires all { All (HasForms (seen view.now)) pairs.now.shared.items }
+    requires first { HasForms (seen view.now) pairs.now.kinds.items first.now }
+    requires all { HaveForms (seen view.now) pairs.now }
     requires ascending { is_ascending sources.old.items ≡ true }
     ensures sources { OnOk result (sources.new.items
         ≡ spec.sources_with (seen view.now) pairs.now (occurrence_in first.now) sources.old.items) }
     ensures ascending { OnOk result (is_ascending sources.new.items ≡ true) }
 {
     let places = pairs.partners(&first.occurrence);
-    if keeps(view, &pairs.shared, first, places) {
+    if keeps(view, pairs, first, places) {
         add_source(sources, first.occurrence.statement)?;
     }
     Ok(())
@@ -88,7 +84,7 @@ fn sources_among(
     view: &LoopView<'_, '_>,
     pairs: &Pairs<'_>,
 ) -> Result<Vec<usize>, AllocError>
-    requires { All (HasForms (seen view.now)) pairs.now.shared.items }
+    requires { HaveForms (seen view.now) pairs.now }
     ensures { IfOk result (λ sources. sources.items
         ≡ spec.sources_after (seen view.now) pairs.now (spec.shared_in pairs.now) []) }
 {

@@ -1,31 +1,38 @@
 //! The references of a loop that its iterations share.
 
-ghost use Rattle.std.specs.List.{All};
-ghost use Rattle.std.specs.Prelude.{◌≡◌, ◌++◌, [], ◌∷◌, IfOk, OnOk, ℕ, if◌then◌else◌, map};
+ghost use Rattle.std.specs.Prelude.{◌≡◌, ◌<◌, ◌++◌, [], ◌∷◌, IfOk, IfSome, OnOk, ℕ};
+ghost use Rattle.std.specs.Prelude.{if◌then◌else◌, length, map};
 ghost use Rattle.ast.specs.View.{letters, ref};
 ghost use Rattle.loop_tree.specs.TreeView.{seen};
 ghost use Rattle.loop_tree.specs.View.{occurrence as occurrence_of};
 ghost use Rattle.placement.specs.Listed.{list_at};
 ghost use Rattle.placement.specs.Looked as spec;
+ghost use Rattle.subscripts.specs.View.{form_in};
 
 use crate::nested::{at, push_at};
 use ast::{Name, Reference};
-use dependence::{forms, has_name};
+use dependence::{forms, has_name, have_same_forms};
 use loop_tree::{LoopView, Occurrence};
 use std::alloc::{AllocError, Global};
 use subscripts::Affine;
 
-/// A reference that iterations share, with the forms of its subscripts.
+/// So many of the newest kinds are asked whether one is a reference's.
+const ASKED: usize = 128;
+
+/// A reference that iterations share.
 #[derive(Drop)]
 pub struct Shared<'p> {
     pub occurrence: Occurrence<'p>,
-    pub forms: Vec<Affine>,
+    /// The number of the forms of its subscripts, among the kinds.
+    pub kind: usize,
 }
 
 /// The references that iterations share, in order, and their places among these.
 #[derive(Drop)]
 pub struct Pairs<'p> {
     pub shared: Vec<Shared<'p>>,
+    /// The forms that subscripts have, by their numbers: those of many references stand once.
+    pub kinds: Vec<Vec<Affine>>,
     /// The places of those of a variable, by its cell.
     all: Vec<Vec<usize>>,
     /// The places of those that give it a value.
@@ -55,11 +62,40 @@ fn add_defining(
     Ok(())
 }
 
+/// The number of these forms, if they are among the newest kinds.
+fn recent_kind(kinds: &[Vec<Affine>], forms: &[Affine]) -> Option<usize>
+    ensures same { IfSome result (λ n. map form_in (list_at kinds.now n) ≡ map form_in forms.now) }
+    ensures inside { IfSome result (λ n. n < length kinds.now) }
+{
+    for kind in kinds.len().saturating_sub(ASKED)..kinds.len() {
+        if have_same_forms(at(kinds, kind), forms) {
+            return Some(kind);
+        }
+    }
+    None
+}
+
+/// The number of these forms, which are added where they aren't among the newest kinds.
+fn kind_of(kinds: &mut Vec<Vec<Affine>>, forms: Vec<Affine>) -> Result<usize, AllocError>
+    ensures kept { spec.AreKept kinds.old.items kinds.new.items }
+    ensures same { IfOk result (λ n. map form_in (list_at kinds.new.items n)
+        ≡ map form_in forms.items) }
+    ensures inside { IfOk result (λ n. n < length kinds.new.items) }
+{
+    if let Some(kind) = recent_kind(kinds, &forms) {
+        return Ok(kind);
+    }
+    let kind = kinds.len();
+    kinds.push(forms)?;
+    Ok(kind)
+}
+
 /// Adds a shared reference.
 fn add<'p>(alloc: Global, pairs: &mut Pairs<'p>, shared: Shared<'p>) -> Result<(), AllocError>
     requires { spec.AreGrouped pairs.old }
     ensures shared { OnOk result (pairs.new.shared.items ≡ pairs.old.shared.items ++ shared.entry
         ∷ []) }
+    ensures kinds { pairs.new.kinds ≡ pairs.old.kinds }
     ensures grouped { OnOk result (spec.AreGrouped pairs.new) }
 {
     let place = pairs.shared.len();
@@ -78,20 +114,21 @@ fn add_if_shared<'p>(
     occurrence: &Occurrence<'p>,
     pairs: &mut Pairs<'p>,
 ) -> Result<(), AllocError>
-    requires forms { All (spec.HasForms (seen view.now)) pairs.old.shared.items }
+    requires forms { spec.HaveForms (seen view.now) pairs.old }
     requires grouped { spec.AreGrouped pairs.old }
     ensures shared { OnOk result
         (spec.HasOneMore (seen view.now) (map letters privates.now)
         (occurrence_of occurrence.now) pairs.old pairs.new) }
-    ensures forms { OnOk result (All (spec.HasForms (seen view.now)) pairs.new.shared.items) }
+    ensures forms { OnOk result (spec.HaveForms (seen view.now) pairs.new) }
     ensures grouped { OnOk result (spec.AreGrouped pairs.new) }
 {
     if is_own(view, privates, &occurrence.reference) {
         return Ok(());
     }
     let forms = forms(alloc, view, occurrence)?;
+    let kind = kind_of(&mut pairs.kinds, forms)?;
     let occurrence = *occurrence;
-    add(alloc, pairs, Shared { occurrence, forms })
+    add(alloc, pairs, Shared { occurrence, kind })
 }
 
 impl<'p> Pairs<'p> {
@@ -106,6 +143,7 @@ impl<'p> Pairs<'p> {
     {
         let mut pairs = Pairs {
             shared: Vec::new(alloc),
+            kinds: Vec::new(alloc),
             all: Vec::new(alloc),
             defining: Vec::new(alloc),
         };
