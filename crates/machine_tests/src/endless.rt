@@ -203,7 +203,8 @@ fn is_given_up(refusal: &RunRefusal) -> bool {
         RunRefusal::Memory { output } => {
             RECORDS.starts_with(output) && matches!(output.len(), 0 | 3 | 6)
         }
-        RunRefusal::Refused { number } => *number == 58,
+        RunRefusal::NotStarted(_) => true,
+        RunRefusal::OutOfRange | RunRefusal::Stuck => false,
     }
 }
 
@@ -211,7 +212,7 @@ fn is_given_up(refusal: &RunRefusal) -> bool {
 fn want_of(refusal: RunRefusal) -> Fail {
     match refusal {
         RunRefusal::Memory { output } => RunRefusal::Memory { output }.into(),
-        RunRefusal::Refused { number: _ } => AllocError.into(),
+        RunRefusal::OutOfRange | RunRefusal::NotStarted(_) | RunRefusal::Stuck => AllocError.into(),
     }
 }
 

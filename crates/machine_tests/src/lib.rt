@@ -29,4 +29,6 @@ mod sure;
 #[cfg(test)]
 mod threads;
 #[cfg(test)]
+mod together;
+#[cfg(test)]
 mod worked;

@@ -201,8 +201,7 @@ fn refusal_of<R: Threads + Wait + Sync + AllocGlobal>(
 ) -> Option<u8> {
     match ran(rt, code, b"", p, s) {
         Ok(_) => Some(0),
-        Err(RunRefusal::Refused { number }) => Some(number),
-        Err(RunRefusal::Memory { output: _output }) => None,
+        Err(refusal) => refusal.number(),
     }
 }
 
@@ -215,8 +214,7 @@ fn unrecorded_refusal_of<R: Threads + Wait + Sync + AllocGlobal>(
 ) -> Option<u8> {
     match answered(rt, code, b"", p, s) {
         Ok(_) => Some(0),
-        Err(RunRefusal::Refused { number }) => Some(number),
-        Err(RunRefusal::Memory { output: _output }) => None,
+        Err(refusal) => refusal.number(),
     }
 }
 

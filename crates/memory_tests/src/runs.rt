@@ -18,7 +18,8 @@ fn is_given_up(refusal: &RunRefusal, row: &Row) -> bool {
         RunRefusal::Memory { output } => {
             row.output.starts_with(output) && (output.is_empty() || output.ends_with(b"\n"))
         }
-        RunRefusal::Refused { number } => *number == 58,
+        RunRefusal::NotStarted(_) => true,
+        RunRefusal::OutOfRange | RunRefusal::Stuck => false,
     }
 }
 

@@ -108,8 +108,8 @@ fn upgrade_into(
         &mut source,
         &mut input,
         &mut schedule,
-        &mut shown,
         upgraded,
+        &mut shown,
     );
     if shown.is_empty() { given } else { Ok(1) }
 }
