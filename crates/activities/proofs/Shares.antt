@@ -224,6 +224,15 @@ iteration_shared q k b s o y d old new a r u e w t = (
   stand_from old new a t (subst (λ (z : Kept). IsCore (code_in old) old.slots z) (sym e) (iteration_core (code_in old) old.slots q k (kept_in old) s o y d a.core r u)),
 )
 
+-- a step that was done was made, and where none was nothing has changed
+pub did_made : (b : Bool) (Step : Point → Point → Type 0) (old new : Activities) → Did b Step old new → b ≡ true → Step (point_in old) (point_in new)
+did_made true Step old new d e = d
+did_made false Step old new d e = cc
+
+pub did_same : (b : Bool) (Step : Point → Point → Type 0) (old new : Activities) → Did b Step old new → b ≡ false → kept_in new ≡ kept_in old
+did_same true Step old new d e = cc
+did_same false Step old new d e = d.0
+
 -- ---- results
 
 pub both_ok : {X E : Type 0} (r : Result X E) (P Q : X → Type 0) (K : Type 0) → IfOk r P → OnOk r K → ((x : X) → P x → K → Q x) → IfOk r Q

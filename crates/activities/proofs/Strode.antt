@@ -1,5 +1,5 @@
 -- Strides of what a processor holds are its steps.
-use Rattle.std.proofs.Common.{◌≡◌, ◌∙◌, ℕ, zero, suc, Bool, true, false, Option, Some, None, refl, sym, ap, subst}
+use Rattle.std.proofs.Common.{◌≡◌, ◌∙◌, ℕ, zero, suc, ◌+◌, Bool, true, false, Option, Some, None, refl, sym, ap, subst, arith}
 use Rattle.std.specs.Prelude.{eqb, cond}
 use Rattle.ast.specs.Store.{StoreOf}
 use Rattle.machine.specs.Code.{Code}
@@ -9,6 +9,8 @@ use Rattle.machine.specs.State.{Active, Machine, MainMove, Move, Turn, Wait, Who
 use Rattle.machine.specs.View.{View, doing, loading, storing, view, trips_of, begin}
 use Rattle.machine.specs.declared.code.Open.{Open}
 use Rattle.machine.proofs.Puts.{put_same as put_got}
+use Rattle.activities.specs.Activities.{Stays, code_in, point_in}
+use Rattle.activities.specs.declared.holding.Activities.{Activities}
 use Rattle.activities.specs.Points.{Moves, Point, Steps, counted, frame_in, frame_of, local_in, moved, slot, view_in}
 use Rattle.activities.proofs.Locals.{Stood, again}
 use Rattle.activities.proofs.Maps.{put_same}
@@ -152,3 +154,32 @@ strides_made code s u p q (suc n) f b t e = by (stride code (held_in p.machine f
           one_made code s u p q f c t h,
           subst (λ (m : Machine). Steps code s n (gone_at u c p) q (record { machine = m; order = p.order })) (gone_twice u p.machine c b) (more c (stands_on u p q f c t) rest),
         )
+
+-- ---- one after another
+
+-- Steps, and further ones behind them.
+pub steps_on : (code : Code) (s m n : ℕ) (a : Point) (q : ℕ) (b c : Point) → Steps code s m a q b → Steps code s n b q c → Steps code s (m + n) a q c
+steps_on code s zero n a q b c g h =
+    let same : n ≡ 0 + n = omega (arith) in
+    subst (λ (k : ℕ). Steps code s k a q c) same (subst (λ (x : Point). Steps code s n x q c) (sym g) h)
+steps_on code s (suc m) n a q b c g h =
+    let same : suc (m + n) ≡ suc m + n = omega (arith) in
+    subst (λ (k : ℕ). Steps code s k a q c) same (g.0, g.1, g.2, steps_on code s m n g.0 q b c g.3 h)
+
+-- the same of activities, of which the second steps were made in their state behind the first ones
+pub stays_on : (a b c : Activities) → Stays a b → Stays b c → Stays a c
+stays_on a b c g h = record {
+  code_is = h.code_is ∙ g.code_is;
+  processors = h.processors ∙ g.processors;
+  slots = h.slots ∙ g.slots;
+}
+
+pub made_on : (m n q : ℕ) (a b c : Activities) → Stays a b → Steps (code_in a) a.slots m (point_in a) q (point_in b) → Steps (code_in b) b.slots n (point_in b) q (point_in c) → Steps (code_in a) a.slots (m + n) (point_in a) q (point_in c)
+made_on m n q a b c t g h =
+    steps_on (code_in a) a.slots m n (point_in a) q (point_in b) (point_in c) g
+    (subst (λ (s : ℕ). Steps (code_in a) s n (point_in b) q (point_in c)) t.slots
+    (subst (λ (d : Code). Steps d b.slots n (point_in b) q (point_in c)) t.code_is h))
+
+-- one step
+pub one_step : (code : Code) (s : ℕ) (local : Bool) (a : Point) (q : ℕ) (b : Point) → Moves code s local a q b → Steps code s 1 a q b
+one_step code s local a q b h = (b, local, h, refl)

@@ -19,8 +19,8 @@ ghost use Rattle.activities.specs.Turns.{May, none_open, staying};
 use crate::holding::{Activities, Holder};
 use crate::main_turn::main_turn;
 use crate::parts::{Iteration, Main, Shared};
-use crate::turn::{Outcome, iteration_turn};
-use machine::{Code, Frame, Next, stands_next};
+use crate::turn::{Outcome, advance, await_event, iteration_turn, retire};
+use machine::{Code, Frame, Next, stands_next, synchronization};
 use std::alloc::AllocError;
 
 /// Whether no iteration is open.
@@ -129,6 +129,60 @@ fn step_at(
     Ok(Outcome::Leaves)
 }
 
+/// An iteration, in this slot, makes the await, the advance or the retirement that stands next.
+/// Where none does, or memory is refused, nothing changes.
+#[inline(always)]
+fn synchronize(
+    shared: &mut Shared,
+    iteration: &mut Iteration,
+    slot: usize,
+    code: &Code,
+) -> Option<Outcome>
+    requires may { May (code_of code.now) slot (shared_of shared.old) (standing_of iteration.old) }
+    ensures some { IfSome result (λ o.
+        Turned (code_of code.now) slot (shared_of shared.old) (standing_of iteration.old) o
+        (shared_of shared.new) (staying o (standing_of iteration.new))) }
+    ensures shared { result ≡ None → shared_of shared.new ≡ shared_of shared.old }
+    ensures iteration { result ≡ None → standing_of iteration.new ≡ standing_of iteration.old }
+{
+    let next = synchronization(code, &iteration.frame)?;
+    match next {
+        Next::Await { event, distance } => {
+            Some(await_event(shared, iteration, slot, event, distance))
+        }
+        Next::Advance { event } => Some(advance(shared, iteration, event)),
+        Next::Retire { number } => retire(shared, iteration, slot, code, number).ok(),
+        _ => None,
+    }
+}
+
+/// The same of what stands in a place, in this slot.
+fn synchronize_at(
+    shared: &mut Shared,
+    place: &mut Option<Iteration>,
+    slot: usize,
+    code: &Code,
+) -> Option<Outcome>
+    requires may { IfSome (option_map standing_of place.old) (λ a.
+        May (code_of code.now) slot (shared_of shared.old) a) }
+    ensures some { IfSome result (λ o.
+        IfSome (option_map standing_of place.old)
+        (λ a. Turned (code_of code.now) slot (shared_of shared.old) a o (shared_of shared.new)
+        (option_map standing_of place.new))) }
+    ensures shared { result ≡ None → shared_of shared.new ≡ shared_of shared.old }
+    ensures place { result ≡ None → option_map standing_of place.new
+        ≡ option_map standing_of place.old }
+{
+    let outcome = match place {
+        Some(iteration) => synchronize(shared, iteration, slot, code)?,
+        None => return None,
+    };
+    if outcome == Outcome::Leaves {
+        clear(place, &mut shared.spare);
+    }
+    Some(outcome)
+}
+
 /// Main makes the step that stands next. Where memory is refused nothing changes.
 fn lead(
     shared: &mut Shared,
@@ -156,6 +210,7 @@ impl<'c> Activities<'c> {
     ghost use Rattle.std.specs.Prelude.{length};
     ghost use Rattle.machine.specs.State.{iteration, the_main};
     ghost use Rattle.activities.specs.Activities.{AreActivities, Did, Stays, code_in, kept_in};
+    ghost use Rattle.activities.specs.Activities.{point_in};
     ghost use Rattle.activities.specs.Parts.{held_of};
     ghost use Rattle.activities.specs.Points.{Moves};
     ghost use Rattle.activities.specs.Sharing.{went};
@@ -261,6 +316,54 @@ impl<'c> Activities<'c> {
             self.code,
         )?;
         Ok(self.note(q, outcome))
+    }
+
+    /// The await, the advance or the retirement of iteration `k`, which processor `q` holds, and
+    /// which may stand in this place. Where none stands next, or memory is refused, nothing
+    /// changes.
+    fn synchronize_iteration(&mut self, q: usize, k: u128, place: usize) -> bool
+        requires stand { AreActivities self.old }
+        requires processor { q < length self.old.held.items }
+        requires going { self.old.shared.ended ≡ None }
+        requires holds { held_of (kept_in self.old).held q ≡ Some (iteration k) }
+        ensures did { result ≡ true → Moves (code_in self.old) self.old.slots false
+            (point_in self.old) q (point_in self.new) }
+        ensures same { result ≡ false → kept_in self.new ≡ kept_in self.old }
+        ensures stand { AreActivities self.new }
+        ensures stays { Stays self.old self.new }
+    {
+        let at = self.place_from(k, place);
+        match synchronize_at(
+            &mut self.shared,
+            &mut self.iterations[at],
+            at + 1,
+            self.code,
+        ) {
+            Some(outcome) => self.note(q, outcome),
+            None => false,
+        }
+    }
+
+    /// The await, the advance or the retirement of an iteration that processor `q` holds. Where
+    /// none stands next, or memory is refused, it answers false, and nothing changes.
+    pub(crate) fn synchronize(&mut self, q: usize) -> bool
+        requires stand { AreActivities self.old }
+        requires processor { q < length self.old.held.items }
+        ensures did { result ≡ true → Moves (code_in self.old) self.old.slots false
+            (point_in self.old) q (point_in self.new) }
+        ensures same { result ≡ false → kept_in self.new ≡ kept_in self.old }
+        ensures stand { AreActivities self.new }
+        ensures stays { Stays self.old self.new }
+    {
+        if self.shared.ended.is_some() {
+            return false;
+        }
+        match self.held[q] {
+            Some(Holder::Iteration { number, place }) => {
+                self.synchronize_iteration(q, number, place)
+            }
+            None | Some(Holder::Main) => false,
+        }
     }
 
     /// The shared step of what processor `q` holds. Where there is none it answers false, and

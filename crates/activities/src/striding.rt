@@ -69,8 +69,8 @@ impl<'c> Activities<'c> {
     }
 
     /// Local instructions, loads and stores of what processor `q` holds, one after another, at
-    /// most `n`, in its own place; how many. It takes no memory.
-    pub fn stride(&mut self, q: usize, n: u32) -> u32
+    /// most `n`, in its own place; how many.
+    fn stride_alone(&mut self, q: usize, n: u32) -> u32
         requires stand { AreActivities self.old }
         requires processor { q < length self.old.held.items }
         ensures made { Steps (code_in self.old) self.old.slots result (point_in self.old) q
@@ -87,5 +87,46 @@ impl<'c> Activities<'c> {
             Some(Holder::Main) => self.stride_main(q, n),
             Some(Holder::Iteration { number, place }) => self.stride_iteration(q, number, place, n),
         }
+    }
+
+    /// What an iteration that processor `q` holds awaits or advances, or its retirement, or, where
+    /// none of these stands next, strides; how many steps, at most `n`.
+    fn next_steps(&mut self, q: usize, n: u32) -> u32
+        requires stand { AreActivities self.old }
+        requires processor { q < length self.old.held.items }
+        requires some { 0 < n }
+        ensures made { Steps (code_in self.old) self.old.slots result (point_in self.old) q
+            (point_in self.new) }
+        ensures few { result ≤ n }
+        ensures stand { AreActivities self.new }
+        ensures stays { Stays self.old self.new }
+    {
+        if self.synchronize(q) {
+            return 1;
+        }
+        self.stride_alone(q, n)
+    }
+
+    /// Steps of what processor `q` holds, one after another, at most `n`, in its own place; how
+    /// many: local instructions, loads and stores, and what an iteration awaits or advances, and
+    /// its retirement. A step for which memory is refused isn't made.
+    pub fn stride(&mut self, q: usize, n: u32) -> u32
+        requires stand { AreActivities self.old }
+        requires processor { q < length self.old.held.items }
+        ensures made { Steps (code_in self.old) self.old.slots result (point_in self.old) q
+            (point_in self.new) }
+        ensures few { result ≤ n }
+        ensures stand { AreActivities self.new }
+        ensures stays { Stays self.old self.new }
+    {
+        let mut left = n;
+        while left > 0 {
+            let made = self.next_steps(q, left);
+            if made == 0 {
+                return n - left;
+            }
+            left -= made;
+        }
+        n
     }
 }

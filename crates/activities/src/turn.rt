@@ -232,7 +232,7 @@ fn is_next(shared: &Shared, iteration: &Iteration) -> bool
 }
 
 /// An iteration retires, or waits until it is the next to do so.
-fn retire(
+pub fn retire(
     shared: &mut Shared,
     iteration: &mut Iteration,
     slot: usize,

@@ -31,7 +31,7 @@ pub use code::{Await, Code, Loop, Open, Parts, Piece, Variable};
 pub use done::Done;
 pub use frame::{Counter, Frame};
 pub use instr::{Act, Axis, Instr};
-pub use next::{Next, stands_next};
+pub use next::{Next, stands_next, synchronization};
 pub use scalar::Scalar;
 pub use shortcut::{Entry, Shortcut};
 pub use striding::stride;

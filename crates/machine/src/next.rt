@@ -1,6 +1,7 @@
 //! Which step stands next in a frame.
 
-ghost use Rattle.std.specs.Prelude.{◌≡◌, ◌<◌, ◌^◌, ℕ, None, MatchOption, if◌then◌else◌, map, pos};
+ghost use Rattle.std.specs.Prelude.{◌≡◌, ◌<◌, ◌^◌, ℕ, None, IfSome, MatchOption, if◌then◌else◌};
+ghost use Rattle.std.specs.Prelude.{map, pos};
 ghost use Rattle.std.specs.Prelude.{slice_get, true};
 ghost use Rattle.ast.specs.Input.{next_integer};
 ghost use Rattle.machine.specs.Code.{Code as Plain};
@@ -393,4 +394,37 @@ pub fn stands_next<'c>(code: &'c Code, frame: &Frame) -> Next<'c>
     }
     let instr = &instructions[frame.place];
     by_act(code, frame, &instr.act, instr.line)
+}
+
+/// The step of an await, an advance or a retirement.
+#[inline(always)]
+fn by_counts<'c>(code: &'c Code, frame: &Frame, act: &Act, line: Line) -> Option<Next<'c>>
+    requires place { frame.now.place < 2 ^ 63 }
+    ensures { IfSome result (Tells (code_of code.now) (frame_of frame.now)
+        (act_view (code_of code.now) act.now line (frame_of frame.now))) }
+{
+    match *act {
+        Act::Await(number) => Some(await_at(code, frame, number)),
+        Act::Advance(event) => Some(advance(frame, event)),
+        Act::Retire(number) => Some(retire(code, frame, number)),
+        _ => None,
+    }
+}
+
+/// The await, the advance or the retirement that stands next in a frame of the code, if one does:
+/// these go by the counts of events and of retired iterations.
+#[inline(always)]
+pub fn synchronization<'c>(code: &'c Code, frame: &Frame) -> Option<Next<'c>>
+    ensures { IfSome result (Tells (code_of code.now) (frame_of frame.now)
+        (view (code_of code.now) (frame_of frame.now))) }
+{
+    if let Some(_) = frame.fault {
+        return None;
+    }
+    let instructions = code.instructions.as_slice();
+    if frame.place >= instructions.len() {
+        return None;
+    }
+    let instr = &instructions[frame.place];
+    by_counts(code, frame, &instr.act, instr.line)
 }

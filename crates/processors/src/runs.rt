@@ -11,15 +11,15 @@ use std::marker::{Model, PhantomData};
 use std::sync::Wait;
 use unrecorded::Run;
 
-/// How many local instructions, loads and stores are made in a row, at most, before it is looked
-/// whether local work stands next.
+/// How many steps are made in place in a row, at most, before it is looked whether local work
+/// stands next.
 const MOST_IN_PLACE: u32 = 128;
 
 /// Of several processors one that has so many local instructions to do in a row does them outside
 /// the lock. To load and hand in fewer takes longer.
 const LONG_STRETCH: u32 = 256;
 
-/// How many local instructions, loads and stores the only processor makes in a row, at most.
+/// How many steps the only processor makes in place in a row, at most.
 const MOST_ALONE: u32 = 4096;
 
 /// How often in one go steps are made in place and then one of another kind, at most.
@@ -437,7 +437,7 @@ impl<'c, C: Call> Unrecorded<'c, C> {
         }
     }
 
-    /// Local instructions, loads and stores of processor `q`; whether as many as are made in a row.
+    /// Steps of processor `q` in place; whether as many as are made in a row.
     fn stride(&mut self, q: usize, made: &mut Made) -> bool {
         let processors = self.run.processors();
         if q >= processors {

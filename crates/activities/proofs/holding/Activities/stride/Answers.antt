@@ -1,19 +1,20 @@
-use Rattle.std.proofs.Common.{◌≡◌, ◌∙◌, Some, ap}
-use Rattle.std.specs.Prelude.{option_map}
-use Rattle.activities.specs.Activities.{who}
-use Rattle.activities.specs.declared.holding.Holder.{Holder}
-use Rattle.activities.specs.declared.holding.Holder.TheVariants as holder
-use Rattle.activities.proofs.Shares.{held_is}
+use Rattle.std.proofs.Common.{◌≡◌, ◌+◌, ◌-◌, ℕ, subst, arith}
+use Rattle.activities.specs.Activities.{code_in, point_in}
+use Rattle.activities.specs.Points.{Steps}
+use Rattle.activities.proofs.Strode.{made_on, stays_on}
 use Rattle.activities.proofs.holding.Activities.stride.Goals as goal
 
-pub stride_main-requires-clause-holds : goal.stride_main-requires-clause-holds
-stride_main-requires-clause-holds c =
-    let some : c.index.result.now ≡ Some c.in-Some-Main.field-0 = c.in-Some-Main.is in
-    let one : Some c.in-Some-Main.field-0 ≡ Some (holder.Main) = ap (λ (h : Holder). Some h) (rw some at c.in-Some-Main.field-0-is) in
-    held_is c.args.self.now.held.items c.args.q c.index.result.now c.index.result.now c.requires.processor c.index.ensures ∙ ap (λ o. option_map who o) (some ∙ one)
-
-pub stride_iteration-requires-clause-holds : goal.stride_iteration-requires-clause-holds
-stride_iteration-requires-clause-holds c =
-    let some : c.index.result.now ≡ Some c.in-Some-Iteration.field-0 = c.in-Some-Iteration.is in
-    let one : Some c.in-Some-Iteration.field-0 ≡ Some (holder.Iteration c.in-Some-Iteration.number c.in-Some-Iteration.place) = ap (λ (h : Holder). Some h) (rw some at c.in-Some-Iteration.field-0-is) in
-    held_is c.args.self.now.held.items c.args.q c.index.result.now c.index.result.now c.requires.processor c.index.ensures ∙ ap (λ o. option_map who o) (some ∙ one)
+pub loop-left-preserved : goal.loop-left-preserved
+loop-left-preserved c =
+    let old = c.args.self.now in
+    let here = c.loop-left.self in
+    let new = c.next_steps-made.new.self in
+    let before = c.args.n - c.loop-left.left in
+    let so_many : before + c.next_steps-made.result ≡ c.args.n - (c.loop-left.left - c.next_steps-made.result) = omega (arith, c.loop-left.invariant.few, c.next_steps-made.ensures.few) in
+    record {
+      few = omega (arith, c.loop-left.invariant.few);
+      made = subst (λ (k : ℕ). Steps (code_in old) old.slots k (point_in old) c.args.q (point_in new)) so_many
+          (made_on before c.next_steps-made.result c.args.q old here new c.loop-left.invariant.stays c.loop-left.invariant.made c.next_steps-made.ensures.made);
+      stand = c.next_steps-made.ensures.stand;
+      stays = stays_on old here new c.loop-left.invariant.stays c.next_steps-made.ensures.stays;
+    }
