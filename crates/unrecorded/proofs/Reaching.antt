@@ -1,6 +1,6 @@
 -- A run of the machine goes on.
-use Rattle.std.proofs.Common.{◌≡◌, ◌∙◌, ℕ, zero, suc, ◌<◌, Bool, true, false, List, [], ◌∷◌, ◌++◌, length, Option, Some, refl, sym, ap, subst}
-use Rattle.std.specs.Prelude.{Result, Ok, Err, IfOk, OnErr}
+use Rattle.std.proofs.Common.{◌≡◌, ◌∙◌, ℕ, zero, suc, ◌<◌, Bool, true, false, List, [], ◌∷◌, ◌++◌, length, Option, Some, refl, sym, ap, subst, arith}
+use Rattle.std.specs.Prelude.{◌≤◌, ◌==◌, Result, Ok, Err, IfOk, OnErr}
 use Rattle.std.specs.declared.alloc.AllocError.{AllocError}
 use Rattle.machine.specs.Code.{Code}
 use Rattle.machine.specs.Frame.{Frame}
@@ -15,7 +15,7 @@ use Rattle.activities.specs.Points.{Moves, NoLocal, Picks, Point, Steps, Works}
 use Rattle.activities.specs.Putting.{PutsOn}
 use Rattle.activities.specs.declared.holding.Activities.{Activities}
 use Rattle.unrecorded.specs.Handing.{HasFrame, WorksOn}
-use Rattle.unrecorded.specs.View.{Did, Drives, IsReached, IsSameRun, RunView, Shares, TakesUp, point_at}
+use Rattle.unrecorded.specs.View.{Did, Drives, IsReached, IsSameRun, Labours, RunView, Shares, TakesUp, point_at}
 use Rattle.unrecorded.specs.Whole.{IsWhole, seen_as}
 
 -- a run, and one turn more
@@ -126,6 +126,16 @@ worked input a b x q n e t d = subst (λ (y : RunView). WorksOn y q n (seen_as i
 
 pub worked_drives : (input : List ℕ) (a b : Activities) (x : RunView) (q n : ℕ) → seen_as input a ≡ x → Stays a b → Works (code_in a) a.slots n (point_in a) q (point_in b) → Drives x q n (seen_as input b)
 worked_drives input a b x q n e t d = driven input a b x q n e t (works_are_steps (code_in a) a.slots n (point_in a) q (point_in b) d)
+
+-- one local instruction at most
+laboured_by : (input : List ℕ) (a b : Activities) (q n : ℕ) → Stays a b → Works (code_in a) a.slots n (point_in a) q (point_in b) → (n < 1 → NoLocal (code_in a) a.slots (point_in b) q) → n ≤ 1 → Labours (n == 1) (seen_as input a) q (seen_as input b)
+laboured_by input a b q zero t d all few = (same_run input a b t, sym d, subst (λ (p : Point). NoLocal (code_in a) a.slots p q) (sym d) (all (omega (arith))))
+laboured_by input a b q (suc zero) t d all few = (same_run input a b t, subst (λ (p : Point). Moves (code_in a) a.slots true (point_in a) q p) d.2 d.1)
+laboured_by input a b q (suc (suc n)) t d all few = absurd (omega (arith, few))
+
+pub laboured : (input : List ℕ) (a b : Activities) (x : RunView) (q n : ℕ) → seen_as input a ≡ x → Stays a b → Works (code_in a) a.slots n (point_in a) q (point_in b) → (n < 1 → NoLocal (code_in a) a.slots (point_in b) q) → n ≤ 1
+    → Labours (n == 1) x q (seen_as input b)
+laboured input a b x q n e t d all few = subst (λ (y : RunView). Labours (n == 1) y q (seen_as input b)) e (laboured_by input a b q n t d all few)
 
 -- ---- work that is handed in
 

@@ -4,7 +4,7 @@ use Rattle.ast.specs.declared.fault.End.{End}
 use Rattle.machine.specs.Code.{Code}
 use Rattle.machine.specs.State.{AreSizes, Choice, CodeRun, Init, Machine}
 use Rattle.activities.specs.Parts.{Kept, point_of}
-use Rattle.activities.specs.Points.{Moves, Picks, Point, Steps, beginning}
+use Rattle.activities.specs.Points.{Moves, NoLocal, Picks, Point, Steps, beginning}
 
 -- its code and input, how many processors and slots there are, and what it keeps
 pub record RunView : Type 0 where
@@ -59,6 +59,12 @@ Did false Step x y = (y ≡ x) × ((b : Point) → Step (point_at x) b → ⊥)
 -- the shared step of what processor q holds
 abbrev pub Shares : Bool → RunView → ℕ → RunView → Type 0
 Shares did x q y = Did did (λ a b. Moves x.code x.slots false a q b) x y
+
+-- Processor q makes the local instruction that stands next; or none does, and the run stands where
+-- it stood.
+abbrev pub Labours : Bool → RunView → ℕ → RunView → Type 0
+Labours true x q y = IsSameRun x y × Moves x.code x.slots true (point_at x) q (point_at y)
+Labours false x q y = IsSameRun x y × (point_at y ≡ point_at x) × NoLocal x.code x.slots (point_at x) q
 
 -- processor q takes this up
 abbrev pub TakesUp : Bool → RunView → ℕ → Choice → RunView → Type 0

@@ -4,7 +4,7 @@ ghost use Rattle.std.specs.Prelude.{◌≡◌};
 
 use activities::{Activities, Choice, Shared};
 use ast::Answer;
-use machine::{Code, Frame, Work, stands_local};
+use machine::{Code, Frame, Open, Work, stands_local};
 use replay::{CoreRefusal, HandIn, answer};
 use schedules::{MOST_PROCESSORS, MOST_SLOTS};
 use std::alloc::{AllocError, Global};
@@ -61,8 +61,8 @@ impl<'c> Run<'c> {
     ghost use Rattle.replay.specs.Replayed.{IsAnswer};
     ghost use Rattle.replay.specs.Stepping.{NoCore};
     ghost use Rattle.unrecorded.specs.Handing.{CannotHandIn, HandsIn, HasFrame, Loads, is_local};
-    ghost use Rattle.unrecorded.specs.View.{Drives, HasEnded, IsGoing, IsNew, IsRun, Shares};
-    ghost use Rattle.unrecorded.specs.View.{TakesUp, point_at};
+    ghost use Rattle.unrecorded.specs.View.{Drives, HasEnded, IsGoing, IsNew, IsRun, Labours};
+    ghost use Rattle.unrecorded.specs.View.{Shares, TakesUp, point_at};
 
     /// A run at its beginning, of `p` processors, 1 to 64, with `s` iterations open at most, 1 to
     /// 256.
@@ -138,6 +138,13 @@ impl<'c> Run<'c> {
         self.activities.overlap()
     }
 
+    /// The loop that is open, if any.
+    pub fn open_loop(&self) -> Option<Open>
+        ensures { result ≡ (point_at self.now).machine.loop }
+    {
+        self.activities.shared.open
+    }
+
     /// What a processor that holds nothing takes up so that iterations retire early: main where it
     /// is ready, else the least iteration that is, and a ticket only where nothing is ready.
     pub fn least(&self) -> Choice
@@ -177,8 +184,18 @@ impl<'c> Run<'c> {
         self.activities.labour(q, n)
     }
 
-    /// Local instructions, loads and stores of what processor `q` holds, one after another, at most
-    /// `n`, in its own place; how many.
+    /// Processor `q` makes the local instruction of what it holds that stands next. Where none does
+    /// it answers false, and the run stands where it stood.
+    pub fn labour(&mut self, q: usize) -> bool
+        requires processor { q < self.old.processors }
+        ensures { Labours result self.old q self.new }
+    {
+        self.activities.labour(q, 1) == 1
+    }
+
+    /// Steps of what processor `q` holds, one after another, at most `n`, in its own place; how
+    /// many: local instructions, loads and stores, and what an iteration awaits or advances, and
+    /// its retirement. A step for which memory is refused isn't made.
     pub fn stride(&mut self, q: usize, n: u32) -> u32
         requires processor { q < self.old.processors }
         ensures drives { Drives self.old q result self.new }
