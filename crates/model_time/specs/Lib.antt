@@ -1,0 +1,4 @@
+pub mod Figures
+pub mod Timed
+pub mod Turns
+pub mod Units

@@ -1,0 +1,64 @@
+-- What `model` shows of a source and an input.
+use Rattle.std.specs.Prelude.{◌≡◌, ⊤, ℕ, suc, false, if◌then◌else◌, is_some, codes, List, [], ◌∷◌, ◌++◌, Option, Some, None, IfSome}
+use Rattle.ast.specs.Meaning.{seq}
+use Rattle.ast.specs.Program.{ProgramTree}
+use Rattle.ast.specs.declared.answer.Answer.{Answer}
+use Rattle.codegen.specs.Reports.{Reports}
+use Rattle.codegen.specs.declared.reports.LoopReport.{LoopReport}
+use Rattle.dependence.specs.PlanView.{plan_of}
+use Rattle.machine.specs.Code.{Code}
+use Rattle.model_time.specs.Timed.{IsTimed}
+use Rattle.model_time.specs.declared.timed.Timed.{Timed}
+use Rattle.pages.specs.Outcomes.{outcome_of}
+use Rattle.pages.specs.Shown.{EndShown, Extends}
+use Rattle.pages.specs.declared.fault.EngineFault.{EngineFault}
+use Rattle.pages.specs.declared.fault.EngineFault.TheVariants as faults
+use Rattle.pages.specs.declared.outcomes.Outcome.{Outcome}
+use Rattle.pages.specs.declared.outcomes.Outcome.TheVariants.{Completed, Refused, Faulted, NoSchedule}
+use Rattle.engines.specs.Schedules.{IsNoCode, WithCode}
+use Rattle.modelled.specs.Lines.{loop_lines, program_line}
+use Rattle.modelled.specs.declared.heads.Head.{Head}
+use Rattle.modelled.specs.declared.modelling.Pace.{Pace}
+
+-- the loops that the code opens, of which the first has this number
+abbrev pub heads_from : ℕ → List LoopReport → List Head
+heads_from n [] = []
+heads_from n (r ∷ rs) = if is_some (plan_of r.plan) then record { number = n; line = r.line } ∷ heads_from (suc n) rs else heads_from (suc n) rs
+
+-- what follows the figures: what follows the records of a run that has ended, or that it hasn't
+abbrev pub EndsSo : Option Answer → List ℕ → Type 0
+EndsSo None text = text ≡ codes "NOT ENDED\n"
+EndsSo (Some answer) text = EndShown false [] answer.end text
+
+-- the outcome of a run, also of one that hasn't ended
+abbrev pub outcome_with : Option Answer → Outcome
+outcome_with None = Completed
+outcome_with (Some answer) = outcome_of answer.end
+
+-- The figures of a run are shown, those of the whole first, and then those of its loops.
+pub record IsShown (heads : List Head) (x : Timed) (outcome : Outcome) (text : List ℕ) : Type 0 where
+  pub ended : outcome ≡ outcome_with x.answer
+  pub shown : Extends (EndsSo x.answer) (program_line x.program ++ loop_lines heads x.loops.items) text
+
+-- A run of code in model time is shown, of the loops that the program's reports say are opened, and
+-- where it has ended it has as the sequential program does.
+pub record ShowsModel (tree : ProgramTree) (code : Code) (input : List ℕ) (pace : Pace) (outcome : Outcome) (text : List ℕ) : Type 0 where
+  pub reports : List LoopReport
+  pub are : Reports tree reports
+  pub timed : Timed
+  pub is : IsTimed code input pace.processors pace.slots timed
+  pub shown : IsShown (heads_from 1 reports) timed outcome text
+  pub sequential : IfSome timed.answer (λ answer. answer.end ≡ (seq tree input).end)
+
+-- what `model` may show of a source and an input
+abbrev pub Modelling : Pace → (source input : List ℕ) → Outcome → List ℕ → Type 0
+Modelling pace source input Completed text = WithCode source (λ tree code. ShowsModel tree code input pace Completed text)
+Modelling pace source input (Refused number line) text = IsNoCode source number line text
+Modelling pace source input (Faulted fault line) text = WithCode source (λ tree code. ShowsModel tree code input pace (Faulted fault line) text)
+Modelling pace source input (NoSchedule number line) text = ⊥
+
+-- nothing is shown: there was no memory, or the numbers are out of range
+abbrev pub IsEarly : EngineFault → Type 0
+IsEarly faults.Memory = ⊤
+IsEarly faults.OutOfRange = ⊤
+IsEarly _ = ⊥
