@@ -1,4 +1,5 @@
 pub mod Counts
+pub mod Drawings
 pub mod Listings
 pub mod Pages
 pub mod Replayed

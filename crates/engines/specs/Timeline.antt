@@ -11,7 +11,7 @@ use Rattle.pages.specs.declared.outcomes.Outcome.{Outcome}
 use Rattle.pages.specs.declared.outcomes.Outcome.TheVariants.{Refused, NoSchedule}
 use Rattle.engines.specs.Schedules.{IsNoCode, IsNoSchedule, WithCode}
 use Rattle.engines.specs.declared.drawn.Drawn.{Drawn}
-use Rattle.engines.specs.declared.drawn.Drawn.TheVariants.{Picture, Shown, NoLoop}
+use Rattle.engines.specs.declared.drawn.Drawn.TheVariants.{Picture, Shown, NoLoop, TooDense}
 
 -- The text is a schedule's, which leads the code on the input where the sequential program ends.
 pub record IsTimed (tree : ProgramTree) (code : Code) (input schedule : List ℕ) : Type 0 where
@@ -31,6 +31,7 @@ ShowsTimeline tree code input schedule (Shown page) = IsRefusedSchedule page.out
     IsRefusedSchedule (NoSchedule number line) = IsNoSchedule GivesNone code input schedule number line page.text.items
     IsRefusedSchedule _ = ⊥
 ShowsTimeline tree code input schedule (NoLoop count) = ⊥
+ShowsTimeline tree code input schedule (TooDense count) = ⊥
 
 -- what it comes to with a source
 abbrev pub Times : (source input schedule : List ℕ) → Drawn → Type 0
@@ -42,3 +43,4 @@ Times source input schedule (Shown page) = IsRefusedPage page.outcome
     IsRefusedPage (NoSchedule number line) = WithCode source (λ tree code. IsNoSchedule GivesNone code input schedule number line page.text.items)
     IsRefusedPage _ = ⊥
 Times source input schedule (NoLoop count) = ⊥
+Times source input schedule (TooDense count) = ⊥

@@ -1,15 +1,15 @@
 //! Pictures of a program's loops.
 
-ghost use Rattle.std.specs.Prelude.{◌≡◌, [], IfOk, option_map};
+ghost use Rattle.std.specs.Prelude.{◌≡◌, ◌≤◌, ◌-◌, [], IfOk, option_map};
 ghost use Rattle.ast.specs.ProgramView.{program as program_of};
 ghost use Rattle.pictures.specs.Dependences.{AreArrows};
 ghost use Rattle.engines.specs.Drawing as spec;
-ghost use Rattle.engines.specs.Drawing.{Draws, IsLoopPicture, kept_of};
+ghost use Rattle.engines.specs.Drawing.{Draws, DrawsReport, IsLoopPicture, kept_of};
 ghost use Rattle.engines.specs.Lists.{IsReported, IsSurvey};
 
 use crate::drawn::Drawn;
 use crate::survey::{Survey, surveyed};
-use ast::{Node, Program};
+use ast::{Line, Node, Program};
 use codegen::LoopReport;
 use dependence::{LoopPlan, PlanStmt};
 use loop_tree::{LoopTree, ScalarSet, loops};
@@ -54,6 +54,45 @@ fn trips_of(tree: &LoopTree<'_>, number: usize) -> Option<u128> {
         return None;
     }
     tree.view(number).trips()
+}
+
+/// How many arrows a loop's picture has at most.
+pub const MOST_ARROWS: u128 = 20_000;
+
+/// How many of so many iterations have one so far behind them among them.
+fn pairs(columns: u64, distance: u128) -> u128
+    ensures { result ≡ columns - distance }
+{
+    u128::from(columns).saturating_sub(distance)
+}
+
+/// How many arrows so many iterations have of what is kept: of each dependence one for each pair of
+/// them that is so far apart.
+fn arrow_count(kept: &[(usize, u128, Line)], columns: u64) -> u128
+    ensures { result ≡ spec.arrow_count columns kept.now }
+{
+    let mut count: u128 = 0;
+    for dependence in kept {
+        count += pairs(columns, dependence.1);
+    }
+    count
+}
+
+/// What is kept of a loop, by its report: of one that stays serial nothing.
+fn kept_of(report: &LoopReport) -> &[(usize, u128, Line)]
+    ensures { result.now ≡ kept_of report.now report.now.plan }
+{
+    match &report.plan {
+        LoopPlan::Serial(_) => &[],
+        LoopPlan::Body { .. } => &report.kept,
+    }
+}
+
+/// How many arrows the picture of a loop has, beside those of the order of a serial one.
+fn arrows_of(report: &LoopReport, columns: u64) -> u128
+    ensures { result ≡ spec.arrows_of report.now columns }
+{
+    arrow_count(kept_of(report), columns)
 }
 
 /// A hindrance as a sentence.
@@ -155,10 +194,29 @@ fn text_of(
     report: &LoopReport,
     portion: Portion,
 ) -> Result<Vec<u8>, AllocError>
+    requires { spec.arrows_of report.now portion.columns ≤ MOST_ARROWS }
     ensures { IfOk result (λ text. IsLoopPicture portion report.now text.items) }
 {
     let picture = picture_of(alloc, source, program, reports, report, portion)?;
     draw_loop(alloc, &picture)
+}
+
+/// What drawing a loop comes to, by its report.
+fn drawn_report(
+    alloc: Global,
+    source: &[u8],
+    program: &Program,
+    reports: &[LoopReport],
+    report: &LoopReport,
+    portion: Portion,
+) -> Result<Drawn, AllocError>
+    ensures { IfOk result (DrawsReport portion report.now) }
+{
+    let count = arrows_of(report, portion.columns);
+    if count > MOST_ARROWS {
+        return Ok(Drawn::TooDense(count));
+    }
+    Ok(Drawn::Picture(text_of(alloc, source, program, reports, report, portion)?))
 }
 
 /// What drawing one of a program's loops comes to, by their reports.
@@ -173,9 +231,7 @@ fn drawn_loop(
     ensures { IfOk result (Draws source.now portion) }
 {
     match report_of(reports, portion.number) {
-        Some(report) => {
-            Ok(Drawn::Picture(text_of(alloc, source, program, reports, report, portion)?))
-        }
+        Some(report) => drawn_report(alloc, source, program, reports, report, portion),
         None => Ok(Drawn::NoLoop(reports.len())),
     }
 }

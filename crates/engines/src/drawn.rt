@@ -11,4 +11,6 @@ pub enum Drawn {
     Shown(Page),
     /// The program has no loop of the number that was asked for, but so many.
     NoLoop(usize),
+    /// The picture would have so many arrows, which are too many.
+    TooDense(u128),
 }

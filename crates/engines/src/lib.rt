@@ -23,7 +23,7 @@ mod watching;
 pub use commands::{
     check, code_text, list, replay, replay_texts, seq, tell_loops, tell_verdict, upgrade,
 };
-pub use drawing::{Portion, draw_text};
+pub use drawing::{MOST_ARROWS, Portion, draw_text};
 pub use drawn::Drawn;
 pub use given::{Given, Wants, read_given};
 pub use note::Note;

@@ -6,6 +6,7 @@ returns c =
     let p = c.in_ok-picture in
     IfOk-weaker c.draw.result _ _
     (λ text drawn. record {
+      few = c.requires;
       picture = p.picture;
       number = p.ensures.frame.0;
       line = p.ensures.frame.1;
