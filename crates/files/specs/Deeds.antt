@@ -1,5 +1,5 @@
 -- What the program does with files, one thing after another, by their names.
-use Rattle.std.specs.Prelude.{◌≡◌, ◌++◌, ◌⊎◌, ℕ, Bool, List, [], ◌∷◌, Option, Some, None, Result, Ok, Err, Vec, option_map}
+use Rattle.std.specs.Prelude.{◌≡◌, ◌++◌, ◌⊎◌, ℕ, List, [], ◌∷◌, Option, Some, None, Result, Ok, Err, Vec, option_map}
 use Rattle.std.specs.Global.{Global}
 use Rattle.std.specs.declared.io.Error.{Error}
 use Rattle.pages.specs.declared.fault.ReadFault.{ReadFault}
@@ -7,12 +7,13 @@ use Rattle.pages.specs.declared.fault.ReadFault.TheVariants as reading
 use Rattle.pages.specs.declared.texts.Texts.{Texts}
 use Rattle.files.specs.declared.fault.FileFault.{FileFault}
 use Rattle.files.specs.declared.fault.FileFault.TheVariants.{Opening, Reading, Memory}
+use Rattle.files.specs.declared.files.Clash.{Clash}
 use Rattle.files.specs.declared.files.Unread.{Unread}
 
--- A name is compared with those of other files, whether it is one of theirs; a file is read, and
+-- A name is compared with those of other files, whether its file may not be written; a file is read, and
 -- its bytes were had or not; a file is given bytes, all of them or, by an error, none.
 pub data Deed : Type 0 where
-  Compares : (name : List ℕ) → (others : List (List ℕ)) → Bool → Deed
+  Compares : (name : List ℕ) → (others : List (List ℕ)) → Option Clash → Deed
   Reads : (name : List ℕ) → Result (List ℕ) FileFault → Deed
   Replaces : (name bytes : List ℕ) → Option Error → Deed
 

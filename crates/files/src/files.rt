@@ -8,6 +8,15 @@ use crate::fault::FileFault;
 use pages::Texts;
 use std::io;
 
+/// Why a file may not be written.
+#[derive(Clone, Copy)]
+pub enum Clash {
+    /// It is read too.
+    Read,
+    /// It is the file to which standard output goes.
+    Output,
+}
+
 /// Files, by their names.
 pub trait NamedFiles {
     // What has been done with them, one thing after another, where it is known.
@@ -17,9 +26,10 @@ pub trait NamedFiles {
     fn read(&mut self, name: &str) -> Result<Vec<u8>, FileFault>
         ensures { done self.new ≡ noted (done self.old) (Reads name.now (got result)) };
 
-    /// Whether a name is that of one of these files, by whatever path, if that is a plain file.
-    /// Where it can't be told it isn't.
-    fn is_one_of(&mut self, name: &str, others: &[&str]) -> bool
+    /// Why the file of this name may not be written where these others are read: it is one of them,
+    /// by whatever path, or standard output goes to it. Only a plain file clashes; where it can't
+    /// be told it doesn't.
+    fn clash(&mut self, name: &str, others: &[&str]) -> Option<Clash>
         ensures { done self.new ≡ noted (done self.old)
             (Compares name.now (map (λ other. other.now) others.now) result) };
 

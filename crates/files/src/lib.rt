@@ -6,5 +6,5 @@ mod files;
 mod host_files;
 
 pub use fault::FileFault;
-pub use files::{NamedFiles, Unread, read_texts};
-pub use host_files::HostFiles;
+pub use files::{Clash, NamedFiles, Unread, read_texts};
+pub use host_files::{HostFiles, STANDARD_INPUT};
