@@ -2,7 +2,13 @@
 //! words.
 #![tactic(auto)]
 
+mod amounts;
 mod conditions;
+mod course;
+mod fixed;
+mod gathered;
+mod inner;
+mod kinds;
 mod making;
 mod obstacles;
 mod serial;

@@ -48,7 +48,7 @@ fn append_call(
 
 /// Appends an expression.
 #[cycle(spelled)]
-fn append_expression(out: &mut Vec<u8>, expression: &Expr) -> Result<(), AllocError> {
+pub fn append_expression(out: &mut Vec<u8>, expression: &Expr) -> Result<(), AllocError> {
     match expression {
         Expr::Constant(value) => append_number(out, *value),
         Expr::Truth(true) => out.extend_from_slice(b".TRUE."),

@@ -1,6 +1,12 @@
 //! Why iterations of a loop wait for one another, or needn't, in words.
 
+use crate::amounts::{append_amount, append_touching};
 use crate::conditions::Conditions;
+use crate::course::Amount;
+use crate::fixed::is_one_place;
+use crate::gathered::append_gathered;
+use crate::inner::append_inner;
+use crate::kinds::Dependence;
 use crate::serial::hindrance_of;
 use crate::spelled::append_reference;
 use ast::{Line, Name, RefId};
@@ -22,25 +28,33 @@ struct Pair<'p> {
     second: Occurrence<'p>,
     second_line: Line,
     relation: Relation,
+    /// Whether both touch one place, in all iterations.
+    is_one_place: bool,
 }
 
 /// The references of these numbers, if there are such.
 fn pair_of<'p>(
+    alloc: Global,
     tree: &LoopTree<'p>,
+    view: &LoopView<'_, '_>,
     conditions: &Conditions,
-    first: RefId,
-    second: RefId,
+    numbers: (RefId, RefId),
     relation: Relation,
-) -> Option<Pair<'p>> {
-    let (first, first_line) = occurrence_of(tree, conditions, first)?;
-    let (second, second_line) = occurrence_of(tree, conditions, second)?;
-    Some(Pair {
+) -> Result<Option<Pair<'p>>, AllocError> {
+    let first = occurrence_of(tree, conditions, numbers.0);
+    let second = occurrence_of(tree, conditions, numbers.1);
+    let (Some((first, first_line)), Some((second, second_line))) = (first, second) else {
+        return Ok(None);
+    };
+    let is_one_place = is_one_place(alloc, view, &first, &second)?;
+    Ok(Some(Pair {
         first,
         first_line,
         second,
         second_line,
         relation,
-    })
+        is_one_place,
+    }))
 }
 
 /// The reference of a number, and the line that it stands in.
@@ -64,43 +78,43 @@ fn append_occurrence(
     append_number(out, line)
 }
 
-/// What an iteration does at the first reference, and a later one at the second.
-fn deeds(pair: &Pair<'_>) -> (&'static [u8], &'static [u8]) {
-    match (pair.first.defines, pair.second.defines) {
-        (true, false) => (b"gives", b"reads"),
-        (false, _) => (b"reads", b"overwrites"),
-        (true, true) => (b"gives", b"overwrites"),
-    }
+/// What a later iteration needs at the second reference of what one did at the first, if they meet.
+fn kind_of(pair: &Pair<'_>) -> Dependence {
+    Dependence::between(pair.first.defines, pair.second.defines)
 }
 
 /// Appends that a later iteration needs what an iteration does, so many iterations before.
 fn append_need(out: &mut Vec<u8>, pair: &Pair<'_>, distance: u128) -> Result<(), AllocError> {
-    let (does, did) = deeds(pair);
-    out.extend_from_slice(b"iteration k ")?;
-    out.extend_from_slice(does)?;
-    out.extend_from_slice(b" what iteration k+")?;
+    let kind = kind_of(pair);
+    out.extend_from_slice(kind.name())?;
+    out.extend_from_slice(b" at distance ")?;
+    append_number(out, distance)?;
+    out.extend_from_slice(b": iteration k ")?;
+    out.extend_from_slice(kind.does())?;
+    out.extend_from_slice(b" what k+")?;
     append_number(out, distance)?;
     out.extend_from_slice(b" ")?;
-    out.extend_from_slice(did)
+    out.extend_from_slice(kind.then_does())
 }
 
 /// Appends that a later iteration may need what an iteration does.
 fn append_doubt(out: &mut Vec<u8>, pair: &Pair<'_>) -> Result<(), AllocError> {
-    let (does, did) = deeds(pair);
-    out.extend_from_slice(b"what iteration k ")?;
-    out.extend_from_slice(does)?;
-    out.extend_from_slice(b" a later one perhaps ")?;
-    out.extend_from_slice(did)?;
-    out.extend_from_slice(b"; no test says which")
+    let kind = kind_of(pair);
+    out.extend_from_slice(b"perhaps ")?;
+    out.extend_from_slice(kind.name())?;
+    out.extend_from_slice(b", at an unknown distance: what iteration k ")?;
+    out.extend_from_slice(kind.does())?;
+    out.extend_from_slice(b" a later one may ")?;
+    out.extend_from_slice(kind.then_do())
 }
 
 /// Appends that no later iteration needs what an iteration does.
 fn append_none(out: &mut Vec<u8>, pair: &Pair<'_>) -> Result<(), AllocError> {
-    let (does, did) = deeds(pair);
+    let kind = kind_of(pair);
     out.extend_from_slice(b"what iteration k ")?;
-    out.extend_from_slice(does)?;
+    out.extend_from_slice(kind.does())?;
     out.extend_from_slice(b" no later one ")?;
-    out.extend_from_slice(did)?;
+    out.extend_from_slice(kind.then_does())?;
     out.extend_from_slice(b"; ")
 }
 
@@ -136,6 +150,10 @@ fn append_relation(out: &mut Vec<u8>, pair: &Pair<'_>) -> Result<(), AllocError>
         Relation::Any if pair.first.subscripts.is_empty() => {
             append_need(out, pair, 1)?;
             out.extend_from_slice(b"; the scalar isn't private")
+        }
+        Relation::Any if pair.is_one_place => {
+            append_need(out, pair, 1)?;
+            out.extend_from_slice(b"; the subscripts stay the same")
         }
         Relation::Any => append_doubt(out, pair),
     }
@@ -173,15 +191,17 @@ fn is_kept(relation: Relation) -> bool {
 
 /// Appends the lines of the pairs of a run, which have this relation.
 fn append_run(
+    alloc: Global,
     out: &mut Vec<u8>,
     tree: &LoopTree<'_>,
+    view: &LoopView<'_, '_>,
     conditions: &Conditions,
     run: &Run,
     relation: Relation,
 ) -> Result<(), AllocError> {
     for place in 0..run.count {
-        let (first, second) = run.pair(place);
-        if let Some(pair) = pair_of(tree, conditions, first, second, relation) {
+        let numbers = run.pair(place);
+        if let Some(pair) = pair_of(alloc, tree, view, conditions, numbers, relation)? {
             append_pair(out, &pair)?;
         }
     }
@@ -190,8 +210,10 @@ fn append_run(
 
 /// Appends the lines of the pairs of which something is kept, or of the others.
 fn append_pairs(
+    alloc: Global,
     out: &mut Vec<u8>,
     tree: &LoopTree<'_>,
+    view: &LoopView<'_, '_>,
     conditions: &Conditions,
     relations: &Relations,
     kept: bool,
@@ -199,7 +221,7 @@ fn append_pairs(
     for run in &relations.runs {
         let relation = relations.relation(run);
         if is_kept(relation) == kept {
-            append_run(out, tree, conditions, run, relation)?;
+            append_run(alloc, out, tree, view, conditions, run, relation)?;
         }
     }
     Ok(())
@@ -247,6 +269,19 @@ fn append_serial(
     out.extend_from_slice(told.as_bytes())
 }
 
+/// Appends the lines of all pairs that were looked at.
+fn append_all_pairs(
+    alloc: Global,
+    out: &mut Vec<u8>,
+    tree: &LoopTree<'_>,
+    view: &LoopView<'_, '_>,
+    relations: &Relations,
+) -> Result<(), AllocError> {
+    let conditions = Conditions::of(alloc, view.body())?;
+    append_pairs(alloc, out, tree, view, &conditions, relations, true)?;
+    append_pairs(alloc, out, tree, view, &conditions, relations, false)
+}
+
 /// Appends the lines that say why iterations of the loop of a number wait for one another, or
 /// needn't, or why it stays serial.
 fn append_why_of(
@@ -260,14 +295,19 @@ fn append_why_of(
     match &report.plan {
         LoopPlan::Serial(reason) => append_serial(alloc, out, tree, number, *reason, reports),
         LoopPlan::Body {
+            body,
             privates,
             relations,
-            ..
         } if 1 <= number && number <= tree.count() => {
             let view = tree.view(number);
-            let conditions = Conditions::of(alloc, view.body())?;
-            append_pairs(out, tree, &conditions, relations, true)?;
-            append_pairs(out, tree, &conditions, relations, false)?;
+            let amount = Amount::of(alloc, body)?;
+            append_amount(alloc, out, tree, &view, report, relations, &amount)?;
+            append_touching(alloc, out, &view, &privates.names)?;
+            append_gathered(alloc, out, &view, &privates.names)?;
+            if amount.is_chain() {
+                append_inner(alloc, out, tree, number, view.step(), reports)?;
+            }
+            append_all_pairs(alloc, out, tree, &view, relations)?;
             append_all_shared(out, &view, &privates.names)
         }
         LoopPlan::Body { .. } => Ok(()),
