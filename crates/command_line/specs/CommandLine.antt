@@ -9,10 +9,11 @@ use Rattle.clap.specs.declared.error.kind.ErrorKind.TheVariants.{DisplayHelp, Di
 use Rattle.clap.specs.declared.builder.action.ArgAction.TheVariants.{Set, SetTrue}
 use Rattle.explanations.specs.Explained.{is_explained, is_within}
 use Rattle.command_line.specs.declared.command.Command.{Command}
-use Rattle.command_line.specs.declared.command.Command.TheVariants.{Check, ListLoops, ShowCode, Seq, Run, Replay, Upgrade, Draw, Timeline, Explain, ExplainSerial}
+use Rattle.command_line.specs.declared.command.Command.TheVariants.{Check, ListLoops, ShowCode, Seq, Run, Model, Replay, Upgrade, Draw, Timeline, Explain, ExplainSerial}
 use Rattle.command_line.specs.declared.matches.LineFault.{LineFault}
 use Rattle.command_line.specs.declared.matches.LineFault.TheVariants.{Help, Mistake, NoCommand, NoSuchNumber, NoSize, NoPortion, Memory}
 use Rattle.command_line.specs.declared.command.Drawing.{Drawing}
+use Rattle.command_line.specs.declared.command.Modelled.{Modelled}
 use Rattle.command_line.specs.declared.command.TextFiles.{TextFiles}
 use Rattle.command_line.specs.declared.command.Threaded.{Threaded}
 
@@ -79,6 +80,10 @@ schedule_out = named_option (codes "schedule")
 abbrev pub tally : Rule
 tally = flag (codes "tally")
 
+-- --most, the number of steps after which a run is left
+abbrev pub most : Rule
+most = named_option (codes "most")
+
 -- --loop and --iterations, which loop is drawn and how much of it
 abbrev pub loop_number : Rule
 loop_number = named_option (codes "loop")
@@ -110,6 +115,10 @@ seq = with_rule (with_rule (with_rule (new_app (codes "seq")) source) input) sto
 abbrev pub run : App
 run =
     with_rule (with_rule (with_rule (with_rule (with_rule (with_rule (with_rule (new_app (codes "run")) source) input) processors) slots) schedule_out) store) tally
+
+-- model F INPUT, with -p, -s and --most
+abbrev pub model : App
+model = with_rule (with_rule (with_rule (with_rule (with_rule (new_app (codes "model")) source) input) processors) slots) most
 
 -- replay F INPUT SCHEDULE
 abbrev pub replay : App
@@ -147,7 +156,7 @@ with_subcommands (x ∷ xs) a = with_subcommand (with_subcommands xs a) x.top
 -- the program, with its subcommands
 abbrev pub doac : App
 doac =
-    with_subcommands (explain ∷ code ∷ timeline ∷ draw ∷ upgrade ∷ replay ∷ run ∷ seq ∷ list ∷ check ∷ [])
+    with_subcommands (explain ∷ code ∷ timeline ∷ draw ∷ upgrade ∷ replay ∷ model ∷ run ∷ seq ∷ list ∷ check ∷ [])
     (wants_subcommand (new_app (codes "doac")))
 
 -- a command of clap's reads these words
@@ -210,6 +219,14 @@ pub record HoldsRun (values : List Row) (t : Threaded) : Type 0 where
   pub store : IsFlag t.store (one_of (codes "store") values)
   pub tally : IsFlag t.tally (one_of (codes "tally") values)
 
+-- the values of the arguments are those of a run in model time
+pub record HoldsModel (values : List Row) (m : Modelled) : Type 0 where
+  pub source : first_of (codes "F") values ≡ Some m.source.now
+  pub input : first_of (codes "INPUT") values ≡ option_map (λ i. i.now) m.input
+  pub processors : IsSizeOf (first_of (codes "p") values) 2 m.processors
+  pub slots : IsSizeOf (first_of (codes "s") values) 4 m.slots
+  pub most : IsSizeOf (first_of (codes "most") values) 100000000 m.most
+
 -- one of these has no value
 abbrev pub LacksOne : List Text → List Row → Type 0
 LacksOne [] values = ⊥
@@ -243,6 +260,7 @@ Holds name values (Seq source input store) =
     (name ≡ codes "seq") × (first_of (codes "F") values ≡ Some source.now)
     × (first_of (codes "INPUT") values ≡ option_map (λ i. i.now) input) × IsFlag store (one_of (codes "store") values)
 Holds name values (Run t) = (name ≡ codes "run") × HoldsRun values t
+Holds name values (Model m) = (name ≡ codes "model") × HoldsModel values m
 Holds name values (Replay files) = (name ≡ codes "replay") × HoldsTexts values files
 Holds name values (Upgrade files out) =
     (name ≡ codes "upgrade") × HoldsTexts values files × (first_of (codes "OUT") values ≡ Some out.now)
@@ -268,7 +286,7 @@ Names words command = (fault_of doac words ≡ []) × HeldIn (subcommand_of doac
 -- the subcommand is none of the program's, or lacks a file that it can't do without
 abbrev pub Lacks : Text → List Row → Type 0
 Lacks name values =
-    (((name ≡ codes "check") ⊎ ((name ≡ codes "list") ⊎ ((name ≡ codes "seq") ⊎ ((name ≡ codes "run") ⊎ (name ≡ codes "code"))))) → first_of (codes "F") values ≡ None)
+    (((name ≡ codes "check") ⊎ ((name ≡ codes "list") ⊎ ((name ≡ codes "seq") ⊎ ((name ≡ codes "run") ⊎ ((name ≡ codes "code") ⊎ (name ≡ codes "model")))))) → first_of (codes "F") values ≡ None)
     × (name ≡ codes "replay" → LacksOne (codes "F" ∷ codes "INPUT" ∷ codes "SCHEDULE" ∷ []) values)
     × (name ≡ codes "upgrade" → LacksOne (codes "F" ∷ codes "INPUT" ∷ codes "SCHEDULE" ∷ codes "OUT" ∷ []) values)
     × (name ≡ codes "draw" → LacksOne (codes "F" ∷ codes "OUT" ∷ []) values)
@@ -287,9 +305,11 @@ AsksInVain name values =
     (name ≡ codes "explain")
     × ((word : Text) × (first_of (codes "N") values ≡ Some word) × NamesNothing word (first_of (codes "REASON") values))
 
--- the subcommand is to run in threads, and one of its numbers is none
+-- the subcommand is to run code, and one of its numbers is none
 abbrev pub HasNoNumber : Text → List Row → Type 0
-HasNoNumber name values = (name ≡ codes "run") × (HasNoSize (first_of (codes "p") values) ⊎ HasNoSize (first_of (codes "s") values))
+HasNoNumber name values =
+    ((name ≡ codes "run") × (HasNoSize (first_of (codes "p") values) ⊎ HasNoSize (first_of (codes "s") values)))
+    ⊎ ((name ≡ codes "model") × (HasNoSize (first_of (codes "p") values) ⊎ (HasNoSize (first_of (codes "s") values) ⊎ HasNoSize (first_of (codes "most") values))))
 
 -- the subcommand is to draw a loop, and one of its numbers is none
 abbrev pub HasNoPortion : Text → List Row → Type 0

@@ -19,6 +19,21 @@ pub struct Threaded<'a> {
     pub tally: bool,
 }
 
+/// What the command line asks for of a run in model time.
+#[derive(Clone, Copy)]
+pub struct Modelled<'a> {
+    /// The file of the source.
+    pub source: &'a str,
+    /// The file of the input, if there is one.
+    pub input: Option<&'a str>,
+    /// How many processors there are to be, 2 where none are named.
+    pub processors: u64,
+    /// How many iterations may be open, 4 where none are named.
+    pub slots: u64,
+    /// After how many steps a run is left that hasn't ended, 100,000,000 where none are named.
+    pub most: u64,
+}
+
 /// The files of a replay.
 #[derive(Clone, Copy)]
 pub struct TextFiles<'a> {
@@ -66,6 +81,9 @@ pub enum Command<'a> {
     /// `run F [INPUT] [-p N] [-s N] [--schedule OUT] [--store] [--tally]`: the run of the code of a
     /// source in threads.
     Run(Threaded<'a>),
+    /// `model F [INPUT] [-p N] [-s N] [--most STEPS]`: the time that the run of a source's code
+    /// takes, step by step.
+    Model(Modelled<'a>),
     /// `replay F INPUT SCHEDULE`: the run of the code of a source that a schedule describes.
     Replay(TextFiles<'a>),
     /// `upgrade F INPUT SCHEDULE OUT`: the schedule with its picks named, written to a file.

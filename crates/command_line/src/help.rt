@@ -64,7 +64,8 @@ Status:
   0  the run came to END or to a STOP
   1  the source is refused
   2  the run came to a fault
-  3  the command line is wrong, or a number is out of its range
+  3  the command line is wrong, a number is out of its range, or standard output
+     goes to OUT
   4  a file can't be read, or the answer or OUT can't be written
   5  there is no memory, a thread can't be started, or the run can't go on
 
@@ -75,6 +76,24 @@ With --schedule the run keeps its schedule in memory until it has ended.
 
 Example:
   doac run examples/overlap.f -p 4 -s 8 --schedule overlap.schedule";
+
+pub const MODEL: &str = "\
+In each unit of time each processor makes one step, if it has any. A line shows
+the steps of the whole run, the units that they took, the one by the other, and
+how many of a hundred turns were spent waiting; behind it stands one for each
+loop whose iterations were run at once. What the program prints isn't shown. It
+is the same each time.
+
+Status:
+  0  the run came to END or to a STOP, or was left after --most steps
+  1  the source is refused
+  2  the run came to a fault
+  3  the command line is wrong, or a number is out of its range
+  4  a file can't be read, or the answer can't be written
+  5  there is no memory
+
+Example:
+  doac model examples/overlap.f -p 4 -s 8";
 
 pub const REPLAY: &str = "\
 Status:
@@ -96,7 +115,7 @@ pub const UPGRADE: &str = "\
 Status:
   0  OUT has the schedule
   1  the source is refused
-  3  the command line is wrong
+  3  the command line is wrong, or standard output goes to OUT
   4  a file can't be read, or OUT can't be written
   5  there is no memory
   6  the schedule is refused
@@ -108,7 +127,8 @@ pub const DRAW: &str = "\
 Status:
   0  OUT has the picture
   1  the source is refused
-  3  the command line is wrong, or there is no such loop
+  3  the command line is wrong, there is no such loop, standard output goes to OUT,
+     or the picture would have more than 20,000 arrows
   4  a file can't be read, or OUT can't be written
   5  there is no memory
 
@@ -119,7 +139,7 @@ pub const TIMELINE: &str = "\
 Status:
   0  OUT has the picture
   1  the source is refused
-  3  the command line is wrong
+  3  the command line is wrong, or standard output goes to OUT
   4  a file can't be read, or OUT can't be written
   5  there is no memory
   6  the schedule is refused

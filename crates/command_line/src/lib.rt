@@ -3,9 +3,11 @@
 
 mod command;
 mod help;
+mod hints;
 mod matches;
 mod parser;
 
-pub use command::{Command, Drawing, TextFiles, Threaded};
+pub use command::{Command, Drawing, Modelled, TextFiles, Threaded};
+pub use hints::hint;
 pub use matches::LineFault;
 pub use parser::read;

@@ -8,7 +8,7 @@ ghost use Rattle.command_line.specs.CommandLine.{IsReason, IsSizeOf, MadeOf, Nam
 ghost use Rattle.command_line.specs.declared.matches.LineFault.TheVariants.{Memory, NoPortion};
 ghost use Rattle.command_line.specs.declared.matches.LineFault.TheVariants.{NoSize, NoSuchNumber};
 
-use crate::command::{Command, Drawing, TextFiles, Threaded};
+use crate::command::{Command, Drawing, Modelled, TextFiles, Threaded};
 use clap::ArgMatches;
 use clap::error::ErrorKind;
 use explanations::explain::{is_explained, is_reason};
@@ -32,7 +32,7 @@ pub enum LineFault {
     #[error("error: nothing has this number; there are 1 to 8, 20 to 27, 30 to 43, 51 to 59 and 61, and behind serial 1 to 6\n\nUsage: doac explain [N]\n       doac explain serial <REASON>\n\nFor more information, try '--help'.\n")]
     NoSuchNumber,
     /// They name no whole number of 64 bits where one is wanted.
-    #[error("error: -p takes 1 to 64, -s 1 to 256\n\nUsage: doac run [-p <N>] [-s <N>] <F> [INPUT]\n\nFor more information, try '--help'.\n")]
+    #[error("error: -p takes 1 to 64, -s 1 to 256, --most a whole number\n\nUsage: doac run [-p <N>] [-s <N>] <F> [INPUT]\n       doac model [-p <N>] [-s <N>] [--most <STEPS>] <F> [INPUT]\n\nFor more information, try '--help'.\n")]
     NoSize,
     /// They ask for a picture by no whole number of 64 bits, or of no 1 to 64 iterations.
     #[error("error: --loop takes a whole number, and --iterations one from 1 to 64\n\nUsage: doac draw [--loop <N>] [--iterations <K>] <F> <OUT>\n\nFor more information, try '--help'.\n")]
@@ -109,6 +109,7 @@ fn named<'a>(name: &str, given: &ArgMatches<'a>) -> Result<Command<'a>, LineFaul
         "code" => coding(given),
         "seq" => running(given),
         "run" => threading(given),
+        "model" => modelling(given),
         "replay" => replaying(given),
         "upgrade" => upgrading(given),
         "draw" => drawing(given),
@@ -209,6 +210,22 @@ fn threading<'a>(given: &ArgMatches<'a>) -> Result<Command<'a>, LineFault>
         schedule: text(given, "schedule"),
         store: flag(given, "store"),
         tally: flag(given, "tally"),
+    }))
+}
+
+fn modelling<'a>(given: &ArgMatches<'a>) -> Result<Command<'a>, LineFault>
+    ensures found { IfOk result (Holds (codes "model") (rows_of (found_of given.now))) }
+    ensures refused { IfErr result (HoldsNone (codes "model") (rows_of (found_of given.now))) }
+{
+    let Some(source) = text(given, "F") else {
+        return Err(LineFault::NoCommand);
+    };
+    Ok(Command::Model(Modelled {
+        source,
+        input: text(given, "INPUT"),
+        processors: size(text(given, "p"), 2)?,
+        slots: size(text(given, "s"), 4)?,
+        most: size(text(given, "most"), 100_000_000)?,
     }))
 }
 

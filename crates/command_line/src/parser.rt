@@ -4,8 +4,9 @@ ghost use Rattle.std.specs.Prelude.{◌≡◌, ◌∷◌, [], IfErr, IfOk, false
 ghost use Rattle.clap.specs.Words.{App, Rule, new_app, rule_of, with_rule, with_subcommand};
 ghost use Rattle.command_line.specs.CommandLine.{IsLine, Names, NamesNone, Reads, check, code};
 ghost use Rattle.command_line.specs.CommandLine.{doac, draw, explain, flag, input, iterations};
-ghost use Rattle.command_line.specs.CommandLine.{letter, list, loop_number, named_option, needed};
-ghost use Rattle.command_line.specs.CommandLine.{number, optional, out, processors, reason, replay};
+ghost use Rattle.command_line.specs.CommandLine.{letter, list, loop_number, model, most};
+ghost use Rattle.command_line.specs.CommandLine.{named_option, needed, number, optional, out};
+ghost use Rattle.command_line.specs.CommandLine.{processors, reason, replay};
 ghost use Rattle.command_line.specs.CommandLine.{run, schedule, schedule_out, seq, slots, source};
 ghost use Rattle.command_line.specs.CommandLine.{store, tally, timeline, upgrade, whole_input, why};
 ghost use Rattle.command_line.specs.CommandLine.{with_subcommands};
@@ -226,6 +227,18 @@ fn tally<'a>(alloc: Global) -> Arg<'a>
     )
 }
 
+fn most<'a>(alloc: Global) -> Arg<'a>
+    ensures rule { rule_of result ≡ most }
+    ensures local { result.global ≡ false }
+{
+    option(
+        alloc,
+        "most",
+        "STEPS",
+        "After how many steps a run is left that hasn't ended; without it 100000000",
+    )
+}
+
 fn number<'a>(alloc: Global) -> Arg<'a>
     ensures rule { rule_of result ≡ number }
     ensures local { result.global ≡ false }
@@ -343,6 +356,23 @@ fn threading<'a>(alloc: Global) -> Result<clap::Command<'a>, AllocError>
     with(line, tally(alloc))
 }
 
+/// The command line of `model`.
+fn modelling<'a>(alloc: Global) -> Result<clap::Command<'a>, AllocError>
+    ensures { IfOk result (IsLine model) }
+{
+    let line = Ok(named(
+        alloc,
+        "model",
+        "Shows in which time a source runs where each processor makes a step at once",
+        help::MODEL,
+    ));
+    let line = with(line, source(alloc));
+    let line = with(line, input(alloc));
+    let line = with(line, processors(alloc));
+    let line = with(line, slots(alloc));
+    with(line, most(alloc))
+}
+
 /// The command line of `replay`.
 fn replaying<'a>(alloc: Global) -> Result<clap::Command<'a>, AllocError>
     ensures { IfOk result (IsLine replay) }
@@ -444,15 +474,16 @@ fn with_sources<'a>(
     adding(app, running(alloc))
 }
 
-/// A command with the command lines that run a source in threads, or read a schedule.
+/// A command with the command lines that run a source's code, or read a schedule.
 fn with_schedules<'a>(
     alloc: Global,
     app: Result<clap::Command<'a>, AllocError>,
 ) -> Result<clap::Command<'a>, AllocError>
     ensures { (base : App) → IfOk app.entry (Reads base)
-        → IfOk result (Reads (with_subcommands (upgrade ∷ replay ∷ run ∷ []) base)) }
+        → IfOk result (Reads (with_subcommands (upgrade ∷ replay ∷ model ∷ run ∷ []) base)) }
 {
     let app = adding(app, threading(alloc));
+    let app = adding(app, modelling(alloc));
     let app = adding(app, replaying(alloc));
     adding(app, upgrading(alloc))
 }
@@ -491,8 +522,8 @@ fn parser<'a>(alloc: Global) -> Result<clap::Command<'a>, AllocError>
 /// `Help` where the words ask for help or for the version, and `Mistake` where clap finds anything
 /// else wrong with them. Where it finds nothing wrong: `NoCommand` where they hold no command,
 /// `NoSuchNumber` where they ask to explain a number that nothing has, `NoSize` where a number of
-/// processors or of open iterations doesn't fit 64 bits, `NoPortion` where that of a loop doesn't,
-/// or that of iterations isn't from 1 to 64. `Memory` where memory is refused.
+/// processors, of open iterations or of steps doesn't fit 64 bits, `NoPortion` where that of a loop
+/// doesn't, or that of iterations isn't from 1 to 64. `Memory` where memory is refused.
 pub fn read<'a, S: AsStr>(alloc: Global, words: &'a [S]) -> Result<Command<'a>, LineFault>
     ensures found { IfOk result (Names (map S.text words.entry.now)) }
     ensures refused { IfErr result (NamesNone (map S.text words.entry.now)) }

@@ -1,7 +1,8 @@
 -- Files are read one after another, and what follows of that.
-use Rattle.std.proofs.Common.{◌≡◌, ◌∙◌, refl, ℕ, Bool, List, Option, Result, Ok, Err, inl, inr, subst}
+use Rattle.std.proofs.Common.{◌≡◌, ◌∙◌, refl, ℕ, List, Option, Result, Ok, Err, inl, inr, subst}
 use Rattle.files.specs.Deeds.{Compares, Deed, HasRead, Reads, noted}
 use Rattle.files.specs.declared.fault.FileFault.{FileFault}
+use Rattle.files.specs.declared.files.Clash.{Clash}
 use Rattle.files.specs.declared.files.Unread.{Unread}
 use Rattle.doac.specs.Deeds.{AfterCompare, AfterFile, AfterTexts, ReadsFile, ReadsTexts, UnlessRead}
 use Rattle.pages.specs.declared.texts.Texts.{Texts}
@@ -57,9 +58,9 @@ pub read_three_last : (source input schedule : List ℕ) (before mid : Option (L
 read_three_last source input schedule before mid old new status made r is rest =
     read_three source input schedule before mid mid old new status (λ done text given picks. (mid ≡ done) × made text given picks) r is (stay r mid old new status made rest)
 
--- a name was compared with those of files that are read, and what is done where it is none goes on
--- from there
-pub compared : (name : List ℕ) (others : List (List ℕ)) (before mid after : Option (List Deed)) (old new : Option (List ℕ)) (status : ℕ) (made : Option (List Deed) → Type 0) (is_one : Bool)
-    → mid ≡ noted before (Compares name others is_one) → AfterCompare is_one mid after old new status (made mid) → UnlessRead name others before after old new status made
-compared name others before mid after old new status made is_one is rest =
-    record { is_one = is_one; rest = subst (λ (d : Option (List Deed)). AfterCompare is_one d after old new status (made d)) is rest }
+-- a name was compared with those of files that are read, and what is done where it may be written
+-- goes on from there
+pub compared : (name : List ℕ) (others : List (List ℕ)) (before mid after : Option (List Deed)) (old new : Option (List ℕ)) (status : ℕ) (made : Option (List Deed) → Type 0) (clash : Option Clash)
+    → mid ≡ noted before (Compares name others clash) → AfterCompare clash mid after old new status (made mid) → UnlessRead name others before after old new status made
+compared name others before mid after old new status made clash is rest =
+    record { clash = clash; rest = subst (λ (d : Option (List Deed)). AfterCompare clash d after old new status (made d)) is rest }

@@ -8,11 +8,12 @@ use Rattle.engines.specs.Lists.{ListsAs}
 use Rattle.engines.specs.Schedules.{Replaying}
 use Rattle.files.specs.Deeds.{Deed}
 use Rattle.doac.specs.Deeds.{ReadsFile, ReadsInput, ReadsTexts, UnlessRead}
+use Rattle.doac.specs.Models.{EndsModel}
 use Rattle.doac.specs.Pictures.{DrawsFile, TimesFiles}
 use Rattle.doac.specs.Running.{RunsRead, named}
 use Rattle.doac.specs.Statuses.{Ends, EndsSeq, EndsUpgrade, OfPrint}
 use Rattle.command_line.specs.declared.command.Command.{Command}
-use Rattle.command_line.specs.declared.command.Command.TheVariants.{Check, ListLoops, ShowCode, Seq, Run, Replay, Upgrade, Draw, Timeline, Explain, ExplainSerial}
+use Rattle.command_line.specs.declared.command.Command.TheVariants.{Check, ListLoops, ShowCode, Seq, Run, Model, Replay, Upgrade, Draw, Timeline, Explain, ExplainSerial}
 use Rattle.command_line.specs.declared.command.Threaded.{Threaded}
 
 -- the source is read, and what is allowed of it is written
@@ -58,6 +59,8 @@ Obeys (ShowCode source) before after old new status = OnSource ShowsCode source.
 Obeys (Seq source input store) before after old new status =
     OnInput (EndsSeq store) source.now (option_map (λ i. i.now) input) before after old new status
 Obeys (Run t) before after old new status = RunsFiles t before after old new status
+Obeys (Model m) before after old new status =
+    OnInput (EndsModel m) m.source.now (option_map (λ i. i.now) m.input) before after old new status
 Obeys (Replay files) before after old new status =
     OnTexts Replaying files.source.now files.input.now files.schedule.now before after old new status
 Obeys (Upgrade files out) before after old new status =

@@ -1,11 +1,13 @@
 -- What a command does with files, and the exit status that goes with it.
-use Rattle.std.specs.Prelude.{◌≡◌, ◌≢◌, ℕ, Bool, true, false, List, [], Option, Some, None, Result, Ok, Err}
+use Rattle.std.specs.Prelude.{◌≡◌, ◌≢◌, ℕ, List, [], Option, Some, None, Result, Ok, Err}
 use Rattle.std.specs.IoError.{error_kind}
 use Rattle.std.specs.declared.io.Error.{Error}
 use Rattle.std.specs.declared.io.ErrorKind.TheVariants.{OutOfMemory}
 use Rattle.pages.specs.declared.texts.Texts.{Texts}
 use Rattle.files.specs.Deeds.{Deed, Compares, Reads, Replaces, file_status, noted}
 use Rattle.files.specs.declared.fault.FileFault.{FileFault}
+use Rattle.files.specs.declared.files.Clash.{Clash}
+use Rattle.files.specs.declared.files.Clash.TheVariants.{Read, Output}
 use Rattle.files.specs.declared.files.Unread.{Unread}
 
 -- the exit status of an error: that of want of memory, or another one
@@ -48,17 +50,22 @@ abbrev pub AfterTexts : Result Texts Unread → (before after : Option (List Dee
 AfterTexts (Err file) before after old new status made = (after ≡ before) × (new ≡ old) × (status ≡ file_status file.fault)
 AfterTexts (Ok texts) before after old new status made = made texts.source.items texts.input.items texts.schedule.items
 
--- A file that is to be written may be none of those that are read: then nothing more is done and
--- nothing is written, and the status is 4.
-abbrev pub AfterCompare : Bool → (before after : Option (List Deed)) → (old new : Option (List ℕ)) → ℕ → Type 0 → Type 0
-AfterCompare true before after old new status rest = (after ≡ before) × (new ≡ old) × (status ≡ 4)
-AfterCompare false before after old new status rest = rest
+-- the exit status of a file that may not be written: it is read too, or standard output goes to it
+abbrev pub clash_status : Clash → ℕ
+clash_status Read = 4
+clash_status Output = 3
 
--- a name is compared with those of files that are read, and only where it is none of theirs the
--- rest is done
+-- A file that is to be written may be none of those that are read, nor that of standard output: then
+-- nothing more is done and nothing is written, and the status says so.
+abbrev pub AfterCompare : Option Clash → (before after : Option (List Deed)) → (old new : Option (List ℕ)) → ℕ → Type 0 → Type 0
+AfterCompare (Some clash) before after old new status rest = (after ≡ before) × (new ≡ old) × (status ≡ clash_status clash)
+AfterCompare None before after old new status rest = rest
+
+-- a name is compared with those of files that are read, and only where it may be written the rest is
+-- done
 pub record UnlessRead (name : List ℕ) (others : List (List ℕ)) (before after : Option (List Deed)) (old new : Option (List ℕ)) (status : ℕ) (made : Option (List Deed) → Type 0) : Type 0 where
-  pub is_one : Bool
-  pub rest : AfterCompare is_one (noted before (Compares name others is_one)) after old new status (made (noted before (Compares name others is_one)))
+  pub clash : Option Clash
+  pub rest : AfterCompare clash (noted before (Compares name others clash)) after old new status (made (noted before (Compares name others clash)))
 
 -- a file is given bytes, and this is the status of that
 pub record GivesFile (name bytes : List ℕ) (before after : Option (List Deed)) (status : ℕ) : Type 0 where

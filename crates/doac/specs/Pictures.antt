@@ -5,17 +5,18 @@ use Rattle.engines.specs.Drawing.{Draws}
 use Rattle.engines.specs.Timeline.{Times}
 use Rattle.engines.specs.declared.drawing.Portion.{Portion}
 use Rattle.engines.specs.declared.drawn.Drawn.{Drawn}
-use Rattle.engines.specs.declared.drawn.Drawn.TheVariants.{Picture, Shown, NoLoop}
+use Rattle.engines.specs.declared.drawn.Drawn.TheVariants.{Picture, Shown, NoLoop, TooDense}
 use Rattle.files.specs.Deeds.{Deed}
 use Rattle.doac.specs.Deeds.{GivesFile, ReadsFile, ReadsTexts, UnlessRead}
 use Rattle.doac.specs.Statuses.{Ends, IsPage}
 
 -- what drawing comes to is written: a picture to OUT alone, why there is none to standard output
--- alone; where there is no such loop nothing is
+-- alone; where there is no such loop, or its picture would have too many arrows, nothing is
 abbrev pub Delivers : (out : List ℕ) → Drawn → (before after : Option (List Deed)) → (old new : Option (List ℕ)) → ℕ → Type 0
 Delivers out (Picture text) before after old new status = GivesFile out text.items before after status × (new ≡ old)
 Delivers out (Shown page) before after old new status = (after ≡ before) × Ends (IsPage page) old new status
 Delivers out (NoLoop count) before after old new status = (after ≡ before) × (new ≡ old) × (status ≡ 3)
+Delivers out (TooDense count) before after old new status = (after ≡ before) × (new ≡ old) × (status ≡ 3)
 
 -- what is allowed is written; for want of memory nothing is
 abbrev pub EndsDrawing : (Drawn → Type 0) → (out : List ℕ) → (before after : Option (List Deed)) → (old new : Option (List ℕ)) → ℕ → Type 0

@@ -10,13 +10,13 @@ ghost use Rattle.doac.specs.Statuses.{Ends, IsPage};
 
 use crate::told::{give_file, refuse_file, refuse_out, show_page, tell, tell_of};
 use command_line::{Drawing, TextFiles};
-use engines::{Drawn, Portion, draw_text, timeline_texts};
-use files::{FileFault, NamedFiles, Unread, read_texts};
+use engines::{Drawn, MOST_ARROWS, Portion, draw_text, timeline_texts};
+use files::{Clash, FileFault, NamedFiles, Unread, read_texts};
 use pages::{EngineFault, Page, Texts};
 use remarks::Place;
 use std::io::Write;
 
-/// Draws a loop of the source of a file to another file, if that is another one.
+/// Draws a loop of the source of a file to another file, if that may be written.
 pub fn draw_file<R: Eprint + AllocGlobal, F: NamedFiles, W: Write>(
     rt: &R,
     files: &mut F,
@@ -30,19 +30,11 @@ pub fn draw_file<R: Eprint + AllocGlobal, F: NamedFiles, W: Write>(
         number: drawing.number as usize,
         columns: drawing.iterations,
     };
-    let is_read = files.is_one_of(drawing.out, &[drawing.source]);
-    draw_unless(
-        rt,
-        files,
-        out,
-        drawing.source,
-        drawing.out,
-        portion,
-        is_read,
-    )
+    let clash = files.clash(drawing.out, &[drawing.source]);
+    draw_unless(rt, files, out, drawing.source, drawing.out, portion, clash)
 }
 
-/// The same, where it is known whether the file `onto` is read.
+/// The same, where it is known whether the file `onto` may be written.
 fn draw_unless<R: Eprint + AllocGlobal, F: NamedFiles, W: Write>(
     rt: &R,
     files: &mut F,
@@ -50,17 +42,17 @@ fn draw_unless<R: Eprint + AllocGlobal, F: NamedFiles, W: Write>(
     source: &str,
     onto: &str,
     portion: Portion,
-    is_read: bool,
+    clash: Option<Clash>,
 ) -> u8
-    ensures { AfterCompare is_read (F.done files.old) (F.done files.new) (W.contents out.old)
+    ensures { AfterCompare clash (F.done files.old) (F.done files.new) (W.contents out.old)
         (W.contents out.new) result
         (ReadsFile source.now (F.done files.old) (F.done files.new) (W.contents out.old)
         (W.contents out.new) result
         (λ done text. EndsDrawing (Draws text portion) onto.now
         done (F.done files.new) (W.contents out.old) (W.contents out.new) result)) }
 {
-    if is_read {
-        return refuse_out(rt, onto);
+    if let Some(clash) = clash {
+        return refuse_out(rt, onto, clash);
     }
     let text = files.read(source);
     draw_given(rt, files, out, source, onto, portion, text)
@@ -104,6 +96,7 @@ fn draw_source<R: Eprint + AllocGlobal, F: NamedFiles, W: Write>(
         Ok(Drawn::Picture(picture)) => give_file(rt, files, onto, &picture),
         Ok(Drawn::Shown(page)) => draw_shown(rt, out, source, text, &page),
         Ok(Drawn::NoLoop(count)) => refuse_loop(rt, source, portion.number, count),
+        Ok(Drawn::TooDense(count)) => refuse_dense(rt, source, portion.number, count),
         Err(_) => tell(rt, source, text, Err(EngineFault::Memory)),
     }
 }
@@ -141,8 +134,24 @@ fn refuse_loop<R: Eprint>(rt: &R, name: &str, number: usize, count: usize) -> u8
     3
 }
 
-/// Draws the run that the schedule of a file describes to the file `onto`, if that is none of those
-/// that are read.
+/// Says on standard error that the picture of a loop would have so many arrows, and gives the exit
+/// status.
+fn refuse_dense<R: Eprint>(rt: &R, name: &str, number: usize, count: u128) -> u8
+    ensures { result ≡ 3 }
+{
+    let place = Place {
+        file: name,
+        line: 0,
+    };
+    let _ = eprintln!(rt;
+        "{place}the picture of loop {number} would have {count} arrows, and {MOST_ARROWS} at most are drawn"
+    );
+    let _ = eprintln!(rt; "hint: fewer iterations, by --iterations, have fewer arrows");
+    3
+}
+
+/// Draws the run that the schedule of a file describes to the file `onto`, if that may be written
+/// beside those that are read.
 pub fn timeline_files<R: Eprint + AllocGlobal, F: NamedFiles, W: Write>(
     rt: &R,
     files: &mut F,
@@ -153,28 +162,28 @@ pub fn timeline_files<R: Eprint + AllocGlobal, F: NamedFiles, W: Write>(
     ensures { TimesFiles names.entry.source.now names.entry.input.now names.entry.schedule.now onto.now
         (F.done files.old) (F.done files.new) (W.contents out.old) (W.contents out.new) result }
 {
-    let is_read = files.is_one_of(onto, &[names.source, names.input, names.schedule]);
-    timeline_unless(rt, files, out, names, onto, is_read)
+    let clash = files.clash(onto, &[names.source, names.input, names.schedule]);
+    timeline_unless(rt, files, out, names, onto, clash)
 }
 
-/// The same, where it is known whether the file `onto` is read.
+/// The same, where it is known whether the file `onto` may be written.
 fn timeline_unless<R: Eprint + AllocGlobal, F: NamedFiles, W: Write>(
     rt: &R,
     files: &mut F,
     out: &mut W,
     names: TextFiles<'_>,
     onto: &str,
-    is_read: bool,
+    clash: Option<Clash>,
 ) -> u8
-    ensures { AfterCompare is_read (F.done files.old) (F.done files.new) (W.contents out.old)
+    ensures { AfterCompare clash (F.done files.old) (F.done files.new) (W.contents out.old)
         (W.contents out.new) result
         (ReadsTexts names.entry.source.now names.entry.input.now names.entry.schedule.now
         (F.done files.old) (F.done files.new) (W.contents out.old) (W.contents out.new) result
         (λ done text given picks. EndsDrawing (Times text given picks) onto.now
         done (F.done files.new) (W.contents out.old) (W.contents out.new) result)) }
 {
-    if is_read {
-        return refuse_out(rt, onto);
+    if let Some(clash) = clash {
+        return refuse_out(rt, onto, clash);
     }
     let texts = read_texts(files, names.source, names.input, names.schedule);
     timeline_given(rt, files, out, names, onto, texts)
@@ -217,6 +226,7 @@ fn timeline_read<R: Eprint + AllocGlobal, F: NamedFiles, W: Write>(
         Ok(Drawn::Picture(picture)) => give_file(rt, files, onto, &picture),
         Ok(Drawn::Shown(page)) => show_page(rt, out, names, texts, &page),
         Ok(Drawn::NoLoop(_)) => 3,
+        Ok(Drawn::TooDense(_)) => 3,
         Err(_) => tell_of(rt, names, texts, Err(EngineFault::Memory)),
     }
 }

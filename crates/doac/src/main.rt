@@ -1,8 +1,10 @@
-//! `doac`: checks and runs FORTRAN 77 programs, also in threads, and repeats runs of the machine.
+//! `doac`: checks and runs FORTRAN 77 programs, also in threads and in model time, and repeats runs
+//! of the machine.
 #![tactic(auto)]
 
 mod code_file;
 mod drawings;
+mod models;
 mod obeying;
 mod program;
 mod replays;

@@ -4,6 +4,7 @@ ghost use Rattle.doac.specs.Commands.{Obeys};
 
 use crate::code_file::code_file;
 use crate::drawings::{draw_file, timeline_files};
+use crate::models::model_files;
 use crate::replays::{replay_files, upgrade_files};
 use crate::sources::{check_file, list_file, seq_files};
 use crate::threads::run_files;
@@ -39,6 +40,7 @@ pub fn obey<R: Print + Eprint + AllocGlobal + Threads + Wait + Sync, F: NamedFil
             store,
         } => seq_files(rt, files, out, source, input, store, most),
         Command::Run(asked) => run_files(rt, files, out, nowhere, asked),
+        Command::Model(asked) => model_files(rt, files, out, nowhere, asked),
         Command::Replay(names) => replay_files(rt, files, out, nowhere, names),
         Command::Upgrade(names, onto) => upgrade_files(rt, files, out, names, onto),
         Command::Draw(drawing) => draw_file(rt, files, out, drawing),

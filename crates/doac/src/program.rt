@@ -6,7 +6,7 @@ ghost use Rattle.doac.specs.Following.{EndsLine, Follows};
 
 use crate::obeying::obey;
 use crate::told::status_of_print;
-use command_line::LineFault;
+use command_line::{LineFault, hint};
 use either::Either::{Left, Right};
 use files::{HostFiles, NamedFiles};
 use remarks::VisibleLines;
@@ -53,7 +53,7 @@ fn follow<
 {
     match command_line::read(rt.alloc(), words) {
         Ok(command) => obey(rt, files, out, nowhere, command, most),
-        Err(fault) => refuse_line(rt, &fault),
+        Err(fault) => refuse_line(rt, words, &fault),
     }
 }
 
@@ -86,7 +86,13 @@ fn refuse_words<R: Eprint>(rt: &R, error: &io::Error) -> u8
     }
 }
 
-fn refuse_line<R: Print + Eprint + AllocGlobal>(rt: &R, fault: &LineFault) -> u8
+/// Says on standard error what is wrong with words, or what they ask for on standard output, and
+/// gives the exit status.
+fn refuse_line<S: AsStr, R: Print + Eprint + AllocGlobal>(
+    rt: &R,
+    words: &[S],
+    fault: &LineFault,
+) -> u8
     ensures { EndsLine fault.now result }
 {
     match fault {
@@ -97,8 +103,11 @@ fn refuse_line<R: Print + Eprint + AllocGlobal>(rt: &R, fault: &LineFault) -> u8
         }
         _ => {
             say_line(rt, fault);
+            if let Some(hint) = hint(words, fault) {
+                let _ = eprintln!(rt; "hint: {hint}");
+            }
             let _ = eprintln!(rt;
-                "The commands are check, list, code, seq, run, replay, upgrade, draw, timeline and explain."
+                "The commands are check, list, code, seq, run, model, replay, upgrade, draw, timeline and explain."
             );
             fault.status()
         }

@@ -6,11 +6,11 @@ ghost use Rattle.doac.specs.Deeds.{AfterCompare, AfterTexts, ReadsTexts};
 ghost use Rattle.doac.specs.Statuses.{Ends, EndsUpgrade};
 
 use crate::told::{
-    give_file, refuse_file, refuse_out, show_page, tell_of, tell_replay, warn_of_run,
+    give_file, refuse_file, refuse_out, show_page, tell_of, tell_replay, warn_of_names, warn_of_run,
 };
 use command_line::TextFiles;
 use engines::{Upgraded, replay_texts, upgrade_texts};
-use files::{NamedFiles, Unread, read_texts};
+use files::{Clash, NamedFiles, Unread, read_texts};
 use pages::{EngineFault, Texts};
 use std::io::Write;
 
@@ -27,6 +27,7 @@ pub fn replay_files<R: Eprint + AllocGlobal, F: NamedFiles, W: Write>(
         names.entry.source.now names.entry.input.now names.entry.schedule.now
         (F.done files.old) (F.done files.new) (W.contents out.old) (W.contents out.new) result }
 {
+    warn_of_names(rt, names.source, Some(names.input));
     let texts = read_texts(files, names.source, names.input, names.schedule);
     replay_given(rt, out, nowhere, names, texts)
 }
@@ -73,8 +74,8 @@ fn replay_read<R: Eprint + AllocGlobal, W: Write>(
     tell_replay(rt, nowhere, names, texts, outcome)
 }
 
-/// Writes the schedule of a file with its picks named to the file `onto`, if that is none of those
-/// that are read.
+/// Writes the schedule of a file with its picks named to the file `onto`, if that may be written
+/// beside those that are read.
 pub fn upgrade_files<R: Eprint + AllocGlobal, F: NamedFiles, W: Write>(
     rt: &R,
     files: &mut F,
@@ -86,28 +87,28 @@ pub fn upgrade_files<R: Eprint + AllocGlobal, F: NamedFiles, W: Write>(
         names.entry.source.now names.entry.input.now names.entry.schedule.now onto.now
         (F.done files.old) (F.done files.new) (W.contents out.old) (W.contents out.new) result }
 {
-    let is_read = files.is_one_of(onto, &[names.source, names.input, names.schedule]);
-    upgrade_unless(rt, files, out, names, onto, is_read)
+    let clash = files.clash(onto, &[names.source, names.input, names.schedule]);
+    upgrade_unless(rt, files, out, names, onto, clash)
 }
 
-/// The same, where it is known whether the file `onto` is read.
+/// The same, where it is known whether the file `onto` may be written.
 fn upgrade_unless<R: Eprint + AllocGlobal, F: NamedFiles, W: Write>(
     rt: &R,
     files: &mut F,
     out: &mut W,
     names: TextFiles<'_>,
     onto: &str,
-    is_read: bool,
+    clash: Option<Clash>,
 ) -> u8
-    ensures { AfterCompare is_read
+    ensures { AfterCompare clash
         (F.done files.old) (F.done files.new) (W.contents out.old) (W.contents out.new) result
         (ReadsTexts names.entry.source.now names.entry.input.now names.entry.schedule.now
         (F.done files.old) (F.done files.new) (W.contents out.old) (W.contents out.new) result
         (λ done text given picks. EndsUpgrade onto.now text given picks
         done (F.done files.new) (W.contents out.old) (W.contents out.new) result)) }
 {
-    if is_read {
-        return refuse_out(rt, onto);
+    if let Some(clash) = clash {
+        return refuse_out(rt, onto, clash);
     }
     let texts = read_texts(files, names.source, names.input, names.schedule);
     upgrade_given(rt, files, out, names, onto, texts)

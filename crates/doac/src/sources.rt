@@ -8,7 +8,7 @@ ghost use Rattle.doac.specs.Commands.{OnInput, OnSource};
 ghost use Rattle.doac.specs.Deeds.{AfterFile, ReadsInput};
 ghost use Rattle.doac.specs.Statuses.{Ends, EndsSeq};
 
-use crate::told::{refuse_file, tell, tell_run, warn_of_run};
+use crate::told::{refuse_file, tell, tell_run, warn_of_names, warn_of_run};
 use engines::{Survey, Verdict, judged, seq_noted, surveyed, tell_loops, tell_verdict};
 use files::{FileFault, NamedFiles};
 use messages::tell_further;
@@ -121,8 +121,8 @@ fn list_given<R: Eprint + AllocGlobal, W: Write>(
     }
 }
 
-/// Lists the loops of the text of a file; standard error says what keeps them serial, or has its
-/// message.
+/// Lists the loops of the text of a file; standard error says what keeps them serial, where the
+/// listing doesn't, or has its message.
 fn list_source<R: Eprint + AllocGlobal, W: Write>(
     rt: &R,
     out: &mut W,
@@ -135,7 +135,7 @@ fn list_source<R: Eprint + AllocGlobal, W: Write>(
     match surveyed(rt.alloc(), text) {
         Ok(survey) => {
             let outcome = tell_loops(rt.alloc(), &survey, why, out);
-            if outcome.is_ok() {
+            if outcome.is_ok() && !why {
                 say_of_loops(rt, name, &survey);
             }
             tell(rt, name, text, outcome)
@@ -158,6 +158,7 @@ pub fn seq_files<R: Eprint + AllocGlobal, F: NamedFiles, W: Write>(
     ensures { OnInput (EndsSeq store) name.now (option_map (λ i. i.now) input.entry)
         (F.done files.old) (F.done files.new) (W.contents out.old) (W.contents out.new) result }
 {
+    warn_of_names(rt, name, input);
     let text = files.read(name);
     seq_given(rt, files, out, name, text, input, store, most)
 }

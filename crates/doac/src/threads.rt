@@ -7,10 +7,10 @@ ghost use Rattle.doac.specs.Deeds.{AfterCompare, AfterFile, AfterPut, ReadsInput
 ghost use Rattle.doac.specs.Running.{EndsRun, RunsRead, ShowsRan, Shown, WritesRun, named};
 ghost use Rattle.doac.specs.Running.{schedule_of};
 
-use crate::told::{refuse_file, refuse_out, refuse_write, tell_known, warn_of_run};
+use crate::told::{refuse_file, refuse_out, refuse_write, tell_known, warn_of_names, warn_of_run};
 use command_line::Threaded;
 use engines::Wants;
-use files::{FileFault, NamedFiles};
+use files::{Clash, FileFault, NamedFiles};
 use messages::say_figures;
 use pages::{EngineFault, Outcome};
 use std::io;
@@ -19,8 +19,8 @@ use std::sync::Wait;
 use std::thread::Threads;
 use threaded::{Ran, Whole, run_texts};
 
-/// Runs the source of a file in threads, if its schedule is to go to none of the files that are
-/// read. Where the sequential run tells more of its fault that is made behind it, onto `nowhere`.
+/// Runs the source of a file in threads, if the file for its schedule may be written. Where the
+/// sequential run tells more of its fault that is made behind it, onto `nowhere`.
 pub fn run_files<R: Eprint + AllocGlobal + Threads + Wait + Sync, F: NamedFiles, W: Write>(
     rt: &R,
     files: &mut F,
@@ -34,22 +34,28 @@ pub fn run_files<R: Eprint + AllocGlobal + Threads + Wait + Sync, F: NamedFiles,
     let Some(onto) = asked.schedule else {
         return run_read(rt, files, out, nowhere, asked);
     };
-    let is_read = is_read(files, onto, asked.source, asked.input);
-    run_unless(rt, files, out, nowhere, asked, onto, is_read)
+    let clash = clash_of(files, onto, asked.source, asked.input);
+    run_unless(rt, files, out, nowhere, asked, onto, clash)
 }
 
-/// Whether a name is that of the source's file or of the input's.
-fn is_read<F: NamedFiles>(files: &mut F, onto: &str, source: &str, input: Option<&str>) -> bool
+/// Why a file may not be written where the source's and the input's are read.
+fn clash_of<F: NamedFiles>(
+    files: &mut F,
+    onto: &str,
+    source: &str,
+    input: Option<&str>,
+) -> Option<Clash>
     ensures { F.done files.new ≡ noted (F.done files.old)
         (Compares onto.now (source.now ∷ named (option_map (λ i. i.now) input.entry)) result) }
 {
     match input {
-        Some(input) => files.is_one_of(onto, &[source, input]),
-        None => files.is_one_of(onto, &[source]),
+        Some(input) => files.clash(onto, &[source, input]),
+        None => files.clash(onto, &[source]),
     }
 }
 
-/// The same, where it is known whether the file `onto`, which is to have the schedule, is read.
+/// The same, where it is known whether the file `onto`, which is to have the schedule, may be
+/// written.
 fn run_unless<R: Eprint + AllocGlobal + Threads + Wait + Sync, F: NamedFiles, W: Write>(
     rt: &R,
     files: &mut F,
@@ -57,15 +63,15 @@ fn run_unless<R: Eprint + AllocGlobal + Threads + Wait + Sync, F: NamedFiles, W:
     nowhere: &mut W,
     asked: Threaded<'_>,
     onto: &str,
-    is_read: bool,
+    clash: Option<Clash>,
 ) -> u8
-    ensures { AfterCompare is_read
+    ensures { AfterCompare clash
         (F.done files.old) (F.done files.new) (W.contents out.old) (W.contents out.new) result
         (RunsRead asked.entry
         (F.done files.old) (F.done files.new) (W.contents out.old) (W.contents out.new) result) }
 {
-    if is_read {
-        return refuse_out(rt, onto);
+    if let Some(clash) = clash {
+        return refuse_out(rt, onto, clash);
     }
     run_read(rt, files, out, nowhere, asked)
 }
@@ -81,6 +87,7 @@ fn run_read<R: Eprint + AllocGlobal + Threads + Wait + Sync, F: NamedFiles, W: W
     ensures { RunsRead asked.entry
         (F.done files.old) (F.done files.new) (W.contents out.old) (W.contents out.new) result }
 {
+    warn_of_names(rt, asked.source, asked.input);
     let text = files.read(asked.source);
     run_given(rt, files, out, nowhere, asked, text)
 }
@@ -266,5 +273,16 @@ fn write_shown<R: Eprint + AllocGlobal, W: Write>(
         say_figures(rt, figures);
     }
     warn_of_run(rt, asked.source, text, &outcome);
-    tell_known(rt, nowhere, asked.source, text, asked.input, input, outcome)
+    let status = tell_known(rt, nowhere, asked.source, text, asked.input, input, outcome);
+    say_kept(rt, asked, ran);
+    status
+}
+
+/// Says that a run whose schedule is kept takes memory for that too, where there was no memory.
+fn say_kept<R: Eprint>(rt: &R, asked: Threaded<'_>, ran: &Ran) {
+    if matches!(ran, Ran::Memory(_)) && (asked.schedule.is_some() || asked.tally) {
+        let _ = eprintln!(rt;
+            "hint: --schedule and --tally keep the whole schedule in memory, 4 bytes and more an entry"
+        );
+    }
 }

@@ -2,12 +2,12 @@
 
 ghost use Rattle.std.specs.Prelude.{◌≡◌, OnErr, OnOk};
 ghost use Rattle.files.specs.Deeds.{file_status, unput};
-ghost use Rattle.doac.specs.Deeds.{GivesFile, OfError, OfWrite};
+ghost use Rattle.doac.specs.Deeds.{GivesFile, OfError, OfWrite, clash_status};
 ghost use Rattle.doac.specs.Statuses.{Ends, IsPage, OfPrint, exit_of};
 
 use command_line::TextFiles;
 use engines::{Note, Sequential, known_of};
-use files::{FileFault, NamedFiles};
+use files::{Clash, FileFault, NamedFiles, STANDARD_INPUT};
 use messages::{LastRecord, Message};
 use pages::{EngineFault, Outcome, Page, Texts};
 use reasons::MetObstacle;
@@ -83,6 +83,15 @@ pub fn warn_of_run<R: Eprint>(
     }
 }
 
+/// Says which file standard input is, where it is named both for a source and for its input.
+pub fn warn_of_names<R: Eprint>(rt: &R, source: &str, input: Option<&str>) {
+    if source == STANDARD_INPUT && input == Some(STANDARD_INPUT) {
+        let _ = eprintln!(rt;
+            "doac: standard input is the source, all of it, so INPUT, which is - too, is empty"
+        );
+    }
+}
+
 /// Says on standard error why there is no outcome.
 fn say_fault<R: Eprint>(rt: &R, fault: &EngineFault) {
     match fault {
@@ -93,17 +102,25 @@ fn say_fault<R: Eprint>(rt: &R, fault: &EngineFault) {
     }
 }
 
-/// Says on standard error that a file can't be written, as it is read too, and gives the exit
-/// status.
-pub fn refuse_out<R: Eprint>(rt: &R, name: &str) -> u8
-    ensures { result ≡ 4 }
+/// Says on standard error why a file may not be written, and gives the exit status: 4 where it is
+/// read too, 3 where standard output goes to it.
+pub fn refuse_out<R: Eprint>(rt: &R, name: &str, clash: Clash) -> u8
+    ensures { result ≡ clash_status clash }
 {
     let file = name;
-    let _ = eprintln!(rt;
-        "{}this file is read too, so it isn't written",
-        Place { file, line: 0 }
-    );
-    4
+    let place = Place { file, line: 0 };
+    match clash {
+        Clash::Read => {
+            let _ = eprintln!(rt; "{place}this file is read too, so it isn't written");
+            4
+        }
+        Clash::Output => {
+            let _ = eprintln!(rt;
+                "{place}standard output goes to this file, so nothing else is written to it"
+            );
+            3
+        }
+    }
 }
 
 /// Says on standard error why a file's bytes can't be had, and gives the exit status.

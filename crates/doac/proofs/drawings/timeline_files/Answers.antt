@@ -2,4 +2,4 @@ use Rattle.doac.proofs.Reading.{compared}
 use Rattle.doac.proofs.drawings.timeline_files.Goals as goal
 
 pub returns : goal.returns
-returns g c = compared _ _ _ _ _ _ _ _ _ _ c.is_one_of-is_read.ensures c.timeline_unless.ensures
+returns g c = compared _ _ _ _ _ _ _ _ _ _ c.clash-clash.ensures c.timeline_unless.ensures
