@@ -23,6 +23,8 @@ mod kernels;
 #[cfg(test)]
 mod links;
 #[cfg(test)]
+mod locals;
+#[cfg(test)]
 mod sharing;
 #[cfg(test)]
 mod sure;
