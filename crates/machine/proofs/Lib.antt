@@ -7,13 +7,14 @@ pub mod Views
 pub mod Example
 pub mod Equal
 pub mod Lying
+pub mod Memories
 pub mod Naming
 pub mod Telling
 pub mod Forms
 pub mod Puts
 pub mod Stores
 pub mod Restarting
-mod Joining
+pub mod Joining
 mod Formulas
 pub mod Moves
 pub mod Places

@@ -7,6 +7,7 @@ pub mod Frame
 pub mod FrameView
 pub mod Gone
 pub mod Laid
+pub mod Memory
 pub mod Local
 pub mod Next
 pub mod ScalarView

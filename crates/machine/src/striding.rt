@@ -1,23 +1,23 @@
-//! Steps of a frame in its own place, on the cells of the store.
+//! Steps of a frame in its own place, on a memory.
 
-ghost use Rattle.std.specs.Prelude.{◌≡◌, ◌≤◌, Some, length};
+ghost use Rattle.std.specs.Prelude.{◌≡◌, ◌≤◌, Some};
 ghost use Rattle.machine.specs.CodeView.{code_of};
-ghost use Rattle.machine.specs.Laid.{count_of};
+ghost use Rattle.machine.specs.Memory.{Within};
 ghost use Rattle.machine.specs.Strides.{held_by, strides};
 
 use crate::acting::Cursor;
 use crate::code::Code;
 use crate::frame::Frame;
 use crate::going::go;
+use crate::memory::Memory;
 
 /// Local instructions, loads and stores of a frame that stand next, at most `n`, in its own place
-/// and on the cells of the store; how many. It takes no memory.
-pub fn stride(code: &Code, frame: &mut Frame, cells: &mut [i64], n: u32) -> u32
-    requires cells { length cells.old ≡ count_of code.now.variables.items }
-    ensures made { strides (code_of code.now) result (held_by code.now frame.old cells.old)
-        ≡ Some (held_by code.now frame.new cells.new) }
+/// and on a memory; how many. It takes no memory of the allocator.
+pub fn stride<M: Memory>(code: &Code, frame: &mut Frame, memory: &mut M, n: u32) -> u32
+    ensures made { Within (M.seen memory.old) (M.seen memory.new) (λ cells ds.
+        strides (code_of code.now) result (held_by code.now frame.old cells)
+        ≡ Some (held_by code.now frame.new ds)) }
     ensures few { result ≤ n }
-    ensures cells { length cells.new ≡ length cells.old }
 {
     if frame.fault.is_some() {
         return 0;
@@ -33,7 +33,7 @@ pub fn stride(code: &Code, frame: &mut Frame, cells: &mut [i64], n: u32) -> u32
         frame.privates.as_mut_slice(),
         frame.counters.as_mut_slice(),
         &frame.index,
-        cells,
+        memory,
         start,
         n,
     );
