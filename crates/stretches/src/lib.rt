@@ -1,0 +1,17 @@
+//! Stretches: steps of an iteration that are made on guesses of what the store has, noted, and
+//! later compared with the store and made there.
+#![tactic(auto)]
+
+mod comparing;
+mod guesses;
+mod mirror;
+mod note;
+mod shown;
+mod stretch;
+
+pub use comparing::make_all;
+pub use guesses::Guesses;
+pub use mirror::Mirror;
+pub use note::Note;
+pub use shown::stride_shown;
+pub use stretch::Stretch;
