@@ -1,7 +1,8 @@
 -- Activities of which one has another frame, and the store other values.
 use Rattle.std.proofs.Common.{◌≡◌, ◌∙◌, ℕ, ℤ, List, length, get_or, Option, Some, None, refl, sym, ap, subst, arith}
-use Rattle.std.specs.Prelude.{IfSome, ◌%◌, option_map}
-use Rattle.std.specs.Vec.{with_item, with_items}
+use Rattle.std.specs.Prelude.{IfSome, Vec, ◌%◌, option_map}
+use Rattle.std.specs.Global.{Global}
+use Rattle.std.specs.Vec.{with_item}
 use Rattle.std.proofs.Math.ListN.{set}
 use Rattle.machine.specs.Frame.{Frame}
 use Rattle.machine.specs.FrameView as frames
@@ -80,44 +81,42 @@ pub there : (q k at made : ℕ) (o p : Option Iteration) (cs : List ℤ) (old : 
     → IfSome (option_map standing_of o) (λ z. StrodeAt (code_in old) made (kept_in old).shared.cells z cs (option_map standing_of p)) → StrodeAt (code_in old) made (kept_in old).shared.cells (a.core.runs q k h).standing cs (option_map standing_of p)
 there q k at made o p cs old a h e f w = subst (λ (u : Option Standing). IfSome u (λ z. StrodeAt (code_in old) made (kept_in old).shared.cells z cs (option_map standing_of p))) (at_place q k at o old a h e f) w
 
-abbrev pub with_both : ℕ → Option Iteration → List ℤ → Activities → Activities
-with_both at p cs old = record old { shared = record old.shared { cells = with_items old.shared.cells cs }; iterations = with_item old.iterations at p }
+abbrev pub with_both : ℕ → Option Iteration → Vec ℤ Global → Activities → Activities
+with_both at p v old = record old { shared = record old.shared { cells = v }; iterations = with_item old.iterations at p }
 
-kept_there : (k at : ℕ) (p : Option Iteration) (b : Standing) (cs : List ℤ) (old : Activities) → (with_items old.shared.cells cs).items ≡ cs → at ≡ k % old.slots → option_map standing_of p ≡ Some b → kept_in (with_both at p cs old) ≡ kept_gone old.slots k cs b (kept_in old)
-kept_there k at p b cs old i e f =
-    ap (λ (xs : List (Option Standing)). record (kept_in old) { shared = with_cells (with_items old.shared.cells cs).items (kept_in old).shared; iterations = xs })
+kept_there : (k at : ℕ) (p : Option Iteration) (b : Standing) (v : Vec ℤ Global) (old : Activities) → at ≡ k % old.slots → option_map standing_of p ≡ Some b → kept_in (with_both at p v old) ≡ kept_gone old.slots k v.items b (kept_in old)
+kept_there k at p b v old e f =
+    ap (λ (xs : List (Option Standing)). record (kept_in old) { shared = with_cells v.items (kept_in old).shared; iterations = xs })
     (place_put old.iterations.items at (k % old.slots) p e ∙ ap (λ (o : Option Standing). set (kept_in old).iterations (k % old.slots) o) f)
-    ∙ ap (λ (ds : List ℤ). kept_gone old.slots k ds b (kept_in old)) i
 
-pub strode_iteration : (q k at made : ℕ) (p : Option Iteration) (cs : List ℤ) (old : Activities) (a : AreActivities old) → old.shared.ended ≡ None → (h : held_of (kept_in old).held q ≡ Some (iteration k)) → (with_items old.shared.cells cs).items ≡ cs → at ≡ k % old.slots
-    → StrodeAt (code_in old) made (kept_in old).shared.cells (a.core.runs q k h).standing cs (option_map standing_of p) → Steps (code_in old) old.slots made (point_in old) q (point_in (with_both at p cs old))
-strode_iteration q k at made p cs old a g h i e w =
-    let b : Held = record { frame = w.frame; store = store_of (code_in old).variables cs } in
-    let there : point_in (with_both at p cs old) ≡ gone_at (iteration k) b (point_in old) =
-    ap (λ (y : Kept). point_of (code_in old).variables old.slots y) (kept_there k at p (with_frame w.frame (a.core.runs q k h).standing) cs old i e w.standing) ∙ iteration_gone q k cs w.frame old a h in
+pub strode_iteration : (q k at made : ℕ) (p : Option Iteration) (v : Vec ℤ Global) (old : Activities) (a : AreActivities old) → old.shared.ended ≡ None → (h : held_of (kept_in old).held q ≡ Some (iteration k)) → at ≡ k % old.slots
+    → StrodeAt (code_in old) made (kept_in old).shared.cells (a.core.runs q k h).standing v.items (option_map standing_of p) → Steps (code_in old) old.slots made (point_in old) q (point_in (with_both at p v old))
+strode_iteration q k at made p v old a g h e w =
+    let b : Held = record { frame = w.frame; store = store_of (code_in old).variables v.items } in
+    let there : point_in (with_both at p v old) ≡ gone_at (iteration k) b (point_in old) =
+    ap (λ (y : Kept). point_of (code_in old).variables old.slots y) (kept_there k at p (with_frame w.frame (a.core.runs q k h).standing) v old e w.standing) ∙ iteration_gone q k v.items w.frame old a h in
     subst (λ (z : Point). Steps (code_in old) old.slots made (point_in old) q z) (sym there)
     (strides_made (code_in old) old.slots (iteration k) (point_in old) q made (a.core.runs q k h).standing.frame b (stood_iteration q k old a g h) w.leads)
 
-pub strode_stands : (q k at made : ℕ) (p : Option Iteration) (cs : List ℤ) (old : Activities) (a : AreActivities old) (h : held_of (kept_in old).held q ≡ Some (iteration k)) → (with_items old.shared.cells cs).items ≡ cs → at ≡ k % old.slots → length cs ≡ length (kept_in old).shared.cells
-    → StrodeAt (code_in old) made (kept_in old).shared.cells (a.core.runs q k h).standing cs (option_map standing_of p) → AreActivities (with_both at p cs old)
-strode_stands q k at made p cs old a h i e l w =
-    stand_from old (with_both at p cs old) a (record { code_is = refl; processors = refl; slots = refl })
-    (subst (λ (y : Kept). IsCore (code_in old) old.slots y) (sym (kept_there k at p (with_frame w.frame (a.core.runs q k h).standing) cs old i e w.standing)) (gone_core q k cs w.frame old a h l))
+pub strode_stands : (q k at made : ℕ) (p : Option Iteration) (v : Vec ℤ Global) (old : Activities) (a : AreActivities old) (h : held_of (kept_in old).held q ≡ Some (iteration k)) → at ≡ k % old.slots → length v.items ≡ length (kept_in old).shared.cells
+    → StrodeAt (code_in old) made (kept_in old).shared.cells (a.core.runs q k h).standing v.items (option_map standing_of p) → AreActivities (with_both at p v old)
+strode_stands q k at made p v old a h e l w =
+    stand_from old (with_both at p v old) a (record { code_is = refl; processors = refl; slots = refl })
+    (subst (λ (y : Kept). IsCore (code_in old) old.slots y) (sym (kept_there k at p (with_frame w.frame (a.core.runs q k h).standing) v old e w.standing)) (gone_core q k v.items w.frame old a h l))
 
 -- ---- main
 
-abbrev pub with_main_both : FrameValue → List ℤ → Activities → Activities
-with_main_both f cs old = record old { shared = record old.shared { cells = with_items old.shared.cells cs }; main = record old.main { frame = f } }
+abbrev pub with_main_both : FrameValue → Vec ℤ Global → Activities → Activities
+with_main_both f v old = record old { shared = record old.shared { cells = v }; main = record old.main { frame = f } }
 
-pub strode_main : (q made : ℕ) (f : FrameValue) (cs : List ℤ) (old : Activities) → AreActivities old → old.shared.ended ≡ None → held_of (kept_in old).held q ≡ Some the_main → (with_items old.shared.cells cs).items ≡ cs
-    → strides (code_in old) made (record { frame = frames.frame_of old.main.frame; store = store_of (code_in old).variables (kept_in old).shared.cells }) ≡ Some (record { frame = frames.frame_of f; store = store_of (code_in old).variables cs })
-    → Steps (code_in old) old.slots made (point_in old) q (point_in (with_main_both f cs old))
-strode_main q made f cs old a g h i e =
-    subst (λ (ds : List ℤ). Steps (code_in old) old.slots made (point_in old) q (gone_at the_main (record { frame = frames.frame_of f; store = store_of (code_in old).variables ds }) (point_in old))) (sym i)
-    (strides_made (code_in old) old.slots the_main (point_in old) q made (kept_in old).main (record { frame = frames.frame_of f; store = store_of (code_in old).variables cs }) (stood_main q old a g h) e)
+pub strode_main : (q made : ℕ) (f : FrameValue) (v : Vec ℤ Global) (old : Activities) → AreActivities old → old.shared.ended ≡ None → held_of (kept_in old).held q ≡ Some the_main
+    → strides (code_in old) made (record { frame = frames.frame_of old.main.frame; store = store_of (code_in old).variables (kept_in old).shared.cells }) ≡ Some (record { frame = frames.frame_of f; store = store_of (code_in old).variables v.items })
+    → Steps (code_in old) old.slots made (point_in old) q (point_in (with_main_both f v old))
+strode_main q made f v old a g h e =
+    strides_made (code_in old) old.slots the_main (point_in old) q made (kept_in old).main (record { frame = frames.frame_of f; store = store_of (code_in old).variables v.items }) (stood_main q old a g h) e
 
-pub main_strode_stands : (f : FrameValue) (cs : List ℤ) (old : Activities) → AreActivities old → (with_items old.shared.cells cs).items ≡ cs → length cs ≡ length (kept_in old).shared.cells → AreActivities (with_main_both f cs old)
-main_strode_stands f cs old a i l = record {
-  core = led_core (code_in old) old.slots (kept_in old) (with_items old.shared.cells cs).items (kept_in old).shared.output (kept_in old).shared.loop (kept_in old).shared.ended (kept_in old).input (frames.frame_of f) a.core (ap (λ (ds : List ℤ). length ds) i ∙ l) a.core.indices;
+pub main_strode_stands : (f : FrameValue) (v : Vec ℤ Global) (old : Activities) → AreActivities old → length v.items ≡ length (kept_in old).shared.cells → AreActivities (with_main_both f v old)
+main_strode_stands f v old a l = record {
+  core = led_core (code_in old) old.slots (kept_in old) v.items (kept_in old).shared.output (kept_in old).shared.loop (kept_in old).shared.ended (kept_in old).input (frames.frame_of f) a.core l a.core.indices;
   processors = a.processors;
 }

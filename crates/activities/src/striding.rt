@@ -2,32 +2,53 @@
 
 ghost use Rattle.std.specs.Prelude.{◌≡◌, ◌≤◌, IfSome, length, option_map};
 ghost use Rattle.machine.specs.CodeView.{code_of};
-ghost use Rattle.machine.specs.Laid.{count_of};
 ghost use Rattle.activities.specs.PartsView.{standing_of};
 ghost use Rattle.activities.specs.Sharing.{StrodeAt};
 
 use crate::holding::{Activities, Holder};
 use crate::parts::Iteration;
-use machine::{Code, stride};
+use machine::Code;
+use stretches::{Mirror, Stretch, stride_shown};
 
 /// Local instructions, loads and stores, one after another, at most `n`, of what stands in a
 /// place; how many.
-fn stride_at(code: &Code, place: &mut Option<Iteration>, cells: &mut [i64], n: u32) -> u32
-    requires cells { length cells.old ≡ count_of code.now.variables.items }
+fn stride_at(
+    code: &Code,
+    place: &mut Option<Iteration>,
+    cells: &mut Vec<i64>,
+    mirror: &Mirror,
+    n: u32,
+) -> u32
     ensures made { IfSome (option_map standing_of place.old) (λ a.
-        StrodeAt (code_of code.now) result cells.old a cells.new
+        StrodeAt (code_of code.now) result cells.old.items a cells.new.items
         (option_map standing_of place.new)) }
     ensures few { result ≤ n }
-    ensures cells { length cells.new ≡ length cells.old }
+    ensures cells { length cells.new.items ≡ length cells.old.items }
 {
     match place {
-        Some(iteration) => stride(code, &mut iteration.frame, cells, n),
+        Some(iteration) => stride_shown(code, &mut iteration.frame, cells, mirror, n),
+        None => 0,
+    }
+}
+
+/// The steps of a stretch are made of what stands in a place, if it is right; how many.
+fn commit_at(place: &mut Option<Iteration>, cells: &mut Vec<i64>, stretch: &mut Stretch<'_>) -> u32
+    ensures made { IfSome (option_map standing_of place.old) (λ a.
+        StrodeAt (code_of stretch.old.code.now) result cells.old.items a cells.new.items
+        (option_map standing_of place.new)) }
+    ensures few { result ≤ stretch.old.made }
+    ensures cells { length cells.new.items ≡ length cells.old.items }
+    ensures code { code_of stretch.new.code.now ≡ code_of stretch.old.code.now }
+{
+    match place {
+        Some(iteration) => stretch.commit(&mut iteration.frame, cells.as_mut_slice()),
         None => 0,
     }
 }
 
 impl<'c> Activities<'c> {
     ghost use Rattle.std.specs.Prelude.{◌≡◌, ◌≤◌, ◌<◌, None, Some, length};
+    ghost use Rattle.machine.specs.CodeView.{code_of};
     ghost use Rattle.machine.specs.State.{iteration, the_main};
     ghost use Rattle.activities.specs.Activities.{AreActivities, Stays, code_in, kept_in, point_in};
     ghost use Rattle.activities.specs.Parts.{held_of};
@@ -35,7 +56,7 @@ impl<'c> Activities<'c> {
 
     /// Local instructions, loads and stores of main, one after another, which processor `q`
     /// holds, at most `n`; how many.
-    fn stride_main(&mut self, q: usize, n: u32) -> u32
+    fn stride_main(&mut self, q: usize, n: u32, mirror: &Mirror) -> u32
         requires stand { AreActivities self.old }
         requires going { self.old.shared.ended ≡ None }
         requires holds { held_of (kept_in self.old).held q ≡ Some the_main }
@@ -45,11 +66,17 @@ impl<'c> Activities<'c> {
         ensures stand { AreActivities self.new }
         ensures stays { Stays self.old self.new }
     {
-        stride(self.code, &mut self.main.frame, &mut self.shared.cells, n)
+        stride_shown(
+            self.code,
+            &mut self.main.frame,
+            &mut self.shared.cells,
+            mirror,
+            n,
+        )
     }
 
     /// The same of iteration `k`, which processor `q` holds, and which may stand in this place.
-    fn stride_iteration(&mut self, q: usize, k: u128, place: usize, n: u32) -> u32
+    fn stride_iteration(&mut self, q: usize, k: u128, place: usize, n: u32, mirror: &Mirror) -> u32
         requires stand { AreActivities self.old }
         requires going { self.old.shared.ended ≡ None }
         requires holds { held_of (kept_in self.old).held q ≡ Some (iteration k) }
@@ -64,13 +91,14 @@ impl<'c> Activities<'c> {
             self.code,
             &mut self.iterations[at],
             &mut self.shared.cells,
+            mirror,
             n,
         )
     }
 
     /// Local instructions, loads and stores of what processor `q` holds, one after another, at
     /// most `n`, in its own place; how many.
-    fn stride_alone(&mut self, q: usize, n: u32) -> u32
+    fn stride_alone(&mut self, q: usize, n: u32, mirror: &Mirror) -> u32
         requires stand { AreActivities self.old }
         requires processor { q < length self.old.held.items }
         ensures made { Steps (code_in self.old) self.old.slots result (point_in self.old) q
@@ -84,14 +112,16 @@ impl<'c> Activities<'c> {
         }
         match self.held[q] {
             None => 0,
-            Some(Holder::Main) => self.stride_main(q, n),
-            Some(Holder::Iteration { number, place }) => self.stride_iteration(q, number, place, n),
+            Some(Holder::Main) => self.stride_main(q, n, mirror),
+            Some(Holder::Iteration { number, place }) => {
+                self.stride_iteration(q, number, place, n, mirror)
+            }
         }
     }
 
     /// What an iteration that processor `q` holds awaits or advances, or its retirement, or, where
     /// none of these stands next, strides; how many steps, at most `n`.
-    fn next_steps(&mut self, q: usize, n: u32) -> u32
+    fn next_steps(&mut self, q: usize, n: u32, mirror: &Mirror) -> u32
         requires stand { AreActivities self.old }
         requires processor { q < length self.old.held.items }
         requires some { 0 < n }
@@ -104,13 +134,14 @@ impl<'c> Activities<'c> {
         if self.synchronize(q) {
             return 1;
         }
-        self.stride_alone(q, n)
+        self.stride_alone(q, n, mirror)
     }
 
     /// Steps of what processor `q` holds, one after another, at most `n`, in its own place; how
     /// many: local instructions, loads and stores, and what an iteration awaits or advances, and
-    /// its retirement. A step for which memory is refused isn't made.
-    pub fn stride(&mut self, q: usize, n: u32) -> u32
+    /// its retirement. A step for which memory is refused isn't made. A mirror shows what was
+    /// stored.
+    pub fn stride(&mut self, q: usize, n: u32, mirror: &Mirror) -> u32
         requires stand { AreActivities self.old }
         requires processor { q < length self.old.held.items }
         ensures made { Steps (code_in self.old) self.old.slots result (point_in self.old) q
@@ -121,12 +152,61 @@ impl<'c> Activities<'c> {
     {
         let mut left = n;
         while left > 0 {
-            let made = self.next_steps(q, left);
+            let made = self.next_steps(q, left, mirror);
             if made == 0 {
                 return n - left;
             }
             left -= made;
         }
         n
+    }
+
+    /// The steps of a stretch are made of iteration `k`, which processor `q` holds, and which may
+    /// stand in this place, if the stretch is right; how many.
+    fn commit_iteration(
+        &mut self,
+        q: usize,
+        k: u128,
+        place: usize,
+        stretch: &mut Stretch<'_>,
+    ) -> u32
+        requires stand { AreActivities self.old }
+        requires going { self.old.shared.ended ≡ None }
+        requires own { code_of stretch.old.code.now ≡ code_in self.old }
+        requires holds { held_of (kept_in self.old).held q ≡ Some (iteration k) }
+        ensures made { Steps (code_in self.old) self.old.slots result (point_in self.old) q
+            (point_in self.new) }
+        ensures few { result ≤ stretch.old.made }
+        ensures stand { AreActivities self.new }
+        ensures stays { Stays self.old self.new }
+        ensures code { code_of stretch.new.code.now ≡ code_of stretch.old.code.now }
+    {
+        let at = self.place_from(k, place);
+        commit_at(&mut self.iterations[at], &mut self.shared.cells, stretch)
+    }
+
+    /// The steps of a stretch of the same code are made of the iteration that processor `q` holds,
+    /// where it is in the frame from which they lead, and all that was guessed is right; how many.
+    /// Else nothing changes.
+    pub fn commit(&mut self, q: usize, stretch: &mut Stretch<'_>) -> u32
+        requires stand { AreActivities self.old }
+        requires processor { q < length self.old.held.items }
+        requires own { code_of stretch.old.code.now ≡ code_in self.old }
+        ensures made { Steps (code_in self.old) self.old.slots result (point_in self.old) q
+            (point_in self.new) }
+        ensures few { result ≤ stretch.old.made }
+        ensures stand { AreActivities self.new }
+        ensures stays { Stays self.old self.new }
+        ensures code { code_of stretch.new.code.now ≡ code_of stretch.old.code.now }
+    {
+        if self.shared.ended.is_some() {
+            return 0;
+        }
+        match self.held[q] {
+            None | Some(Holder::Main) => 0,
+            Some(Holder::Iteration { number, place }) => {
+                self.commit_iteration(q, number, place, stretch)
+            }
+        }
     }
 }

@@ -2,13 +2,14 @@
 
 ghost use Rattle.std.specs.Prelude.{◌≡◌};
 
-use activities::{Activities, Choice, Shared};
+use activities::{Activities, Choice, Holder, Shared};
 use ast::Answer;
-use machine::{Code, Frame, Open, Work, stands_local};
+use machine::{Code, Frame, Next, Open, Work, stands_local, stands_next};
 use replay::{CoreRefusal, HandIn, answer};
 use schedules::{MOST_PROCESSORS, MOST_SLOTS};
 use std::alloc::{AllocError, Global};
 use std::marker::Model;
+use stretches::{Mirror, Stretch};
 
 /// What has gone out.
 fn output_of(activities: Activities<'_>) -> Vec<u8>
@@ -195,13 +196,14 @@ impl<'c> Run<'c> {
 
     /// Steps of what processor `q` holds, one after another, at most `n`, in its own place; how
     /// many: local instructions, loads and stores, and what an iteration awaits or advances, and
-    /// its retirement. A step for which memory is refused isn't made.
-    pub fn stride(&mut self, q: usize, n: u32) -> u32
+    /// its retirement. A step for which memory is refused isn't made. A mirror shows what was
+    /// stored.
+    pub fn stride(&mut self, q: usize, n: u32, mirror: &Mirror) -> u32
         requires processor { q < self.old.processors }
         ensures drives { Drives self.old q result self.new }
         ensures few { result ≤ n }
     {
-        self.activities.stride(q, n)
+        self.activities.stride(q, n, mirror)
     }
 
     /// The frame of what processor `q` holds.
@@ -284,6 +286,61 @@ impl<'c> Run<'c> {
         }
         self.put(q, work);
         Ok(())
+    }
+
+    /// Whether processor `q` holds an iteration.
+    fn iterates(&self, q: usize) -> bool
+        requires processor { q < self.now.processors }
+    {
+        match self.activities.held[q] {
+            Some(Holder::Iteration { .. }) => true,
+            None | Some(Holder::Main) => false,
+        }
+    }
+
+    /// Loads a stretch with the frame of the iteration that processor `q` holds, where a local
+    /// instruction, a load or a store of it stands next, and tells whether one does.
+    ///
+    /// # Errors
+    ///
+    /// `AllocError` where memory is refused. The stretch leads nowhere then.
+    pub fn load_stretch(&self, q: usize, stretch: &mut Stretch<'_>) -> Result<bool, AllocError>
+        requires processor { q < self.now.processors }
+        ensures ok { IfOk result (λ did. did ≡ true
+            → HasFrame self.now q (frame_of stretch.new.from)) }
+        ensures code { code_of stretch.new.code.now ≡ code_of stretch.old.code.now }
+    {
+        if !self.iterates(q) {
+            return Ok(false);
+        }
+        match self.held_frame(q) {
+            Some(frame) => match stands_next(self.activities.code, frame) {
+                Next::Local | Next::Load { .. } | Next::Store { .. } => {
+                    stretch.load(frame)?;
+                    Ok(true)
+                }
+                _ => Ok(false),
+            },
+            None => Ok(false),
+        }
+    }
+
+    /// The steps of a stretch of the run's own code are made of the iteration that processor `q`
+    /// holds, where it is in the frame from which they lead, and all that was guessed is right; how
+    /// many. Else nothing changes.
+    pub fn commit(&mut self, q: usize, stretch: &mut Stretch<'_>) -> u32
+        requires processor { q < self.old.processors }
+        requires own { code_of stretch.old.code.now ≡ self.old.code }
+        ensures drives { Drives self.old q result self.new }
+        ensures few { result ≤ stretch.old.made }
+        ensures code { code_of stretch.new.code.now ≡ code_of stretch.old.code.now }
+    {
+        self.activities.commit(q, stretch)
+    }
+
+    /// The mirror of a stretch is to show the true values of all cells that it guessed.
+    pub fn mend(&self, stretch: &Stretch<'_>) {
+        stretch.mend(&self.activities.shared.cells);
     }
 
     /// The answer, where the run has ended. A run of the machine leads to where it is.

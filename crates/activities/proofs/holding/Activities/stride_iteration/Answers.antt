@@ -1,6 +1,4 @@
-use Rattle.std.proofs.Common.{◌≡◌, ◌∙◌, length, ap, arith}
-use Rattle.std.specs.Vec.{with_items}
-use Rattle.std.proofs.lemmas.List.{with_items_is}
+use Rattle.std.proofs.Common.{◌≡◌}
 use Rattle.std.specs.Prelude.{option_map}
 use Rattle.activities.specs.Activities.{code_in, kept_in}
 use Rattle.activities.specs.PartsView.{standing_of}
@@ -10,18 +8,16 @@ use Rattle.activities.proofs.holding.Activities.stride_iteration.Goals as goal
 
 pub returns-clause-made : goal.returns-clause-made
 returns-clause-made c =
-    let i : (with_items c.args.self.now.shared.cells c.stride_at.new.cells).items ≡ c.stride_at.new.cells = with_items_is c.args.self.now.shared.cells c.stride_at.new.cells (omega (arith, c.stride_at.ensures.cells, c.deref_mut.ensures.len, ap (λ xs. length xs) c.deref_mut.ensures.value)) in
     let old = c.args.self.now in
     let s = (c.requires.stand.core.runs c.args.q c.args.k c.requires.holds).standing in
-    let w : StrodeAt (code_in old) c.stride_at.result (kept_in old).shared.cells s c.stride_at.new.cells (option_map standing_of c.stride_at.new.place) =
-    there c.args.q c.args.k c.place_from-at.result c.stride_at.result c.index_mut.result.now c.stride_at.new.place c.stride_at.new.cells old c.requires.stand c.requires.holds c.place_from-at.ensures c.index_mut.ensures.value (rw c.deref_mut.ensures.value at c.stride_at.ensures.made) in
-    strode_iteration c.args.q c.args.k c.place_from-at.result c.stride_at.result c.stride_at.new.place c.stride_at.new.cells old c.requires.stand c.requires.going c.requires.holds i c.place_from-at.ensures w
+    let w : StrodeAt (code_in old) c.stride_at.result (kept_in old).shared.cells s c.stride_at.new.cells.items (option_map standing_of c.stride_at.new.place) =
+    there c.args.q c.args.k c.place_from-at.result c.stride_at.result c.index_mut.result.now c.stride_at.new.place c.stride_at.new.cells.items old c.requires.stand c.requires.holds c.place_from-at.ensures c.index_mut.ensures.value c.stride_at.ensures.made in
+    strode_iteration c.args.q c.args.k c.place_from-at.result c.stride_at.result c.stride_at.new.place c.stride_at.new.cells old c.requires.stand c.requires.going c.requires.holds c.place_from-at.ensures w
 
 pub returns-clause-stand : goal.returns-clause-stand
 returns-clause-stand c =
-    let i : (with_items c.args.self.now.shared.cells c.stride_at.new.cells).items ≡ c.stride_at.new.cells = with_items_is c.args.self.now.shared.cells c.stride_at.new.cells (omega (arith, c.stride_at.ensures.cells, c.deref_mut.ensures.len, ap (λ xs. length xs) c.deref_mut.ensures.value)) in
     let old = c.args.self.now in
     let s = (c.requires.stand.core.runs c.args.q c.args.k c.requires.holds).standing in
-    let w : StrodeAt (code_in old) c.stride_at.result (kept_in old).shared.cells s c.stride_at.new.cells (option_map standing_of c.stride_at.new.place) =
-    there c.args.q c.args.k c.place_from-at.result c.stride_at.result c.index_mut.result.now c.stride_at.new.place c.stride_at.new.cells old c.requires.stand c.requires.holds c.place_from-at.ensures c.index_mut.ensures.value (rw c.deref_mut.ensures.value at c.stride_at.ensures.made) in
-    strode_stands c.args.q c.args.k c.place_from-at.result c.stride_at.result c.stride_at.new.place c.stride_at.new.cells old c.requires.stand c.requires.holds i c.place_from-at.ensures (c.stride_at.ensures.cells ∙ ap (λ xs. length xs) c.deref_mut.ensures.value) w
+    let w : StrodeAt (code_in old) c.stride_at.result (kept_in old).shared.cells s c.stride_at.new.cells.items (option_map standing_of c.stride_at.new.place) =
+    there c.args.q c.args.k c.place_from-at.result c.stride_at.result c.index_mut.result.now c.stride_at.new.place c.stride_at.new.cells.items old c.requires.stand c.requires.holds c.place_from-at.ensures c.index_mut.ensures.value c.stride_at.ensures.made in
+    strode_stands c.args.q c.args.k c.place_from-at.result c.stride_at.result c.stride_at.new.place c.stride_at.new.cells old c.requires.stand c.requires.holds c.place_from-at.ensures c.stride_at.ensures.cells w
