@@ -1,32 +1,26 @@
 //! What lies under the lock.
 
 use crate::call::Call;
-use crate::driven::{Advanced, Driven, Onward};
+use crate::driven::{Advanced, Driven, Onward, Pace};
+use crate::lengths::Lengths;
 use crate::report::{Effort, StartFailure};
 use crate::work::Own;
 use replay::{HandIn, Stepped};
 use std::alloc::{AllocError, Global};
 use std::marker::PhantomData;
 
-/// How often in one turn steps are made in place and then a shared one, at most.
+/// How often in one turn steps are made in one go and then a shared one, at most.
 const MOST_STEPS: u32 = 32;
 
-/// So many iterations are begun before it is asked how long they are.
-const FIRST_FEW: u64 = 64;
+/// Iterations are long where they make so many steps each outside the lock. A processor that sleeps
+/// is woken for another iteration only where they are: to wake one takes longer than a shorter
+/// iteration.
+const LONG: u64 = 512;
 
-/// Of how many iterations, at most, it is counted how long they are: behind these each counts for
-/// half as much, so that the loops of before are forgotten little by little.
-const MOST_COUNTED: u64 = 1024;
-
-/// Iterations are long where they do so many local instructions each outside the lock. A processor
-/// that sleeps is woken for another iteration only where they are: to wake one takes longer than a
-/// shorter iteration.
-const LONG: u64 = 4096;
-
-/// Iterations are short where they do fewer local instructions each outside the lock. Of several
-/// processors one alone begins them, and the others sleep: to hand the lock from one to another
-/// takes longer.
-const SHORT: u64 = 512;
+/// Iterations are short where they make fewer steps each outside the lock. Of several processors one
+/// alone begins them, and makes their steps in place, and the others sleep: to hand the lock from
+/// one to another takes longer.
+const SHORT: u64 = 256;
 
 /// How a run stands.
 #[derive(Clone, Copy, PartialEq, Eq)]
@@ -51,8 +45,8 @@ pub enum Next {
     Again,
     /// It goes through the gate, with the iteration of that number, and takes its next turn.
     Begin(u128),
-    /// It does the local work that was loaded; where it has taken the ticket of an iteration, it
-    /// goes through the gate first.
+    /// It does what was loaded; where it has taken the ticket of an iteration, it goes through the
+    /// gate first.
     Work(Option<u128>),
 }
 
@@ -66,30 +60,34 @@ pub struct Board<C: Call, D: Driven<C> + Drop> {
     /// How many processors sleep, or have been woken and have not had their turn yet. Each of them
     /// holds nothing.
     asleep: usize,
-    /// How many iterations have begun of late, and how many local instructions were done of them
-    /// outside the lock.
-    begun: u64,
-    worked: u64,
+    /// How long the iterations of each loop are.
+    lengths: Vec<Lengths>,
     overlap: u128,
     efforts: Vec<Effort>,
     of: PhantomData<C>,
 }
 
 impl<C: Call, D: Driven<C> + Drop> Board<C, D> {
-    /// A run in which nothing has happened, and whether the gate is to be told of iterations.
+    /// A run of code with so many loops in which nothing has happened, and whether the gate is to
+    /// be told of iterations.
     ///
     /// # Errors
     ///
     /// `AllocError` where memory is refused.
-    pub fn new(alloc: Global, run: D, tells_gate: bool) -> Result<Board<C, D>, AllocError> {
+    pub fn new(
+        alloc: Global,
+        run: D,
+        loops: usize,
+        tells_gate: bool,
+    ) -> Result<Board<C, D>, AllocError> {
         let efforts = vec![in alloc; Effort::default(); run.processors()]?;
+        let lengths = vec![in alloc; Lengths::default(); loops]?;
         Ok(Board {
             run,
             standing: Standing::Going,
             tells_gate,
             asleep: 0,
-            begun: 0,
-            worked: 0,
+            lengths,
             overlap: 0,
             efforts,
             of: PhantomData,
@@ -138,10 +136,13 @@ impl<C: Call, D: Driven<C> + Drop> Board<C, D> {
         self.standing != Standing::Going || self.run.has_ended()
     }
 
-    /// Whether iterations have done so many local instructions each outside the lock, or too few
-    /// have begun to tell.
+    /// Whether iterations of the loop that is open have made so many steps each outside the lock,
+    /// or too few have begun to tell.
     fn have_done(&self, each: u64) -> bool {
-        self.begun < FIRST_FEW || self.begun.saturating_mul(each) <= self.worked
+        match self.lengths.get(self.run.open_loop()) {
+            Some(lengths) => lengths.have_done(each),
+            None => true,
+        }
     }
 
     /// Whether one who sleeps is worth waking: an activity is ready, or an iteration may begin and
@@ -181,11 +182,12 @@ impl<C: Call, D: Driven<C> + Drop> Board<C, D> {
         }
     }
 
-    /// Processor `q` hands in its local work, if it has done any.
+    /// Processor `q` hands in what it did outside the lock, if anything.
     fn hand_in(&mut self, q: usize, own: &mut Own<'_, C>) -> Result<(), HandIn> {
-        let made = own.work.made;
-        self.run.hand_in(q, own)?;
-        self.worked = self.worked.wrapping_add(u64::from(made));
+        let made = self.run.hand_in(q, own)?;
+        if let Some(lengths) = self.lengths.get_mut(self.run.open_loop()) {
+            lengths.add(made);
+        }
         self.count(q, made);
         Ok(())
     }
@@ -203,11 +205,9 @@ impl<C: Call, D: Driven<C> + Drop> Board<C, D> {
 
     /// So many more iterations have begun.
     fn count_begun(&mut self, begun: u32) {
-        if self.begun >= MOST_COUNTED {
-            self.begun /= 2;
-            self.worked /= 2;
+        if let Some(lengths) = self.lengths.get_mut(self.run.open_loop()) {
+            lengths.begin(begun);
         }
-        self.begun = self.begun.wrapping_add(u64::from(begun));
     }
 
     fn no_memory(&mut self) -> Next {
@@ -252,21 +252,26 @@ impl<C: Call, D: Driven<C> + Drop> Board<C, D> {
         }
     }
 
-    /// How many iterations a processor may begin in one go: none where the gate is told of each, or
-    /// where they are left to another processor.
-    fn tickets(&self) -> u32 {
-        if self.tells_gate || self.leaves_tickets() {
+    /// How a processor goes about iterations: it begins none in one go where the gate is told of
+    /// each, or where they are left to another processor, and makes their steps in place where they
+    /// are short.
+    fn pace(&self) -> Pace {
+        let tickets = if self.tells_gate || self.leaves_tickets() {
             0
         } else {
             u32::MAX
+        };
+        Pace {
+            tickets,
+            stretches: self.have_done(SHORT),
         }
     }
 
     /// Processor `q` makes steps in one go, and then, where one of another kind stands next, that;
     /// what it does next, where its turn is over.
     fn go_on(&mut self, q: usize, own: &mut Own<'_, C>) -> Option<Next> {
-        let tickets = self.tickets();
-        match self.run.advance(q, own, tickets) {
+        let pace = self.pace();
+        match self.run.advance(q, own, pace) {
             Ok(
                 Advanced {
                     steps,
@@ -296,8 +301,8 @@ impl<C: Call, D: Driven<C> + Drop> Board<C, D> {
         Next::Again
     }
 
-    /// A turn of processor `q`: it hands in its local work, if it has done any, and makes steps.
-    /// Work that the run doesn't take is forgotten.
+    /// A turn of processor `q`: it hands in what it did outside the lock, if anything, and makes
+    /// steps. What the run doesn't take is forgotten.
     pub fn turn(&mut self, q: usize, own: &mut Own<'_, C>) -> Next {
         if self.standing != Standing::Going {
             return Next::Leave;

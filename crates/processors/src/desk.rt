@@ -4,7 +4,12 @@ use crate::board::{Board, Next, Standing};
 use crate::call::Call;
 use crate::driven::Driven;
 use crate::work::Own;
-use std::sync::{Condvar, Mutex, Wait};
+use std::hint::spin_loop;
+use std::sync::{Condvar, Mutex, MutexGuard, Wait};
+
+/// How often it is looked whether the lock is free before a processor sleeps until it is. Most turns
+/// are shorter than that, and to be woken takes longer.
+const MOST_LOOKS: u32 = 1000;
 
 /// A run under a lock, at which each processor takes its turns. One who finds nothing to do sleeps
 /// there.
@@ -23,11 +28,23 @@ impl<C: Call, D: Driven<C> + Drop> Desk<C, D> {
         }
     }
 
-    /// A turn of processor `q`, which hands in its local work. It sleeps until there is something
-    /// to do. Who leaves the desk wakes another where that one could do something, and all when the
-    /// run is over.
+    /// The lock is taken. Where it isn't free it soon is, so it is looked for a while before the
+    /// processor sleeps.
+    fn take<R: Wait>(&self, rt: &R) -> MutexGuard<'_, Board<C, D>> {
+        for _ in 0..MOST_LOOKS {
+            if let Some(board) = self.board.try_lock() {
+                return board;
+            }
+            spin_loop();
+        }
+        self.board.lock(rt)
+    }
+
+    /// A turn of processor `q`, which hands in what it did outside the lock. It sleeps until there is
+    /// something to do. Who leaves the desk wakes another where that one could do something, and all
+    /// when the run is over.
     pub fn turn<R: Wait>(&self, rt: &R, q: usize, own: &mut Own<'_, C>) -> Next {
-        let mut board = self.board.lock(rt);
+        let mut board = self.take(rt);
         let mut next = board.turn(q, own);
         for _ in rt.forever() {
             match next {

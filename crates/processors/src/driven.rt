@@ -8,12 +8,21 @@ use std::alloc::AllocError;
 /// What a processor that made steps in one go does next.
 #[derive(Clone, Copy, PartialEq, Eq)]
 pub enum Onward {
-    /// It does local work, which is loaded, outside the lock.
+    /// It does what was loaded outside the lock.
     Works,
     /// It has made as many steps as it may in one go, and makes more in its next turn.
     Pauses,
     /// A step of another kind stands next, if any does.
     Shares,
+}
+
+/// How a processor goes about its iterations.
+#[derive(Clone, Copy, PartialEq, Eq)]
+pub struct Pace {
+    /// How many it begins, at most.
+    pub tickets: u32,
+    /// Whether steps of them are made outside the lock.
+    pub stretches: bool,
 }
 
 /// How far a processor came in one go.
@@ -47,6 +56,9 @@ pub trait Driven<C: Call> {
     /// How many iterations are open.
     fn overlap(&self) -> u128;
 
+    /// The number of the loop that is open; 0 where none is, or it isn't known.
+    fn open_loop(&self) -> usize;
+
     /// The frame of what processor `q` holds is loaded, if a local instruction stands next, which
     /// is told.
     ///
@@ -55,15 +67,15 @@ pub trait Driven<C: Call> {
     /// `AllocError` where memory is refused.
     fn load(&self, q: usize, own: &mut Own<'_, C>) -> Result<bool, AllocError>;
 
-    /// Processor `q` hands in its local work, if it has done any.
+    /// Processor `q` hands in what it did outside the lock, if anything; how many steps. A stretch
+    /// that was made on wrong guesses counts for none.
     ///
     /// # Errors
     ///
     /// Those of `replay::Core::hand_in`.
-    fn hand_in(&mut self, q: usize, own: &mut Own<'_, C>) -> Result<(), HandIn>;
+    fn hand_in(&mut self, q: usize, own: &mut Own<'_, C>) -> Result<u32, HandIn>;
 
-    /// Processor `q` makes steps in one go, or loads local work. It begins as many iterations as
-    /// there are `tickets` for it, at most.
+    /// Processor `q` makes steps in one go, or loads what it does outside the lock.
     ///
     /// # Errors
     ///
@@ -72,7 +84,7 @@ pub trait Driven<C: Call> {
         &mut self,
         q: usize,
         own: &mut Own<'_, C>,
-        tickets: u32,
+        pace: Pace,
     ) -> Result<Advanced, AllocError>;
 
     /// Processor `q` makes the shared step of what it holds.

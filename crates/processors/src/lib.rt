@@ -1,4 +1,4 @@
-//! Threads that run code: each processor is one, and all take their turns at one core.
+//! Threads that run code: each processor is one, and all take their turns at one run.
 //!
 //! ```
 //! let report = run(&rt, rt.alloc(), &code, &input, 4, 8, &NoGate)?;
@@ -17,6 +17,7 @@ mod call;
 mod desk;
 mod driven;
 mod gate;
+mod lengths;
 mod report;
 mod running;
 mod runs;

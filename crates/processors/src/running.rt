@@ -24,7 +24,11 @@ use std::marker::Brand;
 use std::sync::Wait;
 use std::thread;
 use std::thread::Threads;
+use stretches::Mirror;
 use unrecorded::Run;
+
+/// How many loads and stores a processor makes outside the lock in a row, at most.
+const MOST_NOTES: usize = 4096;
 
 /// The turns of processor `q` until it leaves. What it does between two of them is `own`.
 fn take_turns<C: Call, D: Driven<C> + Drop, G: Gate, R: Wait>(
@@ -97,7 +101,8 @@ fn driven<
     gate: &G,
 ) -> Result<Board<C, D>, AllocError> {
     let processors = run.processors();
-    let desk = Desk::new(Board::<C, D>::new(alloc, run, gate.wants_calls())?);
+    let board = Board::<C, D>::new(alloc, run, coded.loops(), gate.wants_calls())?;
+    let desk = Desk::new(board);
     run_all(rt, &desk, coded, processors, gate);
     Ok(desk.into_board())
 }
@@ -151,7 +156,10 @@ fn run_call<'c, C: Call + Send + Sync, G: Gate + Sync, R: Threads + Wait + Sync>
         HasTally C.code C.input C.slots r.schedule r.tally.made r.tally.again) }
     ensures err { IfErr result (IsGivenUp C.code C.input C.processors C.slots) }
 {
-    let coded = Coded::<C>::new(alloc, code);
+    let Ok(mirror) = Mirror::new(alloc, 0) else {
+        return Err(nothing(alloc));
+    };
+    let coded = Coded::<C>::new(alloc, code, &mirror, 0);
     match driven::<C, Recorded<'c, C>, G, R>(rt, alloc, Recorded::new(core), &coded, gate) {
         Ok(board) => reported(rt, board, &coded),
         Err(_) => Err(nothing(alloc)),
@@ -208,6 +216,15 @@ fn answered<'c, C: Call, R: Wait>(
     }
 }
 
+/// How many cells the mirror of a run without a record has, and how many loads and stores a
+/// stretch: none where there is one processor, which makes no stretches.
+fn room(code: &Code, processors: usize) -> (usize, usize) {
+    if processors == 1 {
+        return (0, 0);
+    }
+    (code.cells(), MOST_NOTES)
+}
+
 /// The run of a call without a record.
 fn answer_call<'c, C: Call + Send + Sync, G: Gate + Sync, R: Threads + Wait + Sync>(
     rt: &R,
@@ -221,15 +238,20 @@ fn answer_call<'c, C: Call + Send + Sync, G: Gate + Sync, R: Threads + Wait + Sy
     ensures ok { IfOk result (IsAnswerOf C.code C.input C.processors C.slots) }
     ensures err { IfErr result (IsLeftAt C.code C.input C.processors C.slots) }
 {
-    let coded = Coded::<C>::new(alloc, code);
+    let (cells, notes) = room(code, run.processors());
+    let Ok(mirror) = Mirror::new(alloc, cells) else {
+        return Err(nothing(alloc));
+    };
+    let coded = Coded::<C>::new(alloc, code, &mirror, notes);
     match driven::<C, Unrecorded<'c, C>, G, R>(rt, alloc, Unrecorded::new(run), &coded, gate) {
         Ok(board) => answered(rt, board, &coded),
         Err(_) => Err(nothing(alloc)),
     }
 }
 
-/// As `run`, but keeps no schedule: the memory that it takes grows only with what is printed, and
-/// steps are made in place. What it gives is the answer.
+/// As `run`, but keeps no schedule: the memory that it takes grows only with what is printed. Several
+/// processors also make loads and stores of iterations outside the lock, on a mirror of the store.
+/// What it gives is the answer.
 ///
 /// # Errors
 ///

@@ -1,9 +1,9 @@
 //! Runs of a call, with a schedule of what is done and without one.
 
 use crate::call::Call;
-use crate::driven::{Advanced, Driven, Onward};
+use crate::driven::{Advanced, Driven, Onward, Pace};
 use crate::report::{Effort, Report, RunRefusal};
-use crate::work::{Coded, Own};
+use crate::work::{Coded, Loaded, Own};
 use ast::Answer;
 use replay::{Choice, Core, HandIn, Stepped};
 use std::alloc::AllocError;
@@ -11,13 +11,9 @@ use std::marker::{Model, PhantomData};
 use std::sync::Wait;
 use unrecorded::Run;
 
-/// How many steps are made in place in a row, at most, before it is looked whether local work
-/// stands next.
+/// How many steps are made in place in a row, at most, before it is asked again whether more are
+/// made outside the lock.
 const MOST_IN_PLACE: u32 = 128;
-
-/// Of several processors one that has so many local instructions to do in a row does them outside
-/// the lock. To load and hand in fewer takes longer.
-const LONG_STRETCH: u32 = 256;
 
 /// How many steps the only processor makes in place in a row, at most.
 const MOST_ALONE: u32 = 4096;
@@ -128,10 +124,11 @@ impl<'c, C: Call> Recorded<'c, C> {
         if !self.core.load(q, &mut own.work)? {
             return Ok(false);
         }
+        own.loaded = Loaded::Work;
         own.run()?;
         match self.hand_in(q, own) {
             Err(HandIn::Memory) => Err(AllocError),
-            Ok(()) | Err(HandIn::Ended | HandIn::Stranger) => Ok(true),
+            Ok(_) | Err(HandIn::Ended | HandIn::Stranger) => Ok(true),
         }
     }
 
@@ -266,24 +263,35 @@ impl<'c, C: Call> Driven<C> for Recorded<'c, C> {
         self.core.overlap()
     }
 
-    fn load(&self, q: usize, own: &mut Own<'_, C>) -> Result<bool, AllocError> {
-        self.core.load(q, &mut own.work)
+    fn open_loop(&self) -> usize {
+        0
     }
 
-    fn hand_in(&mut self, q: usize, own: &mut Own<'_, C>) -> Result<(), HandIn> {
-        if own.work.made == 0 {
-            return Ok(());
+    fn load(&self, q: usize, own: &mut Own<'_, C>) -> Result<bool, AllocError> {
+        let loads = self.core.load(q, &mut own.work)?;
+        if loads {
+            own.loaded = Loaded::Work;
         }
-        self.core.hand_in_own(q, &mut own.work)
+        Ok(loads)
+    }
+
+    fn hand_in(&mut self, q: usize, own: &mut Own<'_, C>) -> Result<u32, HandIn> {
+        let made = own.work.made;
+        own.loaded = Loaded::Nothing;
+        if made == 0 {
+            return Ok(0);
+        }
+        self.core.hand_in_own(q, &mut own.work)?;
+        Ok(made)
     }
 
     fn advance(
         &mut self,
         q: usize,
         own: &mut Own<'_, C>,
-        _tickets: u32,
+        _pace: Pace,
     ) -> Result<Advanced, AllocError> {
-        let onward = if self.core.load(q, &mut own.work)? {
+        let onward = if self.load(q, own)? {
             Onward::Works
         } else {
             Onward::Shares
@@ -357,10 +365,11 @@ impl<'c, C: Call> Unrecorded<'c, C> {
         if !self.run.load(q, &mut own.work)? {
             return Ok(false);
         }
+        own.loaded = Loaded::Work;
         own.run()?;
         match self.hand_in(q, own) {
             Err(HandIn::Memory) => Err(AllocError),
-            Ok(()) | Err(HandIn::Ended | HandIn::Stranger) => Ok(true),
+            Ok(_) | Err(HandIn::Ended | HandIn::Stranger) => Ok(true),
         }
     }
 
@@ -438,7 +447,7 @@ impl<'c, C: Call> Unrecorded<'c, C> {
     }
 
     /// Steps of processor `q` in place; whether as many as are made in a row.
-    fn stride(&mut self, q: usize, made: &mut Made) -> bool {
+    fn stride(&mut self, q: usize, own: &Own<'_, C>, made: &mut Made) -> bool {
         let processors = self.run.processors();
         if q >= processors {
             return false;
@@ -448,30 +457,23 @@ impl<'c, C: Call> Unrecorded<'c, C> {
         } else {
             MOST_IN_PLACE
         };
-        let strode = self.run.stride(q, most);
+        let strode = self.run.stride(q, most, own.mirror);
         made.add(strode);
         strode == most
     }
 
-    /// Processor `q`, before which more of these stand, makes the local instructions that stand next
-    /// in a row, or, where they are many and another processor could have the lock meanwhile, loads
-    /// them.
-    fn stretch(
-        &mut self,
-        q: usize,
-        own: &mut Own<'_, C>,
-        made: &mut Made,
-    ) -> Result<Option<Onward>, AllocError> {
+    /// Processor `q` loads a stretch, if it holds an iteration, another processor could have the
+    /// lock meanwhile, and stretches weren't short of late.
+    fn stretch(&mut self, q: usize, own: &mut Own<'_, C>) -> Result<bool, AllocError> {
         let processors = self.run.processors();
-        if q >= processors || processors == 1 {
-            return Ok(None);
+        if q >= processors || processors == 1 || !own.pause.is_over() {
+            return Ok(false);
         }
-        let worked = self.run.work(q, LONG_STRETCH);
-        made.add(worked);
-        if worked == LONG_STRETCH && self.run.load(q, &mut own.work)? {
-            return Ok(Some(Onward::Works));
+        let loads = self.run.load_stretch(q, &mut own.stretch)?;
+        if loads {
+            own.loaded = Loaded::Stretch;
         }
-        Ok(None)
+        Ok(loads)
     }
 
     /// The shared step of processor `q`, or what it takes up; what it does next, where it is not to
@@ -493,7 +495,7 @@ impl<'c, C: Call> Unrecorded<'c, C> {
             return self.take_up(q, tickets, made);
         }
         // No clause says that strides are made wherever one stands next; local work always is.
-        let worked = self.run.work(q, LONG_STRETCH);
+        let worked = self.run.work(q, MOST_IN_PLACE);
         made.add(worked);
         Ok(if worked == 0 {
             Some(Onward::Shares)
@@ -528,19 +530,56 @@ impl<'c, C: Call> Unrecorded<'c, C> {
         Ok(None)
     }
 
-    /// Steps of processor `q` in place, and then one of another kind; what it does next, where it
-    /// is not to make more.
+    /// Processor `q` loads a stretch, or makes steps in place, and then one of another kind; what it
+    /// does next, where it is not to make more.
     fn round(
         &mut self,
         q: usize,
         own: &mut Own<'_, C>,
-        tickets: u32,
+        pace: Pace,
         made: &mut Made,
     ) -> Result<Option<Onward>, AllocError> {
-        if self.stride(q, made) {
-            return self.stretch(q, own, made);
+        if pace.stretches && self.stretch(q, own)? {
+            return Ok(Some(Onward::Works));
         }
-        self.move_on(q, tickets, made)
+        if !self.stride(q, own, made) {
+            return self.move_on(q, pace.tickets, made);
+        }
+        // This iteration is longer than others were.
+        if !pace.stretches && self.stretch(q, own)? {
+            return Ok(Some(Onward::Works));
+        }
+        Ok(None)
+    }
+
+    /// A stretch of processor `q` is made in place, if what it guessed is right; how many steps
+    /// were. Else its mirror is mended.
+    fn commit(&mut self, q: usize, own: &mut Own<'_, C>) -> Result<u32, HandIn> {
+        if self.run.has_ended() {
+            return Err(HandIn::Ended);
+        }
+        if q >= self.run.processors() {
+            return Err(HandIn::Stranger);
+        }
+        let made = self.run.commit(q, &mut own.stretch);
+        if made == 0 {
+            self.run.mend(&own.stretch);
+        }
+        own.pause.note(made);
+        Ok(made)
+    }
+
+    /// Local work of processor `q` is handed in; how many instructions.
+    fn put(&mut self, q: usize, own: &mut Own<'_, C>) -> Result<u32, HandIn> {
+        let made = own.work.made;
+        if made == 0 {
+            return Ok(0);
+        }
+        if q >= self.run.processors() {
+            return Err(HandIn::Stranger);
+        }
+        self.run.hand_in(q, &mut own.work)?;
+        Ok(made)
     }
 
     /// What has come of a run that nobody gave up, or that can't go on.
@@ -596,32 +635,43 @@ impl<'c, C: Call> Driven<C> for Unrecorded<'c, C> {
         self.run.overlap()
     }
 
+    fn open_loop(&self) -> usize {
+        match self.run.open_loop() {
+            Some(open) => open.number as usize,
+            None => 0,
+        }
+    }
+
     fn load(&self, q: usize, own: &mut Own<'_, C>) -> Result<bool, AllocError> {
         if q >= self.run.processors() {
             return Ok(false);
         }
-        self.run.load(q, &mut own.work)
+        let loads = self.run.load(q, &mut own.work)?;
+        if loads {
+            own.loaded = Loaded::Work;
+        }
+        Ok(loads)
     }
 
-    fn hand_in(&mut self, q: usize, own: &mut Own<'_, C>) -> Result<(), HandIn> {
-        if own.work.made == 0 {
-            return Ok(());
+    fn hand_in(&mut self, q: usize, own: &mut Own<'_, C>) -> Result<u32, HandIn> {
+        let loaded = own.loaded;
+        own.loaded = Loaded::Nothing;
+        match loaded {
+            Loaded::Nothing => Ok(0),
+            Loaded::Work => self.put(q, own),
+            Loaded::Stretch => self.commit(q, own),
         }
-        if q >= self.run.processors() {
-            return Err(HandIn::Stranger);
-        }
-        self.run.hand_in(q, &mut own.work)
     }
 
     fn advance(
         &mut self,
         q: usize,
         own: &mut Own<'_, C>,
-        tickets: u32,
+        pace: Pace,
     ) -> Result<Advanced, AllocError> {
         let mut made = Made::default();
         for _ in 0..MOST_ROUNDS {
-            if let Some(onward) = self.round(q, own, tickets, &mut made)? {
+            if let Some(onward) = self.round(q, own, pace, &mut made)? {
                 return Ok(made.and(onward));
             }
             if made.steps >= MOST_STEPS {

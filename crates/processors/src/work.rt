@@ -1,4 +1,4 @@
-//! Local work, which is done outside the lock.
+//! What processors do outside the lock.
 
 ghost use Rattle.std.specs.Prelude.{◌≡◌};
 ghost use Rattle.std.proofs.Props.{props};
@@ -8,42 +8,108 @@ use crate::call::Call;
 use machine::{Code, Work};
 use std::alloc::{AllocError, Global};
 use std::marker::PhantomData;
+use stretches::{Mirror, Stretch};
 
-/// How many local instructions are done in a turn, at most. Too few would be done sooner than the
+/// How many steps are made outside the lock in a row, at most. Too few would be done sooner than the
 /// lock is had, and with too many a processor would be long in finding that the run is over.
 const MOST_WORK: u32 = 32 * 1024;
 
-/// The code of a call.
+/// A stretch of fewer steps is short: to load it and to commit it takes as long as to make its steps
+/// in place.
+const FEW: u32 = 128;
+
+/// After short stretches, one behind the other, steps are made in place so often, at most, before
+/// another stretch is tried.
+const LONGEST_PAUSE: u32 = 64;
+
+/// The code of a call, and the mirror of its store.
 #[derive(Drop)]
 pub struct Coded<'c, C: Call> {
     alloc: Global,
     code: &'c Code,
+    mirror: &'c Mirror,
+    /// How many loads and stores a stretch has, at most.
+    notes: usize,
     of: PhantomData<C>,
     ghost is: { code_of code.now ≡ C.code } by { Prim.hlevel props },
 }
 
-/// The local work of a processor, which is of a call's code. Its room is kept from one turn to the
-/// next.
+/// What was loaded, and is done outside the lock.
+#[derive(Clone, Copy, PartialEq, Eq)]
+pub enum Loaded {
+    Nothing,
+    Work,
+    Stretch,
+}
+
+/// When a processor loads stretches: not where they have been short.
+#[derive(Clone, Copy)]
+pub struct Pause {
+    /// How often it makes steps in place before it loads another stretch.
+    left: u32,
+    /// How often it will do so after the next short one.
+    next: u32,
+}
+
+impl Pause {
+    /// Whether another stretch is to be loaded. Where none is, steps are made in place.
+    pub fn is_over(&mut self) -> bool {
+        if self.left == 0 {
+            return true;
+        }
+        self.left -= 1;
+        false
+    }
+
+    /// So many steps of a stretch were made; none where a guess was wrong. Then at least one is
+    /// made in place, so that the processor goes on.
+    pub fn note(&mut self, made: u32) {
+        if made >= FEW {
+            self.next = 1;
+            return;
+        }
+        self.left = self.next;
+        if made > 0 {
+            self.next = LONGEST_PAUSE.min(self.next.saturating_mul(2));
+        }
+    }
+}
+
+/// What a processor does outside the lock, which is of a call's code. Its room is kept from one turn
+/// to the next.
 #[derive(Drop)]
 pub struct Own<'c, C: Call> {
     pub work: Work<'c>,
+    pub stretch: Stretch<'c>,
+    pub mirror: &'c Mirror,
+    pub loaded: Loaded,
+    pub pause: Pause,
     of: PhantomData<C>,
     ghost is: { code_of work.code.now ≡ C.code } by { Prim.hlevel props },
+    ghost also: { code_of stretch.code.now ≡ C.code } by { Prim.hlevel props },
 }
 
 impl<'c, C: Call> Coded<'c, C> {
     ghost use Rattle.std.specs.Prelude.{◌≡◌};
     ghost use Rattle.machine.specs.CodeView.{code_of};
 
-    /// The code of a call, with what its processors' room is taken from.
-    pub fn new(alloc: Global, code: &'c Code) -> Coded<'c, C>
+    /// The code of a call, with what its processors' room is taken from, the mirror of its store,
+    /// and how many loads and stores a stretch has, at most.
+    pub fn new(alloc: Global, code: &'c Code, mirror: &'c Mirror, notes: usize) -> Coded<'c, C>
         requires { code_of code.now ≡ C.code }
     {
         Coded {
             alloc,
             code,
+            mirror,
+            notes,
             of: PhantomData,
         }
+    }
+
+    /// How many loops it has whose iterations are run at once.
+    pub fn loops(&self) -> usize {
+        self.code.loops.len()
     }
 
     /// Room for a processor's work, of which none has been done.
@@ -54,19 +120,27 @@ impl<'c, C: Call> Coded<'c, C> {
     pub fn own(&self) -> Result<Own<'c, C>, AllocError> {
         Ok(Own {
             work: Work::new(self.alloc, self.code)?,
+            stretch: Stretch::new(self.alloc, self.code, self.mirror, self.notes)?,
+            mirror: self.mirror,
+            loaded: Loaded::Nothing,
+            pause: Pause { left: 0, next: 1 },
             of: PhantomData,
         })
     }
 }
 
 impl<'c, C: Call> Own<'c, C> {
-    /// Does the local work that stands next.
+    /// Does what was loaded.
     ///
     /// # Errors
     ///
     /// `AllocError` where memory is refused.
     pub fn run(&mut self) -> Result<(), AllocError> {
-        self.work.run(MOST_WORK)?;
+        match self.loaded {
+            Loaded::Nothing => {}
+            Loaded::Work => self.work.run(MOST_WORK)?,
+            Loaded::Stretch => self.stretch.run(MOST_WORK),
+        }
         Ok(())
     }
 }

@@ -1,0 +1,4 @@
+use Rattle.processors.proofs.running.answer_call.Goals as goal
+
+pub returns-clause-err : goal.returns-clause-err
+returns-clause-err g c = c.nothing-in-Err.ensures.unrecorded g.C.Call.code g.C.Call.input g.C.Call.processors g.C.Call.slots c.requires.of.sizes
