@@ -25,6 +25,8 @@ mod links;
 #[cfg(test)]
 mod locals;
 #[cfg(test)]
+mod lying;
+#[cfg(test)]
 mod sharing;
 #[cfg(test)]
 mod sure;

@@ -28,13 +28,13 @@ const CELLS: usize = 10;
 
 /// A generator of numbers by a linear congruence.
 #[derive(Drop)]
-struct Chance {
-    state: u64,
+pub struct Chance {
+    pub state: u64,
 }
 
 impl Chance {
     /// A number below `bound`, which isn't 0.
-    fn below(&mut self, bound: u64) -> u64 {
+    pub fn below(&mut self, bound: u64) -> u64 {
         self.state = self
             .state
             .wrapping_mul(6_364_136_223_846_793_005)
@@ -43,12 +43,12 @@ impl Chance {
     }
 
     /// A number below `bound` as an instruction has it.
-    fn number(&mut self, bound: u64) -> u32 {
+    pub fn number(&mut self, bound: u64) -> u32 {
         u32::try_from(self.below(bound)).unwrap_or(0)
     }
 
     /// A small value, now and then a great one.
-    fn value(&mut self) -> i64 {
+    pub fn value(&mut self) -> i64 {
         match self.below(12) {
             0 => i64::MAX,
             1 => i64::MIN,
@@ -193,7 +193,7 @@ fn the_loop(alloc: Global) -> Result<Loop, AllocError> {
 }
 
 /// Code of random instructions.
-fn parts(alloc: Global, chance: &mut Chance) -> Result<Parts, AllocError> {
+pub fn parts(alloc: Global, chance: &mut Chance) -> Result<Parts, AllocError> {
     let mut variables = Vec::new(alloc);
     for variable in VARIABLES {
         variables.push(variable)?;
@@ -212,7 +212,7 @@ fn parts(alloc: Global, chance: &mut Chance) -> Result<Parts, AllocError> {
 }
 
 /// The frame of the loop's first iteration, in which its variable has this value.
-fn frame(alloc: Global, code: &Code, first: i64) -> Result<Frame, AllocError> {
+pub fn frame(alloc: Global, code: &Code, first: i64) -> Result<Frame, AllocError> {
     let opened = Open {
         number: 0,
         first,
@@ -241,7 +241,7 @@ fn local_both_ways(
 }
 
 /// Strides on as many cells as the code has; none on another number.
-fn strides(code: &Code, frame: &mut Frame, cells: &mut Vec<i64>, n: u32) -> u32 {
+pub fn strides(code: &Code, frame: &mut Frame, cells: &mut Vec<i64>, n: u32) -> u32 {
     if cells.len() != code.cells() {
         return 0;
     }
