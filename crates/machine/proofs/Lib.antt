@@ -16,7 +16,9 @@ pub mod Stores
 pub mod Restarting
 pub mod Joining
 mod Formulas
+mod Drafted
 pub mod Moves
 pub mod Places
+mod Stated
 mod Alone
 mod Goes

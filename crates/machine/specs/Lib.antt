@@ -3,6 +3,7 @@ pub mod Alike
 pub mod Code
 pub mod CodeView
 pub mod Formulas
+pub mod Drafts
 pub mod Frame
 pub mod FrameView
 pub mod Gone
@@ -16,6 +17,7 @@ pub mod Shortcut
 pub mod Sites
 pub mod Solo
 pub mod State
+pub mod Statements
 pub mod StoreView
 pub mod Strides
 mod Taking
