@@ -8,7 +8,7 @@ ghost use Rattle.activities.specs.Sharing.{StrodeAt};
 use crate::holding::{Activities, Holder};
 use crate::parts::Iteration;
 use machine::Code;
-use stretches::{Mirror, Stretch, stride_shown};
+use stretches::{Stale, Stretch, stride_noting};
 
 /// Local instructions, loads and stores, one after another, at most `n`, of what stands in a
 /// place; how many.
@@ -16,7 +16,7 @@ fn stride_at(
     code: &Code,
     place: &mut Option<Iteration>,
     cells: &mut Vec<i64>,
-    mirror: &Mirror,
+    stale: &mut Stale,
     n: u32,
 ) -> u32
     ensures made { IfSome (option_map standing_of place.old) (λ a.
@@ -26,7 +26,7 @@ fn stride_at(
     ensures cells { length cells.new.items ≡ length cells.old.items }
 {
     match place {
-        Some(iteration) => stride_shown(code, &mut iteration.frame, cells, mirror, n),
+        Some(iteration) => stride_noting(code, &mut iteration.frame, cells, stale, n),
         None => 0,
     }
 }
@@ -56,7 +56,7 @@ impl<'c> Activities<'c> {
 
     /// Local instructions, loads and stores of main, one after another, which processor `q`
     /// holds, at most `n`; how many.
-    fn stride_main(&mut self, q: usize, n: u32, mirror: &Mirror) -> u32
+    fn stride_main(&mut self, q: usize, n: u32, stale: &mut Stale) -> u32
         requires stand { AreActivities self.old }
         requires going { self.old.shared.ended ≡ None }
         requires holds { held_of (kept_in self.old).held q ≡ Some the_main }
@@ -66,17 +66,24 @@ impl<'c> Activities<'c> {
         ensures stand { AreActivities self.new }
         ensures stays { Stays self.old self.new }
     {
-        stride_shown(
+        stride_noting(
             self.code,
             &mut self.main.frame,
             &mut self.shared.cells,
-            mirror,
+            stale,
             n,
         )
     }
 
     /// The same of iteration `k`, which processor `q` holds, and which may stand in this place.
-    fn stride_iteration(&mut self, q: usize, k: u128, place: usize, n: u32, mirror: &Mirror) -> u32
+    fn stride_iteration(
+        &mut self,
+        q: usize,
+        k: u128,
+        place: usize,
+        n: u32,
+        stale: &mut Stale,
+    ) -> u32
         requires stand { AreActivities self.old }
         requires going { self.old.shared.ended ≡ None }
         requires holds { held_of (kept_in self.old).held q ≡ Some (iteration k) }
@@ -91,14 +98,14 @@ impl<'c> Activities<'c> {
             self.code,
             &mut self.iterations[at],
             &mut self.shared.cells,
-            mirror,
+            stale,
             n,
         )
     }
 
     /// Local instructions, loads and stores of what processor `q` holds, one after another, at
     /// most `n`, in its own place; how many.
-    fn stride_alone(&mut self, q: usize, n: u32, mirror: &Mirror) -> u32
+    fn stride_alone(&mut self, q: usize, n: u32, stale: &mut Stale) -> u32
         requires stand { AreActivities self.old }
         requires processor { q < length self.old.held.items }
         ensures made { Steps (code_in self.old) self.old.slots result (point_in self.old) q
@@ -112,16 +119,16 @@ impl<'c> Activities<'c> {
         }
         match self.held[q] {
             None => 0,
-            Some(Holder::Main) => self.stride_main(q, n, mirror),
+            Some(Holder::Main) => self.stride_main(q, n, stale),
             Some(Holder::Iteration { number, place }) => {
-                self.stride_iteration(q, number, place, n, mirror)
+                self.stride_iteration(q, number, place, n, stale)
             }
         }
     }
 
     /// What an iteration that processor `q` holds awaits or advances, or its retirement, or, where
     /// none of these stands next, strides; how many steps, at most `n`.
-    fn next_steps(&mut self, q: usize, n: u32, mirror: &Mirror) -> u32
+    fn next_steps(&mut self, q: usize, n: u32, stale: &mut Stale) -> u32
         requires stand { AreActivities self.old }
         requires processor { q < length self.old.held.items }
         requires some { 0 < n }
@@ -134,14 +141,14 @@ impl<'c> Activities<'c> {
         if self.synchronize(q) {
             return 1;
         }
-        self.stride_alone(q, n, mirror)
+        self.stride_alone(q, n, stale)
     }
 
     /// Steps of what processor `q` holds, one after another, at most `n`, in its own place; how
     /// many: local instructions, loads and stores, and what an iteration awaits or advances, and
-    /// its retirement. A step for which memory is refused isn't made. A mirror shows what was
-    /// stored.
-    pub fn stride(&mut self, q: usize, n: u32, mirror: &Mirror) -> u32
+    /// its retirement. A step for which memory is refused isn't made. Cells that were stored to in
+    /// place are stale.
+    pub fn stride(&mut self, q: usize, n: u32, stale: &mut Stale) -> u32
         requires stand { AreActivities self.old }
         requires processor { q < length self.old.held.items }
         ensures made { Steps (code_in self.old) self.old.slots result (point_in self.old) q
@@ -152,7 +159,7 @@ impl<'c> Activities<'c> {
     {
         let mut left = n;
         while left > 0 {
-            let made = self.next_steps(q, left, mirror);
+            let made = self.next_steps(q, left, stale);
             if made == 0 {
                 return n - left;
             }

@@ -24,7 +24,7 @@ use std::marker::Brand;
 use std::sync::Wait;
 use std::thread;
 use std::thread::Threads;
-use stretches::Mirror;
+use stretches::{Mirror, Stale};
 use unrecorded::Run;
 
 /// How many loads and stores a processor makes outside the lock in a row, at most.
@@ -242,8 +242,12 @@ fn answer_call<'c, C: Call + Send + Sync, G: Gate + Sync, R: Threads + Wait + Sy
     let Ok(mirror) = Mirror::new(alloc, cells) else {
         return Err(nothing(alloc));
     };
+    let Ok(stale) = Stale::new(alloc, cells) else {
+        return Err(nothing(alloc));
+    };
     let coded = Coded::<C>::new(alloc, code, &mirror, notes);
-    match driven::<C, Unrecorded<'c, C>, G, R>(rt, alloc, Unrecorded::new(run), &coded, gate) {
+    let run = Unrecorded::new(run, stale);
+    match driven::<C, Unrecorded<'c, C>, G, R>(rt, alloc, run, &coded, gate) {
         Ok(board) => answered(rt, board, &coded),
         Err(_) => Err(nothing(alloc)),
     }

@@ -9,11 +9,12 @@ use replay::{Choice, Core, HandIn, Stepped};
 use std::alloc::AllocError;
 use std::marker::{Model, PhantomData};
 use std::sync::Wait;
+use stretches::Stale;
 use unrecorded::Run;
 
 /// How many steps are made in place in a row, at most, before it is asked again whether more are
 /// made outside the lock.
-const MOST_IN_PLACE: u32 = 128;
+const MOST_IN_PLACE: u32 = 1_024;
 
 /// How many steps the only processor makes in place in a row, at most.
 const MOST_ALONE: u32 = 4096;
@@ -317,6 +318,8 @@ impl<'c, C: Call> Driven<C> for Recorded<'c, C> {
 #[derive(Drop)]
 pub struct Unrecorded<'c, C: Call> {
     run: Run<'c>,
+    /// The cells that the mirror may no longer show as they are.
+    stale: Stale,
     of: PhantomData<C>,
 }
 
@@ -337,12 +340,13 @@ impl<'c, C: Call> Unrecorded<'c, C> {
     ghost use Rattle.processors.specs.Reached.{IsAnswerOf, IsLeftAt, IsRunIn};
     ghost use Rattle.unrecorded.specs.View.{IsGoing};
 
-    /// A run of the call.
-    pub fn new(run: Run<'c>) -> Unrecorded<'c, C>
+    /// A run of the call. None of its mirror's cells are stale.
+    pub fn new(run: Run<'c>, stale: Stale) -> Unrecorded<'c, C>
         requires { IsRunIn C.code C.input C.processors C.slots run }
     {
         Unrecorded {
             run,
+            stale,
             of: PhantomData,
         }
     }
@@ -447,7 +451,7 @@ impl<'c, C: Call> Unrecorded<'c, C> {
     }
 
     /// Steps of processor `q` in place; whether as many as are made in a row.
-    fn stride(&mut self, q: usize, own: &Own<'_, C>, made: &mut Made) -> bool {
+    fn stride(&mut self, q: usize, made: &mut Made) -> bool {
         let processors = self.run.processors();
         if q >= processors {
             return false;
@@ -457,7 +461,7 @@ impl<'c, C: Call> Unrecorded<'c, C> {
         } else {
             MOST_IN_PLACE
         };
-        let strode = self.run.stride(q, most, own.mirror);
+        let strode = self.run.stride(q, most, &mut self.stale);
         made.add(strode);
         strode == most
     }
@@ -469,6 +473,7 @@ impl<'c, C: Call> Unrecorded<'c, C> {
         if q >= processors || processors == 1 || !own.pause.is_over() {
             return Ok(false);
         }
+        self.run.show(&mut self.stale, own.mirror);
         let loads = self.run.load_stretch(q, &mut own.stretch)?;
         if loads {
             own.loaded = Loaded::Stretch;
@@ -542,7 +547,7 @@ impl<'c, C: Call> Unrecorded<'c, C> {
         if pace.stretches && self.stretch(q, own)? {
             return Ok(Some(Onward::Works));
         }
-        if !self.stride(q, own, made) {
+        if !self.stride(q, made) {
             return self.move_on(q, pace.tickets, made);
         }
         // This iteration is longer than others were.

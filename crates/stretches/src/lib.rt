@@ -6,12 +6,14 @@ mod comparing;
 mod guesses;
 mod mirror;
 mod note;
-mod shown;
+mod stale;
+mod storing;
 mod stretch;
 
 pub use comparing::make_all;
 pub use guesses::Guesses;
 pub use mirror::Mirror;
 pub use note::Note;
-pub use shown::stride_shown;
+pub use stale::Stale;
+pub use storing::stride_noting;
 pub use stretch::Stretch;

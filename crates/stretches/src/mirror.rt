@@ -41,6 +41,17 @@ impl Mirror {
         }
     }
 
+    /// The cells of a block are shown as they are: so many from that number of them on. What is
+    /// shown already isn't shown again, since showing takes longer than looking.
+    pub fn refresh(&self, cells: &[i64], block: usize, size: usize) {
+        let first = block.saturating_mul(size);
+        for (cell, value) in cells.iter().enumerate().skip(first).take(size) {
+            if self.get(cell) != Some(*value) {
+                self.show(cell, *value);
+            }
+        }
+    }
+
     /// A cell is to show a value, where the mirror has such a cell.
     #[inline(always)]
     pub fn show(&self, cell: usize, value: i64) {

@@ -9,7 +9,7 @@ use replay::{CoreRefusal, HandIn, answer};
 use schedules::{MOST_PROCESSORS, MOST_SLOTS};
 use std::alloc::{AllocError, Global};
 use std::marker::Model;
-use stretches::{Mirror, Stretch};
+use stretches::{Mirror, Stale, Stretch};
 
 /// What has gone out.
 fn output_of(activities: Activities<'_>) -> Vec<u8>
@@ -196,14 +196,14 @@ impl<'c> Run<'c> {
 
     /// Steps of what processor `q` holds, one after another, at most `n`, in its own place; how
     /// many: local instructions, loads and stores, and what an iteration awaits or advances, and
-    /// its retirement. A step for which memory is refused isn't made. A mirror shows what was
-    /// stored.
-    pub fn stride(&mut self, q: usize, n: u32, mirror: &Mirror) -> u32
+    /// its retirement. A step for which memory is refused isn't made. Cells that were stored to in
+    /// place are stale.
+    pub fn stride(&mut self, q: usize, n: u32, stale: &mut Stale) -> u32
         requires processor { q < self.old.processors }
         ensures drives { Drives self.old q result self.new }
         ensures few { result ≤ n }
     {
-        self.activities.stride(q, n, mirror)
+        self.activities.stride(q, n, stale)
     }
 
     /// The frame of what processor `q` holds.
@@ -336,6 +336,11 @@ impl<'c> Run<'c> {
         ensures code { code_of stretch.new.code.now ≡ code_of stretch.old.code.now }
     {
         self.activities.commit(q, stretch)
+    }
+
+    /// A mirror is to show the true values of all stale cells.
+    pub fn show(&self, stale: &mut Stale, mirror: &Mirror) {
+        stale.show(&self.activities.shared.cells, mirror);
     }
 
     /// The mirror of a stretch is to show the true values of all cells that it guessed.

@@ -2,7 +2,7 @@ use Rattle.activities.proofs.Gone.{main_strode_stands, strode_main}
 use Rattle.activities.proofs.holding.Activities.stride_main.Goals as goal
 
 pub returns-clause-made : goal.returns-clause-made
-returns-clause-made c = strode_main c.args.q c.stride_shown.result c.stride_shown.new.frame c.stride_shown.new.cells c.args.self.now c.requires.stand c.requires.going c.requires.holds c.stride_shown.ensures.made
+returns-clause-made c = strode_main c.args.q c.stride_noting.result c.stride_noting.new.frame c.stride_noting.new.cells c.args.self.now c.requires.stand c.requires.going c.requires.holds c.stride_noting.ensures.made
 
 pub returns-clause-stand : goal.returns-clause-stand
-returns-clause-stand c = main_strode_stands c.stride_shown.new.frame c.stride_shown.new.cells c.args.self.now c.requires.stand c.stride_shown.ensures.cells
+returns-clause-stand c = main_strode_stands c.stride_noting.new.frame c.stride_noting.new.cells c.args.self.now c.requires.stand c.stride_noting.ensures.cells

@@ -1,21 +1,21 @@
-//! Steps in place, on the cells of a store, of which a mirror shows what was stored.
+//! Steps in place, on the cells of a store, where it is noted which cells were stored to.
 
 ghost use Rattle.std.specs.Prelude.{◌≡◌, ◌≤◌, Some, length};
 ghost use Rattle.machine.specs.CodeView.{code_of};
 ghost use Rattle.machine.specs.Strides.{held_by, strides};
 
-use crate::mirror::Mirror;
+use crate::stale::Stale;
 use machine::{Code, Frame, Memory, stride};
 use std::mem::replace;
 
-/// The cells themselves. A mirror shows what is stored to them.
+/// The cells themselves. Those that were stored to are noted.
 #[derive(Drop)]
-pub struct Shown<'m> {
+pub struct Noting {
     cells: Vec<i64>,
-    mirror: &'m Mirror,
+    stale: Stale,
 }
 
-impl Memory for Shown<'_> {
+impl Memory for Noting {
     ghost use Rattle.std.specs.Prelude.{◌==◌, length};
 
     ghost seen = { λ s. record { agrees = λ cells. length cells == length s.cells.items; now = λ _. s.cells.items } };
@@ -30,18 +30,18 @@ impl Memory for Shown<'_> {
         if !self.cells.put(cell, value) {
             return false;
         }
-        self.mirror.show(cell, value);
+        self.stale.note(cell);
         true
     }
 }
 
 /// Local instructions, loads and stores of a frame that stand next, at most `n`, in its own place
-/// and on the cells of a store; how many. A mirror shows what was stored.
-pub fn stride_shown(
+/// and on the cells of a store; how many. Cells that were stored to are stale.
+pub fn stride_noting(
     code: &Code,
     frame: &mut Frame,
     cells: &mut Vec<i64>,
-    mirror: &Mirror,
+    stale: &mut Stale,
     n: u32,
 ) -> u32
     ensures made { strides (code_of code.now) result (held_by code.now frame.old cells.old.items)
@@ -49,16 +49,20 @@ pub fn stride_shown(
     ensures few { result ≤ n }
     ensures cells { length cells.new.items ≡ length cells.old.items }
 {
-    let none = Vec::new(*cells.allocator());
-    let mut shown = Shown {
-        cells: replace(cells, none),
-        mirror,
+    if stale.is_unused() {
+        return stride(code, frame, cells, n);
+    }
+    let alloc = *cells.allocator();
+    let mut memory = Noting {
+        cells: replace(cells, Vec::new(alloc)),
+        stale: replace(stale, Stale::nothing(alloc)),
     };
-    let made = stride(code, frame, &mut shown, n);
-    let Shown {
+    let made = stride(code, frame, &mut memory, n);
+    let Noting {
         cells: changed,
-        mirror: _,
-    } = shown;
+        stale: noted,
+    } = memory;
     *cells = changed;
+    *stale = noted;
     made
 }
