@@ -300,19 +300,19 @@ module _ (F L : Type 0) (view : F → View F L) (trips : L → ℕ) (begin : L �
         by walks x run st g g' eg good' (begins l' ι' past' before' xs' M' a b ep ew et ec el room going' ei) = on walks x run st past xs M (subst (λ (u : Ghost L). Alone u x) (b ∙ eg) good') going'
         by walks x run st g g' eg good' (main_parks l' ι' past' before' xs' M' a b hold lt is) = on walks x run st past xs M (subst (λ (u : Ghost L). Alone u x) (b ∙ eg) good') (ap (λ y. y.ended) is ∙ going)
         by walks x run st g g' eg good' (main_picked w b at re is) = on walks x run st past xs M (subst (λ (u : Ghost L). Alone u x) (b ∙ eg) good') (ap (λ y. y.ended) is ∙ going)
-        by walks x run st g g' eg good' (joins l' ι' past' before' xs' M' a b hold le ep ew going' ec ei) =
+        by walks x run st g g' eg good' (joins l' ι' past' before' xs' M' a b hold le ep ew going' ec ei is_next) =
             let both : within l ι past before xs M ≡ within l' ι' past' before' xs' M' = sym eg ∙ a in
             let c : l' ≡ l = cc in
             let t = ap trips c in
             last past xs M z x good st hold (omega (arith, le, t))
-        by walks x run st g g' eg good' (breaks_off l' ι' past' before' xs' M' c a b hold lt is en ep ew) =
+        by walks x run st g g' eg good' (breaks_off l' ι' past' before' xs' M' c a b hold lt is en ep ew et) =
             let both : within l ι past before xs M ≡ within l' ι' past' before' xs' M' = sym eg ∙ a in
             let k : l ≡ l' = cc in
             let d : ι ≡ ι' = cc in
             absurd (broke l' ι' past' before' xs' M' c z k d (subst (λ (u : Ghost L). Alone u z) both good) lt is)
-        by walks x run st g g' eg good' (works M' M'' a b hold ep ew going' less) = let both : within l ι past before xs M ≡ between M' = sym eg ∙ a in absurd cc
+        by walks x run st g g' eg good' (works M' M'' a b hold ep ew going' less is_next) = let both : within l ι past before xs M ≡ between M' = sym eg ∙ a in absurd cc
         by walks x run st g g' eg good' (opens_up l' xs' M' a b hold ep ew et going' ei) = let both : within l ι past before xs M ≡ between (open_loop l' xs' M') = sym eg ∙ a in absurd cc
-        by walks x run st g g' eg good' (ends_main M' e' a b is less ep ew) = let both : within l ι past before xs M ≡ between M' = sym eg ∙ a in absurd cc
+        by walks x run st g g' eg good' (ends_main M' e' a b is less ep ew stays) = let both : within l ι past before xs M ≡ between M' = sym eg ∙ a in absurd cc
 
   -- ---- the opening of a loop
 
@@ -334,12 +334,12 @@ module _ (F L : Type 0) (view : F → View F L) (trips : L → ℕ) (begin : L �
   opened_ghost l M z x g g' good eg good' e (picks l' ι' past' before' xs' M' k w a b at re is) = let both : between M ≡ within l' ι' past' before' xs' M' = sym eg ∙ a in absurd cc
   opened_ghost l M z x g g' good eg good' e (begins l' ι' past' before' xs' M' a b ep ew et ec el room going' ei) = let both : between M ≡ within l' ι' past' before' xs' M' = sym eg ∙ a in absurd cc
   opened_ghost l M z x g g' good eg good' e (main_parks l' ι' past' before' xs' M' a b hold lt is) = let both : between M ≡ within l' ι' past' before' xs' M' = sym eg ∙ a in absurd cc
-  opened_ghost l M z x g g' good eg good' e (joins l' ι' past' before' xs' M' a b hold le ep ew going' ec ei) = let both : between M ≡ within l' ι' past' before' xs' M' = sym eg ∙ a in absurd cc
-  opened_ghost l M z x g g' good eg good' e (breaks_off l' ι' past' before' xs' M' c a b hold lt is en ep ew) = let both : between M ≡ within l' ι' past' before' xs' M' = sym eg ∙ a in absurd cc
-  opened_ghost l M z x g g' good eg good' e (works M' M'' a b hold ep ew going' less) =
+  opened_ghost l M z x g g' good eg good' e (joins l' ι' past' before' xs' M' a b hold le ep ew going' ec ei is_next) = let both : between M ≡ within l' ι' past' before' xs' M' = sym eg ∙ a in absurd cc
+  opened_ghost l M z x g g' good eg good' e (breaks_off l' ι' past' before' xs' M' c a b hold lt is en ep ew et) = let both : between M ≡ within l' ι' past' before' xs' M' = sym eg ∙ a in absurd cc
+  opened_ghost l M z x g g' good eg good' e (works M' M'' a b hold ep ew going' less is_next) =
       let B : Between F L view trips begin Hidden Fixed start Valid 1 origin answer M'' x = (subst (λ (u : Ghost L). Alone u x) b good').kept in
       let c : Some l ≡ None = sym e ∙ B.loop in absurd cc
-  opened_ghost l M z x g g' good eg good' e (ends_main M' d a b is less ep ew) =
+  opened_ghost l M z x g g' good eg good' e (ends_main M' d a b is less ep ew stays) =
       let B : Between F L view trips begin Hidden Fixed start Valid 1 origin answer M x = (subst (λ (u : Ghost L). Alone u x) (b ∙ eg) good').kept in
       let c : Some l ≡ None = sym e ∙ B.loop in absurd cc
   opened_ghost l M z x g g' good eg good' e (main_picked w b at re is) =

@@ -260,13 +260,13 @@ module _ (F L : Type 0) (view : F → View F L) (trips : L → ℕ) (begin : L �
       beside_on g g' good good' (picks l ι past before xs M k w eg eg' at re is) b = stays_by g g' l ι past past before xs M eg (eg' ∙ eg) good good' b
       beside_on g g' good good' (begins l ι past before xs M eg eg' ep ew et ec el room on ei) b = stays_by g g' l ι past past before xs M eg (eg' ∙ eg) good good' b
       beside_on g g' good good' (main_parks l ι past before xs M eg eg' hold lt is) b = stays_by g g' l ι past past before xs M eg (eg' ∙ eg) good good' b
-      beside_on g g' good good' (breaks_off l ι past before xs M c eg eg' hold lt eq is ep ew) b = stays_by g g' l ι past past before xs M eg (eg' ∙ eg) good good' b
+      beside_on g g' good good' (breaks_off l ι past before xs M c eg eg' hold lt eq is ep ew et) b = stays_by g g' l ι past past before xs M eg (eg' ∙ eg) good good' b
       beside_on g g' good good' (main_picked w eg' at re is) b = subst (λ (u : Ghost L). Beside u n) (sym eg') (picked g good (subst (λ (u : Ghost L). G u n) eg' good') is b)
-      beside_on g g' good good' (works M N eg eg' hold ep ew on less) b = outside_by g g' M N eg eg' hold good good' b
-      beside_on g g' good good' (ends_main M e eg eg' is last ep ew) b = outside_by g g' M M eg (eg' ∙ eg) (ends_held M e (subst (λ (u : Ghost L). G u m) eg good) is) good good' b
+      beside_on g g' good good' (works M N eg eg' hold ep ew on less is_next) b = outside_by g g' M N eg eg' hold good good' b
+      beside_on g g' good good' (ends_main M e eg eg' is last ep ew stays) b = outside_by g g' M M eg (eg' ∙ eg) (ends_held M e (subst (λ (u : Ghost L). G u m) eg good) is) good good' b
       beside_on g g' good good' (opens_up l xs M eg eg' hold ep ew et on ei) b =
           subst (λ (u : Ghost L). Beside u n) (sym eg') (opens l xs M (subst (λ (u : Ghost L). G u m) eg good) hold (subst (λ (u : Ghost L). Beside u m) eg b))
-      beside_on g g' good good' (joins l ι past before xs M eg eg' hold le ep ew on ec ei) b =
+      beside_on g g' good good' (joins l ι past before xs M eg eg' hold le ep ew on ec ei is_next) b =
           subst (λ (u : Ghost L). Beside u n) (sym eg') (joined l ι past before xs M (subst (λ (u : Ghost L). G u m) eg good) hold le (subst (λ (u : Ghost L). Beside u m) eg b))
 
     -- beside each state of a run

@@ -31,12 +31,13 @@ use Rattle.codegen.specs.Program.{AreOpened, IsCodeOf, Planned, Refuses, Refuses
 use Rattle.codegen.specs.Awaited.{AreAwaitsKept}
 use Rattle.codegen.specs.Reports.{AreReports, Reports, opened_of, planned_in}
 use Rattle.codegen.specs.Room.{block_loops, block_room}
+use Rattle.codegen.specs.OnTheWay.{AreOnTheWay}
 use Rattle.codegen.specs.States.{AreAsAlone}
 use Rattle.codegen.specs.declared.reports.LoopReport.{LoopReport}
 use Rattle.codegen.proofs.AcceptedLoops.{accepted}
 use Rattle.codegen.proofs.Awaited.{awaits_kept}
 use Rattle.codegen.proofs.OpenedReports.{Known, are_opened, known_at}
-use Rattle.codegen.proofs.Theorem.{Opens, bounded, carried, ends, headline, states}
+use Rattle.codegen.proofs.Theorem.{Opens, bounded, carried, ends, headline, states, way}
 
 -- ---- variables
 
@@ -176,6 +177,9 @@ module _ (p : Program) (reports : List LoopReport) (code : Code) (is : IsMade p 
 
   pub states_law : AreAsAlone (program_of p) code (opened_of (program_of p) reports)
   states_law = states (program_of p) (opened_of (program_of p) reports) none_such code w p.distinct p.sized p.placed p.numbered p.fitting (λ n h. (known n h).among) opens
+
+  pub way_law : AreOnTheWay (program_of p) code (opened_of (program_of p) reports)
+  way_law = way (program_of p) (opened_of (program_of p) reports) none_such code w p.distinct p.sized p.placed p.numbered p.fitting (λ n h. (known n h).among) opens
 
   pub awaits_law : AreAwaitsKept (opened_of (program_of p) reports)
   awaits_law = awaits_kept (program_of p).block (opened_of (program_of p) reports) none_such known

@@ -11,6 +11,7 @@ pub mod Comes
 pub mod Compiling
 pub mod Emitting
 pub mod Ending
+pub mod Example
 pub mod GivenPaths
 pub mod GoodLoops
 pub mod GoodPaths
@@ -34,17 +35,22 @@ pub mod MainReaching
 pub mod MainStanding
 pub mod MainSteps
 pub mod Meaning
+pub mod Meant
 pub mod Nested
 pub mod Nesting
 pub mod NodeParts
 pub mod Numbering
+pub mod OnTheWay
 pub mod OneCode
 pub mod OnePlace
 pub mod OnePlan
 pub mod OneStep
+pub mod OpenedInRuns
 pub mod OpenedLoop
+pub mod OpenedPoints
 pub mod OpenedProgram
 pub mod OpenedReports
+pub mod OpenedTurns
 pub mod Opening
 pub mod Outcomes
 pub mod OwnBefore
@@ -52,6 +58,7 @@ pub mod OwnFates
 pub mod OwnRun
 pub mod PlanPaths
 pub mod PlanPieces
+pub mod Points
 pub mod PrivateNames
 pub mod ProgramBound
 pub mod ProgramClaims
@@ -74,5 +81,6 @@ pub mod Running
 pub mod Standing
 pub mod Stops
 pub mod Theorem
+pub mod Turning
 pub mod Waiting
 pub mod Walking

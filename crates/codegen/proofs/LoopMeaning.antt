@@ -20,7 +20,7 @@ use Rattle.codegen.proofs.IterationCode.{iteration_process}
 use Rattle.codegen.proofs.IterationLaws.{cases_cell, cell_other, cell_same, same_stores}
 use Rattle.codegen.proofs.IterationSteps.{Process, leave, cell_value}
 use Rattle.codegen.proofs.Meaning.{going_told, then_told}
-use Rattle.codegen.proofs.Outcomes.{Outcome, failed}
+use Rattle.codegen.proofs.Outcomes.{Outcome, done, failed}
 use Rattle.codegen.proofs.Outcomes as outcomes
 use Rattle.codegen.proofs.Comes.{comes, one_by_one}
 use Rattle.codegen.proofs.IterationMeaning.{private_named, At, BlockKnown, block_comes, held_at, leads_by, own_or}
@@ -168,7 +168,7 @@ module _ (code : Code) (l : Opened) (p : Places) (body : PlanBlock) (fixed : Cel
           ∙ ap (λ (o : Home). held_at o (index_at code l (suc k)) none c.place (cell_value υ c)) (sym e)
 
   -- of any other cell an iteration that has defined nothing sees the store
-  store_is : (k : ℕ) (σ : StoreOf) (c : Cell) → (c ≡ dv → ⊥) → held_at (home_of p c.name) (index_at code l k) none c.place (cell_value σ c) ≡ cell_value σ c
+  pub store_is : (k : ℕ) (σ : StoreOf) (c : Cell) → (c ≡ dv → ⊥) → held_at (home_of p c.name) (index_at code l k) none c.place (cell_value σ c) ≡ cell_value σ c
   store_is k σ c ne = by (home_of p c.name) c.place refl refl
     where
       by : (o : Home) (n : ℕ) → home_of p c.name ≡ o → c.place ≡ n → held_at o (index_at code l k) none n (cell_value σ c) ≡ cell_value σ c
@@ -197,6 +197,99 @@ module _ (code : Code) (l : Opened) (p : Places) (body : PlanBlock) (fixed : Cel
       (cell_same σ dv v ∙ is ∙ sym (at.seen dv ∙ ap (λ (o : Home). held_at o (index_at code l k) none 0 (cell_value σ dv)) w.own)))
       (λ ne. cell_other σ dv v c ne ∙ sym (at.seen c ∙ store_is k σ c ne))
       (cases_cell c dv))
+
+  abbrev pub range_of : Run → Run
+  range_of run = exec_block p.symbols (stripped body) run
+
+  -- a range is gone through: so is its iteration
+  pub record Ranged (k : ℕ) (run : Run) (σ : StoreOf) : Type 0 where
+    pub left : StoreOf
+    pub goes : comes (begins k) σ run.output ≡ done left (range_of run).output
+    pub at : AtIn (suc k) (put_cell (range_of run).store (record { name = variable; place = 0 }) (index_at code l (suc k))) none left
+    pub unread : (range_of run).input ≡ run.input
+    pub index : (range_of run).store variable 0 ≡ index_at code l k
+
+  abbrev leads : (k : ℕ) (run : Run) (σ : StoreOf) → End → Type 0
+  leads k run σ x = leads_by p (index_at code l k) fixed opened x run (range_of run) (λ ps. leave (defined_cells code (loop_at code l.number).privates ps)) (comes (begins k) σ run.output)
+
+  led : (k : ℕ) (run : Run) (σ : StoreOf) → run.end ≡ Done → AtIn k run.store none σ → leads k run σ (range_of run).end
+  led k run σ d at = block_comes p (index_at code l k) fixed opened body (w.known (index_at code l k) opened) (λ ps. leave (defined_cells code (loop_at code l.number).privates ps)) run none σ d at
+
+  pub range_reach : (k : ℕ) (run : Run) (σ : StoreOf) → run.end ≡ Done → AtIn k run.store none σ → (range_of run).end ≡ Done → Ranged k run σ
+  range_reach k run σ d at e =
+      let c : leads k run σ Done = subst (leads k run σ) e (led k run σ d at) in
+      record {
+        left = put_cells c.1 (defined_cells code (loop_at code l.number).privates c.0);
+        goes = c.4;
+        at = next_at k (range_of run).store c.0 c.1 (index_at code l (suc k)) refl c.2;
+        unread = c.3;
+        index = (c.2).seen dv ∙ ap (λ (o : Home). held_at o (index_at code l k) c.0 0 (cell_value c.1 dv)) w.own;
+      }
+
+  -- an iteration retires: so its range is gone through
+  pub range_back : (k : ℕ) (run : Run) (σ τ : StoreOf) (u : List ℕ) → run.end ≡ Done → AtIn k run.store none σ → comes (begins k) σ run.output ≡ done τ u → (range_of run).end ≡ Done
+  range_back k run σ τ u d at e = by (range_of run).end refl (led k run σ d at)
+    where
+      by : (x : End) → (range_of run).end ≡ x → leads k run σ x → (range_of run).end ≡ Done
+      by Done f h = f
+      by (Stopped y) f h = let z = sym e ∙ h in absurd cc
+      by (Faulted q y) f h = let z = sym e ∙ h in absurd cc
+
+  -- n turns from iteration k on come to an end: so do as many iterations
+  pub record Reached (trip : Run → Run) (n k : ℕ) (run : Run) (σ : StoreOf) : Type 0 where
+    pub left : StoreOf
+    pub comes : one_by_one begins n k σ run.output ≡ done left (turns trip n run).output
+    pub at : AtIn (k + n) (turns trip n run).store none left
+    pub unread : (turns trip n run).input ≡ run.input
+    pub valid : (v : ℤ) × (in_range (index_at code l (k + n)) ≡ Ok v)
+
+  module _ (line : ℕ) (step : ℤ) (steps : (k : ℕ) → index_at code l k +ℤ step ≡ index_at code l (suc k)) where
+    abbrev pub trip_of : Run → Run
+    trip_of r = then_do (range_of r) (λ y. grown line variable step y)
+
+    -- what comes to an end has gone on before
+    went_on : (r : Run) (f : Run → Run) → (then_do r f).end ≡ Done → (r.end ≡ Done) × (then_do r f ≡ f r)
+    went_on r f h = by r.end refl h
+      where
+        by : (x : End) → r.end ≡ x → (going_on x r f).end ≡ Done → (r.end ≡ Done) × (going_on x r f ≡ f r)
+        by Done e h = (e, refl)
+        by (Stopped y) e h = cc
+        by (Faulted c y) e h = cc
+
+    -- a variable that grows has a value
+    has_grown : (q : Result ℤ Fault) (r : Run) → (given q line r (λ v. written r variable 0 v)).end ≡ Done → (v : ℤ) × (q ≡ Ok v) × (given q line r (λ v. written r variable 0 v) ≡ written r variable 0 v)
+    has_grown (Ok v) r h = (v, refl, refl)
+    has_grown (Err c) r h = cc
+
+    -- a turn, and then those behind it
+    turn_reaches : (n k : ℕ) (run next : Run) (σ : StoreOf) (c : Ranged k run σ) → next.output ≡ (range_of run).output → next.input ≡ (range_of run).input → turns trip_of (suc n) run ≡ turns trip_of n next → Reached trip_of n (suc k) next c.left → Reached trip_of (suc n) k run σ
+    turn_reaches n k run next σ c out input same rest = record {
+      left = rest.left;
+      comes =
+          ap (λ (q : Outcome). outcomes.then_do q (λ τ t. one_by_one begins n (suc k) τ t)) c.goes ∙ ap (λ (t : List ℕ). one_by_one begins n (suc k) c.left t) (sym out)
+          ∙ rest.comes ∙ ap (λ (r : Run). done rest.left r.output) (sym same);
+      at = subst (λ (r : Run). AtIn (k + suc n) r.store none rest.left) (sym same) (subst (λ (j : ℕ). AtIn j (turns trip_of n next).store none rest.left) e rest.at);
+      unread = ap (λ (r : Run). r.input) same ∙ rest.unread ∙ input ∙ c.unread;
+      valid = subst (λ (j : ℕ). (v : ℤ) × (in_range (index_at code l j) ≡ Ok v)) e rest.valid;
+    }
+      where
+        e : suc k + n ≡ k + suc n
+        e = omega arith
+
+    pub turns_reach : (n k : ℕ) (run : Run) (σ : StoreOf) → run.end ≡ Done → AtIn k run.store none σ → ((v : ℤ) × (in_range (index_at code l k) ≡ Ok v)) → (turns trip_of n run).end ≡ Done → Reached trip_of n k run σ
+    turns_reach zero k run σ d at v h =
+        let e : k ≡ k + 0 = omega arith in
+        record { left = σ; comes = refl; at = subst (λ (j : ℕ). AtIn j run.store none σ) e at; unread = refl; valid = subst (λ (j : ℕ). (v : ℤ) × (in_range (index_at code l j) ≡ Ok v)) e v }
+    turns_reach (suc n) k run σ d at v h =
+        let a = went_on (trip_of run) (λ r. turns trip_of n r) h in
+        let b = went_on (range_of run) (λ y. grown line variable step y) a.0 in
+        let c = range_reach k run σ d at b.0 in
+        let g = has_grown (in_range ((range_of run).store variable 0 +ℤ step)) (range_of run) (sym (ap (λ (r : Run). r.end) b.1) ∙ a.0) in
+        let grows : in_range (index_at code l (suc k)) ≡ Ok g.0 = sym (ap (λ (z : ℤ). in_range (z +ℤ step)) c.index ∙ ap in_range (steps k)) ∙ g.1 in
+        let same : turns trip_of (suc n) run ≡ turns trip_of n (written (range_of run) variable 0 g.0) = a.1 ∙ ap (λ (r : Run). turns trip_of n r) (b.1 ∙ g.2) in
+        let next = subst (λ (z : ℤ). AtIn (suc k) (put_cell (range_of run).store (record { name = variable; place = 0 }) z) none c.left) (sym (ok_is (index_at code l (suc k)) g.0 grows)) c.at in
+        turn_reaches n k run (written (range_of run) variable 0 g.0) σ c refl refl same
+        (turns_reach n (suc k) (written (range_of run) variable 0 g.0) c.left b.0 next (g.0, grows) (sym (ap (λ (r : Run). r.end) same) ∙ h))
 
   module _ (line total : ℕ) (step : ℤ) (steps : (k : ℕ) → index_at code l k +ℤ step ≡ index_at code l (suc k)) (inside : (k : ℕ) → k < total → in_range (index_at code l k) ≡ Ok (index_at code l k))
       (K : StoreOf → List ℕ → Outcome) (N : Run → Outcome) (input : List (List ℕ))

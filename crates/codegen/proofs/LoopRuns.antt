@@ -84,6 +84,20 @@ abbrev pub pasts : (ℕ → List ℤ) → ℕ → ℕ → List (List ℤ)
 pasts past zero k = []
 pasts past (suc n) k = past k ∷ pasts past n (suc k)
 
+pasts_count : (past : ℕ → List ℤ) (n k : ℕ) → length (pasts past n k) ≡ n
+pasts_count past zero k = refl
+pasts_count past (suc n) k = ap suc (pasts_count past n (suc k))
+
+-- lists that begin with as many
+same_front : (xs ys us vs : List (List ℤ)) → length xs ≡ length ys → xs ++ us ≡ ys ++ vs → xs ≡ ys
+same_front [] [] us vs n e = refl
+same_front [] (y ∷ ys) us vs n e = absurd (omega (arith, n))
+same_front (x ∷ xs) [] us vs n e = absurd (omega (arith, n))
+same_front (x ∷ xs) (y ∷ ys) us vs n e =
+    let a : x ≡ y = cc in
+    let b : xs ++ us ≡ ys ++ vs = cc in
+    ap (λ z. z ∷ xs) a ∙ ap (λ zs. y ∷ zs) (same_front xs ys us vs (omega (arith, n)) b)
+
 -- what these iterations printed
 abbrev pub prints : List Act → List ℕ
 prints [] = []
@@ -243,6 +257,52 @@ module _ (start : ℕ → Process) (total : ℕ) (Named : ℕ → Type 0) (plan 
               ∙ ap (λ w. go_on w (finish start s.past m s.low)) (finish_gone start s.past s.low 0 (λ i a b. inv.retired i (omega arith)) s.cells))
               ∙ list-prepend (pasts s.past s.low 0) x,
         )
+
+    -- those that have retired do so one after another, too
+    pub retired_go : (ls : List (List ℤ)) × (τ : StoreOf) × (sequential start s.low σ ≡ went ls τ)
+    retired_go = ⊎_elim some all (cases_lt s.low total)
+      where
+        m : ℕ
+        m = total - suc s.low
+
+        F : StoreOf → Whole
+        F = finish start (λ i. []) (suc m) s.low
+
+        G : StoreOf → Whole
+        G = finish start s.past (suc m) s.low
+
+        F-head : (x : StoreOf) → (ys : List (List ℤ)) × (list_of (F x) ≡ (run (start s.low) x).values ∷ ys)
+        F-head x = let r = run (start s.low) x in going_head r.bad r.values r.end (finish start (λ i. []) m (suc s.low))
+
+        G-head : (x : StoreOf) → (ys : List (List ℤ)) × (list_of (G x) ≡ (s.past s.low ++ (run (rest start s s.low) x).values) ∷ ys)
+        G-head x = let r = run (rest start s s.low) x in going_head r.bad (s.past s.low ++ r.values) r.end (finish start s.past m (suc s.low))
+
+        some : s.low < total → (ls : List (List ℤ)) × (τ : StoreOf) × (sequential start s.low σ ≡ went ls τ)
+        some lt =
+            let n : total ≡ s.low + suc m = omega (arith, lt) in
+            let whole : go_on (sequential start s.low σ) F ≡ prepend (pasts s.past s.low 0) (G s.cells) =
+            sym (finish_split start (λ i. []) s.low (suc m) 0 total s.low n (omega arith) σ) ∙ sym inv.same ∙ finish_split start s.past s.low (suc m) 0 total s.low n (omega arith) s.cells
+            ∙ ap (λ w. go_on w G) (finish_gone start s.past s.low 0 (λ i a b. inv.retired i (omega arith)) s.cells) in
+            let h = same_heads s.low (sequential start s.low σ) (fits start (λ i. []) s.low 0 σ) F G (pasts s.past s.low 0) s.cells (pasts_count s.past s.low 0) (λ x. ((run (start s.low) x).values, (F-head x).0, (F-head x).1))
+            (s.past s.low ++ (run (rest start s s.low) s.cells).values) (G-head s.cells).0 (G-head s.cells).1 whole in
+            (h.0, h.1, h.2)
+
+        all : total ≤ s.low → (ls : List (List ℤ)) × (τ : StoreOf) × (sequential start s.low σ ≡ went ls τ)
+        all le =
+            let w = inv.within in
+            let e : total ≡ s.low = omega (arith, le, w) in
+            (pasts s.past total 0, s.cells, subst (λ (n : ℕ). sequential start n σ ≡ went (pasts s.past total 0) s.cells) e (finished (sym e)))
+
+    -- so many one after another do what those that have retired did
+    pub retired_are : (ls : List (List ℤ)) (τ : StoreOf) → sequential start s.low σ ≡ went ls τ → ls ≡ pasts s.past s.low 0
+    retired_are ls τ e =
+        let m = total - s.low in
+        let w = inv.within in
+        let n : total ≡ s.low + m = omega arith in
+        let all = finish_split start (λ i. []) s.low m 0 total s.low n (omega arith) σ ∙ ap (λ w. go_on w (finish start (λ i. []) m s.low)) e in
+        same_front ls (pasts s.past s.low 0) (list_of (finish start (λ i. []) m s.low τ)) begins.0
+        (subst (Fits s.low) e (fits start (λ i. []) s.low 0 σ) ∙ sym (pasts_count s.past s.low 0))
+        (sym (list-prepend ls (finish start (λ i. []) m s.low τ)) ∙ sym (ap list_of all) ∙ begins.1)
 
     pub output : (more : List ℕ) × (shown start 0 (list_of (sequential start total σ)) ≡ shown start 0 (pasts s.past s.low 0) ++ more)
     output = let b = begins in let h = shown-append start 0 (pasts s.past s.low 0) b.0 in (h.0, ap (shown start 0) b.1 ∙ h.1)

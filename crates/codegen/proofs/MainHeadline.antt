@@ -35,7 +35,7 @@ use Rattle.codegen.proofs.Beside.{Beside, beside}
 use Rattle.codegen.proofs.Blocks.{BlockReaches, HasList, block_runs}
 use Rattle.codegen.proofs.MainStanding.{Goes, Opens, main_does}
 use Rattle.codegen.proofs.MainSteps.{Valid, main_acts, main_doing, meant}
-use Rattle.codegen.proofs.Meaning.{going_told, then_told}
+use Rattle.codegen.proofs.Meaning.{going_told, outcomes, then_told}
 use Rattle.codegen.proofs.Outcomes.{Outcome, done, failed, text_of, told, told_by}
 use Rattle.codegen.proofs.OneStep.{same_step}
 use Rattle.codegen.proofs.ProgramBound.{alone_takes, bounded as most_steps, carried as to_end, exactly, narrow, weighed}
@@ -50,7 +50,7 @@ use Rattle.codegen.proofs.ProgramSteps.{Here, Main, halt, whole}
 use Rattle.plan_check.specs.GoodPlan.{Names}
 use Rattle.ast.specs.Regular.{are_fitting}
 use Rattle.ast.proofs.Fitting.{zeros_fit}
-use Rattle.codegen.proofs.OpenedLoop.{starts}
+use Rattle.codegen.proofs.OpenedLoop.{open_meant, starts}
 use Rattle.codegen.proofs.Meaning.{block_meant}
 use Rattle.codegen.proofs.MainNaming.{BlockRight, block_named}
 
@@ -103,7 +103,7 @@ pub record OpenCompiled (code : Code) (may : ℕ → ℤ → ℤ → Bool) (plac
 
 module _ (code : Code) (may : ℕ → ℤ → ℤ → Bool) (places : ℕ → Places) (bodies : ℕ → PlanBlock) (fixed : ℕ → Cell → Bool) (opens : ℕ → Option ℕ) (Hidden Fixed : Opened → Cell → Type 0) (Named : Opened → ℕ → Type 0)
     (loops : Loops Frame Opened (view code) trips_of (begin code) Hidden Fixed Named (starts code may places bodies fixed) (Valid code may)) (program : ProgramTree) (compiled : OpenCompiled code may places bodies fixed opens program.symbols program.block) (input : List ℕ) where
-  abbrev main : Main Opened
+  abbrev pub main : Main Opened
   main = block_into (Main Opened) (main_doing code may) (main_places program.symbols) opens (plain_block program.block) halt
 
   abbrev taken_in : Input
@@ -120,10 +120,10 @@ module _ (code : Code) (may : ℕ → ℤ → ℤ → Bool) (places : ℕ → Pl
       by (Stopped l) e = refl
       by (Faulted k l) e = refl
 
-  means : (x : Outcome) → whole Opened trips_of (starts code may places bodies fixed) x main zeros taken_in [] ≡ answer
+  pub means : (x : Outcome) → whole Opened trips_of (starts code may places bodies fixed) x main zeros taken_in [] ≡ answer
   means x =
       block_meant (Main Opened) (main_doing code may) (main_places program.symbols) (meant (starts code may places bodies fixed) x) (main_acts code may (starts code may places bodies fixed) program.symbols x) opens program.block halt (start input)
-      (block_named code may places bodies fixed program.symbols compiled.distinct opens x program.block compiled.right compiled.placed) compiled.fit refl zeros_fit
+      (block_named code may places bodies fixed program.symbols compiled.distinct opens Outcome outcomes (meant (starts code may places bodies fixed) x) (main_acts code may (starts code may places bodies fixed) program.symbols x) (λ n line d b r a run e f. open_meant code may places bodies fixed program.symbols x line n d b r a run e f) program.block compiled.right compiled.placed) compiled.fit refl zeros_fit
       ∙ ends_so x (exec_block program.symbols program.block (start input))
 
   -- main's frame stands where main's process does

@@ -6,7 +6,7 @@ use Rattle.std.specs.List.{IsDistinct, list_all}
 use Rattle.std.proofs.lemmas.Bool.{and_parts}
 use Rattle.ast.specs.Program.{is_placed}
 use Rattle.ast.specs.References.{arms_expressions, block_expressions, expressions_references, head_expressions, items_expressions, kind_expressions, node_expressions, optional, term_references, terms_references}
-use Rattle.ast.specs.Store.{StoreOf, same_name}
+use Rattle.ast.specs.Store.{same_name}
 use Rattle.ast.specs.Symbols.{Extent, Symbol, dimensions_in, names_of}
 use Rattle.ast.specs.Tree as tree
 use Rattle.ast.specs.Tree.{Ref, Access, accessed, Term, constant, truth, parameter, element, call, parentheses, unary, binary, Terms, no_terms, then_term, PrintItem, value_item, text_item, DoHead, Kind, assign, print, read, stop, program, integer, dimension, parameters, do_loop, go_on, block_if, else_if, else_arm, end_if, logical_if, end, Node, Block, Arms}
@@ -19,12 +19,11 @@ use Rattle.expr_code.specs.Places.{Places}
 use Rattle.machine.specs.Code.{Cell}
 use Rattle.machine.specs.Code.{Code}
 use Rattle.machine.specs.declared.code.Open.{Open as Opened}
-use Rattle.codegen.proofs.IterationSteps.{Process}
-use Rattle.codegen.proofs.MainSteps.{main_acts, main_doing, meant}
-use Rattle.codegen.proofs.Outcomes.{Outcome}
+use Rattle.ast.specs.Meaning.{Run}
+use Rattle.codegen.proofs.MainSteps.{main_doing}
+use Rattle.codegen.proofs.Meant.{Acts, ArmsNamed, BlockNamed, Counts, ElementsNamed, HeadNamed, ItemsNamed, KindNamed, LoopNamed, NodeNamed, Sight, StepNamed}
+use Rattle.codegen.proofs.OpenedLoop.{IsOpened}
 use Rattle.codegen.proofs.ProgramSteps.{Main}
-use Rattle.codegen.proofs.OpenedLoop.{IsOpened, open_meant, starts}
-use Rattle.codegen.proofs.Meaning.{ArmsNamed, BlockNamed, Counts, ElementsNamed, HeadNamed, ItemsNamed, KindNamed, NodeNamed, StepNamed, LoopNamed}
 
 module _ (code : Code) (may : ℕ → ℤ → ℤ → Bool) (places : ℕ → Places) (bodies : ℕ → PlanBlock) (fixed : ℕ → Cell → Bool) (symbols : List Symbol) (distinct : IsDistinct same_name (names_of symbols)) (opens : ℕ → Option ℕ) where
   -- each loop that is opened is that of its number
@@ -47,10 +46,7 @@ module _ (code : Code) (may : ℕ → ℤ → ℤ → Bool) (places : ℕ → Pl
     ArmsRight (tree.then_arm line None b more) = BlockRight b
     ArmsRight (tree.then_arm line (Some c) b more) = BlockRight b × ArmsRight more
 
-module _ (code : Code) (may : ℕ → ℤ → ℤ → Bool) (places : ℕ → Places) (bodies : ℕ → PlanBlock) (fixed : ℕ → Cell → Bool) (symbols : List Symbol) (distinct : IsDistinct same_name (names_of symbols)) (opens : ℕ → Option ℕ) (x : Outcome) where
-  abbrev start : Opened → StoreOf → ℕ → Process
-  start = starts code may places bodies fixed
-
+module _ (symbols : List Symbol) (distinct : IsDistinct same_name (names_of symbols)) where
   abbrev placed : Ref → Bool
   placed r = is_placed symbols r
 
@@ -98,6 +94,13 @@ module _ (code : Code) (may : ℕ → ℤ → ℤ → Bool) (places : ℕ → Pl
   pub one : (e : Term) (es : List Term) → Every (e ∷ es) → Named (main_places symbols) e × Every es
   one e es h = let k = both (term_references e) (expressions_references es) h in (named e k.0, k.1)
 
+-- seen: what is seen of main; opened: of the loops that it opens
+module _ (code : Code) (may : ℕ → ℤ → ℤ → Bool) (places : ℕ → Places) (bodies : ℕ → PlanBlock) (fixed : ℕ → Cell → Bool) (symbols : List Symbol) (distinct : IsDistinct same_name (names_of symbols)) (opens : ℕ → Option ℕ)
+    (O : Type 0) (W : Sight O) (seen : Main Opened → List ℤ → Run → O) (M : Acts O W (Main Opened) (main_doing code may) (main_places symbols) seen)
+    (opened : (n line : ℕ) (d : DoHead) (b : Block) → IsOpened code may places bodies fixed symbols n d b → LoopNamed O W (Main Opened) (main_doing code may) (main_places symbols) seen M opens (Some n) line d b (Unit {0})) where
+  abbrev AllPlaced : List Term → Type 0
+  AllPlaced es = list_all (λ r. is_placed symbols r) (expressions_references es) ≡ true
+
   -- no variable is an open loop's
   abbrev Free : Home → Type 0
   Free loop_index = ⊥
@@ -110,7 +113,7 @@ module _ (code : Code) (may : ℕ → ℤ → ℤ → Bool) (places : ℕ → Pl
       by [] = tt
       by (d ∷ ds) = tt
 
-  counts : (r : Ref) → Counts (Main Opened) (main_doing code may) (main_places symbols) (meant start x) (main_acts code may start symbols x) r
+  counts : (r : Ref) → Counts O W (Main Opened) (main_doing code may) (main_places symbols) seen M r
   counts r = record { scalar = by (dimensions_in symbols r.name); free = tt }
     where
       by : (ds : List Extent) → home (main_places symbols) ds r.name ≡ home (main_places symbols) [] r.name
@@ -118,25 +121,25 @@ module _ (code : Code) (may : ℕ → ℤ → ℤ → Bool) (places : ℕ → Pl
       by (d ∷ ds) = refl
 
   abbrev NodeIs : Node → Type 0
-  NodeIs n = NodeNamed (Main Opened) (main_doing code may) (main_places symbols) (meant start x) (main_acts code may start symbols x) opens n
+  NodeIs n = NodeNamed O W (Main Opened) (main_doing code may) (main_places symbols) seen M opens n
 
   abbrev BlockIs : Block → Type 0
-  BlockIs b = BlockNamed (Main Opened) (main_doing code may) (main_places symbols) (meant start x) (main_acts code may start symbols x) opens b
+  BlockIs b = BlockNamed O W (Main Opened) (main_doing code may) (main_places symbols) seen M opens b
 
   abbrev ArmsAre : Arms → Type 0
-  ArmsAre a = ArmsNamed (Main Opened) (main_doing code may) (main_places symbols) (meant start x) (main_acts code may start symbols x) opens a
+  ArmsAre a = ArmsNamed O W (Main Opened) (main_doing code may) (main_places symbols) seen M opens a
 
-  items_named : (items : List PrintItem) → Every (items_expressions items) → ItemsNamed (Main Opened) (main_doing code may) (main_places symbols) (meant start x) (main_acts code may start symbols x) items
+  items_named : (items : List PrintItem) → AllPlaced (items_expressions items) → ItemsNamed O W (Main Opened) (main_doing code may) (main_places symbols) seen M items
   items_named [] h = tt
-  items_named (value_item e ∷ items) h = let k = one e (items_expressions items) h in (k.0, items_named items k.1)
+  items_named (value_item e ∷ items) h = let k = one symbols distinct e (items_expressions items) h in (k.0, items_named items k.1)
   items_named (text_item t ∷ items) h = items_named items h
 
-  elements_named : (xs : List Access) → Every (map accessed xs) → ElementsNamed (Main Opened) (main_doing code may) (main_places symbols) (meant start x) (main_acts code may start symbols x) xs
+  elements_named : (xs : List Access) → AllPlaced (map accessed xs) → ElementsNamed O W (Main Opened) (main_doing code may) (main_places symbols) seen M xs
   elements_named [] h = tt
-  elements_named (y ∷ xs) h = let k = one (accessed y) (map accessed xs) h in (k.0, free y.ref.name, elements_named xs k.1)
+  elements_named (y ∷ xs) h = let k = one symbols distinct (accessed y) (map accessed xs) h in (k.0, free y.ref.name, elements_named xs k.1)
 
-  kind_named : (k : Kind) → Every (kind_expressions k) → KindNamed (Main Opened) (main_doing code may) (main_places symbols) (meant start x) (main_acts code may start symbols x) k
-  kind_named (assign y e) h = let k = one e (accessed y ∷ []) h in let l = one (accessed y) [] k.1 in (k.0, l.0, free y.ref.name)
+  kind_named : (k : Kind) → AllPlaced (kind_expressions k) → KindNamed O W (Main Opened) (main_doing code may) (main_places symbols) seen M k
+  kind_named (assign y e) h = let k = one symbols distinct e (accessed y ∷ []) h in let l = one symbols distinct (accessed y) [] k.1 in (k.0, l.0, free y.ref.name)
   kind_named (print items) h = items_named items h
   kind_named (read xs) h = elements_named xs h
   kind_named stop h = tt
@@ -153,36 +156,36 @@ module _ (code : Code) (may : ℕ → ℤ → ℤ → Bool) (places : ℕ → Pl
   kind_named (logical_if e k) h = tt
   kind_named end h = tt
 
-  step_named : (e : Option Term) (es : List Term) → Every (optional e ++ es) → StepNamed (Main Opened) (main_doing code may) (main_places symbols) (meant start x) (main_acts code may start symbols x) e
+  step_named : (e : Option Term) (es : List Term) → AllPlaced (optional e ++ es) → StepNamed O W (Main Opened) (main_doing code may) (main_places symbols) seen M e
   step_named None es h = tt
-  step_named (Some e) es h = (one e es h).0
+  step_named (Some e) es h = (one symbols distinct e es h).0
 
-  head_named : (d : DoHead) (es : List Term) → Every (head_expressions d ++ es) → HeadNamed (Main Opened) (main_doing code may) (main_places symbols) (meant start x) (main_acts code may start symbols x) d
+  head_named : (d : DoHead) (es : List Term) → AllPlaced (head_expressions d ++ es) → HeadNamed O W (Main Opened) (main_doing code may) (main_places symbols) seen M d
   head_named d es h =
-      let k = apart (head_expressions d) es h in
-      let a = one d.first (d.last ∷ optional d.step ++ element d.variable no_terms ∷ []) k.0 in
-      let b = one d.last (optional d.step ++ element d.variable no_terms ∷ []) a.1 in
+      let k = apart symbols distinct (head_expressions d) es h in
+      let a = one symbols distinct d.first (d.last ∷ optional d.step ++ element d.variable no_terms ∷ []) k.0 in
+      let b = one symbols distinct d.last (optional d.step ++ element d.variable no_terms ∷ []) a.1 in
       (a.0, b.0, step_named d.step (element d.variable no_terms ∷ []) b.1, counts d.variable)
 
-  loop_named : (o : Option ℕ) (line : ℕ) (d : DoHead) (b : Block) → LoopRight code may places bodies fixed symbols distinct opens o d b (BlockRight code may places bodies fixed symbols distinct opens b) → Every (head_expressions d ++ block_expressions b) → (BlockRight code may places bodies fixed symbols distinct opens b → Every (block_expressions b) → BlockIs b)
-      → LoopNamed (Main Opened) (main_doing code may) (main_places symbols) (meant start x) (main_acts code may start symbols x) opens o line d b (BlockIs b)
-  loop_named None line d b r h inner = (head_named d (block_expressions b) h, inner r (apart (head_expressions d) (block_expressions b) h).1)
-  loop_named (Some n) line d b r h inner = λ a run e f. open_meant code may places bodies fixed symbols x line n d b r a run e f
+  loop_named : (o : Option ℕ) (line : ℕ) (d : DoHead) (b : Block) → LoopRight code may places bodies fixed symbols distinct opens o d b (BlockRight code may places bodies fixed symbols distinct opens b) → AllPlaced (head_expressions d ++ block_expressions b) → (BlockRight code may places bodies fixed symbols distinct opens b → AllPlaced (block_expressions b) → BlockIs b)
+      → LoopNamed O W (Main Opened) (main_doing code may) (main_places symbols) seen M opens o line d b (BlockIs b)
+  loop_named None line d b r h inner = (head_named d (block_expressions b) h, inner r (apart symbols distinct (head_expressions d) (block_expressions b) h).1)
+  loop_named (Some n) line d b r h inner = opened n line d b r
 
   mutual
-    node_named : (n : Node) → NodeRight code may places bodies fixed symbols distinct opens n → Every (node_expressions n) → NodeIs n
+    node_named : (n : Node) → NodeRight code may places bodies fixed symbols distinct opens n → AllPlaced (node_expressions n) → NodeIs n
     node_named (tree.plain s) r h = kind_named s.kind h
     node_named (tree.loop line d b) r h = loop_named (opens d.variable.id) line d b r h (λ q k. block_named b q k)
     node_named (tree.choose a) r h = arms_named a r h
 
-    pub block_named : (b : Block) → BlockRight code may places bodies fixed symbols distinct opens b → Every (block_expressions b) → BlockIs b
+    pub block_named : (b : Block) → BlockRight code may places bodies fixed symbols distinct opens b → AllPlaced (block_expressions b) → BlockIs b
     block_named tree.no_nodes r h = tt
-    block_named (tree.then_node n b) r h = let k = apart (node_expressions n) (block_expressions b) h in (node_named n r.0 k.0, block_named b r.1 k.1)
+    block_named (tree.then_node n b) r h = let k = apart symbols distinct (node_expressions n) (block_expressions b) h in (node_named n r.0 k.0, block_named b r.1 k.1)
 
-    arms_named : (a : Arms) → ArmsRight code may places bodies fixed symbols distinct opens a → Every (arms_expressions a) → ArmsAre a
+    arms_named : (a : Arms) → ArmsRight code may places bodies fixed symbols distinct opens a → AllPlaced (arms_expressions a) → ArmsAre a
     arms_named tree.no_arms r h = tt
-    arms_named (tree.then_arm line None b more) r h = block_named b r (apart (block_expressions b) (arms_expressions more) h).0
+    arms_named (tree.then_arm line None b more) r h = block_named b r (apart symbols distinct (block_expressions b) (arms_expressions more) h).0
     arms_named (tree.then_arm line (Some c) b more) r h =
-        let k = one c (block_expressions b ++ arms_expressions more) h in
-        let l = apart (block_expressions b) (arms_expressions more) k.1 in
+        let k = one symbols distinct c (block_expressions b ++ arms_expressions more) h in
+        let l = apart symbols distinct (block_expressions b) (arms_expressions more) k.1 in
         (k.0, block_named b r.0 l.0, arms_named more r.1 l.1)

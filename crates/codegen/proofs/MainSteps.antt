@@ -72,22 +72,23 @@ module _ (start : Opened → StoreOf → ℕ → Process) where
   abbrev pub meant : Outcome → Main Opened → List ℤ → Run → Outcome
   meant x M left run = whole Opened trips_of start x M run.store (record { left = left; records = run.input }) run.output
 
-module _ (code : Code) (may : ℕ → ℤ → ℤ → Bool) (start : Opened → StoreOf → ℕ → Process) (symbols : List Symbol) (x : Outcome) where
-  abbrev p : Places
-  p = main_places symbols
-
-  in_the_store : (name : List ℕ) → home_of p name ≡ in_store
+module _ (symbols : List Symbol) where
+  in_the_store : (name : List ℕ) → home_of (main_places symbols) name ≡ in_store
   in_the_store name = by (dimensions_in symbols name)
     where
-      by : (ds : List Extent) → home p ds name ≡ in_store
+      by : (ds : List Extent) → home (main_places symbols) ds name ≡ in_store
       by [] = refl
       by (d ∷ ds) = refl
 
-  not_private : (name : List ℕ) (y : ℕ) → home_of p name ≡ private_scalar y → ⊥
+  pub not_private : (name : List ℕ) (y : ℕ) → home_of (main_places symbols) name ≡ private_scalar y → ⊥
   not_private name y e = let z : in_store ≡ private_scalar y = sym (in_the_store name) ∙ e in cc
 
-  not_index : (name : List ℕ) → home_of p name ≡ loop_index → ⊥
+  pub not_index : (name : List ℕ) → home_of (main_places symbols) name ≡ loop_index → ⊥
   not_index name e = let z : in_store ≡ loop_index = sym (in_the_store name) ∙ e in cc
+
+module _ (code : Code) (may : ℕ → ℤ → ℤ → Bool) (start : Opened → StoreOf → ℕ → Process) (symbols : List Symbol) (x : Outcome) where
+  abbrev p : Places
+  p = main_places symbols
 
   taken_is : (r : Result (List ℤ × List (List ℕ)) Fault) (line : ℕ) (M : Main Opened) (left : List ℤ) (run : Run)
       → whole Opened trips_of start x (if_taken r line (λ y. M)) run.store (input_after r (record { left = left; records = run.input })) run.output ≡ given_told r line run (λ y. meant start x M y.0 (record run { input = y.1 }))
@@ -103,13 +104,13 @@ module _ (code : Code) (may : ℕ → ℤ → ℤ → Bool) (start : Opened → 
   main_acts = record {
     evaluates = λ line left run. record {
       loads = λ r n κ h. refl;
-      owns = λ r y κ h. absurd (not_private r.name y h);
-      indexes = λ r κ h. absurd (not_index r.name h);
+      owns = λ r y κ h. absurd (not_private symbols r.name y h);
+      indexes = λ r κ h. absurd (not_index symbols r.name h);
       goes = λ a. refl;
       faults = λ e. refl;
     };
     keeps = λ r n v a left run h. refl;
-    sets = λ r y v a left run h. absurd (not_private r.name y h);
+    sets = λ r y v a left run h. absurd (not_private symbols r.name y h);
     says = λ bytes a left run. refl;
     takes = λ line a left run. taken_is (taken run.input) line a left run;
     gets = λ line κ left run. value_is (next_integer left run.input) line κ left run;

@@ -39,7 +39,7 @@ use Rattle.codegen.proofs.IterationMeaning.{At}
 use Rattle.codegen.proofs.LoopMeaning.{IsLoop, first_at, last_is, loop_comes, none, ok_is}
 use Rattle.plan_check.specs.GoodPlan.{stripped}
 
-in_range_is : (z : ℤ) → Fits z → in_range z ≡ Ok z
+pub in_range_is : (z : ℤ) → Fits z → in_range z ≡ Ok z
 in_range_is z f = ap (λ (b : Bool). if b then Ok z else Err Overflow) f
 
 given_then : {V : Type 0} (r : Result V Fault) (line : ℕ) (run : Run) (f : V → Outcome) (g : V → Run) (N : Run → Outcome) → ((v : V) → r ≡ Ok v → f v ≡ then_told (g v) N) → given_told r line run f ≡ then_told (given r line run g) N
@@ -78,7 +78,7 @@ module _ (code : Code) (may : ℕ → ℤ → ℤ → Bool) (places : ℕ → Pl
     trip step r = then_do (exec_block symbols b r) (λ y. grown line h.variable.name step y)
 
     -- the loop's iterations, then its join
-    opened_is : (m1 m2 : ℤ) → Fits m1 → Fits m2 → meant starts x (open_then code may (loop_opened code may n m1 m2) line a) [] run ≡ then_told (turns (trip w.step) (trips m1 m2 w.step) (written run h.variable.name 0 m1)) N
+    pub opened_is : (m1 m2 : ℤ) → Fits m1 → Fits m2 → meant starts x (open_then code may (loop_opened code may n m1 m2) line a) [] run ≡ then_told (turns (trip w.step) (trips m1 m2 w.step) (written run h.variable.name 0 m1)) N
     opened_is m1 m2 f1 f2 =
         ap (λ (q : Outcome). outcomes.then_do q K) (loop_is (starts l run.store) l.trips run.store run.output)
         ∙ loop_comes code l (places n) (bodies n) (fixed n) h.variable.name w.loop run.store line l.trips step steps inside K N run.input fine over l.trips 0 (omega arith) (written run h.variable.name 0 m1) run.store d

@@ -1,13 +1,13 @@
 -- The headline of the code of a program that opens loops.
-use Rattle.std.proofs.Common.{◌≡◌, ◌∙◌, ◌≤◌, ◌<◌, ◌^◌, ℕ, zero, suc, ℤ, pos, Bool, true, List, [], ◌∷◌, ◌++◌, Option, Some, None, length, get_or, refl, sym, ap, subst, arith, length-append, append_assoc}
-use Rattle.std.specs.Prelude.{◌&&◌, slice_get, unwrap_or}
+use Rattle.std.proofs.Common.{◌≡◌, ◌∙◌, ◌≤◌, ◌<◌, ◌^◌, ℕ, zero, suc, ℤ, pos, Bool, true, false, List, [], ◌∷◌, ◌++◌, Option, Some, None, Ok, length, get_or, refl, sym, ap, subst, arith, length-append, append_assoc}
+use Rattle.std.specs.Prelude.{◌&&◌, ◌+ℤ◌, ◌*ℤ◌, slice_get, unwrap_or}
 use Rattle.std.specs.List.{IsDistinct, list_all}
 use Rattle.std.specs.Ordering.{int_eq}
 use Rattle.std.proofs.lemmas.Bool.{and_parts, eq-eqb}
-use Rattle.ast.specs.Exact.{fits, trips}
+use Rattle.ast.specs.Exact.{fits, in_range, trips}
 use Rattle.ast.specs.Program.{ProgramTree, are_placed, is_placed}
 use Rattle.ast.specs.References.{arms_expressions, block_expressions, expressions_references, head_expressions, node_expressions, optional}
-use Rattle.ast.specs.Store.{StoreOf, same_name, zeros}
+use Rattle.ast.specs.Store.{StoreOf, same_name}
 use Rattle.ast.specs.Symbols.{is_sized, names_of}
 use Rattle.ast.specs.Tree as tree
 use Rattle.ast.specs.Tree.{Ref, Terms, Term, DoHead, Node, Block, Arms, element, no_terms}
@@ -15,7 +15,6 @@ use Rattle.dependence.specs.Plan.{PlanBlock, PlanPaths}
 use Rattle.loop_tree.specs.Constants.{step_of, trips_of as trips_known}
 use Rattle.loop_tree.specs.Loops.{Loop}
 use Rattle.loop_tree.specs.Paths.{defines}
-use Rattle.codegen.proofs.Outcomes.{done}
 use Rattle.machine.specs.Code.{Code, Cell, loop_at}
 use Rattle.machine.specs.Frame.{Frame}
 use Rattle.machine.specs.View.{begin, index_at, trips_of, view}
@@ -32,6 +31,7 @@ use Rattle.codegen.specs.Headline.{Bounded, Carried, Ends, Headline}
 use Rattle.codegen.specs.Plain.{plain_arms, plain_block, plain_node}
 use Rattle.codegen.specs.Process.{is_last_stop}
 use Rattle.codegen.specs.Program.{main_places}
+use Rattle.codegen.specs.OnTheWay.{AreOnTheWay}
 use Rattle.codegen.specs.States.{AreAsAlone}
 use Rattle.plan_check.specs.GoodPlan.{Names}
 use Rattle.codegen.proofs.Blocks.{HasList}
@@ -45,10 +45,13 @@ use Rattle.codegen.proofs.ProgramStanding.{Loops}
 use Rattle.ast.specs.Regular.{is_fitting, are_fitting}
 use Rattle.ast.proofs.Fitting.{Fit, Fits, fit_parts}
 use Rattle.ast.proofs.Lists.{none_else, both_none}
+use Rattle.ast.proofs.Trips.{in_trips}
 use Rattle.codegen.proofs.LoopMeaning.{IsLoop}
 use Rattle.codegen.proofs.RangeBody.{block_known}
 use Rattle.codegen.proofs.MainHeadline.{OpenCompiled, as_alone, bounded, carried, headline, ends}
-use Rattle.codegen.proofs.OpenedLoop.{starts}
+use Rattle.codegen.proofs.OnTheWay.{on_the_way}
+use Rattle.codegen.proofs.OpenedLoop.{in_range_is, starts}
+use Rattle.codegen.proofs.OpenedTurns.{IsSource}
 use Rattle.codegen.proofs.MainNaming as naming
 use Rattle.codegen.proofs.MainNaming.{ArmsRight, BlockRight, LoopRight, NodeRight}
 use Rattle.codegen.proofs.GoodLoops.{GoodLoop, all_keys, is_loop, not_given, not_private}
@@ -177,10 +180,10 @@ module _ (t : ProgramTree) (xs : List Planned) (some : Planned) (code : Code) (w
     Right b = BlockRight code may places bodies fixed t.symbols f.distinct (opened_by xs) b
 
     one : (e : Term) (es : List Term) → Every (e ∷ es) → Named (main_places t.symbols) e × Every es
-    one e es h = naming.one code may places bodies fixed t.symbols f.distinct (opened_by xs) (done zeros []) e es h
+    one e es h = naming.one t.symbols f.distinct e es h
 
     apart : (es fs : List Term) → Every (es ++ fs) → Every es × Every fs
-    apart es fs h = naming.apart code may places bodies fixed t.symbols f.distinct (opened_by xs) (done zeros []) es fs h
+    apart es fs h = naming.apart t.symbols f.distinct es fs h
 
     loop_right : (o : Option ℕ) (h : DoHead) (b : Block) → LoopMatches o h b (BlockMatches b) → Every (head_expressions h ++ block_expressions b) → is_fitting h.first ≡ true → is_fitting h.last ≡ true → (BlockMatches b → Every (block_expressions b) → Right b)
         → LoopRight code may places bodies fixed t.symbols f.distinct (opened_by xs) o h b (Right b)
@@ -317,3 +320,42 @@ module _ (t : ProgramTree) (xs : List Planned) (some : Planned) (code : Code) (w
     -- every state of every run is as those of the run alone
     pub it_is_as_alone : ((l : Opened) (x : Planned) (e d : ℕ) → slice_get xs l.number ≡ Some x → Names x.plan e d → named l.number e) → AreAsAlone t code xs
     it_is_as_alone names = as_alone code may places bodies fixed (opened_by xs) (HiddenIn code source places bodies fixed named Stands (held_by t.symbols) (Valid code may)) (FixedIn code source places bodies fixed named Stands (held_by t.symbols) (Valid code may)) (NamedIn code source places bodies fixed named Stands (held_by t.symbols) (Valid code may)) loops t compiled xs names
+
+    -- ---- the stores on the way
+
+    -- a loop that is opened is one of the source
+    sourced : (l : Opened) → Valid code may l → (x : Planned) × (slice_get xs l.number ≡ Some x) × IsSource code l (places l.number) (bodies l.number) (fixed l.number) t.symbols x.loop
+    sourced l v = (
+      nth l.number,
+      there xs l.number b,
+      record {
+        is = is_loop t.symbols code l.number (nth l.number) g f.sized w.variables few_symbols en.0 en.2;
+        symbols_are = refl;
+        body_is = g.same;
+        step_is = ap (λ y. y.step) en.2;
+        first = subst (λ (j : Opened). in_range j.first ≡ Ok j.first) (sym v.2) (in_range_is v.0 fit.0);
+        inside = subst (λ (j : Opened). (k : ℕ) → k < j.trips → in_range (index_at code j k) ≡ Ok (index_at code j k)) (sym v.2)
+            (λ k lt. in_range_is (v.0 +ℤ (pos k *ℤ (loop_at code l.number).step)) (in_trips v.0 v.1 (loop_at code l.number).step k fit.0 fit.1 lt nonzero));
+      },
+    )
+      where
+        b : l.number < length xs
+        b = below xs l.number v.0 v.1 v.3
+
+        g : GoodLoop t.symbols (nth l.number)
+        g = f.good l.number b
+
+        en : (place : ℕ) × (slice_get code.loops l.number ≡ Some (loop_entry t.symbols place (nth l.number))) × (loop_at code l.number ≡ loop_entry t.symbols place (nth l.number))
+        en = f.entry l.number b
+
+        nonzero : int_eq (loop_at code l.number).step (pos 0) ≡ false
+        nonzero = ap (λ (s : ℤ). int_eq s (pos 0)) (step_is l.number b) ∙ g.nonzero
+
+        fit : (fits v.0 ≡ true) × (fits v.1 ≡ true)
+        fit =
+            let allowed : may_if (Some (nth l.number)) v.0 v.1 ≡ true = sym (ap (λ (o : Option Planned). may_if o v.0 v.1) (there xs l.number b)) ∙ v.3 in
+            let k = and_parts (fits v.0) (fits v.1 && agrees (nth l.number).loop.trips (trips v.0 v.1 (unwrap_or (nth l.number).loop.step (pos 0)))) allowed in
+            (k.0, (and_parts (fits v.1) (agrees (nth l.number).loop.trips (trips v.0 v.1 (unwrap_or (nth l.number).loop.step (pos 0)))) k.1).0)
+
+    pub it_is_on_the_way : AreOnTheWay t code xs
+    it_is_on_the_way = on_the_way code may places bodies fixed xs (HiddenIn code source places bodies fixed named Stands (held_by t.symbols) (Valid code may)) (FixedIn code source places bodies fixed named Stands (held_by t.symbols) (Valid code may)) (NamedIn code source places bodies fixed named Stands (held_by t.symbols) (Valid code may)) loops t compiled sourced

@@ -142,7 +142,7 @@ module _ (F L : Type 0) (view : F → View F L) (trips : L → ℕ) (begin : L �
   goes_on : (bad : Option Cause) (vs : List ℤ) (υ : StoreOf) (next : StoreOf → Whole) (ρ τ : StoreOf) → bad ≡ None → υ ≡ ρ → (ls : List (List ℤ)) × (next ρ ≡ went ls τ) → (ls : List (List ℤ)) × (going bad vs υ next ≡ went ls τ)
   goes_on bad vs υ next ρ τ e d h = (vs ∷ h.0, ap (λ (b : Option Cause). going b vs υ next) e ∙ ap (λ (s : StoreOf). add vs (next s)) d ∙ ap (add vs) h.1)
 
-  before_is : (n j : ℕ) (σ τ : StoreOf) → j + n ≤ trips l → Keeps σ → Before F L view begin l n j σ τ → ((ls : List (List ℤ)) × (finish (start l ι) (λ i. []) n j σ ≡ went ls τ)) × Keeps τ
+  pub before_is : (n j : ℕ) (σ τ : StoreOf) → j + n ≤ trips l → Keeps σ → Before F L view begin l n j σ τ → ((ls : List (List ℤ)) × (finish (start l ι) (λ i. []) n j σ ≡ went ls τ)) × Keeps τ
   before_is zero j σ τ le a b = (([], ap (λ (s : StoreOf). went [] s) b), λ c fx. ap (λ (s : StoreOf). cell_value s c) (sym b) ∙ a c fx)
   before_is (suc n) j σ τ le a b =
       let r = retires F L view (Hidden l) (Fixed l) ι b.0 (start l ι j) (begin l j) σ [] b.1 (loops.begins l W.valid ι j (omega (arith, le))) (safe j) a b.2 in

@@ -103,11 +103,11 @@ module _ (F L : Type 0) (view : F → View F L) (trips : L → ℕ) (begin : L �
   abbrev fate_of : (j : ℕ) (σ : StoreOf) → j < trips l → Kept σ → Fate F L view (Hidden l) (Fixed l) ι (start l ι j) (begin l j) σ []
   fate_of j σ lt a = comes_to F L view (Hidden l) (Fixed l) ι (start l ι j) (begin l j) σ [] (loops.begins l (W F L view trips begin Hidden Fixed Named start Valid p loops origin answer l ι past before xs M m good).valid ι j lt) (safe F L view trips begin Hidden Fixed Named start Valid p loops origin answer l ι past before xs M m good j) a
 
-  abbrev All : ℕ → ℕ → StoreOf → Type 0
+  abbrev pub All : ℕ → ℕ → StoreOf → Type 0
   All n j σ = (τ : StoreOf) × Before F L view begin l n j σ τ
 
   -- the first that breaks off is q, i behind iteration j
-  record Off (n j : ℕ) (σ : StoreOf) : Type 0 where
+  pub record Off (n j : ℕ) (σ : StoreOf) : Type 0 where
     pub i : ℕ
     pub few : i < n
     pub q : ℕ
@@ -119,7 +119,7 @@ module _ (F L : Type 0) (view : F → View F L) (trips : L → ℕ) (begin : L �
     pub breaks : view (own_after F L view steps (begun F L view begin l q store)).frame ≡ breaking cause
     pub listed : (ls : List (List ℤ)) × (finish (start l ι) (λ k. []) n j σ ≡ stopped ls cause)
 
-  fates_from : (n j : ℕ) (σ : StoreOf) → j + n ≤ trips l → Kept σ → All n j σ ⊎ Off n j σ
+  pub fates_from : (n j : ℕ) (σ : StoreOf) → j + n ≤ trips l → Kept σ → All n j σ ⊎ Off n j σ
   fates_from zero j σ le a = inl (σ, refl)
   fates_from (suc n) j σ le a = by (λ ρ k. fates_from n (suc j) ρ (omega (arith, le)) k) (fate_of j σ (omega (arith, le)) a)
     where

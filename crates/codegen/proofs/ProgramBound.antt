@@ -627,7 +627,7 @@ module _ (F L : Type 0) (view : F → View F L) (trips : L → ℕ) (begin : L �
         subst (λ x. Tally x n (steps + 1) (acting + b)) (sym (eg' ∙ eg))
         (within_tally l ι past before xs M n (steps + 1) (acting + b) going (subst (λ x. G x n) (eg' ∙ eg) good')
         (count_begins l ι past before xs M m n q (subst (λ x. G x m) eg good) steps acting b (subst (λ x. Counted x m steps acting) eg c) ep ew et ec el room ei (acting_is m n b (ep, ew) w)))
-    tally_by g g' m n q on good good' (works M M' eg eg' hold ep ew going less) steps acting b c w =
+    tally_by g g' m n q on good good' (works M M' eg eg' hold ep ew going less is_next) steps acting b c w =
         subst (λ x. Tally x n (steps + 1) (acting + b)) (sym eg')
         (between_tally M' n (steps + 1) (acting + b) going
         (count_works M m n q (subst (λ x. G x m) eg good) steps acting b (subst (λ x. Counted x m steps acting) eg c) M' ew less (acting_is m n b (ep, ew) w)))
@@ -638,7 +638,7 @@ module _ (F L : Type 0) (view : F → View F L) (trips : L → ℕ) (begin : L �
         (within_tally l m.store (λ k. []) m.output xs M n (steps + 1) (acting + b) going (subst (λ x. G x n) eg' good')
         (count_opens l xs M m n q (subst (λ x. G x m) eg good) steps acting b (subst (λ x. Counted x m steps acting) eg c) hold
         (λ i x h. let o = P.waits i x (ap (λ f. f i) (sym ep) ∙ h) in let e = B.none in absurd (omega arith)) ew et ei (acting_is m n b (ep, ew) w)))
-    tally_by g g' m n q on good good' (joins l ι past before xs M eg eg' hold le ep ew going ec ei) steps acting b c w =
+    tally_by g g' m n q on good good' (joins l ι past before xs M eg eg' hold le ep ew going ec ei is_next) steps acting b c w =
         subst (λ x. Tally x n (steps + 1) (acting + b)) (sym eg')
         (between_tally M n (steps + 1) (acting + b) going
         (count_joins l ι past before xs M m n q (subst (λ x. G x m) eg good) steps acting b (subst (λ x. Counted x m steps acting) eg c) hold le ew ec ei (acting_is m n b (ep, ew) w)))
@@ -661,7 +661,7 @@ module _ (F L : Type 0) (view : F → View F L) (trips : L → ℕ) (begin : L �
         picked (within l ι past before xs M) good good' c z =
             within_tally l ι past before xs M n (steps + 1) (acting + b) (ap (λ y. y.ended) is ∙ on) good'
             (subst (λ y. CountWithin l ι past xs M y (steps + 1) (acting + b)) (sym is) (count_main_picked l ι past before xs M m n q good steps acting b c x at re z))
-    tally_by g g' m n q on good good' (ends_main M e eg eg' is last ep ew) steps acting b c w =
+    tally_by g g' m n q on good good' (ends_main M e eg eg' is last ep ew stays) steps acting b c w =
         let C : CountBetween M m steps acting = subst (λ x. Counted x m steps acting) eg c in
         let one_more = acting_is m n b (ep, ew) w in
         record {
@@ -669,7 +669,7 @@ module _ (F L : Type 0) (view : F → View F L) (trips : L → ℕ) (begin : L �
           most = let z = C.bound in let s = C.small in omega arith;
           last = λ x h. let z = C.exact in omega arith;
         }
-    tally_by g g' m n q on good good' (breaks_off l ι past before xs M f eg eg' hold lt eq is ep ew) steps acting b c w =
+    tally_by g g' m n q on good good' (breaks_off l ι past before xs M f eg eg' hold lt eq is ep ew et) steps acting b c w =
         let C : CountWithin l ι past xs M m steps acting = subst (λ x. Counted x m steps acting) eg c in
         let one_more = acting_is m n b (ep, ew) w in
         ⊎_elim
@@ -712,15 +712,15 @@ module _ (F L : Type 0) (view : F → View F L) (trips : L → ℕ) (begin : L �
     weigh g g' m n q good (picks l ι past before xs M k x eg eg' at re is) =
         (0, inr (refl, λ s. let z : None ≡ Some x = sym (put_same m.parked k None) ∙ ap (λ y. y.parked k) (sym is) ∙ ap (λ f. f k) s.0 ∙ at in cc))
     weigh g g' m n q good (begins l ι past before xs M eg eg' ep ew et ec el room on ei) = (1, inl (refl, (ep, ew)))
-    weigh g g' m n q good (works M M' eg eg' hold ep ew on less) = (1, inl (refl, (ep, ew)))
+    weigh g g' m n q good (works M M' eg eg' hold ep ew on less is_next) = (1, inl (refl, (ep, ew)))
     weigh g g' m n q good (opens_up l xs M eg eg' hold ep ew et on ei) = (1, inl (refl, (ep, ew)))
-    weigh g g' m n q good (joins l ι past before xs M eg eg' hold le ep ew on ec ei) = (1, inl (refl, (ep, ew)))
+    weigh g g' m n q good (joins l ι past before xs M eg eg' hold le ep ew on ec ei is_next) = (1, inl (refl, (ep, ew)))
     weigh g g' m n q good (main_parks l ι past before xs M eg eg' hold lt is) =
         let P = good.places in
         (0, inr (refl, λ s. P.main_apart q (until_retired (trips l)) hold (sym s.1 ∙ ap (λ y. y.waiting) is)))
     weigh g g' m n q good (main_picked x eg' at re is) = (0, inr (refl, λ s. let z : None ≡ Some x = ap (λ y. y.waiting) (sym is) ∙ s.1 ∙ at in cc))
-    weigh g g' m n q good (ends_main M e eg eg' is last ep ew) = (1, inl (refl, (ep, ew)))
-    weigh g g' m n q good (breaks_off l ι past before xs M f eg eg' hold lt eq is ep ew) = (1, inl (refl, (ep, ew)))
+    weigh g g' m n q good (ends_main M e eg eg' is last ep ew stays) = (1, inl (refl, (ep, ew)))
+    weigh g g' m n q good (breaks_off l ι past before xs M f eg eg' hold lt eq is ep ew et) = (1, inl (refl, (ep, ew)))
 
     weight_of : (qs : List ℕ) (g : Ghost L) (m n : State F L) → G g m → (r : Run F L view trips begin slots p m qs n) → (w : ℕ) × Weight F L view trips begin slots p m qs n r w
     weight_of [] g m n good r = (0, refl)

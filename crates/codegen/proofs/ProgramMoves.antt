@@ -18,6 +18,10 @@ use Rattle.codegen.proofs.ProgramStanding.{Leads, Steps, leads_on, WaitsFor, Sta
 use Rattle.codegen.proofs.Outcomes.{Outcome, done, failed, then_do}
 use Rattle.codegen.proofs.ProgramSteps.{Main, take, keep, say, get, work, crash, halt, open_loop, astray, seen, loop_meaning, whole, Here, after_loop, next_by, alone, meaning, alone_is, solo}
 
+-- where main stands in a state, with this left to do
+abbrev pub here : {F L : Type 0} → Main L → State F L → Here L
+here M m = record { main = M; store = m.store; input = m.input; output = m.output }
+
 -- what a step was
 module _ (F L : Type 0) (trips : L → ℕ) (slots : ℕ) (start : L → StoreOf → ℕ → Process) where
   pub data Change (m n : State F L) (q : ℕ) (g g' : Ghost L) : Type 0 where
@@ -28,16 +32,16 @@ module _ (F L : Type 0) (trips : L → ℕ) (slots : ℕ) (start : L → StoreOf
     picks : (l : L) (ι : StoreOf) (past : ℕ → List ℤ) (before : List ℕ) (xs : List (Cell × ℤ)) (M : Main L) (k : ℕ) (w : Wait) → g ≡ within l ι past before xs M → g' ≡ g → m.parked k ≡ Some w → Reached m w → n ≡ record m { parked = put_at m.parked k None; held = put_at m.held q (Some (iteration k)) } → Change m n q g g'
     begins : (l : L) (ι : StoreOf) (past : ℕ → List ℤ) (before : List ℕ) (xs : List (Cell × ℤ)) (M : Main L) → g ≡ within l ι past before xs M → g' ≡ g
         → n.parked ≡ m.parked → n.waiting ≡ m.waiting → n.ticket ≡ m.ticket + 1 → n.counts ≡ m.counts → n.retired ≡ m.retired → m.ticket < m.retired + slots → n.ended ≡ None → n.input ≡ m.input → Change m n q g g'
-    works : (M M' : Main L) → g ≡ between M → g' ≡ between M' → m.held q ≡ Some the_main → n.parked ≡ m.parked → n.waiting ≡ m.waiting → n.ended ≡ None → solo L trips start M m.store m.input ≡ 1 + solo L trips start M' n.store n.input → Change m n q g g'
+    works : (M M' : Main L) → g ≡ between M → g' ≡ between M' → m.held q ≡ Some the_main → n.parked ≡ m.parked → n.waiting ≡ m.waiting → n.ended ≡ None → solo L trips start M m.store m.input ≡ 1 + solo L trips start M' n.store n.input → next_by L trips start M (here M m) ≡ here M' n → Change m n q g g'
     opens_up : (l : L) (xs : List (Cell × ℤ)) (M : Main L) → g ≡ between (open_loop l xs M) → g' ≡ within l m.store (λ k. []) m.output xs M → m.held q ≡ Some the_main → n.parked ≡ m.parked → n.waiting ≡ m.waiting → n.ticket ≡ 0 → n.ended ≡ None → n.input ≡ m.input → Change m n q g g'
     joins : (l : L) (ι : StoreOf) (past : ℕ → List ℤ) (before : List ℕ) (xs : List (Cell × ℤ)) (M : Main L) → g ≡ within l ι past before xs M → g' ≡ between M
-        → m.held q ≡ Some the_main → trips l ≤ m.retired → n.parked ≡ m.parked → n.waiting ≡ m.waiting → n.ended ≡ None → n.store ≡ put_cells m.store xs → n.input ≡ m.input → Change m n q g g'
+        → m.held q ≡ Some the_main → trips l ≤ m.retired → n.parked ≡ m.parked → n.waiting ≡ m.waiting → n.ended ≡ None → n.store ≡ put_cells m.store xs → n.input ≡ m.input → next_by L trips start (open_loop l xs M) (record { main = open_loop l xs M; store = ι; input = m.input; output = before }) ≡ here M n → Change m n q g g'
     main_parks : (l : L) (ι : StoreOf) (past : ℕ → List ℤ) (before : List ℕ) (xs : List (Cell × ℤ)) (M : Main L) → g ≡ within l ι past before xs M → g' ≡ g
         → m.held q ≡ Some the_main → m.retired < trips l → n ≡ record m { waiting = Some (until_retired (trips l)); held = put_at m.held q None } → Change m n q g g'
     main_picked : (w : Wait) → g' ≡ g → m.waiting ≡ Some w → Reached m w → n ≡ record m { waiting = None; held = put_at m.held q (Some the_main) } → Change m n q g g'
-    ends_main : (M : Main L) (e : End) → g ≡ between M → g' ≡ g → n.ended ≡ Some e → solo L trips start M m.store m.input ≡ 1 → n.parked ≡ m.parked → n.waiting ≡ m.waiting → Change m n q g g'
+    ends_main : (M : Main L) (e : End) → g ≡ between M → g' ≡ g → n.ended ≡ Some e → solo L trips start M m.store m.input ≡ 1 → n.parked ≡ m.parked → n.waiting ≡ m.waiting → here M n ≡ here M m → Change m n q g g'
     breaks_off : (l : L) (ι : StoreOf) (past : ℕ → List ℤ) (before : List ℕ) (xs : List (Cell × ℤ)) (M : Main L) (c : Cause) → g ≡ within l ι past before xs M → g' ≡ g
-        → m.held q ≡ Some (iteration m.retired) → m.retired < trips l → after (start l ι m.retired) (past m.retired) ≡ fault c → n.ended ≡ Some (end_of c) → n.parked ≡ m.parked → n.waiting ≡ m.waiting → Change m n q g g'
+        → m.held q ≡ Some (iteration m.retired) → m.retired < trips l → after (start l ι m.retired) (past m.retired) ≡ fault c → n.ended ≡ Some (end_of c) → n.parked ≡ m.parked → n.waiting ≡ m.waiting → n.ticket ≡ m.ticket → Change m n q g g'
 
 module _ (F L : Type 0) (view : F → View F L) (trips : L → ℕ) (begin : L → ℕ → F) (slots : ℕ) (Hidden Fixed : L → Cell → Type 0) (Named : L → ℕ → Type 0) (start : L → StoreOf → ℕ → Process) (Valid : L → Type 0) (p : ℕ) (origin : Here L) (answer : Outcome) (means : (x : Outcome) → meaning L trips start x origin ≡ answer)
     (loops : Loops F L view trips begin Hidden Fixed Named start Valid) where
@@ -213,7 +217,7 @@ module _ (F L : Type 0) (view : F → View F L) (trips : L → ℕ) (begin : L �
           kept = record { loop = W.loop; valid = W.valid; at = W.at; sofar = W.sofar; waits_main = W.waits_main; inv = W.inv; fixed = W.fixed; ticket = W.ticket; fresh = W.fresh; active = W.active; waits = W.waits; printed = λ e. cc };
           final = λ e h. let z : end_of c ≡ e = cc in subst (λ (x : End). Final x (record m { output = m.output ++ a.out; ended = Some (end_of c) }) answer) z (told_final c told);
         };
-        how = breaks_off l ι past before xs M c refl refl (hold ∙ ap (λ x. Some (iteration x)) (sym low_is)) (subst (λ x. x < trips l) (sym low_is) lt) (subst (λ x. after (start l ι x) (past x) ≡ fault c) (sym low_is) eq) refl refl refl;
+        how = breaks_off l ι past before xs M c refl refl (hold ∙ ap (λ x. Some (iteration x)) (sym low_is)) (subst (λ x. x < trips l) (sym low_is) lt) (subst (λ x. after (start l ι x) (past x) ≡ fault c) (sym low_is) eq) refl refl refl refl;
       })
         where
           z : 0 + m.retired ≡ m.retired
@@ -348,7 +352,7 @@ module _ (F L : Type 0) (view : F → View F L) (trips : L → ℕ) (begin : L �
                 };
                 final = λ e h. cc;
               };
-              how = joins l ι past before xs M refl refl hold le refl refl going refl refl;
+              how = joins l ι past before xs M refl refl hold le refl refl going refl refl (ap (λ (d : Outcome). after_loop d xs M (record { main = open_loop l xs M; store = ι; input = m.input; output = before })) back);
             }
 
     -- q picks main, an iteration, or the next ticket
@@ -456,7 +460,7 @@ module _ (F L : Type 0) (view : F → View F L) (trips : L → ℕ) (begin : L �
             kept = record { loop = B.loop; at = st; sofar = (suc (B.sofar).0, ap (λ (h : Here L). next_by L trips start h.main h) (B.sofar).1 ∙ same); waits = B.waits; none = B.none };
             final = λ e h. cc;
           };
-          how = works M M' refl refl hold refl refl going count;
+          how = works M M' refl refl hold refl refl going count same;
         })
 
     main_ends : (M : Main L) (good : G (between M) m) (e : End) → Final e m answer → solo L trips start M m.store m.input ≡ 1 → (n : State F L) → n ≡ record m { ended = Some e } → Out m q (between M) n
@@ -469,7 +473,7 @@ module _ (F L : Type 0) (view : F → View F L) (trips : L → ℕ) (begin : L �
             kept = record { loop = B.loop; at = B.at; sofar = B.sofar; waits = B.waits; none = B.none };
             final = λ x h. let z : e ≡ x = cc in subst (λ y. Final y (record m { ended = Some e }) answer) z (told_again e told);
           };
-          how = ends_main M e refl refl refl last refl refl;
+          how = ends_main M e refl refl refl last refl refl refl;
         })
       where
         told_again : (e : End) → Final e m answer → Final e (record m { ended = Some e }) answer

@@ -29,7 +29,7 @@ use Rattle.plan_check.specs.GoodPlan.{GoodPlan, Names, SameBody, made_bare, made
 use Rattle.plan_check.proofs.Members.{In}
 use Rattle.codegen.proofs.OnePlace.{one_place}
 use Rattle.codegen.proofs.LoopNumbers.{matches}
-use Rattle.codegen.proofs.OpenedProgram.{Facts, it_ends, it_is_as_alone, it_is_bounded, it_is_carried, may, the_headline}
+use Rattle.codegen.proofs.OpenedProgram.{Facts, it_ends, it_is_as_alone, it_is_bounded, it_is_carried, it_is_on_the_way, may, the_headline}
 use Rattle.codegen.proofs.GivenPaths.{good_paths}
 use Rattle.codegen.proofs.RangeLayout.{entry, few_loops, few_records, ranges}
 use Rattle.codegen.proofs.GoodLoops.{GoodLoop}
@@ -39,6 +39,7 @@ use Rattle.codegen.proofs.RangeRoom.{plan_loops, plan_room}
 use Rattle.codegen.proofs.RangeSegments.{ArmsBare, Bare}
 use Rattle.codegen.proofs.Opening.{agrees, may_if}
 use Rattle.codegen.specs.Program.{IsCodeOf, Planned, range_places}
+use Rattle.codegen.specs.OnTheWay.{AreOnTheWay}
 use Rattle.codegen.specs.States.{AreAsAlone}
 
 -- What is known of a loop that is opened: its plan is good and is the loop's body; the loop is one
@@ -190,6 +191,10 @@ module _ (t : ProgramTree) (xs : List Planned) (some : Planned) (code : Code) (w
 
   pub carried : Carried code t
   carried input = it_is_carried t xs some code w named facts input
+
+  -- every loop is opened where the meaning opens it, and its iterations begin as its turns do
+  pub way : AreOnTheWay t code xs
+  way = it_is_on_the_way t xs some code w named facts
 
   -- every state of every run is as those of the run alone
   pub states : AreAsAlone t code xs

@@ -6,6 +6,7 @@ pub mod Emitted
 pub mod Headline
 pub mod Made
 pub mod Noted
+pub mod OnTheWay
 pub mod OpenedView
 pub mod Plain
 pub mod PlanParts
@@ -16,3 +17,4 @@ pub mod Records
 pub mod Reports
 pub mod Room
 pub mod States
+pub mod Turns

@@ -14,6 +14,6 @@ mod skips;
 mod statements;
 
 pub use ast::Refusal as CompileRefusal;
-pub use laws::one_code;
+pub use laws::{one_code, turns};
 pub use programs::{Compiled, compile};
 pub use reports::LoopReport;

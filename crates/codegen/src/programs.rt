@@ -9,7 +9,7 @@ ghost use Rattle.codegen.specs.Headline.{Bounded, Carried, Ends, Headline};
 ghost use Rattle.codegen.specs.Made.{all_made, made_of, main_made};
 ghost use Rattle.codegen.specs.OpenedView.{opens_in};
 ghost use Rattle.codegen.specs.Program.{IsCodeOf, IsCompiled, Refuses, RefusesWith, most_symbols};
-ghost use Rattle.codegen.specs.Promises.{AwaitsAreKept, IsOpened, StatesAreAlone};
+ghost use Rattle.codegen.specs.Promises.{AwaitsAreKept, IsOpened, StatesAreAlone, StoresAreMeant};
 ghost use Rattle.codegen.specs.Reports.{Reports, planned_in};
 ghost use Rattle.expr_code.specs.Computes.{variables_for, variables_in};
 ghost use Rattle.loop_tree.specs.TreeView.{loops_seen};
@@ -178,6 +178,7 @@ pub fn compile(alloc: Global, program: &Program) -> Result<Compiled, Refusal>
     ensures bounded { IfOk result (λ c. Bounded (code_of c.code) (program_of program.now)) }
     ensures carried { IfOk result (λ c. Carried (code_of c.code) (program_of program.now)) }
     ensures states { IfOk result (λ c. StatesAreAlone (program_of program.now) c) }
+    ensures on_the_way { IfOk result (λ c. StoresAreMeant (program_of program.now) c) }
     ensures awaits { IfOk result (λ c. AwaitsAreKept (program_of program.now) c) }
     ensures reports { IfOk result (λ c. Reports (program_of program.now) c.reports.items) }
     ensures refused { IfErr result (Refuses (program_of program.now)) }

@@ -8,7 +8,7 @@ use Rattle.machine.specs.CodeView.{code_of}
 use Rattle.codegen.specs.Noted.{AreNested}
 use Rattle.codegen.specs.Program.{Refuses, RefusesWith}
 use Rattle.codegen.specs.Reports.{opened_of, planned_in}
-use Rattle.codegen.proofs.Compiling.{are_told, awaits_law, bounded_law, carried_law, ends_law, headline_law, made, opened_law, refused_law, states_law}
+use Rattle.codegen.proofs.Compiling.{are_told, awaits_law, bounded_law, carried_law, ends_law, headline_law, made, opened_law, refused_law, states_law, way_law}
 use Rattle.codegen.proofs.Nested.{are_nested}
 use Rattle.codegen.proofs.OpenedReports.{are_opened, as_many}
 use Rattle.codegen.proofs.programs.compile.Goals as goal
@@ -74,6 +74,11 @@ pub returns-clause-states : goal.returns-clause-states
 returns-clause-states c =
     let is = made c.args.program.now (loops_seen c.in_ok-tree.tree) (lines_seen c.in_ok-tree.tree) c.in_ok-reports.reports.items c.deref.result.now (code_of c.in_ok-code.code) c.in_ok-tree.ensures.all c.in_ok-tree.ensures.lines c.in_ok-reports.ensures c.deref.ensures.value c.in_ok-code.ensures.code in
     states_law c.args.program.now c.in_ok-reports.reports.items (code_of c.in_ok-code.code) is
+
+pub returns-clause-on_the_way : goal.returns-clause-on_the_way
+returns-clause-on_the_way c =
+    let is = made c.args.program.now (loops_seen c.in_ok-tree.tree) (lines_seen c.in_ok-tree.tree) c.in_ok-reports.reports.items c.deref.result.now (code_of c.in_ok-code.code) c.in_ok-tree.ensures.all c.in_ok-tree.ensures.lines c.in_ok-reports.ensures c.deref.ensures.value c.in_ok-code.ensures.code in
+    way_law c.args.program.now c.in_ok-reports.reports.items (code_of c.in_ok-code.code) is
 
 pub returns-clause-awaits : goal.returns-clause-awaits
 returns-clause-awaits c =
