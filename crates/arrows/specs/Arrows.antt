@@ -1,7 +1,8 @@
 -- The arrows of a loop's picture: these and no others.
-use Rattle.std.specs.Prelude.{◌==◌, ◌%◌, ◌+◌, ◌*◌, ◌-◌, ℕ, suc, zero, nat_le, if◌then◌else◌, codes, decimal, List, [], ◌∷◌, ◌++◌, length, Option, Some, None, Vec}
+use Rattle.std.specs.Prelude.{◌==◌, ◌&&◌, ◌%◌, ◌+◌, ◌*◌, ◌-◌, ℕ, suc, zero, nat_le, if◌then◌else◌, codes, decimal, List, [], ◌∷◌, ◌++◌, length, Option, Some, None, Vec, option_map}
 use Rattle.std.specs.Global.{Global}
 use Rattle.arrows.specs.Markup.{curve}
+use Rattle.arrows.specs.declared.picture.Advance.{Advance}
 use Rattle.arrows.specs.declared.picture.Arrow.{Arrow}
 use Rattle.arrows.specs.declared.picture.LoopPicture.{LoopPicture}
 use Rattle.arrows.specs.declared.picture.Row.{Row}
@@ -36,9 +37,16 @@ between (Some source) (Some sink) = Some (record { source = source; sink = sink 
 between (Some source) None = None
 between None sink = None
 
--- the rows of a dependence's lines, where both have one
-abbrev pub ends_of : List Row → Arrow → Option Ends
-ends_of rows a = between (row_from 0 rows a.source_line) (row_from 0 rows a.sink_line)
+-- the first row from that of an event's source on behind which the event is advanced; that of the
+-- source where there is none
+abbrev pub leaving : List Advance → (event source : ℕ) → ℕ
+leaving [] event source = source
+leaving (a ∷ advances) event source = if a.event == event && nat_le source a.row then a.row else leaving advances event source
+
+-- between the row where the event is advanced and the one that stands behind
+abbrev pub ends_of : List Row → List Advance → Arrow → Option Ends
+ends_of rows advances a =
+    between (option_map (leaving advances a.event) (row_from 0 rows a.source_line)) (row_from 0 rows a.sink_line)
 
 -- from the last row of an iteration to the first one of the next
 abbrev pub in_turn : List Row → Ends
@@ -98,12 +106,12 @@ abbrev pub head : Arrow → List ℕ
 head a = ((hued a ++ lines a) ++ span a) ++ codes "</title>"
 
 -- a dependence with its arrows
-abbrev pub group : ℕ → List Row → Arrow → List ℕ
-group columns rows a = head a ++ strokes_of columns a.distance (ends_of rows a) ++ codes "</g>\n"
+abbrev pub group : ℕ → List Row → List Advance → Arrow → List ℕ
+group columns rows advances a = head a ++ strokes_of columns a.distance (ends_of rows advances a) ++ codes "</g>\n"
 
-abbrev pub groups : ℕ → List Row → List Arrow → List ℕ
-groups columns rows [] = []
-groups columns rows (a ∷ others) = group columns rows a ++ groups columns rows others
+abbrev pub groups : ℕ → List Row → List Advance → List Arrow → List ℕ
+groups columns rows advances [] = []
+groups columns rows advances (a ∷ others) = group columns rows advances a ++ groups columns rows advances others
 
 -- each iteration comes behind the one before
 abbrev pub one_by_one : ℕ → List Row → List ℕ
@@ -121,4 +129,4 @@ order p = order_if p.serial (one_by_one p.columns p.rows.items)
 
 -- all arrows of a loop's picture: those of the order, where it is serial, and then each group
 abbrev pub arrows : LoopPicture → List ℕ
-arrows p = order p ++ groups p.columns p.rows.items p.arrows.items
+arrows p = order p ++ groups p.columns p.rows.items p.advances.items p.arrows.items

@@ -1,3 +1,4 @@
 pub mod Arrows
 pub mod Escaped
 pub mod Markup
+pub mod Vectors

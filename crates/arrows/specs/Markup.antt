@@ -57,13 +57,13 @@ abbrev pub center : Point → List ℕ
 center p = attribute (codes " cx=\"") p.x ++ attribute (codes " cy=\"") p.y
 
 abbrev pub circle : Point → List ℕ
-circle p = codes "<circle r=\"7\"" ++ center p ++ codes "/>"
+circle p = codes "<circle r=\"9\"" ++ center p ++ codes "/>"
 
 abbrev pub inner : ℕ → List ℕ
 inner n = codes ">" ++ decimal n ++ codes "</text></g>\n"
 
 abbrev pub number_in : Point → ℕ → List ℕ
-number_in p n = codes "<text class=\"number\" dy=\"3\"" ++ at_point p ++ inner n
+number_in p n = codes "<text class=\"number\" dy=\"4\"" ++ at_point p ++ inner n
 
 -- a disc around a point, with a number in it and a title
 abbrev pub disc : Class → Point → ℕ → List ℕ → List ℕ

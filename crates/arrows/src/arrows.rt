@@ -4,21 +4,21 @@ ghost use Rattle.std.specs.Prelude.{◌≡◌, ◌+◌, ◌++◌, ◌-◌, ◌<�
 ghost use Rattle.arrows.specs.Arrows as spec;
 ghost use Rattle.arrows.specs.Markup as markup;
 
-use crate::picture::{Arrow, LoopPicture, Row};
+use crate::picture::{Advance, Arrow, LoopPicture, Row};
 use crate::places::{Ends, Place, exit, row_of, tip};
 use crate::style::hue;
 use crate::svg::{Point, append_number};
 use std::alloc::{AllocError, Global};
 
 /// How many of so many iterations have one so far behind them among them.
-fn starts(columns: u64, distance: u128) -> u64
+pub fn starts(columns: u64, distance: u128) -> u64
     ensures { result ≡ columns - distance }
 {
     let left = u128::from(columns).saturating_sub(distance);
     u64::try_from(left).unwrap_or(0)
 }
 
-fn append_point(out: &mut Vec<u8>, point: Point) -> Result<(), AllocError>
+pub fn append_point(out: &mut Vec<u8>, point: Point) -> Result<(), AllocError>
     ensures { OnOk result (out.new.items ≡ out.old.items ++ markup.point point) }
 {
     out.extend_from_slice(b" ")?;
@@ -110,14 +110,31 @@ fn strokes(alloc: Global, ends: Ends, distance: u128, columns: u64) -> Result<Ve
     Ok(out)
 }
 
-/// The rows of a dependence's lines, where both have one.
-fn ends_of(rows: &[Row<'_>], arrow: &Arrow) -> Option<Ends>
-    ensures { result ≡ spec.ends_of rows.now arrow.now }
+/// The first row of these, from that of an event's source on, behind which the event is advanced;
+/// that of the source where there is none.
+fn leaving(advances: &[Advance], event: usize, source: usize) -> usize
+    ensures { result ≡ spec.leaving advances.now event source }
+{
+    for advance in advances {
+        if advance.event == event && source <= advance.row {
+            return advance.row;
+        }
+    }
+    source
+}
+
+/// The rows of a dependence: where its event is advanced, and that of its sink's line, where both
+/// its lines have one.
+fn ends_of(rows: &[Row<'_>], advances: &[Advance], arrow: &Arrow) -> Option<Ends>
+    ensures { result ≡ spec.ends_of rows.now advances.now arrow.now }
 {
     let source = row_of(rows, arrow.source_line);
     let sink = row_of(rows, arrow.sink_line);
     match (source, sink) {
-        (Some(source), Some(sink)) => Some(Ends { source, sink }),
+        (Some(source), Some(sink)) => Some(Ends {
+            source: leaving(advances, arrow.event, source),
+            sink,
+        }),
         _ => None,
     }
 }
@@ -130,7 +147,7 @@ fn ends_of(rows: &[Row<'_>], arrow: &Arrow) -> Option<Ends>
 pub fn sinks(alloc: Global, picture: &LoopPicture<'_>) -> Result<Vec<Option<usize>>, AllocError> {
     let mut sinks = Vec::with_capacity(alloc, picture.arrows.len())?;
     for arrow in &picture.arrows {
-        sinks.push(ends_of(&picture.rows, arrow).map(|ends| ends.sink))?;
+        sinks.push(ends_of(&picture.rows, &picture.advances, arrow).map(|ends| ends.sink))?;
     }
     Ok(sinks)
 }
@@ -139,13 +156,14 @@ pub fn sinks(alloc: Global, picture: &LoopPicture<'_>) -> Result<Vec<Option<usiz
 fn strokes_of(
     alloc: Global,
     rows: &[Row<'_>],
+    advances: &[Advance],
     arrow: &Arrow,
     columns: u64,
 ) -> Result<Vec<u8>, AllocError>
-    ensures { IfOk result (λ text. text.items
-        ≡ spec.strokes_of columns arrow.now.distance (spec.ends_of rows.now arrow.now)) }
+    ensures { IfOk result (λ text. text.items ≡ spec.strokes_of columns arrow.now.distance
+        (spec.ends_of rows.now advances.now arrow.now)) }
 {
-    match ends_of(rows, arrow) {
+    match ends_of(rows, advances, arrow) {
         Some(ends) => strokes(alloc, ends, arrow.distance, columns),
         None => Ok(Vec::new(alloc)),
     }
@@ -195,14 +213,16 @@ fn append_head(out: &mut Vec<u8>, arrow: &Arrow) -> Result<(), AllocError>
 fn group(
     alloc: Global,
     rows: &[Row<'_>],
+    advances: &[Advance],
     arrow: &Arrow,
     columns: u64,
 ) -> Result<Vec<u8>, AllocError>
-    ensures { IfOk result (λ text. text.items ≡ spec.group columns rows.now arrow.now) }
+    ensures { IfOk result (λ text. text.items
+        ≡ spec.group columns rows.now advances.now arrow.now) }
 {
     let mut out = Vec::new(alloc);
     append_head(&mut out, arrow)?;
-    let strokes = strokes_of(alloc, rows, arrow, columns)?;
+    let strokes = strokes_of(alloc, rows, advances, arrow, columns)?;
     out.extend_from_slice(&strokes)?;
     out.extend_from_slice(b"</g>\n")?;
     Ok(out)
@@ -212,14 +232,16 @@ fn group(
 fn groups(
     alloc: Global,
     rows: &[Row<'_>],
+    advances: &[Advance],
     arrows: &[Arrow],
     columns: u64,
 ) -> Result<Vec<u8>, AllocError>
-    ensures { IfOk result (λ text. text.items ≡ spec.groups columns rows.now arrows.now) }
+    ensures { IfOk result (λ text. text.items
+        ≡ spec.groups columns rows.now advances.now arrows.now) }
 {
     let mut out = Vec::new(alloc);
     for arrow in arrows {
-        let group = group(alloc, rows, arrow, columns)?;
+        let group = group(alloc, rows, advances, arrow, columns)?;
         out.extend_from_slice(&group)?;
     }
     Ok(out)
@@ -266,7 +288,14 @@ pub fn arrows_of(alloc: Global, picture: &LoopPicture<'_>) -> Result<Vec<u8>, Al
     ensures { IfOk result (λ text. text.items ≡ spec.arrows picture.now) }
 {
     let mut out = order_of(alloc, picture)?;
-    let groups = groups(alloc, &picture.rows, &picture.arrows, picture.columns)?;
+    let LoopPicture {
+        rows,
+        advances,
+        arrows,
+        columns,
+        ..
+    } = picture;
+    let groups = groups(alloc, rows, advances, arrows, *columns)?;
     out.extend_from_slice(&groups)?;
     Ok(out)
 }

@@ -9,12 +9,14 @@ mod picture;
 mod places;
 mod style;
 mod svg;
+mod vectors;
 
-pub use arrows::{arrows_of, sinks};
+pub use arrows::{append_point, arrows_of, sinks};
 pub use mark::{Class, Mark};
-pub use picture::{Advance, Arrow, Counted, Look, LoopPicture, Row, Statement};
+pub use picture::{Advance, Arrow, Counted, Look, LoopPicture, Row, Space, Statement, Vector};
 pub use places::{BOX, Place, bottom, corner, entry, exit, place_in, width};
 pub use style::{SHEET, hue};
 pub use svg::{
     Point, Size, append_class, append_marks, append_number, append_tile, append_words, opening,
 };
+pub use vectors::{Grid, Spot, append_pair, grid_of, middle, vectors_of};

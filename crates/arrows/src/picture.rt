@@ -77,6 +77,34 @@ pub struct Advance {
     pub row: usize,
 }
 
+/// How far it is from an iteration of a loop and of the one inside it to another that needs it.
+#[derive(Clone, Copy)]
+pub struct Vector {
+    /// Over how many iterations of the outer loop it goes.
+    pub over: u128,
+    /// How many iterations of the inner loop later it comes, or how many earlier; one of both is 0.
+    pub down: u128,
+    pub up: u128,
+    /// The lines of its first source and of that one's sink.
+    pub source_line: Line,
+    pub sink_line: Line,
+    /// The name by which both are dependent.
+    pub name: Name,
+}
+
+/// The iterations of a loop and of the one inside it.
+#[derive(Drop)]
+pub struct Space {
+    /// The variables of both loops.
+    pub outer: Name,
+    pub inner: Name,
+    /// How many iterations of the inner loop are drawn.
+    pub rows: u64,
+    pub vectors: Vec<Vector>,
+    /// The names of which distances aren't known.
+    pub unknown: Vec<Name>,
+}
+
 /// What there is to draw of a loop.
 #[derive(Drop)]
 pub struct LoopPicture<'a> {
@@ -101,4 +129,6 @@ pub struct LoopPicture<'a> {
     pub columns: u64,
     /// How many the loop has, where that is known.
     pub trips: Option<u128>,
+    /// Its iterations and those of the loop inside it, if there is just one.
+    pub space: Option<Space>,
 }

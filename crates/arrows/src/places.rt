@@ -8,24 +8,24 @@ use crate::svg::{Point, Size};
 use ast::Line;
 
 /// Where the rows begin.
-const TOP: u128 = 112;
+pub const TOP: u128 = 112;
 /// Where the middle of the first row is.
-const MIDDLE: u128 = 121;
+const MIDDLE: u128 = 123;
 /// How far two rows are apart.
-const PITCH: u128 = 32;
+pub const PITCH: u128 = 40;
 /// Where the first iteration begins.
-const LEFT: u128 = 372;
+pub const LEFT: u128 = 372;
 /// How far two iterations are apart.
-const STEP: u128 = 104;
+pub const STEP: u128 = 112;
 /// How wide a statement's box is.
-const ACROSS: u128 = 56;
+const ACROSS: u128 = 64;
 /// How long the tip of an arrow is.
-const TIP: u128 = 13;
+const TIP: u128 = 16;
 
 /// How wide and how high a statement's box is.
 pub const BOX: Size = Size {
     width: ACROSS,
-    height: 18,
+    height: 22,
 };
 
 /// A place of a picture: the box of a row in an iteration; both are counted from 0.
@@ -77,7 +77,7 @@ pub fn entry(place: Place) -> Point {
     let Point { x, y } = corner(place);
     Point {
         x,
-        y: y.saturating_add(9),
+        y: y.saturating_add(11),
     }
 }
 

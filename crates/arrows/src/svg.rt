@@ -178,7 +178,7 @@ fn append_center(out: &mut Vec<u8>, at: Point) -> Result<(), AllocError>
 fn append_circle(out: &mut Vec<u8>, at: Point) -> Result<(), AllocError>
     ensures { OnOk result (out.new.items ≡ out.old.items ++ spec.circle at) }
 {
-    out.extend_from_slice(b"<circle r=\"7\"")?;
+    out.extend_from_slice(b"<circle r=\"9\"")?;
     append_center(out, at)?;
     out.extend_from_slice(b"/>")
 }
@@ -194,7 +194,7 @@ fn append_inner(out: &mut Vec<u8>, number: usize) -> Result<(), AllocError>
 fn append_number_in(out: &mut Vec<u8>, at: Point, number: usize) -> Result<(), AllocError>
     ensures { OnOk result (out.new.items ≡ out.old.items ++ spec.number_in at number) }
 {
-    out.extend_from_slice(b"<text class=\"number\" dy=\"3\"")?;
+    out.extend_from_slice(b"<text class=\"number\" dy=\"4\"")?;
     append_at(out, at)?;
     append_inner(out, number)
 }

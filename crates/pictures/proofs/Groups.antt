@@ -3,6 +3,7 @@ use Rattle.std.proofs.Common.{◌≡◌, ◌∙◌, ◌+◌, ◌<◌, ◌++◌, 
 use Rattle.std.proofs.lemmas.List.{append-nil, append_assoc, length-take-le, take_more}
 use Rattle.arrows.specs.Arrows.{arrows}
 use Rattle.arrows.specs.Markup.{marks, opening, words}
+use Rattle.arrows.specs.Vectors.{vectors}
 use Rattle.arrows.specs.declared.mark.Class.{Class}
 use Rattle.arrows.specs.declared.mark.Mark.{Mark}
 use Rattle.arrows.specs.declared.picture.LoopPicture.{LoopPicture}
@@ -14,7 +15,7 @@ use Rattle.pictures.specs.declared.gathering.Lane.{Lane}
 
 -- a whole picture of a loop
 pub drawn : (p : LoopPicture) (size : Size) (sheet : List ℕ) (front back : List Mark) (first shown body text : List ℕ)
-    → first ≡ opening size sheet → shown ≡ arrows p → body ≡ first ++ (marks front ++ shown ++ marks back) → text ≡ body ++ codes "</svg>\n" → IsDrawn p text
+    → first ≡ opening size sheet → shown ≡ arrows p ++ vectors p → body ≡ first ++ (marks front ++ shown ++ marks back) → text ≡ body ++ codes "</svg>\n" → IsDrawn p text
 drawn p size sheet front back first shown body text opens has holds ends = record {
   size = size;
   sheet = sheet;

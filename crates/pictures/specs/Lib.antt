@@ -3,3 +3,4 @@ pub mod Drawn
 pub mod Looks
 pub mod Runs
 pub mod Sketches
+pub mod Times

@@ -2,13 +2,16 @@
 
 ghost use Rattle.std.specs.Prelude.{◌≡◌, ◌++◌, IfOk, OnOk};
 ghost use Rattle.arrows.specs.Markup as markup;
+ghost use Rattle.arrows.specs.Vectors.{vectors};
+ghost use Rattle.arrows.specs.Arrows.{arrows as arrows_in};
 ghost use Rattle.pictures.specs.Drawn.{IsDrawn};
 
 use crate::legend::{add_legend, height};
 use crate::marks::{add_advances, add_awaits};
+use crate::points::add_space;
 use arrows::{
     BOX, Class, Counted, Look, LoopPicture, Mark, Place, Point, Row, SHEET, Size, Statement,
-    append_marks, arrows_of, corner, exit, opening, place_in, sinks, width,
+    append_marks, arrows_of, corner, exit, opening, place_in, sinks, vectors_of, width,
 };
 use ast::{Line, Name};
 use std::alloc::{AllocError, Global};
@@ -121,7 +124,7 @@ fn add_around(
     let inner = Point { x: 38, y: 74 };
     add_statement(alloc, marks, b"code", inner, &picture.head, SHOWN)?;
     let at = corner(place_in(0, 0));
-    let corner = Point { x: at.x, y: 39 };
+    let corner = Point { x: at.x, y: 37 };
     let size = Size {
         width: across(picture.columns),
         height: BOX.height,
@@ -206,7 +209,7 @@ fn add_label(
     number: usize,
     row: &Row<'_>,
 ) -> Result<(), AllocError> {
-    let y = corner(place_in(0, number)).y.saturating_add(13);
+    let y = corner(place_in(0, number)).y.saturating_add(15);
     if row.look.is_in_source() {
         add_line(alloc, marks, Point { x: 44, y }, row.line)?;
     }
@@ -241,7 +244,7 @@ fn add_numbers(
     let Point { x, y } = corner(place);
     let at = Point {
         x: x.saturating_add(BOX.width.wrapping_div(2)),
-        y: y.saturating_add(13),
+        y: y.saturating_add(15),
     };
     add_words(alloc, marks, b"count", at, numbers.as_bytes())
 }
@@ -279,7 +282,7 @@ fn add_boxes(
     has: bool,
 ) -> Result<(), AllocError> {
     for (number, row) in rows.iter().enumerate() {
-        let title = title_of(alloc, row, column.saturating_add(1))?;
+        let title = title_of(alloc, row, column)?;
         let class = box_class(row.look, has);
         marks.push(Mark::Tile(class, corner(place_in(column, number)), BOX, title))?;
         add_numbers(alloc, marks, row, place_in(column, number))?;
@@ -288,7 +291,7 @@ fn add_boxes(
 }
 
 /// Whether the loop has an iteration behind so many, as far as that is known.
-fn has_iteration(picture: &LoopPicture<'_>, column: u64) -> bool {
+pub fn has_iteration(picture: &LoopPicture<'_>, column: u64) -> bool {
     match picture.trips {
         Some(trips) => u128::from(column) < trips,
         None => true,
@@ -324,7 +327,7 @@ fn add_column(
         y: head.y.saturating_sub(14),
     };
     let has = has_iteration(picture, column);
-    add_above(alloc, marks, at, column.saturating_add(1), has)?;
+    add_above(alloc, marks, at, column, has)?;
     add_boxes(alloc, marks, &picture.rows, column, has)
 }
 
@@ -348,8 +351,21 @@ fn back(alloc: Global, picture: &LoopPicture<'_>) -> Result<Vec<Mark>, AllocErro
         add_awaits(alloc, &mut marks, &picture.arrows, &sinks, column)?;
         add_advances(alloc, &mut marks, &picture.advances, column)?;
     }
+    if let Some(space) = &picture.space {
+        add_space(alloc, &mut marks, picture, space)?;
+    }
     add_legend(alloc, &mut marks, picture)?;
     Ok(marks)
+}
+
+/// The arrows of a loop's picture, and behind them the vectors of its space.
+fn lines(alloc: Global, picture: &LoopPicture<'_>) -> Result<Vec<u8>, AllocError>
+    ensures { IfOk result (λ text. text.items ≡ arrows_in picture.now ++ vectors picture.now) }
+{
+    let mut text = arrows_of(alloc, picture)?;
+    let vectors = vectors_of(alloc, picture)?;
+    text.extend_from_slice(&vectors)?;
+    Ok(text)
 }
 
 /// How wide and how high the picture of a loop is.
@@ -384,7 +400,7 @@ pub fn draw(alloc: Global, picture: &LoopPicture<'_>) -> Result<Vec<u8>, AllocEr
     ensures { IfOk result (λ text. IsDrawn picture.now text.items) }
 {
     let front = front(alloc, picture)?;
-    let arrows = arrows_of(alloc, picture)?;
+    let arrows = lines(alloc, picture)?;
     let back = back(alloc, picture)?;
     let mut text = opening(alloc, size(picture), SHEET)?;
     append_body(&mut text, &front, &arrows, &back)?;

@@ -1,8 +1,10 @@
 //! What the processors of a run did, gathered into as many columns as a picture may have.
 
-ghost use Rattle.std.specs.Prelude.{◌≡◌, ◌<◌, IfOk, replicate};
+ghost use Rattle.std.specs.Prelude.{◌≡◌, ◌<◌, IfOk, OnOk, replicate};
 ghost use Rattle.pictures.specs.Runs as spec;
 
+use crate::clocks::{Clocks, Duty};
+use crate::wakes::{Moment, Wakes};
 use std::alloc::{AllocError, Global};
 
 /// How many columns there are at most.
@@ -33,7 +35,7 @@ pub enum Came {
 }
 
 /// What an iteration waits for that was parked at an await.
-#[derive(Clone, Copy)]
+#[derive(Clone, Copy, PartialEq, Eq)]
 pub struct Awaited {
     pub event: u32,
     /// The number of the iteration that is to advance the event.
@@ -47,49 +49,65 @@ pub struct Turn {
     pub processor: usize,
     /// How many steps it made, 1 to 1,024.
     pub steps: u64,
+    /// Whether they touched what processors share.
+    pub shared: bool,
     /// What it held before.
     pub before: Option<Held>,
     /// What it held after.
     pub after: Option<Held>,
     pub came: Came,
+    /// The event that it advanced, if it did.
+    pub advanced: Option<u32>,
     /// What it awaits, where that was why what it held was parked.
     pub awaited: Option<Awaited>,
     /// How many iterations were open after.
     pub open: u64,
 }
 
-/// What a processor did in the entries of a column.
+/// What a processor does in a column.
+#[derive(Clone, Copy, PartialEq, Eq)]
+pub enum Deed {
+    /// It has nothing to do.
+    Nothing,
+    Works(Held),
+    /// It works on one activity after another.
+    Several,
+    /// It has nothing to do while what it held waits, for this event if it stands at an await.
+    Waits(Held, Option<Awaited>),
+}
+
+/// What a processor did in a column.
 #[derive(Clone, Copy)]
 pub struct Cell {
-    /// Whether an entry of the column is its.
-    pub seen: bool,
-    /// What it held last.
-    pub held: Option<Held>,
-    /// What it held after its last entry there.
-    pub after: Option<Held>,
-    /// Whether it held several activities.
-    pub several: bool,
+    /// What it worked on in entries, if it made any.
+    pub deed: Option<Deed>,
+    /// What it does from the last of them on.
+    pub rest: Deed,
     /// How often something was advanced, parked and retired, and whether the run ended.
     pub advanced: u64,
     pub parked: u64,
     pub retired: u64,
     pub ended: u64,
-    /// What was awaited by the one that was parked last, if it was at an await.
-    pub awaited: Option<Awaited>,
 }
 
 /// In which nothing was done.
 const EMPTY: Cell = Cell {
-    seen: false,
-    held: None,
-    after: None,
-    several: false,
+    deed: None,
+    rest: Deed::Nothing,
     advanced: 0,
     parked: 0,
     retired: 0,
     ended: 0,
-    awaited: None,
 };
+
+/// How many iterations were open in a column.
+#[derive(Clone, Copy)]
+pub struct Level {
+    /// At most.
+    pub most: u64,
+    /// At its end.
+    pub last: u64,
+}
 
 /// What a processor did in the whole run.
 #[derive(Clone, Copy)]
@@ -99,11 +117,11 @@ pub struct Lane {
     pub parked: u64,
 }
 
-/// What the processors of a run did, by columns of its entries.
+/// What the processors of a run did, by columns of its time.
 #[derive(Drop)]
 pub struct Gathered {
-    /// How many entries there are.
-    pub entries: u64,
+    /// How many units of time it takes.
+    pub units: u64,
     /// How many columns they are gathered into.
     pub columns: u64,
     /// How many iterations may be open.
@@ -111,19 +129,21 @@ pub struct Gathered {
     pub lanes: Vec<Lane>,
     /// Those of the first processor, then those of the next, each by column.
     pub cells: Vec<Cell>,
-    /// How many iterations were open at most, by column.
-    pub open: Vec<u64>,
+    /// How many iterations were open, by column, where that may have changed.
+    pub open: Vec<Option<Level>>,
     /// How many entries were noted.
     pub noted: u64,
     /// How often what was held was parked at an await.
     pub awaits: u64,
+    pub wakes: Wakes,
+    clocks: Clocks,
 }
 
-/// How many columns so many entries have, which so many processors made: one for each entry, as far
-/// as there are not too many.
-fn columns(entries: u64, busy: u64) -> u64 {
+/// How many columns so many units have, in which so many processors are busy: one for each unit, as
+/// far as there are not too many.
+fn columns(units: u64, busy: u64) -> u64 {
     let room = CELLS.checked_div(busy).unwrap_or(CELLS);
-    entries.min(MOST).min(room).max(1)
+    units.min(MOST).min(room).max(1)
 }
 
 /// What a processor did that has done nothing.
@@ -182,14 +202,14 @@ fn count(lanes: &mut [Lane], turn: Turn)
 }
 
 impl Gathered {
-    /// Nothing yet, of a run of so many entries; of its processors so many are busy.
+    /// Nothing yet, of a run of so many units of time; of its processors so many are busy.
     ///
     /// # Errors
     ///
     /// `AllocError` where memory is refused.
     pub fn new(
         alloc: Global,
-        entries: u64,
+        units: u64,
         processors: usize,
         busy: u64,
         slots: u64,
@@ -197,26 +217,30 @@ impl Gathered {
         ensures lanes { IfOk result
             (λ gathered. gathered.lanes.items ≡ replicate processors spec.nothing) }
     {
-        let columns = columns(entries, busy);
+        let columns = columns(units, busy);
         let lanes = no_lanes(alloc, processors)?;
         let cells = no_cells(alloc, columns.saturating_mul(processors as u64))?;
         Ok(Gathered {
-            entries,
+            units,
             columns,
             slots,
             lanes,
             cells,
-            open: vec![in alloc; 0; columns as usize]?,
+            open: vec![in alloc; None; columns as usize]?,
             noted: 0,
             awaits: 0,
+            wakes: Wakes::new(alloc),
+            clocks: Clocks::new(alloc, processors)?,
         })
     }
 
-    /// The column of the next entry.
-    fn column(&self) -> u64 {
-        let place = u128::from(self.noted).saturating_mul(u128::from(self.columns));
-        let column = place.checked_div(u128::from(self.entries)).unwrap_or(0);
-        u64::try_from(column).unwrap_or(0)
+    /// The column of a unit of time.
+    pub fn column(&self, unit: u64) -> u64 {
+        let place = u128::from(unit).saturating_mul(u128::from(self.columns));
+        let column = place.checked_div(u128::from(self.units)).unwrap_or(0);
+        u64::try_from(column)
+            .unwrap_or(0)
+            .min(self.columns.saturating_sub(1))
     }
 
     /// The cell of a processor in a column.
@@ -234,23 +258,68 @@ impl Gathered {
         made
     }
 
-    /// Notes the next entry.
-    pub fn note(&mut self, turn: Turn)
-        ensures lanes { self.new.lanes.items ≡ spec.with_turn turn self.old.lanes.items }
+    /// Notes how many iterations are open from a column on, behind an entry that may change that.
+    fn note_open(&mut self, turn: &Turn, column: u64)
+        ensures { self.new.lanes ≡ self.old.lanes }
     {
-        let column = self.column();
+        let open = turn.open;
+        if !turn.shared {
+            return;
+        }
+        if let Some(level) = self.open.get_mut(column as usize) {
+            *level = Some(Level {
+                most: level.map_or(open, |level| level.most.max(open)),
+                last: open,
+            });
+        }
+    }
+
+    /// Notes an entry in the cells of its processor, from a column to the one in which it ends.
+    fn note_cells(&mut self, turn: &Turn, first: u64, last: u64)
+        ensures { self.new.lanes ≡ self.old.lanes }
+    {
+        for column in first..=last {
+            let place = place(self.columns, turn.processor, column);
+            if let Some(cell) = self.cells.get_mut(place) {
+                *cell = grown(*cell, turn, column == last);
+            }
+        }
+    }
+
+    /// Notes the next entry.
+    ///
+    /// # Errors
+    ///
+    /// `AllocError` where memory is refused.
+    pub fn note(&mut self, turn: Turn) -> Result<(), AllocError>
+        ensures lanes { OnOk result
+            (self.new.lanes.items ≡ spec.with_turn turn self.old.lanes.items) }
+    {
         count(&mut self.lanes, turn);
-        if let Some(open) = self.open.get_mut(column as usize) {
-            *open = (*open).max(turn.open);
-        }
-        let place = place(self.columns, turn.processor, column);
-        if let Some(cell) = self.cells.get_mut(place) {
-            *cell = grown(*cell, turn);
-        }
+        let unit = self.clocks.make(duty_of(&turn));
+        let moment = Moment {
+            processor: turn.processor,
+            unit,
+        };
+        self.wakes.note(&turn, moment)?;
+        let first = self.column(unit);
+        let last = self.column(unit.saturating_add(turn.steps).saturating_sub(1));
+        self.note_cells(&turn, first, last);
+        self.note_open(&turn, first);
         self.noted = self.noted.saturating_add(1);
         self.awaits = self
             .awaits
             .saturating_add(u64::from(turn.awaited.is_some()));
+        Ok(())
+    }
+}
+
+/// What an entry takes.
+fn duty_of(turn: &Turn) -> Duty {
+    Duty {
+        processor: turn.processor,
+        steps: turn.steps,
+        shared: turn.shared,
     }
 }
 
@@ -261,33 +330,43 @@ fn place(columns: u64, processor: usize, column: u64) -> usize {
         .saturating_add(column as usize)
 }
 
-/// A cell with one entry more.
-fn grown(cell: Cell, turn: Turn) -> Cell {
+/// What a processor works on in an entry.
+fn worked(turn: &Turn) -> Option<Deed> {
     let held = match turn.before {
         Some(held) => Some(held),
         None => turn.after,
     };
-    let differs = cell.held.is_some() && held.is_some() && cell.held != held;
-    let Cell {
-        advanced,
-        parked,
-        retired,
-        ended,
-        ..
-    } = cell;
+    held.map(Deed::Works)
+}
+
+/// What a processor does after an entry.
+fn rest(turn: &Turn) -> Deed {
+    match (turn.after, turn.before, turn.came) {
+        (Some(held), _, _) => Deed::Works(held),
+        (None, Some(held), Came::Parked) => Deed::Waits(held, turn.awaited),
+        _ => Deed::Nothing,
+    }
+}
+
+/// What a processor does in a column in which it also works on this.
+fn joined(before: Option<Deed>, deed: Option<Deed>) -> Option<Deed> {
+    match (before, deed) {
+        (None, deed) => deed,
+        (before, None) => before,
+        (Some(one), Some(two)) if one == two => Some(one),
+        _ => Some(Deed::Several),
+    }
+}
+
+/// A cell with one entry more, which ends there or goes on.
+fn grown(cell: Cell, turn: &Turn, ends: bool) -> Cell {
+    let came = |wanted: Came| u64::from(ends && turn.came == wanted);
     Cell {
-        seen: true,
-        held: if held.is_some() { held } else { cell.held },
-        after: turn.after,
-        several: cell.several || differs,
-        advanced: advanced.saturating_add(u64::from(turn.came == Came::Advanced)),
-        parked: parked.saturating_add(u64::from(turn.came == Came::Parked)),
-        retired: retired.saturating_add(u64::from(turn.came == Came::Retired)),
-        ended: ended.saturating_add(u64::from(turn.came == Came::Ended)),
-        awaited: if turn.came == Came::Parked {
-            turn.awaited
-        } else {
-            cell.awaited
-        },
+        deed: joined(cell.deed, worked(turn)),
+        rest: rest(turn),
+        advanced: cell.advanced.saturating_add(came(Came::Advanced)),
+        parked: cell.parked.saturating_add(came(Came::Parked)),
+        retired: cell.retired.saturating_add(came(Came::Retired)),
+        ended: cell.ended.saturating_add(came(Came::Ended)),
     }
 }

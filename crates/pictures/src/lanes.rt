@@ -5,58 +5,19 @@ ghost use Rattle.arrows.specs.Markup as markup;
 ghost use Rattle.pictures.specs.Runs as spec;
 ghost use Rattle.pictures.specs.Runs.{AreFigures, TellsRun};
 
-use crate::gathering::{Awaited, Cell, Gathered, Held, Lane};
+use crate::axis::{append_axis, append_wakes};
+use crate::bars::append_lane;
+use crate::gathering::{Cell, Gathered, Lane, Level};
+use crate::layout::{BAR, LEFT, MARK, across, corner, foot, wide};
 use arrows::{
     Class, Point, SHEET, Size, append_class, append_number, append_tile, append_words, opening,
 };
 use std::alloc::{AllocError, Global};
 
-/// Where the lanes begin, from the left and from the top.
-const LEFT: u128 = 130;
-
-const TOP: u128 = 172;
-/// How far two lanes are apart, and how high a bar is.
-const PITCH: u128 = 40;
-
-const BAR: u128 = 22;
 /// Where the curve of open iterations stands, and how high it is.
-const BASE: u128 = 146;
+const BASE: u128 = 178;
 
 const RISE: u128 = 60;
-/// How wide all columns are together at most, and one of them.
-const WIDE: u128 = 960;
-
-const WIDEST: u128 = 24;
-/// How many colours iterations have.
-const COLOURS: u128 = 7;
-
-/// The class of an iteration's bar, by its colour.
-fn coloured(colour: u128) -> &'static [u8] {
-    match colour {
-        0 => b"bar colour0",
-        1 => b"bar colour1",
-        2 => b"bar colour2",
-        3 => b"bar colour3",
-        4 => b"bar colour4",
-        5 => b"bar colour5",
-        _ => b"bar colour6",
-    }
-}
-
-/// The upper left corner of a column of a processor's lane.
-fn corner(processor: usize, column: u64, wide: u128) -> Point {
-    Point {
-        x: LEFT.saturating_add(wide.saturating_mul(u128::from(column))),
-        y: TOP.saturating_add(PITCH.saturating_mul(processor as u128)),
-    }
-}
-
-/// How large a mark is.
-const MARK: Size = Size {
-    width: 4,
-    height: 5,
-};
-
 /// How large the sample of a bar is.
 const SAMPLE: Size = Size {
     width: 16,
@@ -75,6 +36,8 @@ const ENDED: &str = "the run ended";
 /// How a run ended, and what it is compared with.
 #[derive(Clone, Copy)]
 pub struct Ending<'a> {
+    /// The name of its program's file.
+    pub name: &'a [u8],
     /// In words.
     pub words: &'a [u8],
     /// Whether it was a fault or a STOP.
@@ -83,103 +46,6 @@ pub struct Ending<'a> {
     pub made: u128,
     /// How many steps the program takes alone, with one processor and one open iteration.
     pub alone: u128,
-}
-
-/// How wide a column is.
-fn wide(columns: u64) -> u128 {
-    WIDE.checked_div(u128::from(columns))
-        .unwrap_or(WIDEST)
-        .max(1)
-        .min(WIDEST)
-}
-
-/// A stretch of columns in which a processor holds one activity.
-#[derive(Clone, Copy)]
-struct Stretch {
-    first: u64,
-    last: u64,
-    held: Held,
-    several: bool,
-}
-
-/// The class of a stretch's bar.
-fn class_of(stretch: Stretch) -> Class {
-    let name: &'static [u8] = match stretch.held {
-        _ if stretch.several => b"bar several",
-        Held::Main => b"bar main",
-        Held::Iteration(k) => coloured(k.wrapping_rem(COLOURS)),
-    };
-    Class::plain(name)
-}
-
-/// What a stretch's bar says of itself.
-fn title_of(alloc: Global, processor: usize, stretch: Stretch) -> Result<String, AllocError> {
-    match stretch.held {
-        _ if stretch.several => format!(in alloc; "processor {processor} held several activities"),
-        Held::Main => format!(in alloc; "processor {processor} held main"),
-        Held::Iteration(k) => format!(in alloc; "processor {processor} held iteration {k}"),
-    }
-}
-
-/// The letters on a stretch's bar.
-fn label_of(alloc: Global, stretch: Stretch) -> Result<String, AllocError> {
-    match stretch.held {
-        _ if stretch.several => format!(in alloc; ""),
-        Held::Main => format!(in alloc; "main"),
-        Held::Iteration(k) => format!(in alloc; "{k}"),
-    }
-}
-
-/// Appends the bar of a stretch.
-fn append_stretch(
-    alloc: Global,
-    out: &mut Vec<u8>,
-    processor: usize,
-    stretch: Stretch,
-    wide: u128,
-) -> Result<(), AllocError> {
-    let at = corner(processor, stretch.first, wide);
-    let length = stretch.last.saturating_sub(stretch.first).saturating_add(1);
-    let all = wide.saturating_mul(u128::from(length));
-    let size = Size {
-        width: all.saturating_sub(1).max(1),
-        height: BAR,
-    };
-    append_bar(alloc, out, processor, stretch, at, size)?;
-    append_label(alloc, out, stretch, at, size)
-}
-
-/// Appends the bar of a stretch, without its letters.
-fn append_bar(
-    alloc: Global,
-    out: &mut Vec<u8>,
-    processor: usize,
-    stretch: Stretch,
-    at: Point,
-    size: Size,
-) -> Result<(), AllocError> {
-    let title = title_of(alloc, processor, stretch)?;
-    append_tile(out, class_of(stretch), at, size, title.as_bytes())
-}
-
-/// Appends the letters on a stretch's bar, where they have room.
-fn append_label(
-    alloc: Global,
-    out: &mut Vec<u8>,
-    stretch: Stretch,
-    at: Point,
-    size: Size,
-) -> Result<(), AllocError> {
-    let label = label_of(alloc, stretch)?;
-    let needed = (label.len() as u128).saturating_mul(8).saturating_add(2);
-    if label.is_empty() || needed > size.width {
-        return Ok(());
-    }
-    let middle = Point {
-        x: at.x.saturating_add(size.width.wrapping_div(2)),
-        y: at.y.saturating_add(15),
-    };
-    append_words(out, Class::plain(b"label"), middle, label.as_bytes())
 }
 
 /// Appends a mark of a column, of this class and way, if something happened there so often.
@@ -202,24 +68,6 @@ fn append_mark(
     append_tile(out, Class::plain(class), at, MARK, title.as_bytes())
 }
 
-/// Appends the mark of a cell in which something was parked, by what it awaits where that is known.
-fn append_parked(
-    alloc: Global,
-    out: &mut Vec<u8>,
-    cell: Cell,
-    at: Point,
-) -> Result<(), AllocError> {
-    match cell.awaited {
-        Some(Awaited { event, iteration }) if cell.parked == 1 => {
-            let title = format!(in alloc;
-                "{PARKED}: it awaits event {event} of iteration {iteration}"
-            )?;
-            append_tile(out, Class::plain(b"parked"), at, MARK, title.as_bytes())
-        }
-        _ => append_mark(alloc, out, b"parked", at, cell.parked, PARKED),
-    }
-}
-
 /// Appends the marks of a cell.
 fn append_marks(
     alloc: Global,
@@ -228,83 +76,26 @@ fn append_marks(
     at: Point,
     wide: u128,
 ) -> Result<(), AllocError> {
-    let x = at.x.saturating_add(wide.saturating_sub(4).wrapping_div(2));
+    let x = at
+        .x
+        .saturating_add(wide.wrapping_div(2))
+        .saturating_sub(MARK.width.wrapping_div(2));
     let above = Point {
         x,
-        y: at.y.saturating_sub(5),
+        y: at.y.saturating_sub(MARK.height).saturating_sub(1),
     };
     let below = Point {
         x,
-        y: at.y.saturating_add(BAR),
+        y: at.y.saturating_add(BAR).saturating_add(1),
     };
     let lower = Point {
         x,
         y: below.y.saturating_add(MARK.height),
     };
     append_mark(alloc, out, b"advanced", above, cell.advanced, ADVANCED)?;
-    append_parked(alloc, out, cell, below)?;
+    append_mark(alloc, out, b"parked", below, cell.parked, PARKED)?;
     append_mark(alloc, out, b"retired", lower, cell.retired, RETIRED)?;
     append_mark(alloc, out, b"ended", lower, cell.ended, ENDED)
-}
-
-/// What a processor holds in a column, by what it held before it.
-fn held_in(cell: Cell, before: Option<Held>) -> Option<Held> {
-    if cell.seen { cell.held } else { before }
-}
-
-/// Whether a stretch goes on in a column in which this is held, and perhaps more.
-fn goes_on(stretch: Stretch, held: Held, several: bool) -> bool {
-    stretch.several == several && (several || stretch.held == held)
-}
-
-/// Appends the lane of a processor.
-fn append_lane(
-    alloc: Global,
-    out: &mut Vec<u8>,
-    gathered: &Gathered,
-    processor: usize,
-) -> Result<(), AllocError> {
-    let wide = wide(gathered.columns);
-    let mut stretch: Option<Stretch> = None;
-    let mut before = None;
-    for column in 0..gathered.columns {
-        let cell = gathered.cell(processor, column);
-        let held = held_in(cell, before);
-        stretch = match (stretch, held) {
-            (Some(old), Some(held)) if goes_on(old, held, cell.several) => {
-                Some(Stretch {
-                    last: column,
-                    ..old
-                })
-            }
-            (old, held) => {
-                if let Some(old) = old {
-                    append_stretch(alloc, out, processor, old, wide)?;
-                }
-                begun(held, column, cell.several)
-            }
-        };
-        if cell.seen {
-            before = cell.after;
-        }
-    }
-    match stretch {
-        Some(last) => append_stretch(alloc, out, processor, last, wide),
-        None => Ok(()),
-    }
-}
-
-/// A stretch that begins in a column.
-fn begun(held: Option<Held>, column: u64, several: bool) -> Option<Stretch> {
-    match held {
-        Some(held) => Some(Stretch {
-            first: column,
-            last: column,
-            held,
-            several,
-        }),
-        None => None,
-    }
 }
 
 /// Appends the marks of a processor's lane.
@@ -324,7 +115,11 @@ fn append_lane_marks(
 
 /// How many iterations were open at most, or one.
 fn highest(gathered: &Gathered) -> u64 {
-    gathered.open.iter().copied().max().unwrap_or(0).max(1)
+    let mut most = 1;
+    for level in gathered.open.iter().flatten() {
+        most = level.most.max(most);
+    }
+    most
 }
 
 /// How high the curve is where so many iterations are open, and so many at most; one is seen too.
@@ -339,9 +134,12 @@ fn rise(open: u64, highest: u64) -> u128 {
 fn append_line(out: &mut Vec<u8>, gathered: &Gathered) -> Result<(), AllocError> {
     let wide = wide(gathered.columns);
     let highest = highest(gathered);
-    for open in &gathered.open {
+    let mut last = 0;
+    for level in &gathered.open {
+        let Level { most, last: then } = level.unwrap_or(Level { most: last, last });
         out.extend_from_slice(b"V")?;
-        append_number(out, BASE.saturating_sub(rise(*open, highest)))?;
+        append_number(out, BASE.saturating_sub(rise(most.max(last), highest)))?;
+        last = then;
         out.extend_from_slice(b"h")?;
         append_number(out, wide)?;
     }
@@ -365,7 +163,7 @@ fn append_path(out: &mut Vec<u8>, gathered: &Gathered) -> Result<(), AllocError>
 fn append_highest(alloc: Global, out: &mut Vec<u8>, gathered: &Gathered) -> Result<(), AllocError> {
     let highest = format!(in alloc; "{}", highest(gathered))?;
     let class = Class::plain(b"faint right");
-    append_words(out, class, Point { x: 122, y: 94 }, highest.as_bytes())
+    append_words(out, class, Point { x: 122, y: 126 }, highest.as_bytes())
 }
 
 /// Appends the curve of open iterations.
@@ -373,8 +171,8 @@ fn append_curve(alloc: Global, out: &mut Vec<u8>, gathered: &Gathered) -> Result
     append_path(out, gathered)?;
     append_highest(alloc, out, gathered)?;
     let class = Class::plain(b"faint right");
-    append_words(out, class, Point { x: 122, y: 122 }, b"iterations open")?;
-    append_words(out, class, Point { x: 122, y: 148 }, b"0")
+    append_words(out, class, Point { x: 122, y: 154 }, b"iterations open")?;
+    append_words(out, class, Point { x: 122, y: 180 }, b"0")
 }
 
 /// Appends how many steps a processor made.
@@ -469,7 +267,7 @@ fn append_meaning(
     };
     append_mark(alloc, out, class, above, 1, says)?;
     let words = Point {
-        x: at.x.saturating_add(10),
+        x: at.x.saturating_add(18),
         y: at.y,
     };
     append_words(out, Class::plain(b"faint"), words, says.as_bytes())
@@ -494,12 +292,18 @@ fn append_bar_meaning(
     append_words(out, Class::plain(b"faint"), words, says)
 }
 
+/// Appends what an arrow means.
+fn append_arrow_meaning(out: &mut Vec<u8>, at: Point) -> Result<(), AllocError> {
+    let told = b"arrow: an advance, and what it wakes is taken up";
+    append_words(out, Class::plain(b"faint"), at, told)
+}
+
 /// Appends what the marks mean.
 fn append_mark_meanings(alloc: Global, out: &mut Vec<u8>, y: u128) -> Result<(), AllocError> {
     append_meaning(alloc, out, b"advanced", Point { x: 20, y }, ADVANCED)?;
-    append_meaning(alloc, out, b"parked", Point { x: 180, y }, PARKED)?;
-    append_meaning(alloc, out, b"retired", Point { x: 300, y }, RETIRED)?;
-    append_meaning(alloc, out, b"ended", Point { x: 460, y }, ENDED)
+    append_meaning(alloc, out, b"parked", Point { x: 190, y }, PARKED)?;
+    append_meaning(alloc, out, b"retired", Point { x: 310, y }, RETIRED)?;
+    append_meaning(alloc, out, b"ended", Point { x: 480, y }, ENDED)
 }
 
 /// Appends what the marks and the bars mean.
@@ -518,32 +322,55 @@ fn append_meanings(alloc: Global, out: &mut Vec<u8>, y: u128) -> Result<(), Allo
         b"bar several",
         Point { x: 380, y },
         b"several, too short to be told apart",
-    )
+    )?;
+    let y = y.saturating_add(22);
+    append_bar_meaning(
+        out,
+        b"bar waits",
+        Point { x: 20, y },
+        b"what it held waits, and it has nothing else to do",
+    )?;
+    append_arrow_meaning(out, Point { x: 380, y })
+}
+
+/// How many characters of a file's name are shown.
+const SHOWN: usize = 48;
+
+/// Appends whose run it is.
+fn append_program(out: &mut Vec<u8>, name: &[u8]) -> Result<(), AllocError> {
+    let mut heading = Vec::from_slice(*out.allocator(), b"A run of ")?;
+    heading.extend_from_slice(name.get(..SHOWN).unwrap_or(name))?;
+    if name.len() > SHOWN {
+        heading.extend_from_slice(b"..")?;
+    }
+    let class = Class::plain(b"heading");
+    append_words(out, class, Point { x: 20, y: 30 }, &heading)
 }
 
 /// Appends how many processors a run had, and how many iterations could be open.
-fn append_top(alloc: Global, out: &mut Vec<u8>, gathered: &Gathered) -> Result<(), AllocError> {
+fn append_sizes(alloc: Global, out: &mut Vec<u8>, gathered: &Gathered) -> Result<(), AllocError> {
     let Gathered { slots, .. } = gathered;
     let processors = gathered.lanes.len();
-    let heading = format!(in alloc;
-        "A run; processors: {processors}, iterations that may be open: {slots}"
+    let sizes = format!(in alloc;
+        "processors: {processors}, iterations that may be open: {slots}"
     )?;
-    let class = Class::plain(b"heading");
-    append_words(out, class, Point { x: 20, y: 30 }, heading.as_bytes())
+    let class = Class::plain(b"faint");
+    append_words(out, class, Point { x: 20, y: 52 }, sizes.as_bytes())
 }
 
 /// Appends what goes from left to right.
-fn append_axis(alloc: Global, out: &mut Vec<u8>, gathered: &Gathered) -> Result<(), AllocError> {
+fn append_time(alloc: Global, out: &mut Vec<u8>, gathered: &Gathered) -> Result<(), AllocError> {
     let Gathered {
-        entries,
+        units,
         columns,
+        noted,
         ..
     } = gathered;
-    let axis = format!(in alloc;
-        "from left to right: the {entries} entries of its schedule, in {columns} columns"
+    let time = format!(in alloc;
+        "from left to right: time {units}, where each step takes 1; entries {noted}, columns {columns}"
     )?;
     let class = Class::plain(b"faint");
-    append_words(out, class, Point { x: 20, y: 52 }, axis.as_bytes())
+    append_words(out, class, Point { x: 20, y: 72 }, time.as_bytes())
 }
 
 /// Appends what stands above the lanes.
@@ -553,10 +380,11 @@ fn append_heading(
     gathered: &Gathered,
     ending: &Ending<'_>,
 ) -> Result<(), AllocError> {
-    append_top(alloc, out, gathered)?;
-    append_axis(alloc, out, gathered)?;
+    append_program(out, ending.name)?;
+    append_sizes(alloc, out, gathered)?;
+    append_time(alloc, out, gathered)?;
     let class = Class::plain(if ending.early { b"early" } else { b"faint" });
-    append_words(out, class, Point { x: 20, y: 72 }, ending.words)
+    append_words(out, class, Point { x: 20, y: 92 }, ending.words)
 }
 
 /// Appends the name of a processor beside its lane.
@@ -572,30 +400,31 @@ fn append_name(alloc: Global, out: &mut Vec<u8>, processor: usize) -> Result<(),
 
 /// Appends the lanes of all processors.
 fn append_lanes(alloc: Global, out: &mut Vec<u8>, gathered: &Gathered) -> Result<(), AllocError> {
+    append_wakes(alloc, out, gathered)?;
     for processor in 0..gathered.lanes.len() {
         append_name(alloc, out, processor)?;
         append_lane(alloc, out, gathered, processor)?;
         append_lane_marks(alloc, out, gathered, processor)?;
     }
-    Ok(())
+    append_axis(alloc, out, gathered)
 }
 
 /// Where it is said what marks mean, below the lanes of so many processors.
 fn meanings(processors: usize) -> u128 {
-    corner(processors, 0, 0).y.saturating_add(16)
+    foot(processors).saturating_add(52)
 }
 
 /// What is below that.
 fn below(processors: usize) -> u128 {
-    meanings(processors).saturating_add(26)
+    meanings(processors).saturating_add(48)
 }
 
 /// How wide and how high the picture of a run is.
 fn size(gathered: &Gathered) -> Size {
-    let all = wide(gathered.columns).saturating_mul(u128::from(gathered.columns));
+    let all = across(gathered.columns);
     let lines = (gathered.lanes.len() as u128).saturating_mul(20);
     Size {
-        width: LEFT.saturating_add(all).max(640).saturating_add(20),
+        width: LEFT.saturating_add(all).max(740).saturating_add(20),
         height: below(gathered.lanes.len())
             .saturating_add(lines)
             .saturating_add(84),

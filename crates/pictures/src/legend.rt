@@ -2,7 +2,8 @@
 
 use crate::drawing::add_words;
 use crate::marks::class_of;
-use arrows::{Arrow, LoopPicture, Mark, Point, bottom};
+use crate::points::depth;
+use arrows::{Arrow, LoopPicture, Mark, Point, bottom, grid_of};
 use std::alloc::{AllocError, Global};
 
 /// How many dependences are told in words.
@@ -14,13 +15,14 @@ const LEFT: u128 = 20;
 
 /// The lines that have been written, and those to come.
 #[derive(Clone, Copy)]
-struct Pen {
-    y: u128,
+pub struct Pen {
+    /// Where the last line stands, from the top.
+    pub y: u128,
 }
 
 impl Pen {
     /// Where the next line begins.
-    fn next(&mut self) -> Point {
+    pub fn next(&mut self) -> Point {
         self.y = self.y.saturating_add(PITCH);
         Point { x: LEFT, y: self.y }
     }
@@ -167,15 +169,21 @@ fn add_serial(
     add_words(alloc, marks, b"faint", pen.next(), told)
 }
 
+/// Where that ends which stands above, from the top.
+fn foot(picture: &LoopPicture<'_>) -> u128 {
+    match &picture.space {
+        Some(space) => grid_of(picture, space).top.saturating_add(depth(space)),
+        None => bottom(picture.rows.len()),
+    }
+}
+
 /// Adds what is said below the picture of a loop.
 pub fn add_legend(
     alloc: Global,
     marks: &mut Vec<Mark>,
     picture: &LoopPicture<'_>,
 ) -> Result<(), AllocError> {
-    let mut pen = Pen {
-        y: bottom(picture.rows.len()),
-    };
+    let mut pen = Pen { y: foot(picture) };
     add_trips(alloc, marks, &mut pen, picture)?;
     if picture.serial.is_some() {
         return add_serial(alloc, marks, &mut pen, picture);
@@ -198,5 +206,5 @@ pub fn height(picture: &LoopPicture<'_>) -> u128 {
     let lines = told
         .saturating_add(3)
         .saturating_add(u128::from(is_short(picture)));
-    bottom(picture.rows.len()).saturating_add(PITCH.saturating_mul(lines))
+    foot(picture).saturating_add(PITCH.saturating_mul(lines))
 }

@@ -7,7 +7,7 @@ ghost use Rattle.pictures.specs.Looks.{AreMarked, Marks};
 
 use crate::sketch::{Sketch, add_plan, add_range, look_of};
 use crate::source_text::statement_of;
-use arrows::{Arrow, Look, LoopPicture, Statement};
+use arrows::{Arrow, Look, LoopPicture, Space, Statement};
 use ast::{Line, Name, Node};
 use dependence::PlanStmt;
 use std::alloc::{AllocError, Global};
@@ -98,11 +98,13 @@ pub fn open_picture<'a>(
     lines: Vec<&'a [u8]>,
     frame: Frame,
     opened: OpenLoop<'_>,
+    space: Option<Space>,
 ) -> Result<LoopPicture<'a>, AllocError>
     ensures frame { IfOk result (λ p. (p.number ≡ frame.number) × (p.line ≡ frame.line) ×
         (p.columns ≡ frame.columns)) }
     ensures arrows { IfOk result
         (λ p. AreArrows opened.entry.sources.now opened.entry.kept.now p.arrows.items) }
+    ensures space { IfOk result (λ p. p.space ≡ space) }
 {
     let Frame {
         number,
@@ -128,6 +130,7 @@ pub fn open_picture<'a>(
         serial: None,
         columns,
         trips,
+        space,
     })
 }
 
@@ -166,6 +169,7 @@ pub fn serial_picture<'a>(
     lines: Vec<&'a [u8]>,
     frame: Frame,
     serial: SerialLoop<'_>,
+    space: Option<Space>,
 ) -> Result<LoopPicture<'a>, AllocError>
     ensures frame { IfOk result (λ p. (p.number ≡ frame.number) × (p.line ≡ frame.line) ×
         (p.columns ≡ frame.columns)) }
@@ -174,6 +178,7 @@ pub fn serial_picture<'a>(
         (Marks serial.entry.hindered serial.entry.around serial.entry.sources.now) }
     ensures reason { IfOk result
         (λ p. option_map (λ v. v.items) p.serial ≡ Some serial.entry.reason.now) }
+    ensures space { IfOk result (λ p. p.space ≡ space) }
 {
     let Frame {
         number,
@@ -197,5 +202,6 @@ pub fn serial_picture<'a>(
         serial: Some(Vec::from_slice(alloc, serial.reason)?),
         columns,
         trips,
+        space,
     })
 }

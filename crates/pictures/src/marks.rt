@@ -4,9 +4,9 @@ use arrows::{Advance, Arrow, Class, Mark, Point, entry, exit, hue, place_in};
 use std::alloc::{AllocError, Global};
 
 /// How far two marks of one box are apart, and how far a second line of them is below the first.
-const APART: u128 = 15;
+const APART: u128 = 19;
 
-const BELOW: u128 = 16;
+const BELOW: u128 = 20;
 /// How many marks of one box there are in a line, and how many are drawn.
 const ACROSS: u128 = 3;
 
@@ -100,8 +100,8 @@ fn add_awaited(
     add_disc(alloc, marks, at, disc, before)
 }
 
-/// Adds what is awaited in an iteration, by the rows of the sinks; what one sink awaits stands
-/// together.
+/// Adds what an iteration waits for that others do, by the rows of the sinks; what one sink awaits
+/// stands together. The first iterations have no such one before them.
 pub fn add_awaits(
     alloc: Global,
     marks: &mut Vec<Mark>,
@@ -112,6 +112,9 @@ pub fn add_awaits(
     let mut before = 0u128;
     let mut last = None;
     for (arrow, sink) in arrows.iter().zip(sinks) {
+        if arrow.distance > u128::from(column) {
+            continue;
+        }
         if let Some(row) = *sink {
             before = if last == Some(row) {
                 before.saturating_add(1)

@@ -1,0 +1,256 @@
+//! The iteration space of a loop and of the one inside it.
+
+use crate::offsets::{Offset, are_own, inner_offset, is_one_place, outer_offset};
+use arrows::{Space, Vector};
+use ast::{Line, Name};
+use dependence::{Relation, forms, relate_forms};
+use loop_tree::{LoopTree, LoopView, Occurrence, ScalarSet};
+use privatise::private_scalars;
+use std::alloc::{AllocError, Global};
+use subscripts::Affine;
+
+/// How many iterations of the inner loop are drawn at most.
+const MOST_ROWS: u64 = 6;
+/// How many vectors are drawn at most.
+const MOST_VECTORS: usize = 8;
+
+/// A reference of the inner loop, with its subscripts in both loops.
+#[derive(Drop)]
+struct Site {
+    name: Name,
+    /// What tells variables apart.
+    cell: usize,
+    line: Line,
+    defines: bool,
+    outer: Vec<Affine>,
+    inner: Vec<Affine>,
+}
+
+/// Two loops, one of which stands in the other.
+#[derive(Clone, Copy)]
+struct Nest<'t, 'p> {
+    outer: LoopView<'t, 'p>,
+    inner: LoopView<'t, 'p>,
+}
+
+/// The number of the loop in the one of a number, where just one stands there.
+fn inner_of(tree: &LoopTree<'_>, number: usize) -> Option<usize> {
+    let mut found = None;
+    for place in 0..tree.count() {
+        if tree.view(place + 1).outer() == Some(number) {
+            if found.is_some() {
+                return None;
+            }
+            found = Some(place + 1);
+        }
+    }
+    found
+}
+
+/// Whether a scalar is among these names.
+fn is_among(set: &ScalarSet, name: Name) -> bool {
+    set.names.iter().any(|other| *other == name)
+}
+
+/// A reference of the inner loop.
+fn site_of(
+    alloc: Global,
+    nest: &Nest<'_, '_>,
+    lines: &[Line],
+    occurrence: &Occurrence<'_>,
+) -> Result<Site, AllocError> {
+    let Nest { outer, inner } = nest;
+    Ok(Site {
+        name: occurrence.reference.name,
+        cell: occurrence.reference.cell,
+        line: lines.get(occurrence.statement).copied().unwrap_or(0),
+        defines: occurrence.defines,
+        outer: forms(alloc, outer, occurrence)?,
+        inner: forms(alloc, inner, occurrence)?,
+    })
+}
+
+/// The references of the inner loop, but for what each of its iterations has of its own.
+fn sites(alloc: Global, nest: &Nest<'_, '_>, lines: &[Line]) -> Result<Vec<Site>, AllocError> {
+    let privates = private_scalars(alloc, &nest.inner)?;
+    let mut sites = Vec::new(alloc);
+    for occurrence in nest.inner.references() {
+        if !is_among(&privates, occurrence.reference.name) {
+            sites.push(site_of(alloc, nest, lines, occurrence)?)?;
+        }
+    }
+    Ok(sites)
+}
+
+/// What is found of two references.
+#[derive(Clone, Copy)]
+enum Found {
+    Nothing,
+    /// A distance isn't known.
+    Unknown,
+    /// They meet so many iterations of the outer loop, and of the inner one, apart.
+    Vector(u128, Offset),
+}
+
+/// What is found of two references in one iteration of the outer loop.
+fn within(nest: &Nest<'_, '_>, first: &Site, second: &Site) -> Found {
+    match relate_forms(&nest.inner, &first.inner, &second.inner) {
+        Relation::Apart(_, _) => Found::Nothing,
+        Relation::Distance(_, distance) => Found::Vector(0, Offset::Later(distance)),
+        Relation::Any if is_one_place(&nest.inner, &first.inner, &second.inner) => {
+            Found::Vector(0, Offset::Later(1))
+        }
+        Relation::Any => Found::Unknown,
+    }
+}
+
+/// How many iterations of the outer loop later they meet: in the next one, where all have the same
+/// elements.
+fn over(nest: &Nest<'_, '_>, first: &Site, second: &Site) -> Offset {
+    let Nest { outer, .. } = nest;
+    match outer_offset(outer, &first.outer, &second.outer) {
+        Offset::Unknown if are_own(outer, &first.inner) && are_own(outer, &second.inner) => {
+            Offset::Later(1)
+        }
+        offset => offset,
+    }
+}
+
+/// What is found of two references in an iteration of the outer loop and in a later one.
+fn across(nest: &Nest<'_, '_>, first: &Site, second: &Site) -> Found {
+    let along = inner_offset(&nest.outer, &nest.inner, &first.inner, &second.inner);
+    match (over(nest, first, second), along) {
+        (_, Offset::Nowhere) => Found::Nothing,
+        (Offset::Nowhere | Offset::Same | Offset::Earlier(_), _) => Found::Nothing,
+        (Offset::Unknown, _) | (_, Offset::Unknown) => Found::Unknown,
+        (Offset::Later(distance), along) => Found::Vector(distance, along),
+    }
+}
+
+/// How many iterations later, and earlier.
+fn ways(offset: Offset) -> (u128, u128) {
+    match offset {
+        Offset::Later(down) => (down, 0),
+        Offset::Earlier(up) => (0, up),
+        Offset::Unknown | Offset::Nowhere | Offset::Same => (0, 0),
+    }
+}
+
+/// The vector from a reference to another.
+fn vector_of(first: &Site, second: &Site, over: u128, along: Offset) -> Vector {
+    let (down, up) = ways(along);
+    Vector {
+        over,
+        down,
+        up,
+        source_line: first.line,
+        sink_line: second.line,
+        name: first.name,
+    }
+}
+
+/// Whether two vectors go equally far.
+fn is_as_far(one: &Vector, two: &Vector) -> bool {
+    one.over == two.over && one.down == two.down && one.up == two.up
+}
+
+/// Adds what is found of two references, unless it is there already.
+fn add_found(
+    space: &mut Space,
+    first: &Site,
+    second: &Site,
+    found: Found,
+) -> Result<(), AllocError> {
+    match found {
+        Found::Nothing => Ok(()),
+        Found::Unknown if space.unknown.iter().any(|name| *name == first.name) => Ok(()),
+        Found::Unknown => Ok(space.unknown.push(first.name)?),
+        Found::Vector(over, along) => add_vector(space, vector_of(first, second, over, along)),
+    }
+}
+
+/// Adds a vector, unless it is there already or there is no room for it.
+fn add_vector(space: &mut Space, vector: Vector) -> Result<(), AllocError> {
+    if space.vectors.iter().any(|other| is_as_far(other, &vector)) {
+        return Ok(());
+    }
+    if space.vectors.len() < MOST_VECTORS {
+        space.vectors.push(vector)?;
+    } else if !space.unknown.iter().any(|name| *name == vector.name) {
+        space.unknown.push(vector.name)?;
+    }
+    Ok(())
+}
+
+/// Whether one of two references of a variable gives it a value.
+fn may_depend(first: &Site, second: &Site) -> bool {
+    first.cell == second.cell && (first.defines || second.defines)
+}
+
+/// Adds what is found of a reference and each that needs it later.
+fn add_source(
+    nest: &Nest<'_, '_>,
+    space: &mut Space,
+    first: &Site,
+    sites: &[Site],
+) -> Result<(), AllocError> {
+    for second in sites {
+        if may_depend(first, second) {
+            add_found(space, first, second, across(nest, first, second))?;
+            add_found(space, first, second, within(nest, first, second))?;
+        }
+    }
+    Ok(())
+}
+
+/// How many iterations of the inner loop are drawn.
+fn rows(inner: &LoopView<'_, '_>) -> u64 {
+    match inner.trips() {
+        Some(trips) => u64::try_from(trips)
+            .unwrap_or(MOST_ROWS)
+            .clamp(1, MOST_ROWS),
+        None => MOST_ROWS,
+    }
+}
+
+/// The space of two loops, without vectors.
+fn empty(alloc: Global, nest: &Nest<'_, '_>) -> Space {
+    Space {
+        outer: nest.outer.head().variable.name,
+        inner: nest.inner.head().variable.name,
+        rows: rows(&nest.inner),
+        vectors: Vec::new(alloc),
+        unknown: Vec::new(alloc),
+    }
+}
+
+/// The iteration space of the loop of a number and of the one inside it, if there is just one.
+///
+/// # Errors
+///
+/// `AllocError` where memory is refused.
+pub fn space_of(
+    alloc: Global,
+    tree: &LoopTree<'_>,
+    number: usize,
+) -> Result<Option<Space>, AllocError> {
+    if number < 1 || number > tree.count() {
+        return Ok(None);
+    }
+    let Some(inside) = inner_of(tree, number) else {
+        return Ok(None);
+    };
+    if inside < 1 || inside > tree.count() {
+        return Ok(None);
+    }
+    let nest = Nest {
+        outer: tree.view(number),
+        inner: tree.view(inside),
+    };
+    let sites = sites(alloc, &nest, tree.lines())?;
+    let mut space = empty(alloc, &nest);
+    for first in &sites {
+        add_source(&nest, &mut space, first, &sites)?;
+    }
+    Ok(Some(space))
+}
