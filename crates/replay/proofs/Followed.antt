@@ -58,15 +58,15 @@ lines_left v code s start all rest line a f = omega (arith, f.at, ap length f.is
 
 -- ---- activities that follow entries
 
-stays_on : (a b c : Activities) → Stays a b → Stays b c → Stays a c
+pub stays_on : (a b c : Activities) → Stays a b → Stays b c → Stays a c
 stays_on a b c h k = record { code_is = k.code_is ∙ h.code_is; processors = k.processors ∙ h.processors; slots = k.slots ∙ h.slots }
 
 -- what an entry does is the same where the code and the slots are
-made_here : (v : Version) (a b : Activities) (s : ℕ) (x : Act) (q : ℕ) (y : Act) (c : Point) → Stays a b → a.slots ≡ s → MadeAs v (code_in b) b.slots x (point_in b) q y c → MadeAs v (code_in a) s x (point_in b) q y c
+pub made_here : (v : Version) (a b : Activities) (s : ℕ) (x : Act) (q : ℕ) (y : Act) (c : Point) → Stays a b → a.slots ≡ s → MadeAs v (code_in b) b.slots x (point_in b) q y c → MadeAs v (code_in a) s x (point_in b) q y c
 made_here v a b s x q y c h e m =
     subst (λ (k : Code). MadeAs v k s x (point_in b) q y c) h.code_is (subst (λ (n : ℕ). MadeAs v (code_in b) n x (point_in b) q y c) (h.slots ∙ e) m)
 
-cannot_here : (v : Version) (a b : Activities) (s : ℕ) (x : Act) (q number : ℕ) → Stays a b → a.slots ≡ s → CannotBeMade v (code_in b) b.slots x (point_in b) q number → CannotBeMade v (code_in a) s x (point_in b) q number
+pub cannot_here : (v : Version) (a b : Activities) (s : ℕ) (x : Act) (q number : ℕ) → Stays a b → a.slots ≡ s → CannotBeMade v (code_in b) b.slots x (point_in b) q number → CannotBeMade v (code_in a) s x (point_in b) q number
 cannot_here v a b s x q number h e m =
     subst (λ (k : Code). CannotBeMade v k s x (point_in b) q number) h.code_is (subst (λ (n : ℕ). CannotBeMade v (code_in b) n x (point_in b) q number) (h.slots ∙ e) m)
 

@@ -14,6 +14,7 @@ mod whole;
 
 pub use activities::{Activities, Choice, Holder};
 pub use answering::answer;
+pub use following::{begun, make_at};
 pub use replaying::replay;
 pub use stepped::{CoreRefusal, HandIn, Stepped, Tally};
 pub use upgrading::upgrade;

@@ -1,0 +1,132 @@
+-- What `replay --states` writes of a source, an input and a schedule.
+use Rattle.std.specs.Prelude.{◌≡◌, ◌⊎◌, ℕ, ◌+◌, false, List, [], ◌∷◌, ◌++◌, length, Option, Some, None, Result, Ok, Err}
+use Rattle.std.specs.Io.KnownBytes.{Appends, Keeps}
+use Rattle.ast.specs.Meaning.{seq}
+use Rattle.ast.specs.Program.{ProgramTree}
+use Rattle.ast.specs.declared.fault.End.{End}
+use Rattle.handing.specs.Handing.{AppendsPart, Begins}
+use Rattle.machine.specs.Code.{Code}
+use Rattle.schedules.specs.Refusals.{Refuses}
+use Rattle.schedules.specs.Schedules.{Entry, SchedText, Schedule}
+use Rattle.schedules.specs.declared.entry.Version.{Version}
+use Rattle.activities.specs.Points.{Point, beginning}
+use Rattle.replay.specs.Replayed.{CannotBeMade}
+use Rattle.pages.specs.Outcomes.{outcome_of}
+use Rattle.pages.specs.Shown.{EndShown, no_schedule}
+use Rattle.pages.specs.declared.fault.EngineFault.{EngineFault}
+use Rattle.pages.specs.declared.fault.EngineFault.TheVariants.{Memory, Writing}
+use Rattle.pages.specs.declared.outcomes.Outcome.{Outcome}
+use Rattle.pages.specs.declared.outcomes.Outcome.TheVariants.{Completed, Refused, Faulted, NoSchedule}
+use Rattle.engines.specs.Engines.{Wrote}
+use Rattle.engines.specs.Schedules.{IsNoCode, WithCode}
+use Rattle.state_lines.specs.States.{first_block}
+use Rattle.states.specs.Followed.{Shows}
+
+-- The blocks of a schedule's text: that of its second line, and those of some entries, from the
+-- first on; the rest is left.
+pub record Blocks (code : Code) (input schedule blocks : List ℕ) : Type 0 where
+  pub whole : Schedule
+  pub spelled : SchedText whole schedule
+  pub front : List Entry
+  pub rest : List Entry
+  pub is : whole.entries ≡ front ++ rest
+  pub point : Point
+  pub behind : List ℕ
+  pub shows : Shows whole.version code whole.processors whole.slots 3 (beginning code input whole.slots) front point behind
+  pub shown : blocks ≡ first_block code whole.processors (beginning code input whole.slots) ++ behind
+
+-- The schedule leads the code to its end on the input, which is that of the sequential program, as
+-- what has gone out is what that prints. The states of all its lines are shown, and what follows
+-- the records.
+pub record IsStated (tree : ProgramTree) (code : Code) (input schedule : List ℕ) (outcome : Outcome) (text : List ℕ) : Type 0 where
+  pub blocks : List ℕ
+  pub are : Blocks code input schedule blocks
+  pub all : are.rest ≡ []
+  pub ended : are.point.machine.ended ≡ Some (seq tree input).end
+  pub output : are.point.machine.output ≡ (seq tree input).output
+  pub outcome_is : outcome ≡ outcome_of (seq tree input).end
+  pub last : List ℕ
+  pub ends : EndShown false [] (seq tree input).end last
+  pub shown : text ≡ blocks ++ last
+
+-- why the schedule is refused behind some of its entries: the next one, at this line, can't be made;
+-- or none is left, and the run hasn't ended
+abbrev pub Stops : Version → Code → ℕ → (front rest : List Entry) → Point → (number line : ℕ) → Type 0
+Stops v code s front [] x number line = (number ≡ 55) × (line ≡ 2 + length front) × (x.machine.ended ≡ None)
+Stops v code s front (e ∷ es) x number line = (line ≡ 3 + length front) × CannotBeMade v code s e.act x e.processor number
+
+-- The states before the refused line are shown, and the line that says why.
+pub record IsStopped (code : Code) (input schedule : List ℕ) (number line : ℕ) (text : List ℕ) : Type 0 where
+  pub blocks : List ℕ
+  pub are : Blocks code input schedule blocks
+  pub stops : Stops are.whole.version code are.whole.slots are.front are.rest are.point number line
+  pub shown : text ≡ blocks ++ no_schedule number line
+
+-- the text is no schedule's, of which the line alone is shown, or the schedule is refused
+abbrev pub IsUnstated : Code → (input schedule : List ℕ) → (number line : ℕ) → List ℕ → Type 0
+IsUnstated code input schedule number line text = (Refuses schedule number line × (text ≡ no_schedule number line)) ⊎ IsStopped code input schedule number line text
+
+-- what is shown of code
+abbrev pub ShowsStates : ProgramTree → Code → (input schedule : List ℕ) → Outcome → List ℕ → Type 0
+ShowsStates tree code input schedule Completed text = IsStated tree code input schedule Completed text
+ShowsStates tree code input schedule (Refused number line) text = ⊥
+ShowsStates tree code input schedule (Faulted fault line) text = IsStated tree code input schedule (Faulted fault line) text
+ShowsStates tree code input schedule (NoSchedule number line) text = IsUnstated code input schedule number line text
+
+-- what is shown of a source
+abbrev pub Stating : (source input schedule : List ℕ) → Outcome → List ℕ → Type 0
+Stating source input schedule (Refused number line) text = IsNoCode source number line text
+Stating source input schedule outcome text = WithCode source (λ tree code. ShowsStates tree code input schedule outcome text)
+
+-- ---- how it is written: block by block
+
+-- all that is allowed, or blocks
+abbrev pub IsSome : (Outcome → List ℕ → Type 0) → (List ℕ → Type 0) → List ℕ → Type 0
+IsSome allows blocks text = ((outcome : Outcome) × allows outcome text) ⊎ blocks text
+
+-- a writer's bytes grew by a beginning of that, or all of it
+pub record Began (allows : Outcome → List ℕ → Type 0) (blocks : List ℕ → Type 0) (old new : Option (List ℕ)) : Type 0 where
+  pub text : List ℕ
+  pub some : IsSome allows blocks text
+  pub got : List ℕ
+  pub begins : Begins got text
+  pub grown : Appends old new got
+
+-- an outcome with all that is allowed written; where writing failed or memory was refused a
+-- beginning of it or of blocks, or nothing
+abbrev pub Streams : (Outcome → List ℕ → Type 0) → (List ℕ → Type 0) → (old new : Option (List ℕ)) → Result Outcome EngineFault → Type 0
+Streams allows blocks old new (Ok outcome) = Wrote allows old new outcome
+Streams allows blocks old new (Err (Writing e)) = Keeps old new ⊎ Began allows blocks old new
+Streams allows blocks old new (Err Memory) = Keeps old new ⊎ Began allows blocks old new
+Streams allows blocks old new (Err _) = ⊥
+
+-- the same of code
+abbrev pub CodeStream : ProgramTree → Code → (input schedule : List ℕ) → (old new : Option (List ℕ)) → Result Outcome EngineFault → Type 0
+CodeStream tree code input schedule old new result =
+    Streams (ShowsStates tree code input schedule) (Blocks code input schedule) old new result
+
+-- and of a source
+abbrev pub StatesStream : (source input schedule : List ℕ) → (old new : Option (List ℕ)) → Result Outcome EngineFault → Type 0
+StatesStream source input schedule old new result =
+    Streams (Stating source input schedule) (λ text. WithCode source (λ tree code. Blocks code input schedule text)) old new result
+
+-- ---- pages
+
+-- a page with this text was written, or a beginning of it where writing failed
+abbrev pub WrotePage : Outcome → List ℕ → (old new : Option (List ℕ)) → Result Outcome EngineFault → Type 0
+WrotePage o text old new (Ok outcome) = (outcome ≡ o) × Appends old new text
+WrotePage o text old new (Err (Writing e)) = AppendsPart old new text
+WrotePage o text old new (Err Memory) = new ≡ old
+WrotePage o text old new (Err _) = ⊥
+
+-- what follows the states of all entries, of which the last stands in this line
+abbrev pub IsLast : Option End → ℕ → Outcome → List ℕ → Type 0
+IsLast None line outcome text = (outcome ≡ NoSchedule 55 line) × (text ≡ no_schedule 55 line)
+IsLast (Some end) line outcome text = (outcome ≡ outcome_of end) × EndShown false [] end text
+
+-- that was written, or a beginning of it where writing failed
+abbrev pub Finishes : Option End → ℕ → (old new : Option (List ℕ)) → Result Outcome EngineFault → Type 0
+Finishes ended line old new (Ok outcome) = (text : List ℕ) × IsLast ended line outcome text × Appends old new text
+Finishes ended line old new (Err (Writing e)) = (outcome : Outcome) × (text : List ℕ) × IsLast ended line outcome text × AppendsPart old new text
+Finishes ended line old new (Err Memory) = new ≡ old
+Finishes ended line old new (Err _) = ⊥
