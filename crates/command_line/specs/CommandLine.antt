@@ -80,6 +80,10 @@ schedule_out = named_option (codes "schedule")
 abbrev pub tally : Rule
 tally = flag (codes "tally")
 
+-- --states
+abbrev pub states : Rule
+states = flag (codes "states")
+
 -- --most, the number of steps after which a run is left
 abbrev pub most : Rule
 most = named_option (codes "most")
@@ -120,9 +124,9 @@ run =
 abbrev pub model : App
 model = with_rule (with_rule (with_rule (with_rule (with_rule (new_app (codes "model")) source) input) processors) slots) most
 
--- replay F INPUT SCHEDULE
+-- replay F INPUT SCHEDULE, with --states
 abbrev pub replay : App
-replay = with_rule (with_rule (with_rule (new_app (codes "replay")) source) whole_input) schedule
+replay = with_rule (with_rule (with_rule (with_rule (new_app (codes "replay")) source) whole_input) schedule) states
 
 -- upgrade F INPUT SCHEDULE OUT
 abbrev pub upgrade : App
@@ -261,7 +265,8 @@ Holds name values (Seq source input store) =
     × (first_of (codes "INPUT") values ≡ option_map (λ i. i.now) input) × IsFlag store (one_of (codes "store") values)
 Holds name values (Run t) = (name ≡ codes "run") × HoldsRun values t
 Holds name values (Model m) = (name ≡ codes "model") × HoldsModel values m
-Holds name values (Replay files) = (name ≡ codes "replay") × HoldsTexts values files
+Holds name values (Replay files states) =
+    (name ≡ codes "replay") × HoldsTexts values files × IsFlag states (one_of (codes "states") values)
 Holds name values (Upgrade files out) =
     (name ≡ codes "upgrade") × HoldsTexts values files × (first_of (codes "OUT") values ≡ Some out.now)
 Holds name values (Draw drawing) = (name ≡ codes "draw") × HoldsDrawing values drawing

@@ -84,8 +84,12 @@ pub enum Command<'a> {
     /// `model F [INPUT] [-p N] [-s N] [--most STEPS]`: the time that the run of a source's code
     /// takes, step by step.
     Model(Modelled<'a>),
-    /// `replay F INPUT SCHEDULE`: the run of the code of a source that a schedule describes.
-    Replay(TextFiles<'a>),
+    /// `replay F INPUT SCHEDULE [--states]`: the run of the code of a source that a schedule
+    /// describes; and whether its states are wanted.
+    Replay {
+        names: TextFiles<'a>,
+        states: bool,
+    },
     /// `upgrade F INPUT SCHEDULE OUT`: the schedule with its picks named, written to a file.
     Upgrade(TextFiles<'a>, &'a str),
     /// `draw F OUT [--loop N] [--iterations K]`: the picture of a loop of the source of a file,

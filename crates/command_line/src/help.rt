@@ -108,8 +108,13 @@ Status:
 At a fault of a subscript or of the input the source is then run once more, as
 by seq, to say which subscript or which record it is.
 
-Example:
-  doac replay examples/overlap.f /dev/null examples/overlap.schedule";
+With --states each line of the schedule has a block, written at once: the line, the
+records that went out, the counts, what each processor holds, and who is parked.
+LINE and PLACE say where in the source and in the code somebody stands.
+
+Examples:
+  doac replay examples/overlap.f /dev/null examples/overlap.schedule
+  doac replay examples/turns.f /dev/null examples/turns.schedule --states";
 
 pub const UPGRADE: &str = "\
 Status:

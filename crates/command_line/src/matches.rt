@@ -248,7 +248,10 @@ fn replaying<'a>(given: &ArgMatches<'a>) -> Result<Command<'a>, LineFault>
     ensures refused { IfErr result (HoldsNone (codes "replay") (rows_of (found_of given.now))) }
 {
     match text_files(given) {
-        Some(names) => Ok(Command::Replay(names)),
+        Some(names) => Ok(Command::Replay {
+            names,
+            states: flag(given, "states"),
+        }),
         None => Err(LineFault::NoCommand),
     }
 }

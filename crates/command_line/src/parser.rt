@@ -8,8 +8,8 @@ ghost use Rattle.command_line.specs.CommandLine.{letter, list, loop_number, mode
 ghost use Rattle.command_line.specs.CommandLine.{named_option, needed, number, optional, out};
 ghost use Rattle.command_line.specs.CommandLine.{processors, reason, replay};
 ghost use Rattle.command_line.specs.CommandLine.{run, schedule, schedule_out, seq, slots, source};
-ghost use Rattle.command_line.specs.CommandLine.{store, tally, timeline, upgrade, whole_input, why};
-ghost use Rattle.command_line.specs.CommandLine.{with_subcommands};
+ghost use Rattle.command_line.specs.CommandLine.{states, store, tally, timeline, upgrade};
+ghost use Rattle.command_line.specs.CommandLine.{whole_input, why, with_subcommands};
 
 use crate::command::Command;
 use crate::help;
@@ -227,6 +227,17 @@ fn tally<'a>(alloc: Global) -> Arg<'a>
     )
 }
 
+fn states<'a>(alloc: Global) -> Arg<'a>
+    ensures rule { rule_of result ≡ states }
+    ensures local { result.global ≡ false }
+{
+    flag(
+        alloc,
+        "states",
+        "Shows the state behind each line of the schedule: who holds what, and who waits for what",
+    )
+}
+
 fn most<'a>(alloc: Global) -> Arg<'a>
     ensures rule { rule_of result ≡ most }
     ensures local { result.global ≡ false }
@@ -385,7 +396,8 @@ fn replaying<'a>(alloc: Global) -> Result<clap::Command<'a>, AllocError>
     ));
     let line = with(line, source(alloc));
     let line = with(line, whole_input(alloc));
-    with(line, schedule(alloc))
+    let line = with(line, schedule(alloc));
+    with(line, states(alloc))
 }
 
 /// The command line of `upgrade`.

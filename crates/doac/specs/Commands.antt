@@ -1,17 +1,16 @@
 -- What each command does: which files it reads, in which order, what it writes where, and its exit
 -- status.
-use Rattle.std.specs.Prelude.{◌≡◌, ℕ, List, [], ◌∷◌, Option, Some, None, option_map}
+use Rattle.std.specs.Prelude.{◌≡◌, ℕ, Bool, List, [], ◌∷◌, Option, Some, None, option_map}
 use Rattle.pages.specs.declared.outcomes.Outcome.{Outcome}
 use Rattle.engines.specs.Coded.{ShowsCode}
 use Rattle.engines.specs.Engines.{Checks}
 use Rattle.engines.specs.Lists.{ListsAs}
-use Rattle.engines.specs.Schedules.{Replaying}
 use Rattle.files.specs.Deeds.{Deed}
 use Rattle.doac.specs.Deeds.{ReadsFile, ReadsInput, ReadsTexts, UnlessRead}
 use Rattle.doac.specs.Models.{EndsModel}
 use Rattle.doac.specs.Pictures.{DrawsFile, TimesFiles}
 use Rattle.doac.specs.Running.{RunsRead, named}
-use Rattle.doac.specs.Statuses.{Ends, EndsSeq, EndsUpgrade, OfPrint}
+use Rattle.doac.specs.Statuses.{Ends, EndsReplay, EndsSeq, EndsUpgrade, OfPrint}
 use Rattle.command_line.specs.declared.command.Command.{Command}
 use Rattle.command_line.specs.declared.command.Command.TheVariants.{Check, ListLoops, ShowCode, Seq, Run, Model, Replay, Upgrade, Draw, Timeline, Explain, ExplainSerial}
 use Rattle.command_line.specs.declared.command.Threaded.{Threaded}
@@ -27,10 +26,11 @@ OnInput ends source input before after old new status =
     ReadsFile source before after old new status (λ read text.
     ReadsInput input read after old new status (λ done given. (after ≡ done) × ends text given old new status))
 
--- the source is read, then the input, then the schedule, and what is allowed of them is written
-abbrev pub OnTexts : (List ℕ → List ℕ → List ℕ → Outcome → List ℕ → Type 0) → (source input schedule : List ℕ) → (before after : Option (List Deed)) → (old new : Option (List ℕ)) → ℕ → Type 0
-OnTexts allows source input schedule before after old new status =
-    ReadsTexts source input schedule before after old new status (λ done text given picks. (after ≡ done) × Ends (allows text given picks) old new status)
+-- the source is read, then the input, then the schedule, and they are replayed; the states are shown
+-- if they are wanted
+abbrev pub Replays : (states : Bool) → (source input schedule : List ℕ) → (before after : Option (List Deed)) → (old new : Option (List ℕ)) → ℕ → Type 0
+Replays states source input schedule before after old new status =
+    ReadsTexts source input schedule before after old new status (λ done text given picks. (after ≡ done) × EndsReplay states text given picks old new status)
 
 -- the same of an upgrade, where OUT is none of them, as is found out first
 abbrev pub Upgrades : (source input schedule out : List ℕ) → (before after : Option (List Deed)) → (old new : Option (List ℕ)) → ℕ → Type 0
@@ -61,8 +61,8 @@ Obeys (Seq source input store) before after old new status =
 Obeys (Run t) before after old new status = RunsFiles t before after old new status
 Obeys (Model m) before after old new status =
     OnInput (EndsModel m) m.source.now (option_map (λ i. i.now) m.input) before after old new status
-Obeys (Replay files) before after old new status =
-    OnTexts Replaying files.source.now files.input.now files.schedule.now before after old new status
+Obeys (Replay files states) before after old new status =
+    Replays states files.source.now files.input.now files.schedule.now before after old new status
 Obeys (Upgrade files out) before after old new status =
     Upgrades files.source.now files.input.now files.schedule.now out.now before after old new status
 Obeys (Draw drawing) before after old new status = DrawsFile drawing before after old new status

@@ -1,14 +1,15 @@
 -- Exit statuses, and what is written to standard output.
-use Rattle.std.specs.Prelude.{◌≡◌, ◌⊎◌, ℕ, Bool, List, Option, Result, Ok, Err}
+use Rattle.std.specs.Prelude.{◌≡◌, ◌⊎◌, ℕ, Bool, true, false, List, Option, Result, Ok, Err}
 use Rattle.pages.specs.Outcomes.{fault_status, status_of}
 use Rattle.pages.specs.declared.fault.EngineFault.{EngineFault}
 use Rattle.pages.specs.declared.outcomes.Outcome.{Outcome}
 use Rattle.pages.specs.declared.page.Page.{Page}
 use Rattle.engines.specs.Engines.{Streaming, Works}
-use Rattle.engines.specs.Schedules.{Upgrading}
+use Rattle.engines.specs.Schedules.{Replaying, Upgrading}
 use Rattle.engines.specs.declared.replays.Upgraded.{Upgraded}
 use Rattle.engines.specs.declared.replays.Upgraded.TheVariants.{Text, Shown}
 use Rattle.files.specs.Deeds.{Deed}
+use Rattle.states.specs.Shown.{StatesStream}
 use Rattle.doac.specs.Deeds.{GivesFile}
 
 -- the exit status of what work on texts comes to
@@ -29,6 +30,17 @@ pub record Ends (allows : Outcome → List ℕ → Type 0) (old new : Option (Li
 pub record EndsSeq (store : Bool) (source input : List ℕ) (old new : Option (List ℕ)) (status : ℕ) : Type 0 where
   pub came : Result Outcome EngineFault
   pub streams : Streaming store source input old new came
+  pub is : status ≡ exit_of came
+
+-- what `replay` writes, or with its states
+abbrev pub WritesReplay : (states : Bool) → (source input schedule : List ℕ) → (old new : Option (List ℕ)) → Result Outcome EngineFault → Type 0
+WritesReplay false source input schedule old new came = Works (Replaying source input schedule) old new came
+WritesReplay true source input schedule old new came = StatesStream source input schedule old new came
+
+-- it was written, and the status is that of what it came to
+pub record EndsReplay (states : Bool) (source input schedule : List ℕ) (old new : Option (List ℕ)) (status : ℕ) : Type 0 where
+  pub came : Result Outcome EngineFault
+  pub writes : WritesReplay states source input schedule old new came
   pub is : status ≡ exit_of came
 
 -- the text and the outcome are a page's

@@ -209,6 +209,15 @@ fn timeline_given<R: Eprint + AllocGlobal, F: NamedFiles, W: Write>(
     }
 }
 
+/// A file's name without the folders that it is in.
+fn own_name(name: &str) -> &[u8] {
+    let bytes = name.as_bytes();
+    match bytes.iter().rposition(|byte| *byte == b'/') {
+        Some(place) => bytes.get(place.saturating_add(1)..).unwrap_or(bytes),
+        None => bytes,
+    }
+}
+
 /// Draws the run that a schedule describes to a file; standard error has its message.
 fn timeline_read<R: Eprint + AllocGlobal, F: NamedFiles, W: Write>(
     rt: &R,
@@ -222,7 +231,14 @@ fn timeline_read<R: Eprint + AllocGlobal, F: NamedFiles, W: Write>(
         (Times texts.now.source.items texts.now.input.items texts.now.schedule.items) onto.now
         (F.done files.old) (F.done files.new) (W.contents out.old) (W.contents out.new) result }
 {
-    match timeline_texts(rt.alloc(), &texts.source, &texts.input, &texts.schedule) {
+    let name = own_name(names.source);
+    match timeline_texts(
+        rt.alloc(),
+        name,
+        &texts.source,
+        &texts.input,
+        &texts.schedule,
+    ) {
         Ok(Drawn::Picture(picture)) => give_file(rt, files, onto, &picture),
         Ok(Drawn::Shown(page)) => show_page(rt, out, names, texts, &page),
         Ok(Drawn::NoLoop(_)) => 3,

@@ -41,7 +41,7 @@ pub fn obey<R: Print + Eprint + AllocGlobal + Threads + Wait + Sync, F: NamedFil
         } => seq_files(rt, files, out, source, input, store, most),
         Command::Run(asked) => run_files(rt, files, out, nowhere, asked),
         Command::Model(asked) => model_files(rt, files, out, nowhere, asked),
-        Command::Replay(names) => replay_files(rt, files, out, nowhere, names),
+        Command::Replay { names, states } => replay_files(rt, files, out, nowhere, names, states),
         Command::Upgrade(names, onto) => upgrade_files(rt, files, out, names, onto),
         Command::Draw(drawing) => draw_file(rt, files, out, drawing),
         Command::Timeline(names, onto) => timeline_files(rt, files, out, names, onto),

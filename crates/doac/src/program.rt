@@ -17,8 +17,9 @@ use std::sync::Wait;
 use std::thread::Threads;
 use std::{env, io};
 
-/// How many bytes of records may wait to be written where standard output is no terminal.
-const MOST_WAITING: usize = 65_536;
+/// How many bytes of records may wait to be written where standard output is no terminal. A run that
+/// is ended from outside loses these, so they are few.
+const MOST_WAITING: usize = 4_096;
 
 /// Does what the words of the command line ask for, and gives the exit status. On a terminal each
 /// record of a sequential run is written at once. Standard output and the writer that shows nothing

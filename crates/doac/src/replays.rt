@@ -1,9 +1,8 @@
 //! `replay` and `upgrade`: what is made of a source, an input and a schedule.
 
-ghost use Rattle.engines.specs.Schedules.{Replaying};
-ghost use Rattle.doac.specs.Commands.{OnTexts, Upgrades};
+ghost use Rattle.doac.specs.Commands.{Replays, Upgrades};
 ghost use Rattle.doac.specs.Deeds.{AfterCompare, AfterTexts, ReadsTexts};
-ghost use Rattle.doac.specs.Statuses.{Ends, EndsUpgrade};
+ghost use Rattle.doac.specs.Statuses.{EndsReplay, EndsUpgrade, WritesReplay};
 
 use crate::told::{
     give_file, refuse_file, refuse_out, show_page, tell_of, tell_replay, warn_of_names, warn_of_run,
@@ -11,25 +10,28 @@ use crate::told::{
 use command_line::TextFiles;
 use engines::{Upgraded, replay_texts, upgrade_texts};
 use files::{Clash, NamedFiles, Unread, read_texts};
-use pages::{EngineFault, Texts};
+use pages::{EngineFault, Outcome, Texts};
+use states::state_texts;
+use std::alloc::Global;
 use std::io::Write;
 
-/// Replays the schedule of a file. Where the sequential run tells more of its fault that is made
-/// behind it, onto `nowhere`.
+/// Replays the schedule of a file, and shows its states if they are wanted. Where the sequential
+/// run tells more of its fault that is made behind it, onto `nowhere`.
 pub fn replay_files<R: Eprint + AllocGlobal, F: NamedFiles, W: Write>(
     rt: &R,
     files: &mut F,
     out: &mut W,
     nowhere: &mut W,
     names: TextFiles<'_>,
+    states: bool,
 ) -> u8
-    ensures { OnTexts Replaying
+    ensures { Replays states
         names.entry.source.now names.entry.input.now names.entry.schedule.now
         (F.done files.old) (F.done files.new) (W.contents out.old) (W.contents out.new) result }
 {
     warn_of_names(rt, names.source, Some(names.input));
     let texts = read_texts(files, names.source, names.input, names.schedule);
-    replay_given(rt, out, nowhere, names, texts)
+    replay_given(rt, out, nowhere, names, states, texts)
 }
 
 /// What `replay` makes of the bytes of its files.
@@ -38,15 +40,16 @@ fn replay_given<R: Eprint + AllocGlobal, W: Write>(
     out: &mut W,
     nowhere: &mut W,
     names: TextFiles<'_>,
+    states: bool,
     texts: Result<Texts, Unread<'_>>,
 ) -> u8
     ensures { (done : _) → AfterTexts texts.entry done done
         (W.contents out.old) (W.contents out.new) result
-        (λ text given picks. Ends (Replaying text given picks)
+        (λ text given picks. EndsReplay states text given picks
         (W.contents out.old) (W.contents out.new) result) }
 {
     match texts {
-        Ok(texts) => replay_read(rt, out, nowhere, names, &texts),
+        Ok(texts) => replay_read(rt, out, nowhere, names, states, &texts),
         Err(Unread { name, fault }) => refuse_file(rt, name, &fault),
     }
 }
@@ -57,21 +60,39 @@ fn replay_read<R: Eprint + AllocGlobal, W: Write>(
     out: &mut W,
     nowhere: &mut W,
     names: TextFiles<'_>,
+    states: bool,
     texts: &Texts,
 ) -> u8
-    ensures { Ends
-        (Replaying texts.now.source.items texts.now.input.items texts.now.schedule.items)
+    ensures { EndsReplay states
+        texts.now.source.items texts.now.input.items texts.now.schedule.items
         (W.contents out.old) (W.contents out.new) result }
 {
-    let outcome = replay_texts(
-        rt.alloc(),
-        &texts.source,
-        &texts.input,
-        &texts.schedule,
-        out,
-    );
+    let outcome = write_replay(rt.alloc(), out, states, texts);
     warn_of_run(rt, names.source, &texts.source, &outcome);
     tell_replay(rt, nowhere, names, texts, outcome)
+}
+
+/// Writes what `replay` shows of texts, or the states of the run that the schedule describes.
+fn write_replay<W: Write>(
+    alloc: Global,
+    out: &mut W,
+    states: bool,
+    texts: &Texts,
+) -> Result<Outcome, EngineFault>
+    ensures { WritesReplay states
+        texts.now.source.items texts.now.input.items texts.now.schedule.items
+        (W.contents out.old) (W.contents out.new) result }
+{
+    let Texts {
+        source,
+        input,
+        schedule,
+    } = texts;
+    if states {
+        state_texts(alloc, source, input, schedule, out)
+    } else {
+        replay_texts(alloc, source, input, schedule, out)
+    }
 }
 
 /// Writes the schedule of a file with its picks named to the file `onto`, if that may be written

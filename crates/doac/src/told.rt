@@ -10,7 +10,7 @@ use engines::{Note, Sequential, known_of};
 use files::{Clash, FileFault, NamedFiles, STANDARD_INPUT};
 use messages::{LastRecord, Message};
 use pages::{EngineFault, Outcome, Page, Texts};
-use reasons::MetObstacle;
+use reasons::Met;
 use remarks::{Place, warn_of_columns};
 use std::io::{self, Write};
 
@@ -210,17 +210,20 @@ pub fn tell_known<R: Eprint + AllocGlobal, W: Write>(
     tell_run(rt, name, text, given, input, run)
 }
 
-/// Why the entry in a line of a schedule can't be made, where the schedule is refused for that.
-fn obstacle<R: AllocGlobal>(rt: &R, texts: &Texts, number: u8, line: usize) -> Option<Note> {
+/// Why the entry in a line of a schedule can't be made, or where the run stands behind the last
+/// line, where the schedule is refused for that.
+fn met<R: AllocGlobal>(rt: &R, texts: &Texts, number: u8, line: usize) -> Option<Note> {
     let Texts {
         source,
         input,
         schedule,
     } = texts;
-    match number {
-        54 | 56 => MetObstacle::of(rt.alloc(), source, input, schedule, line).map(Note::Obstacle),
-        _ => None,
-    }
+    let line = match number {
+        54 | 56 => line,
+        55 => line.saturating_add(1),
+        _ => return None,
+    };
+    Met::of(rt.alloc(), source, input, schedule, line).map(Note::Met)
 }
 
 /// Says on standard error what is wrong with a schedule's text, or with its source's.
@@ -235,7 +238,7 @@ pub fn tell_of<R: Eprint + AllocGlobal>(
     match outcome {
         Ok(Outcome::NoSchedule { number, line }) => {
             let outcome = Outcome::NoSchedule { number, line };
-            let note = obstacle(rt, texts, number, line);
+            let note = met(rt, texts, number, line);
             tell_noted(rt, names.schedule, &texts.schedule, Ok(outcome), note)
         }
         outcome => tell(rt, names.source, &texts.source, outcome),

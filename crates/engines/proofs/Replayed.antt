@@ -1,5 +1,5 @@
 -- What is shown of a replay is what the sequential program prints, and how it ends.
-use Rattle.std.proofs.Common.{◌≡◌, ◌∙◌, false, List, [], ℕ, ◌++◌, ap, map, subst, sym}
+use Rattle.std.proofs.Common.{inl, inr, arith, ◌≡◌, ◌∙◌, false, List, [], ℕ, ◌++◌, ap, map, subst, sym}
 use Rattle.std.proofs.lemmas.Option.{same_Some}
 use Rattle.ast.specs.Meaning.{seq}
 use Rattle.ast.specs.Program.{ProgramTree}
@@ -11,13 +11,15 @@ use Rattle.ast.specs.declared.program.Program.{Program}
 use Rattle.codegen.specs.Headline.{Headline}
 use Rattle.machine.specs.Code.{Code}
 use Rattle.replay.proofs.Running.{is_run}
-use Rattle.replay.specs.Replayed.{IsReplay}
-use Rattle.schedules.specs.Schedules.{SchedText, Schedule}
+use Rattle.activities.specs.Points.{Point}
+use Rattle.replay.specs.Replayed.{CannotBeMade, GivesNone, HasStop, IsReplay}
+use Rattle.schedules.specs.Schedules.{Act, SchedText, Schedule}
+use Rattle.schedules.specs.declared.entry.Version.{Version}
 use Rattle.pages.specs.Outcomes.{outcome_of}
 use Rattle.pages.specs.Shown.{EndShown, Extends, Row, row_of}
 use Rattle.pages.specs.declared.outcomes.Outcome.{Outcome}
 use Rattle.engines.specs.Schedules.{IsReplayed, ShowsReplay}
-use Rattle.engines.specs.Timeline.{IsTimed}
+use Rattle.engines.specs.Timeline.{IsBegun, IsTimed}
 
 -- without a store the rows don't count
 any_rows : (e : End) (old new : List Row) (text : List ℕ) → EndShown false old e text → EndShown false new e text
@@ -69,3 +71,17 @@ timed p code input x schedule answer headline spelled r =
       replays = r.replays;
       ended = (agrees.answer answer.end r.is.end).is;
     }
+
+unlike : (v : Version) (code : Code) (s : ℕ) (x : Act) (a : Point) (q number : ℕ) → CannotBeMade v code s x a q number → number ≡ 55 → ⊥
+unlike v code s x a q number (inl h) is = omega (arith, h.0, is)
+unlike v code s x a q number (inr h) is = omega (arith, h.0, is)
+
+-- where a replay is refused with 55 all entries are possible
+pub begun : (code : Code) (input : List ℕ) (x : Schedule) (schedule : List ℕ) (number line : ℕ) → SchedText x schedule → GivesNone code input x number line → number ≡ 55 → IsBegun code input schedule
+begun code input x schedule number line spelled (inl stop) is = absurd (unlike x.version code x.slots stop.entry.act stop.point stop.entry.processor number stop.cannot is)
+begun code input x schedule number line spelled (inr h) is = record { run = x; spelled = spelled; line = line; going = h.1 }
+
+-- where it is refused otherwise one isn't
+pub stopped : (code : Code) (input : List ℕ) (x : Schedule) (number line : ℕ) → GivesNone code input x number line → (number ≡ 55 → ⊥) → HasStop code input x number line
+stopped code input x number line (inl stop) other = stop
+stopped code input x number line (inr h) other = absurd (other h.0)

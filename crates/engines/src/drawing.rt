@@ -16,7 +16,7 @@ use loop_tree::{LoopTree, ScalarSet, loops};
 use pages::refused;
 use pictures::{
     Frame, LoopPicture, OpenLoop, SerialLoop, draw as draw_loop, lines_of, open_picture,
-    serial_picture,
+    serial_picture, space_of,
 };
 use reasons::{Hindrance, hindrance_of};
 use std::alloc::{AllocError, Global};
@@ -129,7 +129,8 @@ fn serial<'a>(
         around: found.and_then(|hindrance| hindrance.around()),
         sources: found.map_or(&[], |hindrance| hindrance.sources()),
     };
-    serial_picture(alloc, lines_of(alloc, source)?, frame, serial)
+    let space = space_of(alloc, tree, frame.number)?;
+    serial_picture(alloc, lines_of(alloc, source)?, frame, serial, space)
 }
 
 /// What there is to draw of a loop whose iterations may overlap, by its report, the body of its
@@ -137,6 +138,7 @@ fn serial<'a>(
 fn opened<'a>(
     alloc: Global,
     source: &'a [u8],
+    tree: &LoopTree<'_>,
     report: &LoopReport,
     frame: Frame,
     body: &[PlanStmt],
@@ -153,7 +155,8 @@ fn opened<'a>(
         sources: &report.sources,
         kept: &report.kept,
     };
-    open_picture(alloc, lines_of(alloc, source)?, frame, opened)
+    let space = space_of(alloc, tree, frame.number)?;
+    open_picture(alloc, lines_of(alloc, source)?, frame, opened, space)
 }
 
 /// What there is to draw of a loop, by its report.
@@ -180,7 +183,7 @@ fn picture_of<'a>(
     match &report.plan {
         LoopPlan::Serial(reason) => serial(alloc, source, &tree, reports, frame, *reason),
         LoopPlan::Body { body, privates, .. } => {
-            opened(alloc, source, report, frame, body, privates)
+            opened(alloc, source, &tree, report, frame, body, privates)
         }
     }
 }

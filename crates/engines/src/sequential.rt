@@ -217,10 +217,10 @@ pub fn known_of<W: Write>(
             left: None,
         };
     }
-    let again = seq_noted(alloc, source, input, false, MOST_UNREAD, nowhere);
-    Sequential {
-        came,
-        note: again.note,
-        left: again.left,
-    }
+    let Sequential {
+        came: _,
+        note,
+        left,
+    } = seq_noted(alloc, source, input, false, MOST_UNREAD, nowhere);
+    Sequential { came, note, left }
 }

@@ -5,7 +5,7 @@ ghost use Rattle.activities.specs.Activities.{AreActivities};
 
 use crate::driving::begun;
 use machine::{Code, Next, stands_next};
-use pictures::{Awaited, Came, Gathered, Held, Turn};
+use pictures::{Awaited, Came, Clocks, Duty, Gathered, Held, Turn};
 use replay::{Activities, Choice, Holder, upgrade};
 use schedules::{Act, Entry, Schedule, Version};
 use std::alloc::{AllocError, Global};
@@ -14,7 +14,7 @@ use std::alloc::{AllocError, Global};
 #[derive(Clone, Copy)]
 enum Stands {
     /// An advance of an event.
-    Advance,
+    Advance(u32),
     /// An await of an event of the iteration so many before.
     Await(u32, u128),
     /// Something else.
@@ -47,7 +47,7 @@ fn ahead(activities: &Activities<'_>, q: usize) -> Stands
 {
     match activities.frame(q) {
         Some(frame) => match stands_next(activities.code, frame) {
-            Next::Advance { .. } => Stands::Advance,
+            Next::Advance { event } => Stands::Advance(event),
             Next::Await { event, distance } => Stands::Await(event, distance),
             _ => Stands::Other,
         },
@@ -80,7 +80,7 @@ fn came(ended: bool, before: Before, after: Option<Held>, open: u128) -> Came {
         _ if ended => Came::Ended,
         (Some(_), None) if open < before.open => Came::Retired,
         (Some(_), None) => Came::Parked,
-        _ if matches!(before.stands, Stands::Advance) => Came::Advanced,
+        _ if matches!(before.stands, Stands::Advance(_)) => Came::Advanced,
         _ => Came::Nothing,
     }
 }
@@ -96,6 +96,19 @@ fn awaited(came: Came, before: Before) -> Option<Awaited> {
         }
         _ => None,
     }
+}
+
+/// The event that was advanced, if one was.
+fn advanced(came: Came, before: Before) -> Option<u32> {
+    match (came, before.stands) {
+        (Came::Advanced, Stands::Advance(event)) => Some(event),
+        _ => None,
+    }
+}
+
+/// Whether an entry touches what processors share.
+fn is_shared(act: Act) -> bool {
+    !matches!(act, Act::Work(_))
 }
 
 /// How many steps an entry makes.
@@ -138,9 +151,11 @@ fn turn(activities: &mut Activities<'_>, entry: Entry) -> Result<Turn, AllocErro
     Ok(Turn {
         processor: q,
         steps: steps_of(entry.act),
+        shared: is_shared(entry.act),
         before: before.held,
         after,
         came,
+        advanced: advanced(came, before),
         awaited: awaited(came, before),
         open: u64::try_from(open).unwrap_or(u64::MAX),
     })
@@ -158,6 +173,20 @@ fn busy(alloc: Global, schedule: &Schedule) -> Result<u64, AllocError> {
     Ok(seen.iter().filter(|seen| **seen).count() as u64)
 }
 
+/// How many units of time a schedule takes, each step one.
+fn units(alloc: Global, schedule: &Schedule) -> Result<u64, AllocError> {
+    let mut clocks = Clocks::new(alloc, usize::from(schedule.processors()))?;
+    let mut entries = schedule.entries();
+    while let Some(entry) = entries.next() {
+        clocks.make(Duty {
+            processor: usize::from(entry.processor),
+            steps: steps_of(entry.act),
+            shared: is_shared(entry.act),
+        });
+    }
+    Ok(clocks.end())
+}
+
 /// Makes the entries of a schedule whose picks are named, and gathers what its processors do.
 fn gather(
     alloc: Global,
@@ -169,11 +198,12 @@ fn gather(
     let processors = usize::from(schedule.processors());
     let slots = u64::from(schedule.slots());
     let busy = busy(alloc, schedule)?;
-    let mut gathered = Gathered::new(alloc, schedule.len() as u64, processors, busy, slots)?;
+    let units = units(alloc, schedule)?;
+    let mut gathered = Gathered::new(alloc, units, processors, busy, slots)?;
     let mut entries = schedule.entries();
     while let Some(entry) = entries.next() {
         if usize::from(entry.processor) < activities.held.len() {
-            gathered.note(turn(activities, entry)?);
+            gathered.note(turn(activities, entry)?)?;
         }
     }
     Ok(gathered)
@@ -194,7 +224,7 @@ fn watched_named(
     }
 }
 
-/// What the processors do in the run that a schedule describes, which leads to its end.
+/// What the processors do in the run that a schedule describes, all of whose entries are possible.
 pub fn watched(
     alloc: Global,
     code: &Code,

@@ -1,5 +1,4 @@
-//! Why a loop stays serial or its iterations wait, and why an entry of a schedule can't be made, in
-//! words.
+//! Why a loop stays serial or its iterations wait, and what is in the way of a schedule, in words.
 #![tactic(auto)]
 
 mod amounts;
@@ -13,8 +12,9 @@ mod making;
 mod obstacles;
 mod serial;
 mod spelled;
+mod unfinished;
 mod waiting;
 
-pub use obstacles::MetObstacle;
+pub use obstacles::Met;
 pub use serial::{Hindrance, hindrance_of, say_why_serial};
 pub use waiting::why;

@@ -1,6 +1,7 @@
-//! Why an entry of a schedule can't be made.
+//! Why an entry of a schedule can't be made, or the run hasn't ended behind the last one.
 
 use crate::making::{make, new_core};
+use crate::unfinished::Unfinished;
 use ast::{Name, Program};
 use codegen::compile;
 use machine::{Code, Done, Frame, Next, stands_local, stands_next};
@@ -66,16 +67,18 @@ pub enum Obstacle {
     NotPossible(Option<SharedStep>),
 }
 
-/// An obstacle that a processor meets.
-#[derive(Clone, Copy)]
-pub struct MetObstacle {
-    processor: u8,
-    obstacle: Obstacle,
+/// What is met in the way of a schedule.
+#[derive(Drop)]
+pub enum Met {
+    /// By the processor of an entry.
+    Entry { processor: u8, obstacle: Obstacle },
+    /// Behind the last entry.
+    End(Unfinished),
 }
 
-impl MetObstacle {
-    /// Why the entry in a line of a schedule's text can't be made, if it is an entry of a run of
-    /// the source on the input.
+impl Met {
+    /// Why the entry in a line of a schedule's text can't be made in a run of the source on the
+    /// input, or where the run stands if that is the line behind the last entry.
     pub fn of(
         alloc: Global,
         source: &[u8],
@@ -90,28 +93,28 @@ impl MetObstacle {
     }
 }
 
-/// What an entry in a line of a schedule's text meets in a run of a program.
+/// What is met in a line of a schedule's text in a run of a program.
 fn met_in(
     alloc: Global,
     program: &Program,
     input: &[u8],
     schedule: &[u8],
     line: usize,
-) -> Option<MetObstacle> {
+) -> Option<Met> {
     match compile(alloc, program) {
         Ok(compiled) => met_by_code(alloc, &compiled.code, input, schedule, line),
         Err(_) => None,
     }
 }
 
-/// What an entry in a line of a schedule's text meets in a run of code.
+/// What is met in a line of a schedule's text in a run of code.
 fn met_by_code(
     alloc: Global,
     code: &Code,
     input: &[u8],
     schedule: &[u8],
     line: usize,
-) -> Option<MetObstacle> {
+) -> Option<Met> {
     let place = line.checked_sub(FIRST_ENTRY_LINE)?;
     match Schedule::parse(alloc, schedule) {
         Ok(schedule) => met_at(alloc, code, input, &schedule, place).unwrap_or(None),
@@ -119,28 +122,29 @@ fn met_by_code(
     }
 }
 
-/// What the entry at a place of a schedule meets.
+/// What is met at a place of a schedule.
 fn met_at(
     alloc: Global,
     code: &Code,
     input: &[u8],
     schedule: &Schedule,
     place: usize,
-) -> Result<Option<MetObstacle>, AllocError> {
+) -> Result<Option<Met>, AllocError> {
     let processors = u64::from(schedule.processors());
     let slots = u64::from(schedule.slots());
     let Some(mut core) = new_core(alloc, code, input, processors, slots)? else {
         return Ok(None);
     };
-    met_behind(&mut core, schedule, place)
+    met_behind(alloc, &mut core, schedule, place)
 }
 
-/// What the entry at a place meets, once those before it are made.
+/// What is met at a place, once the entries before it are made.
 fn met_behind(
+    alloc: Global,
     core: &mut Core<'_>,
     schedule: &Schedule,
     place: usize,
-) -> Result<Option<MetObstacle>, AllocError> {
+) -> Result<Option<Met>, AllocError> {
     let mut entries = schedule.entries();
     for _ in 0..place {
         match entries.next() {
@@ -151,17 +155,14 @@ fn met_behind(
         }
     }
     match entries.next() {
-        Some(entry) => met_by(core, schedule.version(), entry),
-        None => Ok(None),
+        Some(entry) => Ok(Some(met_by(core, schedule.version(), entry)?)),
+        None if core.has_ended() => Ok(None),
+        None => Ok(Some(Met::End(Unfinished::of(alloc, core)?))),
     }
 }
 
 /// What an entry of a schedule of a version meets.
-fn met_by(
-    core: &Core<'_>,
-    version: Version,
-    entry: Entry,
-) -> Result<Option<MetObstacle>, AllocError> {
+fn met_by(core: &Core<'_>, version: Version, entry: Entry) -> Result<Met, AllocError> {
     let q = usize::from(entry.processor);
     let obstacle = match entry.act {
         _ if core.has_ended() => Obstacle::Ended,
@@ -171,10 +172,10 @@ fn met_by(
         Act::PickIteration(number) => at_pick(core, q, Choice::Iteration(number))?,
         Act::TakeTicket => at_pick(core, q, Choice::Ticket)?,
     };
-    Ok(Some(MetObstacle {
+    Ok(Met::Entry {
         processor: entry.processor,
         obstacle,
-    }))
+    })
 }
 
 /// What stands in the way of so many local instructions.
@@ -194,7 +195,7 @@ fn at_work(core: &Core<'_>, q: usize, wanted: u16) -> Result<Obstacle, AllocErro
 
 /// How many local instructions stand before the next shared step of a frame, and which step that
 /// is.
-fn ahead(code: &Code, frame: Frame) -> Result<(u32, Option<SharedStep>), AllocError> {
+pub fn ahead(code: &Code, frame: Frame) -> Result<(u32, Option<SharedStep>), AllocError> {
     if !stands_local(code, &frame) {
         return Ok((0, step_of(code, &frame)));
     }
@@ -305,10 +306,22 @@ fn write_named<W: Write>(f: &mut Formatter<W>, word: &str, name: Option<Name>) -
     }
 }
 
-impl Display for MetObstacle {
+impl Display for Met {
     fn fmt<W: Write>(&self, f: &mut Formatter<W>) -> FmtResult {
-        let q = self.processor;
-        match self.obstacle {
+        match self {
+            Met::Entry {
+                processor,
+                obstacle,
+            } => obstacle.write(f, *processor),
+            Met::End(unfinished) => write!(f, "{unfinished}"),
+        }
+    }
+}
+
+impl Obstacle {
+    /// Writes what this processor meets.
+    fn write<W: Write>(self, f: &mut Formatter<W>, q: u8) -> FmtResult {
+        match self {
             Obstacle::Ended => f.write_str("the run has ended before this entry"),
             Obstacle::HoldsNothing => write!(f, "processor {q} holds nothing"),
             Obstacle::Few { count: 0, step, .. } => write_none(f, q, step),
@@ -318,7 +331,7 @@ impl Display for MetObstacle {
                 step,
             } => write_few(f, q, count, wanted, step),
             Obstacle::Local { count } => {
-                write_count(f, q, count)?;
+                write_has(f, q, count)?;
                 f.write_str(", before its shared step")
             }
             Obstacle::Holds { iteration: None } => write!(f, "processor {q} holds main"),
@@ -347,11 +360,16 @@ impl Display for MetObstacle {
     }
 }
 
-fn write_count<W: Write>(f: &mut Formatter<W>, q: u8, count: u32) -> FmtResult {
+pub fn write_count<W: Write>(f: &mut Formatter<W>, count: u32) -> FmtResult {
     match count {
-        1 => write!(f, "processor {q} has 1 local instruction next"),
-        _ => write!(f, "processor {q} has {count} local instructions next"),
+        1 => f.write_str("1 local instruction next"),
+        _ => write!(f, "{count} local instructions next"),
     }
+}
+
+fn write_has<W: Write>(f: &mut Formatter<W>, q: u8, count: u32) -> FmtResult {
+    write!(f, "processor {q} has ")?;
+    write_count(f, count)
 }
 
 fn write_none<W: Write>(f: &mut Formatter<W>, q: u8, step: Option<SharedStep>) -> FmtResult {
@@ -369,7 +387,7 @@ fn write_few<W: Write>(
     wanted: u16,
     step: Option<SharedStep>,
 ) -> FmtResult {
-    write_count(f, q, count)?;
+    write_has(f, q, count)?;
     write!(f, ", not {wanted}")?;
     match step {
         Some(step) => write!(f, "; then a shared step stands next: {step}"),
@@ -377,7 +395,7 @@ fn write_few<W: Write>(
     }
 }
 
-fn write_picked<W: Write>(f: &mut Formatter<W>, choice: Choice) -> FmtResult {
+pub fn write_picked<W: Write>(f: &mut Formatter<W>, choice: Choice) -> FmtResult {
     match choice {
         Choice::Main => f.write_str("main"),
         Choice::Iteration(number) => write!(f, "iteration {number}"),
