@@ -19,4 +19,6 @@ pub mod Labour
 pub mod Beginning
 pub mod Leasts
 pub mod Strode
-mod Gone
+pub mod Gone
+pub mod Seats
+pub mod Proceeds

@@ -8,6 +8,7 @@ pub mod Picking
 pub mod Points
 pub mod Printing
 pub mod Putting
+pub mod Seating
 pub mod Sharing
 pub mod Turns
 pub mod Waiting

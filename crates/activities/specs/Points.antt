@@ -1,5 +1,5 @@
 -- Where a run stands, and the steps that lead from there.
-use Rattle.std.specs.Prelude.{◌≡◌, ℕ, zero, suc, ◌+◌, ◌%◌, Bool, true, false, List, [], ◌∷◌, Option, Some, None}
+use Rattle.std.specs.Prelude.{◌≡◌, ◌⊎◌, ℕ, zero, suc, ◌+◌, ◌%◌, Bool, true, false, List, [], ◌∷◌, Option, Some, None}
 use Rattle.ec_kernel.specs.View as kernel
 use Rattle.ec_kernel.specs.View.{first_of, without, parked, advanced, restarted, new_kernel}
 use Rattle.machine.specs.Code.{Code}
@@ -106,6 +106,16 @@ NoLocal code s a q = (b : Point) → Moves code s true a q b → ⊥
 abbrev pub Steps : Code → ℕ → ℕ → Point → ℕ → Point → Type 0
 Steps code s zero a q b = a ≡ b
 Steps code s (suc n) a q b = (x : Point) × (local : Bool) × Moves code s local a q x × Steps code s n x q b
+
+-- Processor q makes a step of what it holds; or, if iterations may be begun, it takes the next ticket
+-- where nothing is ready.
+abbrev pub Acts : (begins : Bool) → Code → ℕ → Point → ℕ → Point → Type 0
+Acts begins code s a q b = ((local : Bool) × Moves code s local a q b) ⊎ ((begins ≡ true) × (a.order.ready ≡ []) × Picks code s take_ticket a q b)
+
+-- Processor q does so much, one after another.
+abbrev pub Proceeds : (begins : Bool) → Code → ℕ → ℕ → Point → ℕ → Point → Type 0
+Proceeds begins code s zero a q b = a ≡ b
+Proceeds begins code s (suc n) a q b = (x : Point) × Acts begins code s a q x × Proceeds begins code s n x q b
 
 -- Main is ready, and nothing else has happened.
 abbrev pub at_first : ℕ → kernel.View

@@ -9,6 +9,7 @@ mod main_turn;
 mod parts;
 mod picking;
 mod printing;
+mod proceeding;
 mod sharing;
 mod striding;
 mod turn;

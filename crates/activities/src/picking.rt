@@ -119,7 +119,8 @@ fn first_frame(
 }
 
 /// Iteration `k` of an open loop as it begins.
-fn begin(
+#[inline(always)]
+pub fn begin(
     spare: &mut Vec<Box<Frame>>,
     code: &Code,
     opened: Open,
@@ -152,7 +153,7 @@ impl<'c> Activities<'c> {
     ghost use Rattle.std.specs.Bool.{Decides};
 
     /// Whether processor `q` holds nothing.
-    fn is_free(&self, q: usize) -> bool
+    pub(crate) fn is_free(&self, q: usize) -> bool
         requires processor { q < length self.now.held.items }
         ensures { result ≡ is_none (held_of (kept_in self.now).held q) }
     {
@@ -205,7 +206,7 @@ impl<'c> Activities<'c> {
     }
 
     /// Whether the next iteration of an open loop may begin.
-    fn has_ticket(&self, opened: Open) -> bool
+    pub(crate) fn has_ticket(&self, opened: Open) -> bool
         requires counts { 0 < length self.now.shared.kernel.counts }
         ensures may { result ≡ nat_lt self.now.shared.kernel.ticket opened.trips
             && nat_lt self.now.shared.kernel.ticket

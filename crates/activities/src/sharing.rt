@@ -77,9 +77,16 @@ fn may_open(code: &Code, frame: &Frame, next: Next<'_>, iterations: &[Option<Ite
 fn clear(place: &mut Option<Iteration>, spare: &mut Vec<Box<Frame>>)
     ensures { place.new ≡ None }
 {
-    if let Some(Iteration { frame, .. }) = place.take() {
-        let _ = spare.push(frame);
+    if let Some(iteration) = place.take() {
+        keep(iteration, spare);
     }
+}
+
+/// The frame of an iteration is left to those that begin later; where it finds no room it is dropped.
+#[inline(always)]
+pub fn keep(iteration: Iteration, spare: &mut Vec<Box<Frame>>) {
+    let Iteration { frame, .. } = iteration;
+    let _ = spare.push(frame);
 }
 
 /// An iteration, in this slot, makes the step that stands next. Where memory is refused nothing
@@ -132,7 +139,7 @@ fn step_at(
 /// An iteration, in this slot, makes the await, the advance or the retirement that stands next.
 /// Where none does, or memory is refused, nothing changes.
 #[inline(always)]
-fn synchronize(
+pub fn synchronize(
     shared: &mut Shared,
     iteration: &mut Iteration,
     slot: usize,

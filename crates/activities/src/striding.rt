@@ -128,7 +128,8 @@ impl<'c> Activities<'c> {
 
     /// What an iteration that processor `q` holds awaits or advances, or its retirement, or, where
     /// none of these stands next, strides; how many steps, at most `n`.
-    fn next_steps(&mut self, q: usize, n: u32, stale: &mut Stale) -> u32
+    #[inline(always)]
+    pub(crate) fn next_steps(&mut self, q: usize, n: u32, stale: &mut Stale) -> u32
         requires stand { AreActivities self.old }
         requires processor { q < length self.old.held.items }
         requires some { 0 < n }
@@ -142,30 +143,6 @@ impl<'c> Activities<'c> {
             return 1;
         }
         self.stride_alone(q, n, stale)
-    }
-
-    /// Steps of what processor `q` holds, one after another, at most `n`, in its own place; how
-    /// many: local instructions, loads and stores, and what an iteration awaits or advances, and
-    /// its retirement. A step for which memory is refused isn't made. Cells that were stored to in
-    /// place are stale.
-    pub fn stride(&mut self, q: usize, n: u32, stale: &mut Stale) -> u32
-        requires stand { AreActivities self.old }
-        requires processor { q < length self.old.held.items }
-        ensures made { Steps (code_in self.old) self.old.slots result (point_in self.old) q
-            (point_in self.new) }
-        ensures few { result ≤ n }
-        ensures stand { AreActivities self.new }
-        ensures stays { Stays self.old self.new }
-    {
-        let mut left = n;
-        while left > 0 {
-            let made = self.next_steps(q, left, stale);
-            if made == 0 {
-                return n - left;
-            }
-            left -= made;
-        }
-        n
     }
 
     /// The steps of a stretch are made of iteration `k`, which processor `q` holds, and which may

@@ -1,6 +1,7 @@
 //! Steps of activities.
 
-ghost use Rattle.std.specs.Prelude.{ℕ, ◌≡◌, ◌==◌, ◌<◌, ◌≤◌, ◌+◌, map, ◌-◌, ◌^◌, IfOk, OnOk, OnErr};
+ghost use Rattle.std.specs.Prelude.{ℕ, ◌≡◌, ◌==◌, ◌<◌, ◌≤◌, ◌+◌, ◌++◌, map, ◌-◌, ◌^◌, IfOk, OnOk};
+ghost use Rattle.std.specs.Prelude.{OnErr};
 ghost use Rattle.std.specs.Prelude.{get_or, length, pos, set};
 ghost use Rattle.ec_kernel.specs.View.{IsKernel, count_at, places};
 ghost use Rattle.machine.specs.Code.{Code as Plain};
@@ -183,6 +184,18 @@ fn store_privates(cells: &mut [i64], code: &Code, variables: &[u32], values: &[S
     }
 }
 
+/// What an iteration printed goes out. Most print nothing.
+#[inline(always)]
+fn go_out(output: &mut Vec<u8>, out: &[u8]) -> Result<(), AllocError>
+    ensures ok { OnOk result (output.new.items ≡ output.old.items ++ out.now) }
+    ensures err { OnErr result (output.new.items ≡ output.old.items) }
+{
+    if out.is_empty() {
+        return Ok(());
+    }
+    output.extend_from_slice(out)
+}
+
 /// An iteration of a loop retires: what it printed goes out.
 pub fn leave(
     shared: &mut Shared,
@@ -200,7 +213,7 @@ pub fn leave(
     ensures kept { OnOk result (IsKernel shared.new.kernel) }
     ensures err { OnErr result (shared_of shared.new ≡ shared_of shared.old) }
 {
-    shared.output.extend_from_slice(&iteration.out)?;
+    go_out(&mut shared.output, &iteration.out)?;
     let variables = code.loops[number as usize].privates.as_slice();
     store_privates(
         &mut shared.cells,

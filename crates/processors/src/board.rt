@@ -256,13 +256,8 @@ impl<C: Call, D: Driven<C> + Drop> Board<C, D> {
     /// each, or where they are left to another processor, and makes their steps in place where they
     /// are short.
     fn pace(&self) -> Pace {
-        let tickets = if self.tells_gate || self.leaves_tickets() {
-            0
-        } else {
-            u32::MAX
-        };
         Pace {
-            tickets,
+            begins: !self.tells_gate && !self.leaves_tickets(),
             stretches: self.have_done(SHORT),
         }
     }

@@ -19,8 +19,8 @@ pub enum Onward {
 /// How a processor goes about its iterations.
 #[derive(Clone, Copy, PartialEq, Eq)]
 pub struct Pace {
-    /// How many it begins, at most.
-    pub tickets: u32,
+    /// Whether it begins any.
+    pub begins: bool,
     /// Whether steps of them are made outside the lock.
     pub stretches: bool,
 }

@@ -39,6 +39,11 @@ impl Made {
         self.steps = self.steps.saturating_add(steps);
     }
 
+    /// So many iterations more.
+    fn begin(&mut self, begun: u32) {
+        self.begun = self.begun.saturating_add(begun);
+    }
+
     /// With what the processor does next.
     fn and(self, onward: Onward) -> Advanced {
         Advanced {
@@ -450,20 +455,27 @@ impl<'c, C: Call> Unrecorded<'c, C> {
         }
     }
 
-    /// Steps of processor `q` in place; whether as many as are made in a row.
-    fn stride(&mut self, q: usize, made: &mut Made) -> bool {
+    /// How many iterations have begun since the next ticket was this one.
+    fn begun_since(&self, ticket: u128) -> u32 {
+        let begun = self.run.next_ticket().saturating_sub(ticket);
+        u32::try_from(begun).unwrap_or(u32::MAX)
+    }
+
+    /// Steps of processor `q` in place; whether as many as are made in a row. It begins iterations
+    /// unless their steps are to be made outside the lock.
+    fn proceed(&mut self, q: usize, pace: Pace, made: &mut Made) -> bool {
         let processors = self.run.processors();
         if q >= processors {
             return false;
         }
-        let most = if processors == 1 {
-            MOST_ALONE
-        } else {
-            MOST_IN_PLACE
-        };
-        let strode = self.run.stride(q, most, &mut self.stale);
-        made.add(strode);
-        strode == most
+        let is_alone = processors == 1;
+        let most = if is_alone { MOST_ALONE } else { MOST_IN_PLACE };
+        let begins = pace.begins && (is_alone || !pace.stretches);
+        let ticket = self.run.next_ticket();
+        let steps = self.run.proceed(q, most, begins, &mut self.stale);
+        made.add(steps);
+        made.begin(self.begun_since(ticket));
+        steps == most
     }
 
     /// Processor `q` loads a stretch, if it holds an iteration, another processor could have the
@@ -486,18 +498,18 @@ impl<'c, C: Call> Unrecorded<'c, C> {
     fn move_on(
         &mut self,
         q: usize,
-        tickets: u32,
+        begins: bool,
         made: &mut Made,
     ) -> Result<Option<Onward>, AllocError> {
         if q >= self.run.processors() {
             return Ok(Some(Onward::Shares));
         }
         if !self.run.holds(q) {
-            return self.take_up(q, tickets, made);
+            return self.take_up(q, begins, made);
         }
         if self.run.share(q)? {
             made.add(1);
-            return self.take_up(q, tickets, made);
+            return self.take_up(q, begins, made);
         }
         // No clause says that strides are made wherever one stands next; local work always is.
         let worked = self.run.work(q, MOST_IN_PLACE);
@@ -514,7 +526,7 @@ impl<'c, C: Call> Unrecorded<'c, C> {
     fn take_up(
         &mut self,
         q: usize,
-        tickets: u32,
+        begins: bool,
         made: &mut Made,
     ) -> Result<Option<Onward>, AllocError> {
         if q >= self.run.processors() {
@@ -524,13 +536,13 @@ impl<'c, C: Call> Unrecorded<'c, C> {
             return Ok(None);
         }
         let choice = self.run.least();
-        let begins = choice == Choice::Ticket;
-        if begins && made.begun >= tickets || !self.run.pick(q, choice)? {
+        let is_ticket = choice == Choice::Ticket;
+        if is_ticket && !begins || !self.run.pick(q, choice)? {
             return Ok(Some(Onward::Shares));
         }
         made.add(1);
-        if begins {
-            made.begun = made.begun.saturating_add(1);
+        if is_ticket {
+            made.begin(1);
         }
         Ok(None)
     }
@@ -547,8 +559,8 @@ impl<'c, C: Call> Unrecorded<'c, C> {
         if pace.stretches && self.stretch(q, own)? {
             return Ok(Some(Onward::Works));
         }
-        if !self.stride(q, made) {
-            return self.move_on(q, pace.tickets, made);
+        if !self.proceed(q, pace, made) {
+            return self.move_on(q, pace.begins, made);
         }
         // This iteration is longer than others were.
         if !pace.stretches && self.stretch(q, own)? {

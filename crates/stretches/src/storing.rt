@@ -36,8 +36,21 @@ impl Memory for Noting {
 }
 
 /// Local instructions, loads and stores of a frame that stand next, at most `n`, in its own place
-/// and on the cells of a store; how many. Cells that were stored to are stale.
-pub fn stride_noting(
+/// and on the cells of a store; how many.
+#[inline(never)]
+fn stride_unnoted(code: &Code, frame: &mut Frame, cells: &mut Vec<i64>, n: u32) -> u32
+    ensures made { strides (code_of code.now) result (held_by code.now frame.old cells.old.items)
+        ≡ Some (held_by code.now frame.new cells.new.items) }
+    ensures few { result ≤ n }
+    ensures cells { length cells.new.items ≡ length cells.old.items }
+{
+    stride(code, frame, cells, n)
+}
+
+/// The same. Cells that were stored to are stale.
+// Out of line, as the other one: its caller would clear room for the memory at each call.
+#[inline(never)]
+fn stride_noted(
     code: &Code,
     frame: &mut Frame,
     cells: &mut Vec<i64>,
@@ -49,9 +62,6 @@ pub fn stride_noting(
     ensures few { result ≤ n }
     ensures cells { length cells.new.items ≡ length cells.old.items }
 {
-    if stale.is_unused() {
-        return stride(code, frame, cells, n);
-    }
     let alloc = *cells.allocator();
     let mut memory = Noting {
         cells: replace(cells, Vec::new(alloc)),
@@ -65,4 +75,26 @@ pub fn stride_noting(
     *cells = changed;
     *stale = noted;
     made
+}
+
+/// Local instructions, loads and stores of a frame that stand next, at most `n`, in its own place
+/// and on the cells of a store; how many. Cells that were stored to are stale, where they are noted.
+#[inline(always)]
+pub fn stride_noting(
+    code: &Code,
+    frame: &mut Frame,
+    cells: &mut Vec<i64>,
+    stale: &mut Stale,
+    n: u32,
+) -> u32
+    ensures made { strides (code_of code.now) result (held_by code.now frame.old cells.old.items)
+        ≡ Some (held_by code.now frame.new cells.new.items) }
+    ensures few { result ≤ n }
+    ensures cells { length cells.new.items ≡ length cells.old.items }
+{
+    if stale.is_unused() {
+        stride_unnoted(code, frame, cells, n)
+    } else {
+        stride_noted(code, frame, cells, stale, n)
+    }
 }

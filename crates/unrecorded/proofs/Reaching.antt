@@ -1,21 +1,21 @@
 -- A run of the machine goes on.
-use Rattle.std.proofs.Common.{◌≡◌, ◌∙◌, ℕ, zero, suc, ◌<◌, Bool, true, false, List, [], ◌∷◌, ◌++◌, length, Option, Some, refl, sym, ap, subst, arith}
+use Rattle.std.proofs.Common.{inl, inr, ◌⊎◌, ◌≡◌, ◌∙◌, ℕ, zero, suc, ◌<◌, Bool, true, false, List, [], ◌∷◌, ◌++◌, length, Option, Some, refl, sym, ap, subst, arith}
 use Rattle.std.specs.Prelude.{◌≤◌, ◌==◌, Result, Ok, Err, IfOk, OnErr}
 use Rattle.std.specs.declared.alloc.AllocError.{AllocError}
 use Rattle.machine.specs.Code.{Code}
 use Rattle.machine.specs.Frame.{Frame}
 use Rattle.machine.specs.Local.{locals}
-use Rattle.machine.specs.State.{Choice, CodeRun, CodeStep, Init, Machine, Turn, Who}
+use Rattle.machine.specs.State.{Choice, CodeRun, CodeStep, Init, Machine, Turn, Who, take_ticket}
 use Rattle.machine.specs.View.{view, trips_of, begin}
 use Rattle.machine.specs.declared.code.Open.{Open}
 use Rattle.activities.specs.Activities.{AreActivities, Stays, code_in, kept_in, point_in}
 use Rattle.activities.specs.Activities.{Did as Goes}
 use Rattle.activities.specs.Parts.{Kept, point_of}
-use Rattle.activities.specs.Points.{Moves, NoLocal, Picks, Point, Steps, Works}
+use Rattle.activities.specs.Points.{Acts, Moves, NoLocal, Picks, Point, Proceeds, Steps, Works}
 use Rattle.activities.specs.Putting.{PutsOn}
 use Rattle.activities.specs.declared.holding.Activities.{Activities}
 use Rattle.unrecorded.specs.Handing.{HasFrame, WorksOn}
-use Rattle.unrecorded.specs.View.{Did, Drives, IsReached, IsSameRun, Labours, RunView, Shares, TakesUp, point_at}
+use Rattle.unrecorded.specs.View.{Did, Drives, GoesOn, IsReached, IsSameRun, Labours, RunView, Shares, TakesUp, point_at}
 use Rattle.unrecorded.specs.Whole.{IsWhole, seen_as}
 
 -- a run, and one turn more
@@ -39,6 +39,14 @@ pick_step code s c a q b h = record {
   going = h.going;
   turn = subst (λ (o : Option Who). Turn Frame Open (view code) trips_of (begin code) s o a.machine q b.machine) (sym h.idle) (c, h.takes);
 }
+
+acts_step : (begins : Bool) (code : Code) (s : ℕ) (a : Point) (q : ℕ) (b : Point) → Acts begins code s a q b → CodeStep code s a.machine q b.machine
+acts_step begins code s a q b (inl h) = h.1.step
+acts_step begins code s a q b (inr h) = pick_step code s take_ticket a q b h.2
+
+as_many_more : (begins : Bool) (code : Code) (input : List ℕ) (p s q n : ℕ) (a b : Point) → IsReached code input p s a.machine → q < p → Proceeds begins code s n a q b → IsReached code input p s b.machine
+as_many_more begins code input p s q zero a b r h t = subst (λ (z : Point). IsReached code input p s z.machine) t r
+as_many_more begins code input p s q (suc n) a b r h t = as_many_more begins code input p s q n t.0 b (one_more code input p s q a.machine t.0.machine r h (acts_step begins code s a q t.0 t.1)) h t.2
 
 -- ---- what stays
 
@@ -108,6 +116,15 @@ pub picked_did : (input : List ℕ) (a b : Activities) (x : RunView) (q : ℕ) (
     → IfOk r (λ did. Goes did (λ d e. Picks (code_in a) a.slots c d q e) a b) → IfOk r (λ did. TakesUp did x q c (seen_as input b))
 picked_did input a b x q c (Ok did) e t d = subst (λ (y : RunView). TakesUp did y q c (seen_as input b)) e (did_seen input a b did (λ z w. Picks (code_in a) a.slots c z q w) t d)
 picked_did input a b x q c (Err z) e t d = tt
+
+pub gone_whole : (begins : Bool) (input : List ℕ) (a b : Activities) (x : RunView) (q n : ℕ) → seen_as input a ≡ x → IsWhole input a → AreActivities b → Stays a b → q < x.processors → Proceeds begins (code_in a) a.slots n (point_in a) q (point_in b) → IsWhole input b
+gone_whole begins input a b x q n e w stand t h d = record {
+  stand = stand;
+  reached = stays_reached input a b t (as_many_more begins (code_in a) input (length a.held.items) a.slots q n (point_in a) (point_in b) w.reached (subst (λ (y : RunView). q < y.processors) (sym e) h) d);
+}
+
+pub gone_on : (begins : Bool) (input : List ℕ) (a b : Activities) (x : RunView) (q n : ℕ) → seen_as input a ≡ x → Stays a b → Proceeds begins (code_in a) a.slots n (point_in a) q (point_in b) → GoesOn begins x q n (seen_as input b)
+gone_on begins input a b x q n e t d = subst (λ (y : RunView). GoesOn begins y q n (seen_as input b)) e (same_run input a b t, d)
 
 pub driven_whole : (input : List ℕ) (a b : Activities) (x : RunView) (q n : ℕ) → seen_as input a ≡ x → IsWhole input a → AreActivities b → Stays a b → q < x.processors → Steps (code_in a) a.slots n (point_in a) q (point_in b) → IsWhole input b
 driven_whole = whole_more

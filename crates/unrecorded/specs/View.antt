@@ -4,7 +4,7 @@ use Rattle.ast.specs.declared.fault.End.{End}
 use Rattle.machine.specs.Code.{Code}
 use Rattle.machine.specs.State.{AreSizes, Choice, CodeRun, Init, Machine}
 use Rattle.activities.specs.Parts.{Kept, point_of}
-use Rattle.activities.specs.Points.{Moves, NoLocal, Picks, Point, Steps, beginning}
+use Rattle.activities.specs.Points.{Moves, NoLocal, Picks, Point, Proceeds, Steps, beginning}
 
 -- its code and input, how many processors and slots there are, and what it keeps
 pub record RunView : Type 0 where
@@ -73,3 +73,7 @@ TakesUp did x q c y = Did did (λ a b. Picks x.code x.slots c a q b) x y
 -- processor q makes so many steps of what it holds
 abbrev pub Drives : RunView → ℕ → ℕ → RunView → Type 0
 Drives x q n y = IsSameRun x y × Steps x.code x.slots n (point_at x) q (point_at y)
+
+-- processor q does so much, and takes tickets among that only if iterations may be begun
+abbrev pub GoesOn : (begins : Bool) → RunView → ℕ → ℕ → RunView → Type 0
+GoesOn begins x q n y = IsSameRun x y × Proceeds begins x.code x.slots n (point_at x) q (point_at y)

@@ -62,7 +62,7 @@ impl<'c> Run<'c> {
     ghost use Rattle.replay.specs.Replayed.{IsAnswer};
     ghost use Rattle.replay.specs.Stepping.{NoCore};
     ghost use Rattle.unrecorded.specs.Handing.{CannotHandIn, HandsIn, HasFrame, Loads, is_local};
-    ghost use Rattle.unrecorded.specs.View.{Drives, HasEnded, IsGoing, IsNew, IsRun, Labours};
+    ghost use Rattle.unrecorded.specs.View.{Drives, GoesOn, HasEnded, IsGoing, IsNew, IsRun, Labours};
     ghost use Rattle.unrecorded.specs.View.{Shares, TakesUp, point_at};
 
     /// A run at its beginning, of `p` processors, 1 to 64, with `s` iterations open at most, 1 to
@@ -196,14 +196,15 @@ impl<'c> Run<'c> {
 
     /// Steps of what processor `q` holds, one after another, at most `n`, in its own place; how
     /// many: local instructions, loads and stores, and what an iteration awaits or advances, and
-    /// its retirement. A step for which memory is refused isn't made. Cells that were stored to in
-    /// place are stale.
-    pub fn stride(&mut self, q: usize, n: u32, stale: &mut Stale) -> u32
+    /// its retirement. Where `begins` says so, and no activity is ready, it begins iterations too,
+    /// each of which is a step. A step for which memory is refused isn't made. Cells that were
+    /// stored to in place are stale.
+    pub fn proceed(&mut self, q: usize, n: u32, begins: bool, stale: &mut Stale) -> u32
         requires processor { q < self.old.processors }
-        ensures drives { Drives self.old q result self.new }
+        ensures proceeds { GoesOn begins self.old q result self.new }
         ensures few { result ≤ n }
     {
-        self.activities.stride(q, n, stale)
+        self.activities.proceed(q, n, begins, stale)
     }
 
     /// The frame of what processor `q` holds.
