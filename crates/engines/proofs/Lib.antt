@@ -1,5 +1,6 @@
 pub mod Counts
 pub mod Drawings
+pub mod Explaining
 pub mod Listings
 pub mod Pages
 pub mod Replayed

@@ -1,5 +1,5 @@
 -- What is shown of a replay is what the sequential program prints, and how it ends.
-use Rattle.std.proofs.Common.{inl, inr, arith, ◌≡◌, ◌∙◌, false, List, [], ℕ, ◌++◌, ap, map, subst, sym}
+use Rattle.std.proofs.Common.{inl, inr, ◌≡◌, ◌∙◌, ◌⊎◌, false, List, [], ℕ, ◌++◌, ap, map, subst, sym}
 use Rattle.std.proofs.lemmas.Option.{same_Some}
 use Rattle.ast.specs.Meaning.{seq}
 use Rattle.ast.specs.Program.{ProgramTree}
@@ -7,19 +7,21 @@ use Rattle.ast.specs.ProgramView.{program as program_of}
 use Rattle.ast.specs.declared.answer.Answer.{Answer}
 use Rattle.ast.specs.declared.fault.End.{End}
 use Rattle.ast.specs.declared.fault.End.TheVariants.{Done, Stopped, Fault as FaultedAt}
-use Rattle.ast.specs.declared.program.Program.{Program}
 use Rattle.codegen.specs.Headline.{Headline}
 use Rattle.machine.specs.Code.{Code}
+use Rattle.machine.specs.CodeView.{code_of}
+use Rattle.machine.specs.State.{Ended}
 use Rattle.replay.proofs.Running.{is_run}
-use Rattle.activities.specs.Points.{Point}
-use Rattle.replay.specs.Replayed.{CannotBeMade, GivesNone, HasStop, IsReplay}
-use Rattle.schedules.specs.Schedules.{Act, SchedText, Schedule}
-use Rattle.schedules.specs.declared.entry.Version.{Version}
+use Rattle.replay.specs.Replayed.{GivesNone, IsReplay}
+use Rattle.schedules.specs.Schedules.{IsSchedule, Schedule}
 use Rattle.pages.specs.Outcomes.{outcome_of}
-use Rattle.pages.specs.Shown.{EndShown, Extends, Row, row_of}
+use Rattle.pages.specs.Shown.{EndShown, Extends, Row, no_schedule, row_of}
 use Rattle.pages.specs.declared.outcomes.Outcome.{Outcome}
-use Rattle.engines.specs.Schedules.{IsReplayed, ShowsReplay}
+use Rattle.pages.specs.declared.outcomes.Outcome.TheVariants.{NoSchedule}
+use Rattle.engines.specs.Prepared.{IsDescribedRun, IsStop, WithRun}
+use Rattle.engines.specs.Schedules.{IsReplayed, Replaying}
 use Rattle.engines.specs.Timeline.{IsBegun, IsTimed}
+use Rattle.engines.specs.declared.prepared.Run.{Run}
 
 -- without a store the rows don't count
 any_rows : (e : End) (old new : List Row) (text : List ℕ) → EndShown false old e text → EndShown false new e text
@@ -27,61 +29,63 @@ any_rows Done old new text h = h
 any_rows (Stopped line) old new text h = h
 any_rows (FaultedAt fault line) old new text h = h
 
-by_end : (tree : ProgramTree) (code : Code) (input schedule : List ℕ) (outcome : Outcome) (text : List ℕ) (e : End) → outcome ≡ outcome_of e → IsReplayed tree code input schedule outcome text → ShowsReplay tree code input schedule outcome text
-by_end tree code input schedule outcome text Done h w = subst (λ (o : Outcome). IsReplayed tree code input schedule o text → ShowsReplay tree code input schedule o text) (sym h) (λ z. z) w
-by_end tree code input schedule outcome text (Stopped line) h w = subst (λ (o : Outcome). IsReplayed tree code input schedule o text → ShowsReplay tree code input schedule o text) (sym h) (λ z. z) w
-by_end tree code input schedule outcome text (FaultedAt fault line) h w = subst (λ (o : Outcome). IsReplayed tree code input schedule o text → ShowsReplay tree code input schedule o text) (sym h) (λ z. z) w
+-- a run that a schedule leads to an answer ends as the sequential program does
+ended_so : (tree : ProgramTree) (code : Code) (input : List ℕ) (x : Schedule) (answer : Answer) → Headline code tree → IsSchedule x → (r : IsReplay code input x answer)
+    → Ended r.point.machine (seq tree input).output (seq tree input).end (seq tree input).store
+ended_so tree code input x answer headline kept r =
+    let run = is_run code input x r.point kept r.replays in
+    let agrees = headline input x.processors x.slots run.0 r.point.machine kept.0 run.1 in
+    agrees.answer answer.end r.is.end
 
-pub replayed_shown : (p : Program) (code : Code) (input : List ℕ) (x : Schedule) (schedule : List ℕ) (answer : Answer) (outcome : Outcome) (text : List ℕ) → Headline code (program_of p) → SchedText x schedule → IsReplay code input x answer
-    → outcome ≡ outcome_of answer.end → Extends (EndShown false [] answer.end) answer.output.items text → ShowsReplay (program_of p) code input schedule outcome text
-replayed_shown p code input x schedule answer outcome text headline spelled r ended more =
-    let tree = program_of p in
-    let run = is_run code input x r.point spelled.schedule r.replays in
-    let agrees = headline input x.processors x.slots run.0 r.point.machine spelled.schedule.0 run.1 in
-    let end = agrees.answer answer.end r.is.end in
+-- what is shown of its answer
+replayed : (tree : ProgramTree) (code : Code) (input : List ℕ) (x : Schedule) (answer : Answer) (outcome : Outcome) (text : List ℕ) → Headline code tree → IsSchedule x → IsReplay code input x answer
+    → outcome ≡ outcome_of answer.end → Extends (EndShown false [] answer.end) answer.output.items text → IsReplayed tree code input x outcome text
+replayed tree code input x answer outcome text headline kept r ended more =
+    let end = ended_so tree code input x answer headline kept r in
     let same : answer.end ≡ (seq tree input).end = same_Some answer.end (seq tree input).end (sym r.is.end ∙ end.is) in
-    let outcome_is : outcome ≡ outcome_of (seq tree input).end = ended ∙ ap outcome_of same in
     let rows = map (row_of (seq tree input).store) tree.symbols in
-    by_end tree code input schedule outcome text (seq tree input).end outcome_is (record {
-      old = x;
-      spelled = spelled;
+    record {
       point = r.point;
       replays = r.replays;
       ended = end.is;
       run = record {
-        ended = outcome_is;
+        ended = ended ∙ ap outcome_of same;
         shown = record {
           last = more.last;
           ends = subst (λ (e : End). EndShown false rows e more.last) same (any_rows answer.end [] rows more.last more.fits);
           whole = more.grown ∙ ap (λ (out : List ℕ). out ++ more.last) (r.is.output ∙ end.printed);
         };
       };
-    })
-
--- a schedule that leads to an answer leads where the sequential program ends
-pub timed : (p : Program) (code : Code) (input : List ℕ) (x : Schedule) (schedule : List ℕ) (answer : Answer) → Headline code (program_of p) → SchedText x schedule → IsReplay code input x answer
-    → IsTimed (program_of p) code input schedule
-timed p code input x schedule answer headline spelled r =
-    let run = is_run code input x r.point spelled.schedule r.replays in
-    let agrees = headline input x.processors x.slots run.0 r.point.machine spelled.schedule.0 run.1 in
-    record {
-      run = x;
-      spelled = spelled;
-      point = r.point;
-      replays = r.replays;
-      ended = (agrees.answer answer.end r.is.end).is;
     }
 
-unlike : (v : Version) (code : Code) (s : ℕ) (x : Act) (a : Point) (q number : ℕ) → CannotBeMade v code s x a q number → number ≡ 55 → ⊥
-unlike v code s x a q number (inl h) is = omega (arith, h.0, is)
-unlike v code s x a q number (inr h) is = omega (arith, h.0, is)
+-- ---- of a run that is described
 
--- where a replay is refused with 55 all entries are possible
-pub begun : (code : Code) (input : List ℕ) (x : Schedule) (schedule : List ℕ) (number line : ℕ) → SchedText x schedule → GivesNone code input x number line → number ≡ 55 → IsBegun code input schedule
-begun code input x schedule number line spelled (inl stop) is = absurd (unlike x.version code x.slots stop.entry.act stop.point stop.entry.processor number stop.cannot is)
-begun code input x schedule number line spelled (inr h) is = record { run = x; spelled = spelled; line = line; going = h.1 }
+-- what holds of the program, the code and the schedule of a run
+pub with_run : (source schedule : List ℕ) (x : Run) (P : ProgramTree → Code → Schedule → Type 0) → IsDescribedRun source schedule x → P (program_of x.coded.program) (code_of x.coded.code) x.schedule → WithRun source schedule P
+with_run source schedule x P is holds = record {
+  tree = program_of x.coded.program;
+  code = code_of x.coded.code;
+  reads = is.coded.reads;
+  compiled = is.coded.compiled;
+  holds = (x.schedule, is.spelled, holds);
+}
 
--- where it is refused otherwise one isn't
-pub stopped : (code : Code) (input : List ℕ) (x : Schedule) (number line : ℕ) → GivesNone code input x number line → (number ≡ 55 → ⊥) → HasStop code input x number line
-stopped code input x number line (inl stop) other = stop
-stopped code input x number line (inr h) other = absurd (other h.0)
+pub replaying : (source input schedule : List ℕ) (x : Run) (answer : Answer) (outcome : Outcome) (text : List ℕ) → IsDescribedRun source schedule x → IsReplay (code_of x.coded.code) input x.schedule answer
+    → outcome ≡ outcome_of answer.end → Extends (EndShown false [] answer.end) answer.output.items text → Replaying source input schedule outcome text
+replaying source input schedule x answer outcome text is r ended more =
+    inl (with_run source schedule x (λ tree code run. IsReplayed tree code input run outcome text) is
+    (replayed (program_of x.coded.program) (code_of x.coded.code) input x.schedule answer outcome text is.coded.headline is.spelled.schedule r ended more))
+
+-- the line of a replay that is refused
+pub unreplayed : (source input schedule : List ℕ) (x : Run) (number line : ℕ) (outcome : Outcome) (text : List ℕ) → IsDescribedRun source schedule x → GivesNone (code_of x.coded.code) input x.schedule number line → outcome ≡ NoSchedule number line
+    → text ≡ no_schedule number line → Replaying source input schedule outcome text
+unreplayed source input schedule x number line outcome text is cause so shown =
+    inr (inr (with_run source schedule x (λ tree code run. IsStop GivesNone code input run outcome text) is
+    (subst (λ (o : Outcome). IsStop GivesNone (code_of x.coded.code) input x.schedule o text) (sym so) (cause, shown))))
+
+-- what a schedule that leads to an answer leads to
+pub timed : (source input schedule : List ℕ) (x : Run) (answer : Answer) → IsDescribedRun source schedule x → IsReplay (code_of x.coded.code) input x.schedule answer
+    → WithRun source schedule (λ tree code run. IsTimed tree code input run ⊎ IsBegun code input run)
+timed source input schedule x answer is r =
+    with_run source schedule x (λ tree code run. IsTimed tree code input run ⊎ IsBegun code input run) is
+    (inl (record { point = r.point; replays = r.replays; ended = (ended_so (program_of x.coded.program) (code_of x.coded.code) input x.schedule answer is.coded.headline is.spelled.schedule r).is }))

@@ -3,7 +3,9 @@ pub mod CodeLines
 pub mod Coded
 pub mod Drawing
 pub mod Engines
+pub mod Explained
 pub mod Listing
 pub mod Lists
+pub mod Prepared
 pub mod Schedules
 pub mod Timeline

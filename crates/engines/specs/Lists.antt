@@ -1,16 +1,21 @@
 -- What `list` may write of a source text.
-use Rattle.std.specs.Prelude.{◌≡◌, ◌⊎◌, ℕ, Bool, true, false, List}
+use Rattle.std.specs.Prelude.{◌≡◌, ◌⊎◌, ℕ, Bool, true, false, List, Option, Result, Ok, Err}
+use Rattle.std.specs.Io.KnownBytes.{Keeps}
 use Rattle.ast.specs.Program.{ProgramTree}
 use Rattle.ast.specs.ProgramView.{program as program_of}
 use Rattle.codegen.specs.Program.{IsCompiled, HasLongCode as HasNoCode}
 use Rattle.codegen.specs.Reports.{Reports}
 use Rattle.codegen.specs.declared.reports.LoopReport.{LoopReport}
+use Rattle.handing.specs.Handing.{Begins, FallsShort}
 use Rattle.machine.specs.Code.{Code}
 use Rattle.profile_check.specs.Reads.{Reads}
 use Rattle.pages.specs.Shown.{refused}
+use Rattle.pages.specs.declared.fault.EngineFault.{EngineFault}
+use Rattle.pages.specs.declared.fault.EngineFault.TheVariants.{Writing, Memory}
 use Rattle.pages.specs.declared.outcomes.Outcome.{Outcome}
 use Rattle.pages.specs.declared.outcomes.Outcome.TheVariants.{Completed, Refused, Faulted, NoSchedule}
-use Rattle.engines.specs.Engines.{IsRefusal}
+use Rattle.engines.specs.Engines.{IsRefusal, Works, Wrote, WrotePart}
+use Rattle.engines.specs.Explained.{GrewBy, StreamsLoops}
 use Rattle.engines.specs.Listing.{Lines, LinesWhy, ListingOf}
 use Rattle.engines.specs.Schedules.{IsNoCode}
 use Rattle.engines.specs.declared.survey.Survey.{Survey}
@@ -64,16 +69,37 @@ TellsLoops = TellsBy Lines
 abbrev pub Lists : List ℕ → Outcome → List ℕ → Type 0
 Lists = ListsBy Lines
 
--- what `list` may write of a survey with `--why`
-abbrev pub TellsWhy : Survey → Outcome → List ℕ → Type 0
-TellsWhy = TellsBy LinesWhy
+-- ---- with `--why` lines are written while they are made
 
--- what `list` may write of a survey, with `--why` or without
-abbrev pub TellsAs : (why : Bool) → Survey → Outcome → List ℕ → Type 0
-TellsAs true = TellsWhy
-TellsAs false = TellsLoops
+-- what `list --why` writes of a survey: all that it may; or where writing failed or memory was
+-- refused a beginning of the lines of some loops, or of a refusal's
+abbrev pub StreamsWhy : Survey → (old new : Option (List ℕ)) → Result Outcome EngineFault → Type 0
+StreamsWhy (survey.Loops program reports) old new result = StreamsLoops reports.items old new result
+StreamsWhy (survey.Refused number line) old new result = Works (TellsLoops (survey.Refused number line)) old new result
 
--- what `list` may write of a source text, with `--why` or without
-abbrev pub ListsAs : (why : Bool) → List ℕ → Outcome → List ℕ → Type 0
-ListsAs true = ListsBy LinesWhy
-ListsAs false = Lists
+-- the source reads as a program that has code, and a writer's bytes grew by so much of the lines of
+-- some of its loops, from the first on
+pub record GrewOf (So : List ℕ → List ℕ → Type 0) (source : List ℕ) (old new : Option (List ℕ)) : Type 0 where
+  pub tree : ProgramTree
+  pub reports : List LoopReport
+  pub reported : IsReported source tree reports
+  pub grew : GrewBy So reports old new
+
+-- What `list --why` comes to, of a source text: all that it may write; where writing failed part of
+-- a refusal's line, or of the lines of some loops; where memory was refused nothing, or a beginning
+-- of such lines.
+abbrev pub StreamsList : List ℕ → (old new : Option (List ℕ)) → Result Outcome EngineFault → Type 0
+StreamsList source old new (Ok outcome) = Wrote (ListsBy LinesWhy source) old new outcome
+StreamsList source old new (Err (Writing e)) = WrotePart (ListsBy LinesWhy source) old new ⊎ GrewOf FallsShort source old new
+StreamsList source old new (Err Memory) = Keeps old new ⊎ GrewOf Begins source old new
+StreamsList source old new (Err _) = ⊥
+
+-- what `list` writes of a survey, with `--why` or without
+abbrev pub WritesSurvey : (why : Bool) → Survey → (old new : Option (List ℕ)) → Result Outcome EngineFault → Type 0
+WritesSurvey true survey old new result = StreamsWhy survey old new result
+WritesSurvey false survey old new result = Works (TellsLoops survey) old new result
+
+-- what `list` writes of a source text, with `--why` or without
+abbrev pub WritesList : (why : Bool) → List ℕ → (old new : Option (List ℕ)) → Result Outcome EngineFault → Type 0
+WritesList true source old new result = StreamsList source old new result
+WritesList false source old new result = Works (Lists source) old new result

@@ -8,14 +8,15 @@ ghost use Rattle.engines.specs.Coded.{ShowsCode};
 ghost use Rattle.engines.specs.Engines.{AfterRead, Checks, EndsOfSource, FailsOfSource, IsJudged};
 ghost use Rattle.engines.specs.Engines.{LeavesReader, LeavesReaders, SeqEnds, SeqFails, Streaming};
 ghost use Rattle.engines.specs.Engines.{StreamingWith, Tells, Works};
-ghost use Rattle.engines.specs.Lists.{Lists, TellsAs, TellsLoops, TellsWhy};
+ghost use Rattle.engines.specs.Lists.{Lists, StreamsWhy, TellsLoops, WritesSurvey};
 ghost use Rattle.engines.specs.Schedules.{ReplayEnds, ReplayFails, Replaying, UpgradeEnds};
 ghost use Rattle.engines.specs.Schedules.{UpgradeFails, UpgradeWorks, Upgrading};
 
 use crate::coded::coded;
+use crate::explained::explain_loops;
 use crate::replays::{replayed, upgrade_texts};
 use crate::sequential::seq_texts;
-use crate::survey::{Survey, shown_loops, shown_reasons, surveyed};
+use crate::survey::{Survey, shown_loops, surveyed};
 use crate::told::told;
 use crate::verdict::{Verdict, judged};
 use pages::{EngineFault, Outcome, ReadFault, read_all, read_three};
@@ -65,14 +66,19 @@ fn tell_survey<W: Write>(
 }
 
 /// Writes the lines of a survey as [`tell_survey`] does, and where it is wanted behind those of
-/// each loop some that say why. The errors are those of [`tell_survey`].
+/// each loop some that say why; these are written while they are made.
+///
+/// # Errors
+///
+/// Those of [`tell_survey`]; where reasons are wanted a beginning of the lines may have been
+/// written when memory is refused.
 pub fn tell_loops<W: Write>(
     alloc: Global,
     survey: &Survey,
     why: bool,
     out: &mut W,
 ) -> Result<Outcome, EngineFault>
-    ensures { Works (TellsAs why survey.now) (W.contents out.old) (W.contents out.new) result }
+    ensures { WritesSurvey why survey.now (W.contents out.old) (W.contents out.new) result }
 {
     if why {
         tell_reasons(alloc, survey, out)
@@ -87,10 +93,12 @@ fn tell_reasons<W: Write>(
     survey: &Survey,
     out: &mut W,
 ) -> Result<Outcome, EngineFault>
-    ensures { Works (TellsWhy survey.now) (W.contents out.old) (W.contents out.new) result }
+    ensures { StreamsWhy survey.now (W.contents out.old) (W.contents out.new) result }
 {
-    let page = shown_reasons(alloc, survey)?;
-    page.write(out)
+    match survey {
+        Survey::Loops { program, reports } => explain_loops(alloc, program, reports, out),
+        Survey::Refused { .. } => tell_survey(alloc, survey, out),
+    }
 }
 
 /// Writes the lines of a text's loops. The errors are those of [`tell_survey`].

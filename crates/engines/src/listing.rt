@@ -6,7 +6,7 @@ ghost use Rattle.dependence.specs.PlanView.{plan_block};
 ghost use Rattle.pages.specs.Shown.{Extends};
 ghost use Rattle.engines.specs.Advanced.{spots as spots_in};
 ghost use Rattle.engines.specs.Listing as spec;
-ghost use Rattle.engines.specs.Listing.{InByteOrder, Lines, LinesWhy, Listing, ListingOf};
+ghost use Rattle.engines.specs.Listing.{InByteOrder, Lines, Listing};
 ghost use Rattle.engines.specs.declared.spots.Spot.TheVariants.{Behind};
 
 use crate::spots::{Spot, add_spots};
@@ -14,9 +14,7 @@ use ast::{Line, Name};
 use codegen::LoopReport;
 use dependence::{LoopPlan, PlanStmt};
 use explanations::append_number;
-use loop_tree::LoopTree;
 use pages::append_line;
-use reasons::why;
 use std::alloc::{AllocError, Global};
 
 /// Appends the beginning of a loop's line.
@@ -257,7 +255,7 @@ fn append_body(
 }
 
 /// Appends the lines of a loop.
-fn append_report(
+pub fn append_report(
     alloc: Global,
     number: usize,
     report: &LoopReport,
@@ -290,37 +288,6 @@ pub fn listing(alloc: Global, reports: &[LoopReport]) -> Result<Vec<u8>, AllocEr
     let mut text = Vec::new(alloc);
     for (place, report) in reports.iter().enumerate() {
         append_report(alloc, place + 1, report, &mut text)?;
-    }
-    Ok(text)
-}
-
-/// Appends the lines of a loop, and behind them those that say why it is so.
-fn append_explained(
-    alloc: Global,
-    number: usize,
-    report: &LoopReport,
-    reports: &[LoopReport],
-    tree: &LoopTree<'_>,
-    out: &mut Vec<u8>,
-) -> Result<(), AllocError>
-    ensures { OnOk result (Extends (LinesWhy number report.now) out.old.items out.new.items) }
-{
-    append_report(alloc, number, report, out)?;
-    let why = why(alloc, tree, number, report, reports)?;
-    out.extend_from_slice(&why)
-}
-
-/// The lines of a program's loops, behind those of each some that say why.
-pub fn listing_why(
-    alloc: Global,
-    tree: &LoopTree<'_>,
-    reports: &[LoopReport],
-) -> Result<Vec<u8>, AllocError>
-    ensures { IfOk result (λ text. ListingOf LinesWhy 1 reports.now text.items) }
-{
-    let mut text = Vec::new(alloc);
-    for (place, report) in reports.iter().enumerate() {
-        append_explained(alloc, place + 1, report, reports, tree, &mut text)?;
     }
     Ok(text)
 }

@@ -3,14 +3,13 @@
 ghost use Rattle.std.specs.Prelude.{◌≡◌, IfOk, List, ℕ};
 ghost use Rattle.ast.specs.ProgramView.{program as program_of};
 ghost use Rattle.profile_check.specs.Reads.{Reads};
-ghost use Rattle.engines.specs.Listing.{LinesWhy, Listing, ListingOf};
-ghost use Rattle.engines.specs.Lists.{IsSurvey, TellsLoops, TellsWhy};
+ghost use Rattle.engines.specs.Listing.{Listing};
+ghost use Rattle.engines.specs.Lists.{IsSurvey, TellsLoops};
 
-use crate::listing::{listing, listing_why};
+use crate::listing::listing;
 use crate::verdict::{Verdict, judged};
 use ast::{Line, Program};
 use codegen::{CompileRefusal, LoopReport, compile};
-use loop_tree::loops;
 use pages::{Outcome, Page, refused};
 use std::alloc::{AllocError, Global};
 
@@ -76,27 +75,6 @@ pub fn shown_loops(alloc: Global, survey: &Survey) -> Result<Page, AllocError>
 {
     match survey {
         Survey::Loops { reports, .. } => listed(alloc, reports),
-        Survey::Refused { number, line } => refused(alloc, *number, *line),
-    }
-}
-
-fn listed_why(alloc: Global, program: &Program, reports: &[LoopReport]) -> Result<Page, AllocError>
-    ensures { IfOk result (λ page. (page.outcome ≡ Outcome.Completed)
-        × ListingOf LinesWhy 1 reports.now page.text.items) }
-{
-    let tree = loops(alloc, program)?;
-    Ok(Page {
-        text: listing_why(alloc, &tree, reports)?,
-        outcome: Outcome::Completed,
-    })
-}
-
-/// What `list --why` writes of a survey.
-pub fn shown_reasons(alloc: Global, survey: &Survey) -> Result<Page, AllocError>
-    ensures { IfOk result (λ page. TellsWhy survey.now page.outcome page.text.items) }
-{
-    match survey {
-        Survey::Loops { program, reports } => listed_why(alloc, program, reports),
         Survey::Refused { number, line } => refused(alloc, *number, *line),
     }
 }

@@ -17,4 +17,4 @@ mod waiting;
 
 pub use obstacles::Met;
 pub use serial::{Hindrance, hindrance_of, say_why_serial};
-pub use waiting::why;
+pub use waiting::{PairLines, Why, why_of};

@@ -11,7 +11,7 @@ use crate::serial::hindrance_of;
 use crate::spelled::append_reference;
 use ast::{Line, Name, RefId};
 use codegen::LoopReport;
-use dependence::{LoopPlan, Reason, Relation, Relations, Run};
+use dependence::{LoopPlan, PlanStmt, Reason, Relation, Relations, Run};
 use explanations::append_number;
 use loop_tree::{LoopTree, LoopView, Occurrence};
 use remarks::early_use;
@@ -28,7 +28,7 @@ struct Pair<'p> {
     second: Occurrence<'p>,
     second_line: Line,
     relation: Relation,
-    /// Whether both touch one place, in all iterations.
+    /// Whether nothing is known but that both touch one place, in all iterations.
     is_one_place: bool,
 }
 
@@ -46,7 +46,10 @@ fn pair_of<'p>(
     let (Some((first, first_line)), Some((second, second_line))) = (first, second) else {
         return Ok(None);
     };
-    let is_one_place = is_one_place(alloc, view, &first, &second)?;
+    let is_one_place = match relation {
+        Relation::Apart(_, _) | Relation::Distance(_, _) => false,
+        Relation::Any => is_one_place(alloc, view, &first, &second)?,
+    };
     Ok(Some(Pair {
         first,
         first_line,
@@ -189,42 +192,76 @@ fn is_kept(relation: Relation) -> bool {
     }
 }
 
-/// Appends the lines of the pairs of a run, which have this relation.
-fn append_run(
-    alloc: Global,
-    out: &mut Vec<u8>,
-    tree: &LoopTree<'_>,
-    view: &LoopView<'_, '_>,
-    conditions: &Conditions,
-    run: &Run,
-    relation: Relation,
-) -> Result<(), AllocError> {
-    for place in 0..run.count {
-        let numbers = run.pair(place);
-        if let Some(pair) = pair_of(alloc, tree, view, conditions, numbers, relation)? {
-            append_pair(out, &pair)?;
-        }
-    }
-    Ok(())
+/// So many pairs of a run are told at a time.
+const TOLD_AT_ONCE: u32 = 64;
+
+/// The pairs of references of a loop that were looked at.
+#[derive(Drop)]
+pub struct PairLines<'t, 'p> {
+    tree: &'t LoopTree<'p>,
+    view: LoopView<'t, 'p>,
+    conditions: Conditions,
+    relations: &'t Relations,
 }
 
-/// Appends the lines of the pairs of which something is kept, or of the others.
-fn append_pairs(
-    alloc: Global,
-    out: &mut Vec<u8>,
-    tree: &LoopTree<'_>,
-    view: &LoopView<'_, '_>,
-    conditions: &Conditions,
-    relations: &Relations,
-    kept: bool,
-) -> Result<(), AllocError> {
-    for run in &relations.runs {
-        let relation = relations.relation(run);
-        if is_kept(relation) == kept {
-            append_run(alloc, out, tree, view, conditions, run, relation)?;
+impl PairLines<'_, '_> {
+    /// How many runs of pairs there are.
+    pub fn runs(&self) -> usize {
+        self.relations.runs.len()
+    }
+
+    /// In how many parts the lines of a run are told where the runs of whose pairs something is
+    /// kept are wanted, or the others.
+    pub fn parts(&self, run: usize, kept: bool) -> u32 {
+        match self.relations.runs.get(run) {
+            Some(run) if is_kept(self.relations.relation(run)) == kept => {
+                run.count / TOLD_AT_ONCE + 1
+            }
+            _ => 0,
         }
     }
-    Ok(())
+
+    /// The lines of a part of a run, from 0.
+    ///
+    /// # Errors
+    ///
+    /// `AllocError` where memory is refused.
+    pub fn part(&self, alloc: Global, run: usize, part: u32) -> Result<Vec<u8>, AllocError> {
+        let mut lines = Vec::new(alloc);
+        if let Some(run) = self.relations.runs.get(run) {
+            let start = part.saturating_mul(TOLD_AT_ONCE);
+            let end = start.saturating_add(TOLD_AT_ONCE).min(run.count);
+            self.append_places(alloc, &mut lines, run, start, end)?;
+        }
+        Ok(lines)
+    }
+
+    /// Appends the lines of the pairs of a run from a place to another.
+    fn append_places(
+        &self,
+        alloc: Global,
+        out: &mut Vec<u8>,
+        run: &Run,
+        start: u32,
+        end: u32,
+    ) -> Result<(), AllocError> {
+        let relation = self.relations.relation(run);
+        for place in start..end {
+            let numbers = run.pair(place);
+            let pair = pair_of(
+                alloc,
+                self.tree,
+                &self.view,
+                &self.conditions,
+                numbers,
+                relation,
+            )?;
+            if let Some(pair) = pair {
+                append_pair(out, &pair)?;
+            }
+        }
+        Ok(())
+    }
 }
 
 /// Appends why a scalar isn't private, if a path uses it before it gives it a value.
@@ -269,64 +306,114 @@ fn append_serial(
     out.extend_from_slice(told.as_bytes())
 }
 
-/// Appends the lines of all pairs that were looked at.
-fn append_all_pairs(
-    alloc: Global,
-    out: &mut Vec<u8>,
-    tree: &LoopTree<'_>,
-    view: &LoopView<'_, '_>,
-    relations: &Relations,
-) -> Result<(), AllocError> {
-    let conditions = Conditions::of(alloc, view.body())?;
-    append_pairs(alloc, out, tree, view, &conditions, relations, true)?;
-    append_pairs(alloc, out, tree, view, &conditions, relations, false)
+/// What says why iterations of a loop wait for one another, or needn't, or why it stays serial.
+#[derive(Drop)]
+pub struct Why<'t, 'p> {
+    /// The lines before those of pairs.
+    pub first: Vec<u8>,
+    pub pairs: Option<PairLines<'t, 'p>>,
+    /// The lines behind those of pairs.
+    pub last: Vec<u8>,
 }
 
-/// Appends the lines that say why iterations of the loop of a number wait for one another, or
-/// needn't, or why it stays serial.
-fn append_why_of(
+/// What says why a loop stays serial.
+fn why_serial<'t, 'p>(
     alloc: Global,
-    out: &mut Vec<u8>,
+    tree: &'t LoopTree<'p>,
+    number: usize,
+    reason: u8,
+    reports: &[LoopReport],
+) -> Result<Why<'t, 'p>, AllocError> {
+    let mut first = Vec::new(alloc);
+    append_serial(alloc, &mut first, tree, number, reason, reports)?;
+    Ok(Why {
+        first,
+        pairs: None,
+        last: Vec::new(alloc),
+    })
+}
+
+/// The lines before those of pairs, of a loop that a view shows.
+fn first_lines(
+    alloc: Global,
     tree: &LoopTree<'_>,
+    view: &LoopView<'_, '_>,
     number: usize,
     report: &LoopReport,
     reports: &[LoopReport],
-) -> Result<(), AllocError> {
-    match &report.plan {
-        LoopPlan::Serial(reason) => append_serial(alloc, out, tree, number, *reason, reports),
-        LoopPlan::Body {
-            body,
-            privates,
-            relations,
-        } if 1 <= number && number <= tree.count() => {
-            let view = tree.view(number);
-            let amount = Amount::of(alloc, body)?;
-            append_amount(alloc, out, tree, &view, report, relations, &amount)?;
-            append_touching(alloc, out, &view, &privates.names)?;
-            append_gathered(alloc, out, &view, &privates.names)?;
-            if amount.is_chain() {
-                append_inner(alloc, out, tree, number, view.step(), reports)?;
-            }
-            append_all_pairs(alloc, out, tree, &view, relations)?;
-            append_all_shared(out, &view, &privates.names)
-        }
-        LoopPlan::Body { .. } => Ok(()),
+    body: &[PlanStmt],
+    privates: &[Name],
+    relations: &Relations,
+) -> Result<Vec<u8>, AllocError> {
+    let mut out = Vec::new(alloc);
+    let amount = Amount::of(alloc, body)?;
+    append_amount(alloc, &mut out, tree, view, report, relations, &amount)?;
+    append_touching(alloc, &mut out, view, privates)?;
+    append_gathered(alloc, &mut out, view, privates)?;
+    if amount.is_chain() {
+        append_inner(alloc, &mut out, tree, number, view.step(), reports)?;
     }
+    Ok(out)
 }
 
-/// The lines that say why a loop is as its report says, by its number.
+/// What says why iterations of a loop wait for one another, or needn't.
+fn why_open<'t, 'p>(
+    alloc: Global,
+    tree: &'t LoopTree<'p>,
+    number: usize,
+    report: &'t LoopReport,
+    reports: &[LoopReport],
+    body: &[PlanStmt],
+    privates: &[Name],
+    relations: &'t Relations,
+) -> Result<Why<'t, 'p>, AllocError> {
+    if number < 1 || number > tree.count() {
+        return Ok(Why {
+            first: Vec::new(alloc),
+            pairs: None,
+            last: Vec::new(alloc),
+        });
+    }
+    let view = tree.view(number);
+    let first = first_lines(
+        alloc, tree, &view, number, report, reports, body, privates, relations,
+    )?;
+    let mut last = Vec::new(alloc);
+    append_all_shared(&mut last, &view, privates)?;
+    let pairs = PairLines {
+        tree,
+        view,
+        conditions: Conditions::of(alloc, view.body())?,
+        relations,
+    };
+    Ok(Why {
+        first,
+        pairs: Some(pairs),
+        last,
+    })
+}
+
+/// What says why a loop is as its report says, by its number.
 ///
 /// # Errors
 ///
 /// `AllocError` where memory is refused.
-pub fn why(
+pub fn why_of<'t, 'p>(
     alloc: Global,
-    tree: &LoopTree<'_>,
+    tree: &'t LoopTree<'p>,
     number: usize,
-    report: &LoopReport,
+    report: &'t LoopReport,
     reports: &[LoopReport],
-) -> Result<Vec<u8>, AllocError> {
-    let mut lines = Vec::new(alloc);
-    append_why_of(alloc, &mut lines, tree, number, report, reports)?;
-    Ok(lines)
+) -> Result<Why<'t, 'p>, AllocError> {
+    match &report.plan {
+        LoopPlan::Serial(reason) => why_serial(alloc, tree, number, *reason, reports),
+        LoopPlan::Body {
+            body,
+            privates,
+            relations,
+        } => {
+            let names = &privates.names;
+            why_open(alloc, tree, number, report, reports, body, names, relations)
+        }
+    }
 }

@@ -6,8 +6,7 @@ use Rattle.ast.specs.Program.{ProgramTree}
 use Rattle.ast.specs.declared.fault.End.{End}
 use Rattle.handing.specs.Handing.{AppendsPart, Begins}
 use Rattle.machine.specs.Code.{Code}
-use Rattle.schedules.specs.Refusals.{Refuses}
-use Rattle.schedules.specs.Schedules.{Entry, SchedText, Schedule}
+use Rattle.schedules.specs.Schedules.{Entry, Schedule}
 use Rattle.schedules.specs.declared.entry.Version.{Version}
 use Rattle.activities.specs.Points.{Point, beginning}
 use Rattle.replay.specs.Replayed.{CannotBeMade}
@@ -16,31 +15,29 @@ use Rattle.pages.specs.Shown.{EndShown, no_schedule}
 use Rattle.pages.specs.declared.fault.EngineFault.{EngineFault}
 use Rattle.pages.specs.declared.fault.EngineFault.TheVariants.{Memory, Writing}
 use Rattle.pages.specs.declared.outcomes.Outcome.{Outcome}
-use Rattle.pages.specs.declared.outcomes.Outcome.TheVariants.{Completed, Refused, Faulted, NoSchedule}
+use Rattle.pages.specs.declared.outcomes.Outcome.TheVariants.{NoSchedule}
 use Rattle.engines.specs.Engines.{Wrote}
-use Rattle.engines.specs.Schedules.{IsNoCode, WithCode}
+use Rattle.engines.specs.Prepared.{IsNoRun, WithRun}
 use Rattle.state_lines.specs.States.{first_block}
 use Rattle.states.specs.Followed.{Shows}
 
 -- The blocks of a schedule's text: that of its second line, and those of some entries, from the
 -- first on; the rest is left.
-pub record Blocks (code : Code) (input schedule blocks : List ℕ) : Type 0 where
-  pub whole : Schedule
-  pub spelled : SchedText whole schedule
+pub record Blocks (code : Code) (input : List ℕ) (x : Schedule) (blocks : List ℕ) : Type 0 where
   pub front : List Entry
   pub rest : List Entry
-  pub is : whole.entries ≡ front ++ rest
+  pub is : x.entries ≡ front ++ rest
   pub point : Point
   pub behind : List ℕ
-  pub shows : Shows whole.version code whole.processors whole.slots 3 (beginning code input whole.slots) front point behind
-  pub shown : blocks ≡ first_block code whole.processors (beginning code input whole.slots) ++ behind
+  pub shows : Shows x.version code x.processors x.slots 3 (beginning code input x.slots) front point behind
+  pub shown : blocks ≡ first_block code x.processors (beginning code input x.slots) ++ behind
 
 -- The schedule leads the code to its end on the input, which is that of the sequential program, as
 -- what has gone out is what that prints. The states of all its lines are shown, and what follows
 -- the records.
-pub record IsStated (tree : ProgramTree) (code : Code) (input schedule : List ℕ) (outcome : Outcome) (text : List ℕ) : Type 0 where
+pub record IsStated (tree : ProgramTree) (code : Code) (input : List ℕ) (x : Schedule) (outcome : Outcome) (text : List ℕ) : Type 0 where
   pub blocks : List ℕ
-  pub are : Blocks code input schedule blocks
+  pub are : Blocks code input x blocks
   pub all : are.rest ≡ []
   pub ended : are.point.machine.ended ≡ Some (seq tree input).end
   pub output : are.point.machine.output ≡ (seq tree input).output
@@ -56,27 +53,26 @@ Stops v code s front [] x number line = (number ≡ 55) × (line ≡ 2 + length 
 Stops v code s front (e ∷ es) x number line = (line ≡ 3 + length front) × CannotBeMade v code s e.act x e.processor number
 
 -- The states before the refused line are shown, and the line that says why.
-pub record IsStopped (code : Code) (input schedule : List ℕ) (number line : ℕ) (text : List ℕ) : Type 0 where
+pub record IsStopped (code : Code) (input : List ℕ) (x : Schedule) (outcome : Outcome) (text : List ℕ) : Type 0 where
+  pub number : ℕ
+  pub line : ℕ
+  pub outcome_is : outcome ≡ NoSchedule number line
   pub blocks : List ℕ
-  pub are : Blocks code input schedule blocks
-  pub stops : Stops are.whole.version code are.whole.slots are.front are.rest are.point number line
+  pub are : Blocks code input x blocks
+  pub stops : Stops x.version code x.slots are.front are.rest are.point number line
   pub shown : text ≡ blocks ++ no_schedule number line
 
--- the text is no schedule's, of which the line alone is shown, or the schedule is refused
-abbrev pub IsUnstated : Code → (input schedule : List ℕ) → (number line : ℕ) → List ℕ → Type 0
-IsUnstated code input schedule number line text = (Refuses schedule number line × (text ≡ no_schedule number line)) ⊎ IsStopped code input schedule number line text
-
--- what is shown of code
-abbrev pub ShowsStates : ProgramTree → Code → (input schedule : List ℕ) → Outcome → List ℕ → Type 0
-ShowsStates tree code input schedule Completed text = IsStated tree code input schedule Completed text
-ShowsStates tree code input schedule (Refused number line) text = ⊥
-ShowsStates tree code input schedule (Faulted fault line) text = IsStated tree code input schedule (Faulted fault line) text
-ShowsStates tree code input schedule (NoSchedule number line) text = IsUnstated code input schedule number line text
-
--- what is shown of a source
+-- what is shown of a source, an input and the text of a schedule
 abbrev pub Stating : (source input schedule : List ℕ) → Outcome → List ℕ → Type 0
-Stating source input schedule (Refused number line) text = IsNoCode source number line text
-Stating source input schedule outcome text = WithCode source (λ tree code. ShowsStates tree code input schedule outcome text)
+Stating source input schedule outcome text =
+    IsNoRun source schedule outcome text
+    ⊎ WithRun source schedule (λ tree code x.
+    IsStated tree code input x outcome text ⊎ IsStopped code input x outcome text)
+
+-- the blocks of what they describe
+abbrev pub AreBlocks : (source input schedule blocks : List ℕ) → Type 0
+AreBlocks source input schedule blocks =
+    WithRun source schedule (λ tree code x. Blocks code input x blocks)
 
 -- ---- how it is written: block by block
 
@@ -100,15 +96,10 @@ Streams allows blocks old new (Err (Writing e)) = Keeps old new ⊎ Began allows
 Streams allows blocks old new (Err Memory) = Keeps old new ⊎ Began allows blocks old new
 Streams allows blocks old new (Err _) = ⊥
 
--- the same of code
-abbrev pub CodeStream : ProgramTree → Code → (input schedule : List ℕ) → (old new : Option (List ℕ)) → Result Outcome EngineFault → Type 0
-CodeStream tree code input schedule old new result =
-    Streams (ShowsStates tree code input schedule) (Blocks code input schedule) old new result
-
--- and of a source
+-- what is shown of them is written so
 abbrev pub StatesStream : (source input schedule : List ℕ) → (old new : Option (List ℕ)) → Result Outcome EngineFault → Type 0
 StatesStream source input schedule old new result =
-    Streams (Stating source input schedule) (λ text. WithCode source (λ tree code. Blocks code input schedule text)) old new result
+    Streams (Stating source input schedule) (AreBlocks source input schedule) old new result
 
 -- ---- pages
 
@@ -123,10 +114,3 @@ WrotePage o text old new (Err _) = ⊥
 abbrev pub IsLast : Option End → ℕ → Outcome → List ℕ → Type 0
 IsLast None line outcome text = (outcome ≡ NoSchedule 55 line) × (text ≡ no_schedule 55 line)
 IsLast (Some end) line outcome text = (outcome ≡ outcome_of end) × EndShown false [] end text
-
--- that was written, or a beginning of it where writing failed
-abbrev pub Finishes : Option End → ℕ → (old new : Option (List ℕ)) → Result Outcome EngineFault → Type 0
-Finishes ended line old new (Ok outcome) = (text : List ℕ) × IsLast ended line outcome text × Appends old new text
-Finishes ended line old new (Err (Writing e)) = (outcome : Outcome) × (text : List ℕ) × IsLast ended line outcome text × AppendsPart old new text
-Finishes ended line old new (Err Memory) = new ≡ old
-Finishes ended line old new (Err _) = ⊥

@@ -1,22 +1,26 @@
 -- What comes of a run of code is the sequential program's.
-use Rattle.std.proofs.Common.{◌≡◌, ◌∙◌, ◌⊎◌, ℕ, ℤ, zero, suc, ◌+◌, Bool, true, false, List, [], ◌∷◌, ◌++◌, map, Option, Some, None, Vec, append-nil, inl, inr, ap, refl, subst, sym, arith}
+use Rattle.std.proofs.Common.{◌≡◌, ◌∙◌, ◌⊎◌, ℕ, ℤ, zero, suc, ◌+◌, Bool, true, false, List, [], ◌∷◌, ◌++◌, length, map, Option, Some, None, Result, IfOk, Vec, append-nil, inl, inr, ap, refl, subst, sym}
 use Rattle.std.specs.Global.{Global}
+use Rattle.std.proofs.lemmas.List.{length-map}
 use Rattle.std.proofs.lemmas.Option.{same_Some}
+use Rattle.std.proofs.lemmas.Result.{IfOk-weaker}
 use Rattle.ast.specs.Meaning.{seq}
 use Rattle.ast.specs.Program.{ProgramTree}
+use Rattle.ast.specs.ProgramView.{program as program_of}
 use Rattle.ast.specs.Store.{StoreOf, values_from}
 use Rattle.ast.specs.Symbols.{Symbol, cells_of, size}
-use Rattle.ast.specs.View.{cells}
+use Rattle.ast.specs.View.{cells, symbol}
 use Rattle.ast.specs.declared.answer.Answer.{Answer}
 use Rattle.ast.specs.declared.fault.End.{End}
 use Rattle.ast.specs.declared.fault.End.TheVariants.{Done, Stopped, Fault as FaultedAt}
+use Rattle.ast.specs.declared.program.Program.{Program}
 use Rattle.codegen.specs.Headline.{Agrees, Headline, IsBeginning}
 use Rattle.codegen.specs.Program.{IsCompiled}
 use Rattle.machine.specs.Code.{Code}
-use Rattle.machine.specs.State.{AreSizes, Ended, Machine}
+use Rattle.machine.specs.State.{AreSizes, CodeRun, Ended, Init, Machine}
 use Rattle.machine.specs.declared.code.Variable.{Variable}
-use Rattle.processors.specs.Calls.{IsOutputOf, IsRunOf, IsStateOf}
-use Rattle.processors.specs.Reached.{IsAnswerOf, IsUnanswered}
+use Rattle.processors.specs.Calls.{IsRunOf, IsStateOf}
+use Rattle.processors.specs.Reached.{IsAnswerOf, IsUnanswered, Reaches}
 use Rattle.processors.specs.Refused.{IsRefused, IsStuckAt}
 use Rattle.processors.specs.declared.report.RunRefusal.{RunRefusal}
 use Rattle.processors.specs.declared.report.RunRefusal.TheVariants as runs
@@ -35,26 +39,36 @@ use Rattle.pages.proofs.StoreRows.{rows_whole}
 use Rattle.engines.specs.Engines.{ShowsRun}
 use Rattle.engines.specs.declared.given.Wants.{Wants}
 use Rattle.threaded.specs.Joined.{AnswersAreSequential, GoesOn, IsSequential, NoAnswerIsStuck, NoRunIsStuck, ReplaysAreSequential, RunsAreSequential}
-use Rattle.threaded.specs.Running.{ComesOf, IsRefusal, IsScheduleOf, IsWhole, Shows, ShowsAnswer, WhereWanted}
+use Rattle.threaded.specs.Running.{ComesOf, IsRefusal, IsScheduleOf, Shows, WhereWanted}
 use Rattle.threaded.specs.declared.ran.Ran.{Ran}
 use Rattle.threaded.specs.declared.ran.Ran.TheVariants.{Refused, Whole as Came, Memory, OutOfRange, NotStarted, Stuck}
-use Rattle.threaded.specs.declared.ran.Whole.{Whole}
+
+-- ---- a run of which a schedule is kept is a run
+
+abbrev reaches : (code : Code) (input : List ℕ) (p s : ℕ) (P : Machine → Type 0) → AreSizes p s → IsStateOf code input p s P → Reaches code input p s P
+reaches code input p s P sizes o =
+    let run = is_run code input o.schedule o.point o.kept o.replays in
+    let here : CodeRun code s p (Init code input) run.0 o.point.machine = rw (sym o.slots, sym o.processors) run.1 in
+    record { sizes = sizes; machine = o.point.machine; reached = record { turns = run.0; run = here }; holds = o.holds }
+
+abbrev state_of : (code : Code) (input : List ℕ) (p s : ℕ) (answer : Answer) (x : Schedule) → IsRunOf code input p s answer x → IsStateOf code input p s (λ m. IsAnswer code m answer)
+state_of code input p s answer x r =
+    record { schedule = x; processors = r.processors; slots = r.slots; kept = r.kept; point = r.replay.point; replays = r.replay.replays; holds = r.replay.is }
+
+unanswered_of : (code : Code) (input : List ℕ) (p s : ℕ) (why : RunRefusal) → IsRefused code input p s why → IsUnanswered code input p s why
+unanswered_of code input p s why (inl h) = inl h
+unanswered_of code input p s (runs.Memory output) (inr h) = inr (h.0, reaches code input p s (λ m. output.items ≡ m.output) h.0 h.1)
+unanswered_of code input p s runs.OutOfRange (inr h) = inr h
+unanswered_of code input p s (runs.NotStarted failure) (inr h) = inr h
+unanswered_of code input p s runs.Stuck (inr h) = inr (h.0, reaches code input p s (IsStuckAt code p s) h.0 h.1)
 
 -- ---- the state at the end
 
-ended_so : (tree : ProgramTree) (code : Code) (input : List ℕ) (p s : ℕ) (answer : Answer) (x : Schedule) → Headline code tree → (r : IsRunOf code input p s answer x)
-    → Ended r.replay.point.machine (seq tree input).output (seq tree input).end (seq tree input).store
-ended_so tree code input p s answer x headline r =
-    let run = is_run code input x r.replay.point r.kept r.replay.replays in
-    let agrees = headline input x.processors x.slots run.0 r.replay.point.machine r.kept.0 run.1 in
-    agrees.answer answer.end r.replay.is.end
+agrees_at : (tree : ProgramTree) (code : Code) (input : List ℕ) (p s : ℕ) (P : Machine → Type 0) → Headline code tree → (r : Reaches code input p s P) → Agrees code tree input p s r.machine
+agrees_at tree code input p s P headline r = headline input p s r.reached.turns r.machine r.sizes r.reached.run
 
--- the output of a state is a beginning of what the sequential program prints
-begins : (tree : ProgramTree) (code : Code) (input : List ℕ) (p s : ℕ) (output : List ℕ) → Headline code tree → IsOutputOf code input p s output → IsBeginning output (seq tree input).output
-begins tree code input p s output headline o =
-    let run = is_run code input o.schedule o.point o.kept o.replays in
-    let agrees = headline input o.schedule.processors o.schedule.slots run.0 o.point.machine o.kept.0 run.1 in
-    subst (λ (xs : List ℕ). IsBeginning xs (seq tree input).output) (sym o.holds) agrees.beginning
+ended_at : (tree : ProgramTree) (code : Code) (input : List ℕ) (p s : ℕ) (answer : Answer) → Headline code tree → (r : IsAnswerOf code input p s answer) → Ended r.machine (seq tree input).output (seq tree input).end (seq tree input).store
+ended_at tree code input p s answer headline r = (agrees_at tree code input p s (λ m. IsAnswer code m answer) headline r).answer answer.end r.holds.end
 
 -- ---- its store
 
@@ -82,6 +96,16 @@ stored_as (x ∷ xs) (s ∷ ss) a b same are =
     let many : x.size ≡ size s.sort = ap (λ (p : List ℕ × ℕ). p.1) pair in
     let rest : variables_in xs ≡ variables_for ss = cc in
     rw (name, many, same_values (a s.name) (b s.name) (same s.name) 0 (size s.sort), stored_as xs ss a b same rest) refl
+
+-- an answer has the cells of each symbol
+pub cells_fit : (program : Program) (code : Code) (m : Machine) (answer : Answer) → IsCompiled (program_of program) code → IsAnswer code m answer → length (cells answer.store) ≡ length program.symbols.items
+cells_fit program code m answer compiled is =
+    ap length is.store
+    ∙ length-map code.variables (λ x. (x.name.letters, values_from (m.store x.name.letters) 0 x.size))
+    ∙ sym (length-map code.variables (λ x. (x.name.letters, x.size)))
+    ∙ ap length compiled.2.variables
+    ∙ length-map (map symbol program.symbols.items) (λ s. (s.name, size s.sort))
+    ∙ length-map program.symbols.items symbol
 
 -- the answer of a state that has ended as the sequential program does
 sequential : (tree : ProgramTree) (code : Code) (input : List ℕ) (m : Machine) (answer : Answer) → IsCompiled tree code → Ended m (seq tree input).output (seq tree input).end (seq tree input).store → IsAnswer code m answer → IsSequential tree input answer
@@ -119,7 +143,24 @@ shown_so wanted tree code input m answer outcome text compiled ended is out more
       };
     }
 
--- ---- the schedule
+-- ---- what comes of the run
+
+-- what of an answer's page is shown, beside the schedule that is kept
+pub comes_to : {E : Type 0} (tree : ProgramTree) (code : Code) (input : List ℕ) (w : Wants) (answer : Answer) (text : Result (Option (Vec ℕ Global)) E) (ran : Ran) → IsCompiled tree code → Headline code tree
+    → IsAnswerOf code input w.processors w.slots answer → IfOk text (λ t. WhereWanted w.schedule t (IsScheduleOf tree code input w.processors w.slots)) → Shows w.store tree.symbols answer text ran → ComesOf tree code input w ran
+comes_to tree code input w answer text (Came whole) compiled headline r kept h =
+    record {
+      sizes = r.sizes;
+      shown = shown_so w.store tree code input r.machine answer whole.page.outcome whole.page.text.items compiled (ended_at tree code input w.processors w.slots answer headline r) r.holds h.0 h.1;
+      schedule = rw h.2 at kept;
+    }
+comes_to tree code input w answer text (Memory output) compiled headline r kept h =
+    let ended = ended_at tree code input w.processors w.slots answer headline r in
+    ([], sym ended.printed ∙ sym r.holds.output ∙ sym h ∙ sym (append-nil output.items))
+comes_to tree code input w answer text (Refused page) compiled headline r kept h = absurd h
+comes_to tree code input w answer text OutOfRange compiled headline r kept h = absurd h
+comes_to tree code input w answer text (NotStarted failure) compiled headline r kept h = absurd h
+comes_to tree code input w answer text Stuck compiled headline r kept h = absurd h
 
 where_wanted : (wanted : Bool) (text : Option (Vec ℕ Global)) (P Q : List ℕ → Type 0) → ((xs : List ℕ) → P xs → Q xs) → WhereWanted wanted text P → WhereWanted wanted text Q
 where_wanted true (Some text) P Q f h = f text.items h
@@ -127,99 +168,38 @@ where_wanted true None P Q f h = h
 where_wanted false (Some text) P Q f h = h
 where_wanted false None P Q f h = h
 
--- ---- what comes of the run
-
--- what of an answer's page is shown, and the schedule that is kept
-came : (tree : ProgramTree) (code : Code) (input : List ℕ) (w : Wants) (m : Machine) (answer : Answer) (whole : Whole) → IsCompiled tree code → AreSizes w.processors w.slots
-    → Ended m (seq tree input).output (seq tree input).end (seq tree input).store → IsAnswer code m answer → whole.page.outcome ≡ outcome_of answer.end
-    → Extends (EndShown w.store (rows_from (cells answer.store) 0 tree.symbols) answer.end) answer.output.items whole.page.text.items
-    → WhereWanted w.schedule whole.schedule (IsScheduleOf tree code input w.processors w.slots) → IsWhole tree code input w whole
-came tree code input w m answer whole compiled sizes ended is out more kept = record {
-  sizes = sizes;
-  shown = shown_so w.store tree code input m answer whole.page.outcome whole.page.text.items compiled ended is out more;
-  schedule = kept;
-}
-
--- the output of an answer is the whole that the sequential program prints
-all_printed : (tree : ProgramTree) (code : Code) (input : List ℕ) (m : Machine) (answer : Answer) (output : List ℕ) → Ended m (seq tree input).output (seq tree input).end (seq tree input).store → IsAnswer code m answer → output ≡ answer.output.items
-    → IsBeginning output (seq tree input).output
-all_printed tree code input m answer output ended is h = ([], sym ended.printed ∙ sym is.output ∙ sym h ∙ sym (append-nil output))
-
-pub comes_to : (tree : ProgramTree) (code : Code) (input : List ℕ) (w : Wants) (answer : Answer) (x : Schedule) (ran : Ran) → IsCompiled tree code → Headline code tree
-    → IsRunOf code input w.processors w.slots answer x → Shows w tree.symbols answer x ran → ComesOf tree code input w ran
-comes_to tree code input w answer x (Came whole) compiled headline r h =
-    let ended = ended_so tree code input w.processors w.slots answer x headline r in
-    came tree code input w r.replay.point.machine answer whole compiled r.sizes ended r.replay.is h.0 h.1
-    (where_wanted w.schedule whole.schedule (SchedText x) (IsScheduleOf tree code input w.processors w.slots)
-    (λ xs spelled. record { schedule = x; spelled = spelled; processors = r.processors; slots = r.slots; point = r.replay.point; replays = r.replay.replays; ended = ended })
-    h.2)
-comes_to tree code input w answer x (Memory output) compiled headline r h =
-    all_printed tree code input r.replay.point.machine answer output.items (ended_so tree code input w.processors w.slots answer x headline r) r.replay.is h
-comes_to tree code input w answer x (Refused page) compiled headline r h = absurd h
-comes_to tree code input w answer x OutOfRange compiled headline r h = absurd h
-comes_to tree code input w answer x (NotStarted failure) compiled headline r h = absurd h
-comes_to tree code input w answer x Stuck compiled headline r h = absurd h
-
--- ---- the same where no schedule is kept
-
-ended_at : (tree : ProgramTree) (code : Code) (input : List ℕ) (p s : ℕ) (answer : Answer) → Headline code tree → (r : IsAnswerOf code input p s answer) → Ended r.machine (seq tree input).output (seq tree input).end (seq tree input).store
-ended_at tree code input p s answer headline r = (headline input p s r.reached.turns r.machine r.sizes r.reached.run).answer answer.end r.holds.end
-
-unwanted : (wanted : Bool) (text : Option (Vec ℕ Global)) (P : List ℕ → Type 0) → wanted ≡ false → text ≡ None → WhereWanted wanted text P
-unwanted false None P e f = tt
-unwanted false (Some text) P e f = absurd cc
-unwanted true text P e f = absurd cc
-
-pub comes_unrecorded : (tree : ProgramTree) (code : Code) (input : List ℕ) (w : Wants) (answer : Answer) (ran : Ran) → IsCompiled tree code → Headline code tree → w.schedule ≡ false
-    → IsAnswerOf code input w.processors w.slots answer → ShowsAnswer w.store tree.symbols answer ran → ComesOf tree code input w ran
-comes_unrecorded tree code input w answer (Came whole) compiled headline e r h =
-    came tree code input w r.machine answer whole compiled r.sizes (ended_at tree code input w.processors w.slots answer headline r) r.holds h.0 h.1
-    (unwanted w.schedule whole.schedule (IsScheduleOf tree code input w.processors w.slots) e h.2)
-comes_unrecorded tree code input w answer (Memory output) compiled headline e r h =
-    all_printed tree code input r.machine answer output.items (ended_at tree code input w.processors w.slots answer headline r) r.holds h
-comes_unrecorded tree code input w answer (Refused page) compiled headline e r h = absurd h
-comes_unrecorded tree code input w answer OutOfRange compiled headline e r h = absurd h
-comes_unrecorded tree code input w answer (NotStarted failure) compiled headline e r h = absurd h
-comes_unrecorded tree code input w answer Stuck compiled headline e r h = absurd h
+pub comes_recorded : {E : Type 0} (tree : ProgramTree) (code : Code) (input : List ℕ) (w : Wants) (answer : Answer) (x : Schedule) (text : Result (Option (Vec ℕ Global)) E) (ran : Ran) → IsCompiled tree code → Headline code tree
+    → IsRunOf code input w.processors w.slots answer x → IfOk text (λ t. WhereWanted w.schedule t (SchedText x)) → Shows w.store tree.symbols answer text ran → ComesOf tree code input w ran
+comes_recorded tree code input w answer x text ran compiled headline r kept h =
+    let reached = reaches code input w.processors w.slots (λ m. IsAnswer code m answer) r.sizes (state_of code input w.processors w.slots answer x r) in
+    let ended = ended_at tree code input w.processors w.slots answer headline reached in
+    comes_to tree code input w answer text ran compiled headline reached
+    (IfOk-weaker text _ _
+    (λ t. where_wanted w.schedule t (SchedText x) (IsScheduleOf tree code input w.processors w.slots)
+    (λ xs spelled. record { schedule = x; spelled = spelled; processors = r.processors; slots = r.slots; point = r.replay.point; replays = r.replay.replays; ended = ended })) kept) h
 
 -- ---- why there is no answer
 
 -- a run of code that the headline holds of never stands where no step leads
-going : (tree : ProgramTree) (code : Code) (input : List ℕ) (p s : ℕ) (m : Machine) → Agrees code tree input p s m → IsStuckAt code p s m → ⊥
-going tree code input p s m agrees stuck = let next = agrees.next stuck.0 in stuck.1 next.0 next.1 next.2 next.3
-
-never_stuck : (tree : ProgramTree) (code : Code) (input : List ℕ) (p s : ℕ) → Headline code tree → IsStateOf code input p s (IsStuckAt code p s) → ⊥
-never_stuck tree code input p s headline o =
-    let run = is_run code input o.schedule o.point o.kept o.replays in
-    let agrees = headline input o.schedule.processors o.schedule.slots run.0 o.point.machine o.kept.0 run.1 in
-    going tree code input p s o.point.machine (subst (λ (n : ℕ). Agrees code tree input n s o.point.machine) o.processors (subst (λ (n : ℕ). Agrees code tree input o.schedule.processors n o.point.machine) o.slots agrees)) o.holds
-
-came_of : (tree : ProgramTree) (code : Code) (input : List ℕ) (w : Wants) (x ran : Ran) → ran ≡ x → ComesOf tree code input w x → ComesOf tree code input w ran
-came_of tree code input w x ran e h = subst (λ (r : Ran). ComesOf tree code input w r) (sym e) h
-
-pub refused_recorded : (tree : ProgramTree) (code : Code) (input : List ℕ) (w : Wants) (why : RunRefusal) (ran : Ran) → Headline code tree → IsRefused code input w.processors w.slots why → IsRefusal why ran → ComesOf tree code input w ran
-refused_recorded tree code input w (runs.Memory output) ran headline (inl h) e = absurd h
-refused_recorded tree code input w (runs.Memory output) ran headline (inr h) e = came_of tree code input w (Memory output) ran e (begins tree code input w.processors w.slots output.items headline h.1)
-refused_recorded tree code input w runs.OutOfRange ran headline (inl h) e = came_of tree code input w OutOfRange ran e h
-refused_recorded tree code input w runs.OutOfRange ran headline (inr h) e = absurd h.1
-refused_recorded tree code input w (runs.NotStarted failure) ran headline (inl h) e = absurd h
-refused_recorded tree code input w (runs.NotStarted failure) ran headline (inr h) e = came_of tree code input w (NotStarted failure) ran e h.0
-refused_recorded tree code input w runs.Stuck ran headline (inl h) e = absurd h
-refused_recorded tree code input w runs.Stuck ran headline (inr h) e = absurd (never_stuck tree code input w.processors w.slots headline h.1)
+never_stuck : (tree : ProgramTree) (code : Code) (input : List ℕ) (p s : ℕ) → Headline code tree → Reaches code input p s (IsStuckAt code p s) → ⊥
+never_stuck tree code input p s headline r =
+    let next = (agrees_at tree code input p s (IsStuckAt code p s) headline r).next r.holds.0 in
+    r.holds.1 next.0 next.1 next.2 next.3
 
 pub refused_unrecorded : (tree : ProgramTree) (code : Code) (input : List ℕ) (w : Wants) (why : RunRefusal) (ran : Ran) → Headline code tree → IsUnanswered code input w.processors w.slots why → IsRefusal why ran → ComesOf tree code input w ran
 refused_unrecorded tree code input w (runs.Memory output) ran headline (inl h) e = absurd h
 refused_unrecorded tree code input w (runs.Memory output) ran headline (inr h) e =
-    let agrees = headline input w.processors w.slots h.1.reached.turns h.1.machine h.1.sizes h.1.reached.run in
-    came_of tree code input w (Memory output) ran e (subst (λ (xs : List ℕ). IsBeginning xs (seq tree input).output) (sym h.1.holds) agrees.beginning)
-refused_unrecorded tree code input w runs.OutOfRange ran headline (inl h) e = came_of tree code input w OutOfRange ran e h
+    let agrees = agrees_at tree code input w.processors w.slots (λ m. output.items ≡ m.output) headline h.1 in
+    rw e (subst (λ (xs : List ℕ). IsBeginning xs (seq tree input).output) (sym h.1.holds) agrees.beginning)
+refused_unrecorded tree code input w runs.OutOfRange ran headline (inl h) e = rw e h
 refused_unrecorded tree code input w runs.OutOfRange ran headline (inr h) e = absurd h.1
 refused_unrecorded tree code input w (runs.NotStarted failure) ran headline (inl h) e = absurd h
-refused_unrecorded tree code input w (runs.NotStarted failure) ran headline (inr h) e = came_of tree code input w (NotStarted failure) ran e h.0
+refused_unrecorded tree code input w (runs.NotStarted failure) ran headline (inr h) e = rw e h.0
 refused_unrecorded tree code input w runs.Stuck ran headline (inl h) e = absurd h
-refused_unrecorded tree code input w runs.Stuck ran headline (inr h) e =
-    let agrees = headline input w.processors w.slots h.1.reached.turns h.1.machine h.1.sizes h.1.reached.run in
-    absurd (going tree code input w.processors w.slots h.1.machine agrees h.1.holds)
+refused_unrecorded tree code input w runs.Stuck ran headline (inr h) e = absurd (never_stuck tree code input w.processors w.slots headline h.1)
+
+pub refused_recorded : (tree : ProgramTree) (code : Code) (input : List ℕ) (w : Wants) (why : RunRefusal) (ran : Ran) → Headline code tree → IsRefused code input w.processors w.slots why → IsRefusal why ran → ComesOf tree code input w ran
+refused_recorded tree code input w why ran headline h e = refused_unrecorded tree code input w why ran headline (unanswered_of code input w.processors w.slots why h) e
 
 -- ---- what compiler, machine and runs promise together
 
@@ -229,19 +209,18 @@ replays t code input x answer given kept r =
     let agrees = given.1 input x.processors x.slots run.0 r.point.machine kept.0 run.1 in
     sequential t code input r.point.machine answer given.0 (agrees.answer answer.end r.is.end) r.is
 
-pub runs_recorded : RunsAreSequential
-runs_recorded t code input p s answer x given r = sequential t code input r.replay.point.machine answer given.0 (ended_so t code input p s answer x given.1 r) r.replay.is
-
 pub runs_unrecorded : AnswersAreSequential
 runs_unrecorded t code input p s answer given r = sequential t code input r.machine answer given.0 (ended_at t code input p s answer given.1 r) r.holds
 
-pub no_run_stuck : NoRunIsStuck
-no_run_stuck t code input p s given (inl h) = absurd h
-no_run_stuck t code input p s given (inr h) = never_stuck t code input p s given.1 h.1
+pub runs_recorded : RunsAreSequential
+runs_recorded t code input p s answer x given r = replays t code input x answer given r.kept r.replay
 
 pub no_answer_stuck : NoAnswerIsStuck
 no_answer_stuck t code input p s given (inl h) = absurd h
-no_answer_stuck t code input p s given (inr h) = going t code input p s h.1.machine (given.1 input p s h.1.reached.turns h.1.machine h.1.sizes h.1.reached.run) h.1.holds
+no_answer_stuck t code input p s given (inr h) = never_stuck t code input p s given.1 h.1
+
+pub no_run_stuck : NoRunIsStuck
+no_run_stuck t code input p s given h = no_answer_stuck t code input p s given (unanswered_of code input p s runs.Stuck h)
 
 pub goes_on : (x : CoreView) → Replays x.code x.input x.schedule (point_at x) → IsSchedule x.schedule → GoesOn x
 goes_on x replays kept t given on =

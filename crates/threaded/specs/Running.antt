@@ -18,14 +18,13 @@ use Rattle.schedules.specs.Schedules.{SchedText, Schedule}
 use Rattle.handing.specs.Handing.{AppendsPart}
 use Rattle.pages.specs.Outcomes.{outcome_of, status_of}
 use Rattle.pages.specs.Reading.{OfText}
-use Rattle.pages.specs.Shown.{EndShown, Extends, refused}
+use Rattle.pages.specs.Shown.{EndShown, Extends}
 use Rattle.pages.specs.View.{rows_from}
 use Rattle.pages.specs.declared.fault.EngineFault.{EngineFault}
 use Rattle.pages.specs.declared.fault.EngineFault.TheVariants as faults
 use Rattle.pages.specs.declared.outcomes.Outcome.{Outcome}
-use Rattle.pages.specs.declared.outcomes.Outcome.TheVariants as outcomes
 use Rattle.engines.specs.Engines.{ShowsRun}
-use Rattle.engines.specs.Schedules.{IsNoCode, WithCode}
+use Rattle.engines.specs.Prepared.{IsUncoded, WithCode}
 use Rattle.engines.specs.declared.given.Wants.{Wants}
 use Rattle.threaded.specs.declared.ran.Ran.{Ran}
 use Rattle.threaded.specs.declared.ran.Ran.TheVariants.{Refused, Whole as Came, Memory, OutOfRange, NotStarted, Stuck}
@@ -56,28 +55,15 @@ pub record IsWhole (tree : ProgramTree) (code : Code) (input : List ℕ) (w : Wa
   pub shown : ShowsRun w.store tree input whole.page.outcome whole.page.text.items
   pub schedule : WhereWanted w.schedule whole.schedule (IsScheduleOf tree code input w.processors w.slots)
 
--- What is shown of an answer, and of the schedule that leads to it; where there is no memory for
--- that, the records alone.
-abbrev pub Shows : Wants → List Symbol → Answer → Schedule → Ran → Type 0
-Shows w symbols answer x (Refused page) = ⊥
-Shows w symbols answer x (Came whole) =
-    (whole.page.outcome ≡ outcome_of answer.end)
-    × Extends (EndShown w.store (rows_from (cells answer.store) 0 symbols) answer.end) answer.output.items whole.page.text.items
-    × WhereWanted w.schedule whole.schedule (SchedText x)
-Shows w symbols answer x (Memory output) = output.items ≡ answer.output.items
-Shows w symbols answer x OutOfRange = ⊥
-Shows w symbols answer x (NotStarted failure) = ⊥
-Shows w symbols answer x Stuck = ⊥
-
--- What is shown of an answer where no schedule is wanted; where there is no memory for that, the
--- records alone.
-abbrev pub ShowsAnswer : (store : Bool) → List Symbol → Answer → Ran → Type 0
-ShowsAnswer store symbols answer (Came whole) =
+-- What is shown of an answer, beside the text of its schedule, if it has one; where there is no
+-- memory for that, the records alone.
+abbrev pub Shows : {E : Type 0} → (store : Bool) → List Symbol → Answer → Result (Option (Vec ℕ Global)) E → Ran → Type 0
+Shows store symbols answer schedule (Came whole) =
     (whole.page.outcome ≡ outcome_of answer.end)
     × Extends (EndShown store (rows_from (cells answer.store) 0 symbols) answer.end) answer.output.items whole.page.text.items
-    × (whole.schedule ≡ None)
-ShowsAnswer store symbols answer (Memory output) = output.items ≡ answer.output.items
-ShowsAnswer store symbols answer _ = ⊥
+    × (schedule ≡ Ok whole.schedule)
+Shows store symbols answer schedule (Memory output) = output.items ≡ answer.output.items
+Shows store symbols answer schedule _ = ⊥
 
 -- what comes of a run that gives no answer
 abbrev pub IsRefusal : RunRefusal → Ran → Type 0
@@ -85,17 +71,6 @@ IsRefusal (runs.Memory output) ran = ran ≡ Memory output
 IsRefusal runs.OutOfRange ran = ran ≡ OutOfRange
 IsRefusal (runs.NotStarted failure) ran = ran ≡ NotStarted failure
 IsRefusal runs.Stuck ran = ran ≡ Stuck
-
--- a refusal is shown; or nothing, where there is no memory for that
-abbrev pub ShowsRefusal : (number line : ℕ) → Ran → Type 0
-ShowsRefusal number line (Refused page) = (page.outcome ≡ outcomes.Refused number line) × (page.text.items ≡ refused number line)
-ShowsRefusal number line (Memory output) = output.items ≡ []
-ShowsRefusal number line _ = ⊥
-
--- the source is refused so, by its text or for its code
-abbrev pub IsNoCodeAs : List ℕ → Outcome → List ℕ → Type 0
-IsNoCodeAs source (outcomes.Refused number line) text = IsNoCode source number line text
-IsNoCodeAs source _ text = ⊥
 
 -- What a run of code may come to. Code of a program is never stuck.
 abbrev pub ComesOf : ProgramTree → Code → (input : List ℕ) → Wants → Ran → Type 0
@@ -106,15 +81,17 @@ ComesOf tree code input w OutOfRange = AreSizes w.processors w.slots → ⊥
 ComesOf tree code input w (NotStarted failure) = AreSizes w.processors w.slots
 ComesOf tree code input w Stuck = ⊥
 
--- What `run` may come to with a source: where there is no memory for its code, nothing has gone
--- out.
+-- There is no run: the source is refused, by its text or for its code, or there is no memory to
+-- find that out, and nothing has gone out.
+abbrev pub IsNotRun : (source : List ℕ) → Ran → Type 0
+IsNotRun source (Refused page) = IsUncoded source page.outcome page.text.items
+IsNotRun source (Memory output) = output.items ≡ []
+IsNotRun source _ = ⊥
+
+-- what `run` may come to with a source
 abbrev pub Running : (source input : List ℕ) → Wants → Ran → Type 0
-Running source input w (Refused page) = IsNoCodeAs source page.outcome page.text.items
-Running source input w (Came whole) = WithCode source (λ tree code. ComesOf tree code input w (Came whole))
-Running source input w (Memory output) = (output.items ≡ []) ⊎ WithCode source (λ tree code. ComesOf tree code input w (Memory output))
-Running source input w OutOfRange = WithCode source (λ tree code. ComesOf tree code input w OutOfRange)
-Running source input w (NotStarted failure) = WithCode source (λ tree code. ComesOf tree code input w (NotStarted failure))
-Running source input w Stuck = ⊥
+Running source input w ran =
+    WithCode source (λ tree code. ComesOf tree code input w ran) ⊎ IsNotRun source ran
 
 -- ---- what is written: the schedule's writer has bytes from `before` to `after`, the other one's from
 -- `old` to `new`

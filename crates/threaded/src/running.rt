@@ -1,27 +1,25 @@
 //! Runs in threads, and what comes of them.
 
-ghost use Rattle.std.specs.Prelude.{◌≡◌, ◌++◌, ℕ, List, IfOk, IfErr, false, length, map};
+ghost use Rattle.std.specs.Prelude.{◌≡◌, ◌++◌, IfOk, IfErr, false, length, map};
 ghost use Rattle.ast.specs.ProgramView.{program as program_of};
 ghost use Rattle.ast.specs.View.{cells, symbol as symbol_of};
 ghost use Rattle.codegen.specs.Headline.{Headline};
 ghost use Rattle.codegen.specs.Program.{IsCompiled};
 ghost use Rattle.machine.specs.CodeView.{code_of};
-ghost use Rattle.profile_check.specs.Reads.{Reads};
 ghost use Rattle.schedules.specs.Schedules.{SchedText};
 ghost use Rattle.pages.specs.Outcomes.{outcome_of};
 ghost use Rattle.pages.specs.Shown.{EndShown};
 ghost use Rattle.pages.specs.View.{rows_from};
 ghost use Rattle.engines.specs.Engines.{LeavesReaders};
 ghost use Rattle.threaded.specs.Running.{ComesOf, IsRefusal, RunEnds, RunFails, Running, Shows};
-ghost use Rattle.threaded.specs.Running.{ShowsAnswer, ShowsRefusal, WhereWanted};
+ghost use Rattle.threaded.specs.Running.{WhereWanted};
 
 use crate::figures::Figures;
 use crate::ran::{Ran, Whole};
-use ast::{Answer, End, Line, Program};
-use codegen::{CompileRefusal, compile};
-use engines::{Verdict, Wants, judged, read_given};
+use ast::{Answer, End, Program};
+use engines::{Coded, Prepared, Wants, prepare, read_given};
 use machine::Code;
-use pages::{EngineFault, Page, append_end, outcome, refused, rows};
+use pages::{EngineFault, Page, append_end, outcome, rows};
 use processors::{NoGate, Report, RunRefusal};
 use replay::Tally;
 use schedules::Schedule;
@@ -29,14 +27,6 @@ use std::alloc::{AllocError, Global};
 use std::io::{Read, Write};
 use std::sync::Wait;
 use std::thread::Threads;
-
-/// What is shown beside the records of a run.
-#[derive(Drop)]
-struct Beside {
-    /// What follows them.
-    last: Vec<u8>,
-    schedule: Option<Vec<u8>>,
-}
 
 /// What follows the records of an answer.
 fn last_lines(
@@ -57,35 +47,15 @@ fn last_lines(
     Ok(last)
 }
 
-/// The text of a schedule, where it is wanted.
-fn wanted_text(schedule: &Schedule, wanted: bool) -> Result<Option<Vec<u8>>, AllocError>
-    ensures { IfOk result (λ text. WhereWanted wanted text (SchedText schedule.now)) }
+/// The text of a schedule, where it is wanted; the schedule itself is given up.
+fn wanted_text(schedule: Schedule, wanted: bool) -> Result<Option<Vec<u8>>, AllocError>
+    ensures { IfOk result (λ text. WhereWanted wanted text (SchedText schedule)) }
 {
     if wanted {
         Ok(Some(schedule.text()?))
     } else {
         Ok(None)
     }
-}
-
-/// What is shown beside the records of a report.
-fn beside_records(
-    alloc: Global,
-    program: &Program,
-    report: &Report,
-    wants: Wants,
-) -> Result<Beside, AllocError>
-    requires { length (cells report.now.answer.store) ≡ length program.now.symbols.items }
-    ensures last { IfOk result (λ b.
-        EndShown wants.store
-        (rows_from (cells report.now.answer.store) 0 (map symbol_of program.now.symbols.items))
-        report.now.answer.end b.last.items) }
-    ensures schedule { IfOk result (λ b.
-        WhereWanted wants.schedule b.schedule (SchedText report.now.schedule)) }
-{
-    let last = last_lines(alloc, program, &report.answer, wants.store)?;
-    let schedule = wanted_text(&report.schedule, wants.schedule)?;
-    Ok(Beside { last, schedule })
 }
 
 /// The page of a run that ended so: its records, and behind them what follows; the records alone
@@ -127,55 +97,29 @@ fn alone<R: Threads + Wait + Sync>(
     }
 }
 
-/// What came of a run that has ended: its records are there, also where there is no memory for the
-/// rest.
-fn ended(alloc: Global, program: &Program, report: Report, wants: Wants, alone: Option<u128>) -> Ran
-    requires { length (cells report.answer.store) ≡ length program.now.symbols.items }
-    ensures { Shows wants (map symbol_of program.now.symbols.items) report.answer report.schedule
-        result }
+/// What came of a run that has ended with this answer, beside the text of its schedule: its records
+/// are there, also where there is no memory for the rest.
+fn ended(
+    alloc: Global,
+    program: &Program,
+    answer: Answer,
+    schedule: Result<Option<Vec<u8>>, AllocError>,
+    store: bool,
+    figures: Option<Figures>,
+) -> Ran
+    requires { length (cells answer.store) ≡ length program.now.symbols.items }
+    ensures { Shows store (map symbol_of program.now.symbols.items) answer schedule result }
 {
-    let beside = beside_records(alloc, program, &report, wants);
-    let Report {
-        answer,
-        efforts,
-        tally,
-        overlap,
-        ..
-    } = report;
+    let last = last_lines(alloc, program, &answer, store);
     let Answer { output, end, .. } = answer;
-    let Ok(Beside { last, schedule }) = beside else {
+    let (Ok(last), Ok(schedule)) = (last, schedule) else {
         return Ran::Memory(output);
     };
     match paged(output, &last, end) {
         Ok(page) => Ran::Whole(Whole {
             page,
             schedule,
-            figures: wants.tally.then_some(Figures {
-                efforts,
-                overlap,
-                made: tally.made,
-                alone,
-            }),
-        }),
-        Err(output) => Ran::Memory(output),
-    }
-}
-
-/// What came of a run that has ended with this answer, and of which no schedule was kept.
-fn answered(alloc: Global, program: &Program, answer: Answer, store: bool) -> Ran
-    requires { length (cells answer.store) ≡ length program.now.symbols.items }
-    ensures { ShowsAnswer store (map symbol_of program.now.symbols.items) answer result }
-{
-    let last = last_lines(alloc, program, &answer, store);
-    let Answer { output, end, .. } = answer;
-    let Ok(last) = last else {
-        return Ran::Memory(output);
-    };
-    match paged(output, &last, end) {
-        Ok(page) => Ran::Whole(Whole {
-            page,
-            schedule: None,
-            figures: None,
+            figures,
         }),
         Err(output) => Ran::Memory(output),
     }
@@ -197,27 +141,38 @@ fn unanswered(refusal: RunRefusal) -> Ran
 fn run_recorded<R: Threads + Wait + Sync>(
     rt: &R,
     alloc: Global,
-    program: &Program,
-    code: &Code,
+    coded: &Coded,
     input: &[u8],
     wants: Wants,
 ) -> Ran
-    requires headline { Headline (code_of code.now) (program_of program.now) }
-    requires compiled { IsCompiled (program_of program.now) (code_of code.now) }
-    ensures { ComesOf (program_of program.now) (code_of code.now) input.now wants result }
+    requires headline { Headline (code_of coded.now.code) (program_of coded.now.program) }
+    requires compiled { IsCompiled (program_of coded.now.program) (code_of coded.now.code) }
+    ensures { ComesOf (program_of coded.now.program) (code_of coded.now.code) input.now wants
+        result }
 {
-    match processors::run(
-        rt,
-        alloc,
-        code,
-        input,
-        wants.processors,
-        wants.slots,
-        &NoGate,
-    ) {
-        Ok(report) => {
-            let alone = alone(rt, alloc, code, input, wants.tally);
-            ended(alloc, program, report, wants, alone)
+    let Wants {
+        processors,
+        slots,
+        ..
+    } = wants;
+    match processors::run(rt, alloc, &coded.code, input, processors, slots, &NoGate) {
+        Ok(
+            Report {
+                answer,
+                schedule,
+                efforts,
+                tally,
+                overlap,
+            },
+        ) => {
+            let figures = wants.tally.then_some(Figures {
+                efforts,
+                overlap,
+                made: tally.made,
+                alone: alone(rt, alloc, &coded.code, input, wants.tally),
+            });
+            let text = wanted_text(schedule, wants.schedule);
+            ended(alloc, &coded.program, answer, text, wants.store, figures)
         }
         Err(refusal) => unanswered(refusal),
     }
@@ -227,26 +182,23 @@ fn run_recorded<R: Threads + Wait + Sync>(
 fn run_unrecorded<R: Threads + Wait + Sync>(
     rt: &R,
     alloc: Global,
-    program: &Program,
-    code: &Code,
+    coded: &Coded,
     input: &[u8],
     wants: Wants,
 ) -> Ran
-    requires headline { Headline (code_of code.now) (program_of program.now) }
-    requires compiled { IsCompiled (program_of program.now) (code_of code.now) }
+    requires headline { Headline (code_of coded.now.code) (program_of coded.now.program) }
+    requires compiled { IsCompiled (program_of coded.now.program) (code_of coded.now.code) }
     requires unwanted { wants.schedule ≡ false }
-    ensures { ComesOf (program_of program.now) (code_of code.now) input.now wants result }
+    ensures { ComesOf (program_of coded.now.program) (code_of coded.now.code) input.now wants
+        result }
 {
-    match processors::run_unrecorded(
-        rt,
-        alloc,
-        code,
-        input,
-        wants.processors,
-        wants.slots,
-        &NoGate,
-    ) {
-        Ok(answer) => answered(alloc, program, answer, wants.store),
+    let Wants {
+        processors,
+        slots,
+        ..
+    } = wants;
+    match processors::run_unrecorded(rt, alloc, &coded.code, input, processors, slots, &NoGate) {
+        Ok(answer) => ended(alloc, &coded.program, answer, Ok(None), wants.store, None),
         Err(refusal) => unanswered(refusal),
     }
 }
@@ -255,47 +207,19 @@ fn run_unrecorded<R: Threads + Wait + Sync>(
 fn run_code<R: Threads + Wait + Sync>(
     rt: &R,
     alloc: Global,
-    program: &Program,
-    code: &Code,
+    coded: &Coded,
     input: &[u8],
     wants: Wants,
 ) -> Ran
-    requires headline { Headline (code_of code.now) (program_of program.now) }
-    requires compiled { IsCompiled (program_of program.now) (code_of code.now) }
-    ensures { ComesOf (program_of program.now) (code_of code.now) input.now wants result }
+    requires headline { Headline (code_of coded.now.code) (program_of coded.now.program) }
+    requires compiled { IsCompiled (program_of coded.now.program) (code_of coded.now.code) }
+    ensures { ComesOf (program_of coded.now.program) (code_of coded.now.code) input.now wants
+        result }
 {
     if wants.schedule || wants.tally {
-        run_recorded(rt, alloc, program, code, input, wants)
+        run_recorded(rt, alloc, coded, input, wants)
     } else {
-        run_unrecorded(rt, alloc, program, code, input, wants)
-    }
-}
-
-/// What comes of a source that is refused.
-fn not_run(alloc: Global, number: u8, line: Line) -> Ran
-    ensures { ShowsRefusal number line result }
-{
-    match refused(alloc, number, line) {
-        Ok(page) => Ran::Refused(page),
-        Err(_) => Ran::Memory(Vec::new(alloc)),
-    }
-}
-
-/// What comes of a run of a program.
-fn run_program<R: Threads + Wait + Sync>(
-    rt: &R,
-    alloc: Global,
-    program: &Program,
-    input: &[u8],
-    wants: Wants,
-) -> Ran
-    ensures { (source : List ℕ) → Reads source (program_of program.now)
-        → Running source input.now wants result }
-{
-    match compile(alloc, program) {
-        Ok(compiled) => run_code(rt, alloc, program, &compiled.code, input, wants),
-        Err(CompileRefusal::Refused { number, line }) => not_run(alloc, number, line),
-        Err(CompileRefusal::Memory) => Ran::Memory(Vec::new(alloc)),
+        run_unrecorded(rt, alloc, coded, input, wants)
     }
 }
 
@@ -309,9 +233,9 @@ pub fn run_texts<R: Threads + Wait + Sync>(
 ) -> Ran
     ensures { Running source.now input.now wants result }
 {
-    match judged(alloc, source) {
-        Ok(Verdict::Accepted(program)) => run_program(rt, alloc, &program, input, wants),
-        Ok(Verdict::Refused { number, line }) => not_run(alloc, number, line),
+    match prepare(alloc, source) {
+        Ok(Prepared::Coded(coded)) => run_code(rt, alloc, &coded, input, wants),
+        Ok(Prepared::Refused(page)) => Ran::Refused(page),
         Err(_) => Ran::Memory(Vec::new(alloc)),
     }
 }
