@@ -120,9 +120,10 @@ abbrev pub run : App
 run =
     with_rule (with_rule (with_rule (with_rule (with_rule (with_rule (with_rule (new_app (codes "run")) source) input) processors) slots) schedule_out) store) tally
 
--- model F INPUT, with -p, -s and --most
+-- model F INPUT, with -p, -s, --most and --schedule
 abbrev pub model : App
-model = with_rule (with_rule (with_rule (with_rule (with_rule (new_app (codes "model")) source) input) processors) slots) most
+model =
+    with_rule (with_rule (with_rule (with_rule (with_rule (with_rule (new_app (codes "model")) source) input) processors) slots) most) schedule_out
 
 -- replay F INPUT SCHEDULE, with --states
 abbrev pub replay : App
@@ -230,6 +231,7 @@ pub record HoldsModel (values : List Row) (m : Modelled) : Type 0 where
   pub processors : IsSizeOf (first_of (codes "p") values) 2 m.processors
   pub slots : IsSizeOf (first_of (codes "s") values) 4 m.slots
   pub most : IsSizeOf (first_of (codes "most") values) 100000000 m.most
+  pub schedule : first_of (codes "schedule") values ≡ option_map (λ o. o.now) m.schedule
 
 -- one of these has no value
 abbrev pub LacksOne : List Text → List Row → Type 0

@@ -32,6 +32,8 @@ pub struct Modelled<'a> {
     pub slots: u64,
     /// After how many steps a run is left that hasn't ended, 100,000,000 where none are named.
     pub most: u64,
+    /// The file that gets the schedule, if it is wanted.
+    pub schedule: Option<&'a str>,
 }
 
 /// The files of a replay.
@@ -81,8 +83,8 @@ pub enum Command<'a> {
     /// `run F [INPUT] [-p N] [-s N] [--schedule OUT] [--store] [--tally]`: the run of the code of a
     /// source in threads.
     Run(Threaded<'a>),
-    /// `model F [INPUT] [-p N] [-s N] [--most STEPS]`: the time that the run of a source's code
-    /// takes, step by step.
+    /// `model F [INPUT] [-p N] [-s N] [--most STEPS] [--schedule OUT]`: the time that the run of a
+    /// source's code takes, step by step.
     Model(Modelled<'a>),
     /// `replay F INPUT SCHEDULE [--states]`: the run of the code of a source that a schedule
     /// describes; and whether its states are wanted.

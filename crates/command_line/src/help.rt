@@ -84,12 +84,16 @@ how many of a hundred turns were spent waiting; behind it stands one for each
 loop whose iterations were run at once. What the program prints isn't shown. It
 is the same each time.
 
+With --schedule the schedule is kept in memory until the run is over. That of a
+run that was left leads to where it was left.
+
 Status:
   0  the run came to END or to a STOP, or was left after --most steps
   1  the source is refused
   2  the run came to a fault
-  3  the command line is wrong, or a number is out of its range
-  4  a file can't be read, or the answer can't be written
+  3  the command line is wrong, a number is out of its range, or standard output
+     goes to OUT
+  4  a file can't be read, or the answer or OUT can't be written
   5  there is no memory
 
 Example:

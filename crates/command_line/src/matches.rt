@@ -32,7 +32,7 @@ pub enum LineFault {
     #[error("error: nothing has this number; there are 1 to 8, 20 to 27, 30 to 43, 51 to 59 and 61, and behind serial 1 to 6\n\nUsage: doac explain [N]\n       doac explain serial <REASON>\n\nFor more information, try '--help'.\n")]
     NoSuchNumber,
     /// They name no whole number of 64 bits where one is wanted.
-    #[error("error: -p takes 1 to 64, -s 1 to 256, --most a whole number\n\nUsage: doac run [-p <N>] [-s <N>] <F> [INPUT]\n       doac model [-p <N>] [-s <N>] [--most <STEPS>] <F> [INPUT]\n\nFor more information, try '--help'.\n")]
+    #[error("error: -p takes 1 to 64, -s 1 to 256, --most a whole number\n\nUsage: doac run [-p <N>] [-s <N>] <F> [INPUT]\n       doac model [-p <N>] [-s <N>] [--most <STEPS>] [--schedule <OUT>] <F> [INPUT]\n\nFor more information, try '--help'.\n")]
     NoSize,
     /// They ask for a picture by no whole number of 64 bits, or of no 1 to 64 iterations.
     #[error("error: --loop takes a whole number, and --iterations one from 1 to 64\n\nUsage: doac draw [--loop <N>] [--iterations <K>] <F> <OUT>\n\nFor more information, try '--help'.\n")]
@@ -226,6 +226,7 @@ fn modelling<'a>(given: &ArgMatches<'a>) -> Result<Command<'a>, LineFault>
         processors: size(text(given, "p"), 2)?,
         slots: size(text(given, "s"), 4)?,
         most: size(text(given, "most"), 100_000_000)?,
+        schedule: text(given, "schedule"),
     }))
 }
 

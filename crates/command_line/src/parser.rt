@@ -381,7 +381,8 @@ fn modelling<'a>(alloc: Global) -> Result<clap::Command<'a>, AllocError>
     let line = with(line, input(alloc));
     let line = with(line, processors(alloc));
     let line = with(line, slots(alloc));
-    with(line, most(alloc))
+    let line = with(line, most(alloc));
+    with(line, schedule_out(alloc))
 }
 
 /// The command line of `replay`.

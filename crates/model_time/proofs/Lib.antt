@@ -1,1 +1,3 @@
+mod Leaving
+mod Recording
 mod Timing

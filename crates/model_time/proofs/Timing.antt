@@ -1,6 +1,6 @@
 -- Turns and units of runs.
-use Rattle.std.proofs.Common.{◌≡◌, ◌∙◌, ℕ, zero, suc, ◌+◌, ◌-◌, ◌^◌, true, false, List, length, Option, Some, None, refl, sym, ap, subst, arith}
-use Rattle.std.specs.Prelude.{min, IfSome}
+use Rattle.std.proofs.Common.{Bool, ◌≡◌, ◌∙◌, ℕ, zero, suc, ◌+◌, ◌-◌, ◌^◌, true, false, List, length, Option, Some, None, refl, sym, ap, subst, arith}
+use Rattle.std.specs.Prelude.{min, is_some, IfSome}
 use Rattle.ast.specs.declared.answer.Answer.{Answer}
 use Rattle.machine.specs.Code.{Code}
 use Rattle.machine.specs.State.{Machine}
@@ -10,12 +10,15 @@ use Rattle.activities.specs.Points.{Moves, Picks, Point, beginning}
 use Rattle.activities.specs.declared.holding.Choice as held
 use Rattle.activities.specs.declared.holding.Choice.TheVariants.{Main, Iteration, Ticket}
 use Rattle.replay.specs.Replayed.{IsAnswer}
+use Rattle.schedules.specs.Schedules.{Schedule}
 use Rattle.unrecorded.specs.View.{IsNew, IsReached, IsRun, IsSameRun, Labours, RunView, Shares, TakesUp, point_at}
 use Rattle.model_time.specs.Figures.{counted, no_figures, sum, told}
+use Rattle.model_time.specs.Records.{AlsoRecords, IsRecord, RecordsWanted}
 use Rattle.model_time.specs.Timed.{Answers, IsTimed}
 use Rattle.model_time.specs.Turns.{IsTurn, Turn, left, open_in}
-use Rattle.model_time.specs.Units.{AreUnits, IsUnitIn, Turns, Unit, Units, no_figures_of}
+use Rattle.model_time.specs.Units.{AreUnits, IsLeft, IsUnitOf, MayLeave, Turns, UnitOf, Units, no_figures_of}
 use Rattle.model_time.specs.declared.figures.Figures.{Figures}
+use Rattle.model_time.specs.declared.pace.Pace.{Pace}
 use Rattle.model_time.specs.declared.timed.Timed.{Timed}
 use Rattle.model_time.specs.declared.turned.Left.{Left}
 use Rattle.model_time.specs.declared.turned.Left.TheVariants.{Held, Parked, Retired}
@@ -93,11 +96,11 @@ more_turns x y z q f g t n m next h turns turn is same =
     (point_at y, f, t, turns, of_same x y (λ c s. Turn c s (point_at y) q t (point_at z)) h turn.1, is ∙ ap (λ (m : ℕ). counted f t m) same)
 
 -- one unit more
-pub more_units : (x y z : RunView) (f g k : Figures) (fs gs ks : List Figures) → AreUnits x f fs y g gs → IsUnitIn y g gs z k ks → AreUnits x f fs z k ks
-more_units x y z f g k fs gs ks h more = (
+pub more_units : (x y z : RunView) (u f g k : Figures) (fs gs ks : List Figures) → AreUnits x f fs y g gs → IsUnitOf u y g gs z k ks → AreUnits x f fs z k ks
+more_units x y z u f g k fs gs ks h more = (
   same_on x y z h.0 more.0,
   suc h.1,
-  (point_at y, g, gs, h.2, subst (λ (p : ℕ). Unit x.code x.slots p (point_at y) g gs (point_at z) k ks) h.0.processors (of_same x y (λ c s. Unit c s y.processors (point_at y) g gs (point_at z) k ks) h.0 more.1)),
+  (point_at y, g, gs, h.2, (u, subst (λ (p : ℕ). UnitOf x.code x.slots p u (point_at y) g gs (point_at z) k ks) h.0.processors (of_same x y (λ c s. UnitOf c s y.processors u (point_at y) g gs (point_at z) k ks) h.0 more.1))),
 )
 
 pub no_units : (x : RunView) (f : Figures) (fs : List Figures) → AreUnits x f fs x f fs
@@ -126,9 +129,9 @@ pub units_time : (code : Code) (s p n : ℕ) (a b : Point) (f g : Figures) (fs g
 units_time code s p zero a b f g fs gs h z = ap (λ (k : Figures). k.time) h.1 ∙ z
 units_time code s p (suc n) a b f g fs gs h z =
     let before : h.1.time ≡ min n (2 ^ 64 - 1) = units_time code s p n a h.0 f h.1 fs h.2 h.3 z in
-    ap (λ (k : Figures). k.time) h.4.3
-    ∙ ap (λ m. sum m h.4.1.time) before
-    ∙ ap (λ m. sum (min n (2 ^ 64 - 1)) m) (turns_time code s p h.0 b h.4.1 h.4.2)
+    ap (λ (k : Figures). k.time) h.4.1.2
+    ∙ ap (λ m. sum m h.4.0.time) before
+    ∙ ap (λ m. sum (min n (2 ^ 64 - 1)) m) (turns_time code s p h.0 b h.4.0 h.4.1.1)
     ∙ one_more (2 ^ 64 - 1) n
 
 -- ---- what came of a run
@@ -154,9 +157,26 @@ counted_by x b code input p s n f g fs gs new none nones h =
     let five = subst (λ (k : Figures). Units code s p n (beginning code input s) k fs b g gs) none four in
     subst (λ (ks : List Figures). Units code s p n (beginning code input s) no_figures ks b g gs) nones five
 
-pub timed : (x y : RunView) (code : Code) (input : List ℕ) (p s : ℕ) (f : Figures) (fs : List Figures) (t : Timed) → IsNew code input p s x → f ≡ no_figures → fs ≡ no_figures_of (length code.loops)
-    → AreUnits x f fs y t.program t.loops.items → IsRun y → Answers y.code (point_at y).machine t.answer → IsTimed code input p s t
-timed x y code input p s f fs t new none nones h r a =
+recorded_by : (x y : RunView) (code : Code) (input : List ℕ) (p s : ℕ) (wanted : Bool) (old kept : Option Schedule) → IsNew code input p s x → IsSameRun x y → is_some old ≡ wanted → AlsoRecords old y kept → RecordsWanted wanted code input p s kept (point_at y)
+recorded_by x y code input p s wanted old kept new h e r =
+    let holds = λ (c : Code) (i : List ℕ) (q t : ℕ). IfSome kept (λ z. IsRecord c i q t z (point_at y)) in
+    let one = subst (λ (c : Code). holds c y.input y.processors y.slots) (h.code_is ∙ new.code_is) r.1 in
+    let two = subst (λ (i : List ℕ). holds code i y.processors y.slots) (h.input_is ∙ new.input_is) one in
+    let three = subst (λ (n : ℕ). holds code input n y.slots) (h.processors ∙ new.processors) two in
+    (r.0 ∙ e, subst (λ (n : ℕ). holds code input p n) (h.slots ∙ new.slots) three)
+
+left_by : (x y : RunView) (code : Code) (input : List ℕ) (p s most : ℕ) (f : Figures) → IsNew code input p s x → IsSameRun x y → IsLeft most y f → MayLeave code p s most (point_at y).machine f
+left_by x y code input p s most f new h l =
+    let m = (point_at y).machine in
+    let one = subst (λ (c : Code). MayLeave c y.processors y.slots most m f) (h.code_is ∙ new.code_is) l in
+    let two = subst (λ (n : ℕ). MayLeave code n y.slots most m f) (h.processors ∙ new.processors) one in
+    subst (λ (n : ℕ). MayLeave code p n most m f) (h.slots ∙ new.slots) two
+
+pub timed : (x y : RunView) (code : Code) (input : List ℕ) (pace : Pace) (old : Option Schedule) (f : Figures) (fs : List Figures) (t : Timed) → IsNew code input pace.processors pace.slots x → is_some old ≡ pace.schedule → f ≡ no_figures → fs ≡ no_figures_of (length code.loops)
+    → AreUnits x f fs y t.program t.loops.items → AlsoRecords old y t.schedule → IsLeft pace.most y t.program → IsRun y → Answers y.code (point_at y).machine t.answer → IsTimed code input pace t
+timed x y code input pace old f fs t new wanted none nones h records left r a =
+    let p = pace.processors in
+    let s = pace.slots in
     let counted : Units code s p h.1 (beginning code input s) no_figures (no_figures_of (length code.loops)) (point_at y) t.program t.loops.items = counted_by x (point_at y) code input p s h.1 f t.program fs t.loops.items new none nones h.2 in
     record {
       sizes = new.sizes;
@@ -166,4 +186,6 @@ timed x y code input p s f fs t new none nones h r a =
       time = units_time code s p h.1 (beginning code input s) (point_at y) no_figures t.program (no_figures_of (length code.loops)) t.loops.items counted refl;
       reached = reached_by x y code input p s new h.0 r;
       answers = subst (λ (c : Code). Answers c (point_at y).machine t.answer) (h.0.code_is ∙ new.code_is) a;
+      left = left_by x y code input p s pace.most t.program new h.0 left;
+      records = recorded_by x y code input p s pace.schedule old t.schedule new h.0 wanted records;
     }

@@ -2,11 +2,15 @@
 
 ghost use Rattle.std.specs.Prelude.{◌≡◌, IfOk, None, OnOk, length};
 ghost use Rattle.unrecorded.specs.View.{IsGoing};
-ghost use Rattle.model_time.specs.Units.{AreUnits, IsUnit, IsUnitIn, added_to, no_figures_of};
+ghost use Rattle.model_time.specs.Records.{AlsoRecords, Records};
+ghost use Rattle.model_time.specs.Units.{AreUnits, IsLeft, IsUnit, IsUnitOf, added_to};
+ghost use Rattle.model_time.specs.Units.{no_figures_of};
 
 use crate::figures::Figures;
+use crate::record::note;
 use crate::turned::turn;
 use machine::{Code, Loop, Open};
+use schedules::Schedule;
 use std::alloc::{AllocError, Global};
 use unrecorded::Run;
 
@@ -69,38 +73,57 @@ impl Totals {
     }
 }
 
-/// The turns of all processors, one after another.
-fn turns(run: &mut Run<'_>) -> Result<Figures, AllocError>
-    ensures { IfOk result (λ figures. IsUnit run.old figures run.new) }
+/// The turns of all processors, one after another, which are added to the schedule, if one is kept.
+fn turns(run: &mut Run<'_>, kept: &mut Option<Schedule>) -> Result<Figures, AllocError>
+    requires records { Records run.old kept.old }
+    ensures unit { IfOk result (λ figures. IsUnit run.old figures run.new) }
+    ensures records { OnOk result (AlsoRecords kept.old run.new kept.new) }
 {
     let mut figures = Figures::unit();
     for q in 0..run.processors() {
         let turned = turn(run, q)?;
+        note(kept, q, turned)?;
         figures = figures.counted(turned, run.overlap());
     }
     Ok(figures)
 }
 
-/// A unit of time of a run that hasn't ended; how many steps were made in it.
-fn unit(run: &mut Run<'_>, totals: &mut Totals) -> Result<u64, AllocError>
+/// A unit of time of a run that hasn't ended; what was counted of it.
+fn unit(
+    run: &mut Run<'_>,
+    kept: &mut Option<Schedule>,
+    totals: &mut Totals,
+) -> Result<Figures, AllocError>
     requires going { IsGoing run.old }
-    ensures { OnOk result (IsUnitIn run.old totals.old.program totals.old.loops.items run.new
-        totals.new.program totals.new.loops.items) }
+    requires records { Records run.old kept.old }
+    ensures unit { IfOk result (λ figures. IsUnitOf figures
+        run.old totals.old.program totals.old.loops.items
+        run.new totals.new.program totals.new.loops.items) }
+    ensures records { OnOk result (AlsoRecords kept.old run.new kept.new) }
 {
     let around = run.open_loop();
-    let figures = turns(run)?;
+    let figures = turns(run, kept)?;
     totals.add(around, figures);
-    Ok(figures.steps.saturating_add(figures.again))
+    Ok(figures)
 }
 
 /// Units of time until the run has ended, or so many steps were made, or a unit had none.
-pub fn units(run: &mut Run<'_>, totals: &mut Totals, most: u64) -> Result<(), AllocError>
-    ensures { OnOk result (AreUnits run.old totals.old.program totals.old.loops.items run.new
+pub fn units(
+    run: &mut Run<'_>,
+    kept: &mut Option<Schedule>,
+    totals: &mut Totals,
+    most: u64,
+) -> Result<(), AllocError>
+    requires records { Records run.old kept.old }
+    ensures units { OnOk result (AreUnits run.old totals.old.program totals.old.loops.items run.new
         totals.new.program totals.new.loops.items) }
+    ensures records { OnOk result (AlsoRecords kept.old run.new kept.new) }
+    ensures left { OnOk result (IsLeft most run.new totals.new.program) }
 {
     let mut left = most;
     while left > 0 && !run.has_ended() {
-        let made = unit(run, totals)?;
+        let Figures { steps, again, .. } = unit(run, kept, totals)?;
+        let made = steps.saturating_add(again);
         if made == 0 {
             break;
         }

@@ -7,9 +7,12 @@ ghost use Rattle.model_time.specs.Timed.{IsTimed};
 
 use crate::clock::{Totals, units};
 use crate::figures::Figures;
+use crate::pace::Pace;
+use crate::record::schedule_at_first;
 use ast::Answer;
 use machine::Code;
 use replay::CoreRefusal;
+use schedules::Schedule;
 use std::alloc::Global;
 use unrecorded::Run;
 
@@ -21,34 +24,31 @@ pub struct Timed {
     pub program: Figures,
     /// Of each loop of the code, by its number, in the units at whose beginning it was open.
     pub loops: Vec<Figures>,
+    /// The schedule so far, each step an entry of its own, where it is wanted.
+    pub schedule: Option<Schedule>,
 }
 
-/// Runs code on an input in model time by `p` processors, 1 to 64, with at most `s` iterations
-/// open, 1 to 256, until the run has ended or at least `most` steps were made. It is the same each
-/// time.
+/// Runs code on an input in model time until it has ended, or until `pace.most` steps or more were
+/// made. It is the same each time. Memory grows with what is printed, and with the steps only where
+/// a schedule is wanted.
 ///
 /// # Errors
 ///
-/// 57 where p or s is out of its range; and want of memory.
-pub fn time(
-    alloc: Global,
-    code: &Code,
-    input: &[u8],
-    p: u64,
-    s: u64,
-    most: u64,
-) -> Result<Timed, CoreRefusal>
-    ensures ok { IfOk result (IsTimed (code_of code.now) input.now p s) }
-    ensures err { IfErr result (NoCore p s) }
+/// 57 where a number of the pace is out of its range; and want of memory.
+pub fn time(alloc: Global, code: &Code, input: &[u8], pace: Pace) -> Result<Timed, CoreRefusal>
+    ensures ok { IfOk result (IsTimed (code_of code.now) input.now pace) }
+    ensures err { IfErr result (NoCore pace.processors pace.slots) }
 {
-    let mut run = Run::new(alloc, code, input, p, s)?;
+    let mut run = Run::new(alloc, code, input, pace.processors, pace.slots)?;
+    let mut kept = schedule_at_first(alloc, pace.schedule, pace.processors, pace.slots);
     let mut totals = Totals::none(alloc, code)?;
-    units(&mut run, &mut totals, most)?;
+    units(&mut run, &mut kept, &mut totals, pace.most)?;
     let answer = run.answer()?;
     let Totals { program, loops } = totals;
     Ok(Timed {
         answer,
         program,
         loops,
+        schedule: kept,
     })
 }

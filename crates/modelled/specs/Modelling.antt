@@ -1,24 +1,28 @@
 -- What `model` shows of a source and an input.
-use Rattle.std.specs.Prelude.{◌≡◌, ⊤, ℕ, suc, false, if◌then◌else◌, is_some, codes, List, [], ◌∷◌, ◌++◌, Option, Some, None, IfSome}
+use Rattle.std.specs.Prelude.{◌≡◌, ◌≤◌, ◌+◌, ◌⊎◌, ⊤, ℕ, suc, false, if◌then◌else◌, is_some, codes, List, [], ◌∷◌, ◌++◌, Option, Some, None, IfSome, Vec, option_map}
+use Rattle.std.specs.Global.{Global}
 use Rattle.ast.specs.Meaning.{seq}
 use Rattle.ast.specs.Program.{ProgramTree}
 use Rattle.ast.specs.declared.answer.Answer.{Answer}
+use Rattle.codegen.specs.Headline.{Agrees}
 use Rattle.codegen.specs.Reports.{Reports}
 use Rattle.codegen.specs.declared.reports.LoopReport.{LoopReport}
 use Rattle.dependence.specs.PlanView.{plan_of}
 use Rattle.machine.specs.Code.{Code}
 use Rattle.model_time.specs.Timed.{IsTimed}
+use Rattle.model_time.specs.declared.pace.Pace.{Pace}
 use Rattle.model_time.specs.declared.timed.Timed.{Timed}
 use Rattle.pages.specs.Outcomes.{outcome_of}
 use Rattle.pages.specs.Shown.{EndShown, Extends}
 use Rattle.pages.specs.declared.fault.EngineFault.{EngineFault}
 use Rattle.pages.specs.declared.fault.EngineFault.TheVariants as faults
 use Rattle.pages.specs.declared.outcomes.Outcome.{Outcome}
-use Rattle.pages.specs.declared.outcomes.Outcome.TheVariants.{Completed, Refused, Faulted, NoSchedule}
-use Rattle.engines.specs.Schedules.{IsNoCode, WithCode}
+use Rattle.pages.specs.declared.outcomes.Outcome.TheVariants.{Completed}
+use Rattle.schedules.specs.Schedules.{SchedText, Schedule}
+use Rattle.engines.specs.Prepared.{IsUncoded, WithCode}
 use Rattle.modelled.specs.Lines.{loop_lines, program_line}
 use Rattle.modelled.specs.declared.heads.Head.{Head}
-use Rattle.modelled.specs.declared.modelling.Pace.{Pace}
+use Rattle.modelled.specs.declared.modelling.Timing.{Timing}
 
 -- the loops that the code opens, of which the first has this number
 abbrev pub heads_from : ℕ → List LoopReport → List Head
@@ -40,22 +44,38 @@ pub record IsShown (heads : List Head) (x : Timed) (outcome : Outcome) (text : L
   pub ended : outcome ≡ outcome_with x.answer
   pub shown : Extends (EndsSo x.answer) (program_line x.program ++ loop_lines heads x.loops.items) text
 
--- A run of code in model time is shown, of the loops that the program's reports say are opened, and
--- where it has ended it has as the sequential program does.
-pub record ShowsModel (tree : ProgramTree) (code : Code) (input : List ℕ) (pace : Pace) (outcome : Outcome) (text : List ℕ) : Type 0 where
+abbrev pub text_of : Option (Vec ℕ Global) → Option (List ℕ)
+text_of = option_map (λ v. v.items)
+
+-- a text is there exactly where a schedule is, and is that of it
+abbrev pub IsTextOf : Option Schedule → Option (List ℕ) → Type 0
+IsTextOf None None = ⊤
+IsTextOf (Some x) (Some text) = SchedText x text
+IsTextOf _ _ = ⊥
+
+-- a run is shown, and its schedule is there as it is written, if it was kept
+abbrev pub AreTexts : List Head → Timed → Timing → Type 0
+AreTexts heads x t = IsShown heads x t.page.outcome t.page.text.items × IsTextOf x.schedule (text_of t.schedule)
+
+-- A run of code in model time is shown, of the loops that the program's reports say are opened. The
+-- state to which it and its schedule lead agrees with the sequential program: where it has ended it
+-- has as that does, and where it hasn't, at least as many steps were made as were to be.
+pub record ShowsModel (tree : ProgramTree) (code : Code) (input : List ℕ) (pace : Pace) (t : Timing) : Type 0 where
   pub reports : List LoopReport
   pub are : Reports tree reports
   pub timed : Timed
-  pub is : IsTimed code input pace.processors pace.slots timed
-  pub shown : IsShown (heads_from 1 reports) timed outcome text
+  pub is : IsTimed code input pace timed
+  pub texts : AreTexts (heads_from 1 reports) timed t
+  pub agrees : Agrees code tree input pace.processors pace.slots is.point.machine
   pub sequential : IfSome timed.answer (λ answer. answer.end ≡ (seq tree input).end)
+  pub left : timed.answer ≡ None → pace.most ≤ timed.program.steps + timed.program.again
 
--- what `model` may show of a source and an input
-abbrev pub Modelling : Pace → (source input : List ℕ) → Outcome → List ℕ → Type 0
-Modelling pace source input Completed text = WithCode source (λ tree code. ShowsModel tree code input pace Completed text)
-Modelling pace source input (Refused number line) text = IsNoCode source number line text
-Modelling pace source input (Faulted fault line) text = WithCode source (λ tree code. ShowsModel tree code input pace (Faulted fault line) text)
-Modelling pace source input (NoSchedule number line) text = ⊥
+-- What `model` may come to with a source and an input: a run of its code is shown; or the source's
+-- refusal, and there is no schedule.
+abbrev pub Modelling : Pace → (source input : List ℕ) → Timing → Type 0
+Modelling pace source input t =
+    WithCode source (λ tree code. ShowsModel tree code input pace t)
+    ⊎ (IsUncoded source t.page.outcome t.page.text.items × (t.schedule ≡ None))
 
 -- nothing is shown: there was no memory, or the numbers are out of range
 abbrev pub IsEarly : EngineFault → Type 0

@@ -5,4 +5,5 @@ mod heads;
 mod lines;
 mod modelling;
 
-pub use modelling::{Pace, model_texts};
+pub use model_time::Pace;
+pub use modelling::{Timing, model_texts};
