@@ -1,5 +1,5 @@
 -- What is written of a verdict, and for want of memory.
-use Rattle.std.proofs.Common.{◌≡◌, ℕ, List, Option, Result, Ok, Err, subst, sym}
+use Rattle.std.proofs.Common.{◌≡◌, inl, ℕ, Bool, true, false, List, Option, Result, Ok, Err, subst, sym}
 use Rattle.std.proofs.KnownBytes.{Keeps-refl}
 use Rattle.ast.specs.ProgramView.{program as program_of}
 use Rattle.pages.specs.declared.fault.EngineFault.{EngineFault}
@@ -9,7 +9,7 @@ use Rattle.pages.specs.declared.outcomes.Outcome.TheVariants.{Completed, Refused
 use Rattle.engines.specs.Engines.{Checks, IsRefused, IsVerdict, Tells, Works}
 use Rattle.engines.specs.declared.verdict.Verdict.{Verdict}
 use Rattle.engines.specs.declared.verdict.Verdict.TheVariants as verdict
-use Rattle.doac.specs.Statuses.{Ends, exit_of}
+use Rattle.doac.specs.Statuses.{Ends, EndsList, exit_of}
 
 -- what is told of a source's verdict is what `check` may write of the source
 allowed_by : (source : List ℕ) (v : Verdict) (outcome : Outcome) (text : List ℕ) → IsVerdict source v → Tells v outcome text → Checks source outcome text
@@ -41,3 +41,7 @@ of_verdict source v old new (Err Stuck) judged wrote = wrote
 -- for want of memory nothing is written
 pub of_nothing : (allows : Outcome → List ℕ → Type 0) (old : Option (List ℕ)) (status : ℕ) → status ≡ exit_of (Err Memory) → Ends allows old old status
 of_nothing allows old status is = record { came = Err Memory; works = Keeps-refl old; is = is }
+
+pub list_nothing : (why : Bool) (source : List ℕ) (old : Option (List ℕ)) (status : ℕ) → status ≡ exit_of (Err Memory) → EndsList why source old old status
+list_nothing true source old status is = record { came = Err Memory; writes = inl (Keeps-refl old); is = is }
+list_nothing false source old status is = record { came = Err Memory; writes = Keeps-refl old; is = is }

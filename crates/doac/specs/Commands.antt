@@ -1,18 +1,18 @@
 -- What each command does: which files it reads, in which order, what it writes where, and its exit
 -- status.
-use Rattle.std.specs.Prelude.{◌≡◌, ℕ, Bool, List, [], ◌∷◌, Option, Some, None, option_map}
+use Rattle.std.specs.Prelude.{◌≡◌, ℕ, Bool, List, [], ◌∷◌, Option, option_map}
 use Rattle.pages.specs.declared.outcomes.Outcome.{Outcome}
 use Rattle.engines.specs.Coded.{ShowsCode}
 use Rattle.engines.specs.Engines.{Checks}
-use Rattle.engines.specs.Lists.{ListsAs}
 use Rattle.files.specs.Deeds.{Deed}
-use Rattle.doac.specs.Deeds.{ReadsFile, ReadsInput, ReadsTexts, UnlessRead}
-use Rattle.doac.specs.Models.{EndsModel}
+use Rattle.doac.specs.Deeds.{ReadsFile, ReadsGiven, ReadsTexts, UnlessOnto, UnlessRead}
+use Rattle.doac.specs.Models.{ModelsRead}
 use Rattle.doac.specs.Pictures.{DrawsFile, TimesFiles}
-use Rattle.doac.specs.Running.{RunsRead, named}
-use Rattle.doac.specs.Statuses.{Ends, EndsReplay, EndsSeq, EndsUpgrade, OfPrint}
+use Rattle.doac.specs.Running.{RunsRead}
+use Rattle.doac.specs.Statuses.{Ends, EndsList, EndsReplay, EndsSeq, EndsUpgrade, OfPrint}
 use Rattle.command_line.specs.declared.command.Command.{Command}
 use Rattle.command_line.specs.declared.command.Command.TheVariants.{Check, ListLoops, ShowCode, Seq, Run, Model, Replay, Upgrade, Draw, Timeline, Explain, ExplainSerial}
+use Rattle.command_line.specs.declared.command.Modelled.{Modelled}
 use Rattle.command_line.specs.declared.command.Threaded.{Threaded}
 
 -- the source is read, and what is allowed of it is written
@@ -20,11 +20,15 @@ abbrev pub OnSource : (List ℕ → Outcome → List ℕ → Type 0) → (source
 OnSource allows source before after old new status =
     ReadsFile source before after old new status (λ done text. (after ≡ done) × Ends (allows text) old new status)
 
+-- the source is read, and its loops are listed, with what `--why` adds or without
+abbrev pub ListsFile : (why : Bool) → (source : List ℕ) → (before after : Option (List Deed)) → (old new : Option (List ℕ)) → ℕ → Type 0
+ListsFile why source before after old new status =
+    ReadsFile source before after old new status (λ done text. (after ≡ done) × EndsList why text old new status)
+
 -- the source is read, then the input, and the command ends so on them
 abbrev pub OnInput : (List ℕ → List ℕ → Option (List ℕ) → Option (List ℕ) → ℕ → Type 0) → (source : List ℕ) → (input : Option (List ℕ)) → (before after : Option (List Deed)) → (old new : Option (List ℕ)) → ℕ → Type 0
 OnInput ends source input before after old new status =
-    ReadsFile source before after old new status (λ read text.
-    ReadsInput input read after old new status (λ done given. (after ≡ done) × ends text given old new status))
+    ReadsGiven source input before after old new status (λ done text given. (after ≡ done) × ends text given old new status)
 
 -- the source is read, then the input, then the schedule, and they are replayed; the states are shown
 -- if they are wanted
@@ -40,27 +44,26 @@ Upgrades source input schedule out before after old new status =
 
 -- a program is run in threads, where the file for the schedule, if one is named, is none of those
 -- that are read, as is found out first
-abbrev pub RunsUnless : (onto : Option (List ℕ)) → Threaded → (before after : Option (List Deed)) → (old new : Option (List ℕ)) → ℕ → Type 0
-RunsUnless None t before after old new status = RunsRead t before after old new status
-RunsUnless (Some onto) t before after old new status =
-    UnlessRead onto (t.source.now ∷ named (option_map (λ i. i.now) t.input)) before after old new status (λ told. RunsRead t told after old new status)
-
--- the same, where the file for the schedule is the one that the command names, if it names one
 abbrev pub RunsFiles : Threaded → (before after : Option (List Deed)) → (old new : Option (List ℕ)) → ℕ → Type 0
-RunsFiles t before after old new status = RunsUnless (option_map (λ o. o.now) t.schedule) t before after old new status
+RunsFiles t before after old new status =
+    UnlessOnto (option_map (λ o. o.now) t.schedule) t.source.now (option_map (λ i. i.now) t.input) before after old new status (λ told. RunsRead t told after old new status)
+
+-- the same of a run in model time
+abbrev pub ModelsFiles : Modelled → (before after : Option (List Deed)) → (old new : Option (List ℕ)) → ℕ → Type 0
+ModelsFiles m before after old new status =
+    UnlessOnto (option_map (λ o. o.now) m.schedule) m.source.now (option_map (λ i. i.now) m.input) before after old new status (λ told. ModelsRead m told after old new status)
 
 -- What a command does. What had been done with files is `before`, and in the end `after`; standard
 -- output had `old`, and in the end has `new`; the last number is the exit status. `explain` does
 -- nothing with files.
 abbrev pub Obeys : Command → (before after : Option (List Deed)) → (old new : Option (List ℕ)) → ℕ → Type 0
 Obeys (Check source) before after old new status = OnSource Checks source.now before after old new status
-Obeys (ListLoops source why) before after old new status = OnSource (ListsAs why) source.now before after old new status
+Obeys (ListLoops source why) before after old new status = ListsFile why source.now before after old new status
 Obeys (ShowCode source) before after old new status = OnSource ShowsCode source.now before after old new status
 Obeys (Seq source input store) before after old new status =
     OnInput (EndsSeq store) source.now (option_map (λ i. i.now) input) before after old new status
 Obeys (Run t) before after old new status = RunsFiles t before after old new status
-Obeys (Model m) before after old new status =
-    OnInput (EndsModel m) m.source.now (option_map (λ i. i.now) m.input) before after old new status
+Obeys (Model m) before after old new status = ModelsFiles m before after old new status
 Obeys (Replay files states) before after old new status =
     Replays states files.source.now files.input.now files.schedule.now before after old new status
 Obeys (Upgrade files out) before after old new status =

@@ -1,5 +1,5 @@
 -- What a command does with files, and the exit status that goes with it.
-use Rattle.std.specs.Prelude.{◌≡◌, ◌≢◌, ℕ, List, [], Option, Some, None, Result, Ok, Err}
+use Rattle.std.specs.Prelude.{◌≡◌, ◌≢◌, ℕ, List, [], ◌∷◌, Option, Some, None, Result, Ok, Err}
 use Rattle.std.specs.IoError.{error_kind}
 use Rattle.std.specs.declared.io.Error.{Error}
 use Rattle.std.specs.declared.io.ErrorKind.TheVariants.{OutOfMemory}
@@ -8,6 +8,7 @@ use Rattle.files.specs.Deeds.{Deed, Compares, Reads, Replaces, file_status, note
 use Rattle.files.specs.declared.fault.FileFault.{FileFault}
 use Rattle.files.specs.declared.files.Clash.{Clash}
 use Rattle.files.specs.declared.files.Clash.TheVariants.{Read, Output}
+use Rattle.files.specs.declared.files.Given.{Given}
 use Rattle.files.specs.declared.files.Unread.{Unread}
 
 -- the exit status of an error: that of want of memory, or another one
@@ -38,14 +39,25 @@ abbrev pub ReadsInput : Option (List ℕ) → (before after : Option (List Deed)
 ReadsInput None before after old new status made = made before []
 ReadsInput (Some name) before after old new status made = ReadsFile name before after old new status made
 
--- the same of three files, in this order
+-- a source is read, and then an input, and then `made` says what is made of both
+abbrev pub ReadsGiven : (source : List ℕ) → (input : Option (List ℕ)) → (before after : Option (List Deed)) → (old new : Option (List ℕ)) → ℕ → (Option (List Deed) → List ℕ → List ℕ → Type 0) → Type 0
+ReadsGiven source input before after old new status made =
+    ReadsFile source before after old new status (λ read text.
+    ReadsInput input read after old new status (λ done given. made done text given))
+
+-- the same where they were read before
+abbrev pub AfterGiven : Result Given Unread → (before after : Option (List Deed)) → (old new : Option (List ℕ)) → ℕ → (List ℕ → List ℕ → Type 0) → Type 0
+AfterGiven (Err file) before after old new status made = (after ≡ before) × (new ≡ old) × (status ≡ file_status file.fault)
+AfterGiven (Ok given) before after old new status made = made given.source.items given.input.items
+
+-- three files are read, in this order
 abbrev pub ReadsTexts : (source input schedule : List ℕ) → (before after : Option (List Deed)) → (old new : Option (List ℕ)) → ℕ → (Option (List Deed) → List ℕ → List ℕ → List ℕ → Type 0) → Type 0
 ReadsTexts source input schedule before after old new status made =
     ReadsFile source before after old new status (λ first text.
     ReadsFile input first after old new status (λ second given.
     ReadsFile schedule second after old new status (λ third picks. made third text given picks)))
 
--- the same where they were read before
+-- the same where these were read before
 abbrev pub AfterTexts : Result Texts Unread → (before after : Option (List Deed)) → (old new : Option (List ℕ)) → ℕ → (List ℕ → List ℕ → List ℕ → Type 0) → Type 0
 AfterTexts (Err file) before after old new status made = (after ≡ before) × (new ≡ old) × (status ≡ file_status file.fault)
 AfterTexts (Ok texts) before after old new status made = made texts.source.items texts.input.items texts.schedule.items
@@ -61,11 +73,21 @@ abbrev pub AfterCompare : Option Clash → (before after : Option (List Deed)) �
 AfterCompare (Some clash) before after old new status rest = (after ≡ before) × (new ≡ old) × (status ≡ clash_status clash)
 AfterCompare None before after old new status rest = rest
 
+-- the name of a file, if one is named
+abbrev pub named : Option (List ℕ) → List (List ℕ)
+named None = []
+named (Some name) = name ∷ []
+
 -- a name is compared with those of files that are read, and only where it may be written the rest is
 -- done
 pub record UnlessRead (name : List ℕ) (others : List (List ℕ)) (before after : Option (List Deed)) (old new : Option (List ℕ)) (status : ℕ) (made : Option (List Deed) → Type 0) : Type 0 where
   pub clash : Option Clash
   pub rest : AfterCompare clash (noted before (Compares name others clash)) after old new status (made (noted before (Compares name others clash)))
+
+-- the same of a file for a schedule, if one is named, beside those of a source and an input
+abbrev pub UnlessOnto : (onto : Option (List ℕ)) → (source : List ℕ) → (input : Option (List ℕ)) → (before after : Option (List Deed)) → (old new : Option (List ℕ)) → ℕ → (Option (List Deed) → Type 0) → Type 0
+UnlessOnto None source input before after old new status made = made before
+UnlessOnto (Some onto) source input before after old new status made = UnlessRead onto (source ∷ named input) before after old new status made
 
 -- a file is given bytes, and this is the status of that
 pub record GivesFile (name bytes : List ℕ) (before after : Option (List Deed)) (status : ℕ) : Type 0 where

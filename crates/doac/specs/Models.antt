@@ -1,26 +1,55 @@
--- What `model` writes.
-use Rattle.std.specs.Prelude.{◌≡◌, ℕ, List, Option, Result, Ok, Err}
+-- What `model` reads and writes.
+use Rattle.std.specs.Prelude.{◌≡◌, ℕ, List, Option, Some, None, Result, Ok, Err, IfErr, IfOk, is_some, option_map}
+use Rattle.files.specs.Deeds.{Deed}
+use Rattle.model_time.specs.declared.pace.Pace.{Pace}
+use Rattle.modelled.specs.Modelling.{IsEarly, Modelling, text_of}
+use Rattle.modelled.specs.declared.modelling.Timing.{Timing}
 use Rattle.pages.specs.declared.fault.EngineFault.{EngineFault}
-use Rattle.pages.specs.declared.fault.EngineFault.TheVariants.{Writing, OutOfRange}
 use Rattle.pages.specs.declared.outcomes.Outcome.{Outcome}
-use Rattle.engines.specs.Engines.{Works}
-use Rattle.modelled.specs.Modelling.{Modelling}
-use Rattle.modelled.specs.declared.modelling.Pace.{Pace}
+use Rattle.threaded.specs.Running.{WritesText}
+use Rattle.doac.specs.Deeds.{ReadsGiven}
+use Rattle.doac.specs.Running.{WritesFirst}
 use Rattle.doac.specs.Statuses.{exit_of}
 use Rattle.command_line.specs.declared.command.Modelled.{Modelled}
 
 -- how a run is wanted
 abbrev pub pace_of : Modelled → Pace
-pace_of m = record { processors = m.processors; slots = m.slots; most = m.most }
+pace_of m = record { processors = m.processors; slots = m.slots; most = m.most; schedule = is_some m.schedule }
 
--- what is allowed was written, or a beginning of it where writing failed; for want of memory, and
--- where the numbers are out of range, nothing was
-abbrev pub Writes : (Outcome → List ℕ → Type 0) → (old new : Option (List ℕ)) → Result Outcome EngineFault → Type 0
-Writes allows old new (Err OutOfRange) = new ≡ old
-Writes allows old new result = Works allows old new result
+-- what may come of a source and an input, or nothing
+abbrev pub MayCome : Pace → (source input : List ℕ) → Result Timing EngineFault → Type 0
+MayCome pace source input came = IfOk came (Modelling pace source input) × IfErr came IsEarly
 
--- `model` wrote what there is to show, and the status is that of what it came to
-pub record EndsModel (m : Modelled) (source input : List ℕ) (old new : Option (List ℕ)) (status : ℕ) : Type 0 where
-  pub came : Result Outcome EngineFault
-  pub writes : Writes (Modelling (pace_of m) source input) old new came
-  pub is : status ≡ exit_of came
+-- the text of the schedule of what came of a run, if it has one
+abbrev pub schedule_of : Result Timing EngineFault → Option (List ℕ)
+schedule_of (Ok t) = text_of t.schedule
+schedule_of (Err fault) = None
+
+-- what came of a run is shown on standard output; of none nothing is
+abbrev pub ShowsTiming : Result Timing EngineFault → (old new : Option (List ℕ)) → Result Outcome EngineFault → Type 0
+ShowsTiming (Ok t) old new result = WritesText t.page.text.items (Ok t.page.outcome) old new result
+ShowsTiming (Err fault) old new result = (result ≡ Err fault) × (new ≡ old)
+
+-- it is shown, and this is the status of that
+pub record Shown (came : Result Timing EngineFault) (old new : Option (List ℕ)) (status : ℕ) : Type 0 where
+  pub result : Result Outcome EngineFault
+  pub shows : ShowsTiming came old new result
+  pub is : status ≡ exit_of result
+
+-- The schedule of what came of a run goes to its file, if there are both; only where it went there
+-- is what came of the run shown.
+abbrev pub WritesTiming : (onto : Option (List ℕ)) → Result Timing EngineFault → (before after : Option (List Deed)) → (old new : Option (List ℕ)) → ℕ → Type 0
+WritesTiming onto came before after old new status =
+    WritesFirst onto (schedule_of came) before after old new status (Shown came old new status)
+
+-- what may come of a source and an input is written
+pub record EndsModel (m : Modelled) (source input : List ℕ) (before after : Option (List Deed)) (old new : Option (List ℕ)) (status : ℕ) : Type 0 where
+  pub came : Result Timing EngineFault
+  pub allowed : MayCome (pace_of m) source input came
+  pub written : WritesTiming (option_map (λ o. o.now) m.schedule) came before after old new status
+
+-- the source is read, then the input, and then they are run
+abbrev pub ModelsRead : Modelled → (before after : Option (List Deed)) → (old new : Option (List ℕ)) → ℕ → Type 0
+ModelsRead m before after old new status =
+    ReadsGiven m.source.now (option_map (λ i. i.now) m.input) before after old new status (λ done text given.
+    EndsModel m text given done after old new status)

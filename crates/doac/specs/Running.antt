@@ -1,5 +1,5 @@
 -- What `run` reads and writes.
-use Rattle.std.specs.Prelude.{◌≡◌, ℕ, List, [], ◌∷◌, Option, Some, None, Result, Ok, Err, is_some, option_map}
+use Rattle.std.specs.Prelude.{◌≡◌, ℕ, List, Option, Some, None, Result, Ok, Err, is_some, option_map}
 use Rattle.pages.specs.declared.fault.EngineFault.{EngineFault}
 use Rattle.pages.specs.declared.fault.EngineFault.TheVariants as faults
 use Rattle.pages.specs.declared.outcomes.Outcome.{Outcome}
@@ -8,18 +8,13 @@ use Rattle.threaded.specs.Running.{Running, WritesText, text_of}
 use Rattle.threaded.specs.declared.ran.Ran.{Ran}
 use Rattle.threaded.specs.declared.ran.Ran.TheVariants as ran
 use Rattle.files.specs.Deeds.{Deed}
-use Rattle.doac.specs.Deeds.{GivesFirst, ReadsFile, ReadsInput}
+use Rattle.doac.specs.Deeds.{GivesFirst, ReadsGiven}
 use Rattle.doac.specs.Statuses.{exit_of}
 use Rattle.command_line.specs.declared.command.Threaded.{Threaded}
 
 -- what is wanted of a run
 abbrev pub wants_of : Threaded → Wants
 wants_of t = record { processors = t.processors; slots = t.slots; store = t.store; schedule = is_some t.schedule; tally = t.tally }
-
--- the name of a file, if one is named
-abbrev pub named : Option (List ℕ) → List (List ℕ)
-named None = []
-named (Some name) = name ∷ []
 
 -- the text of the schedule of what came of a run, if it has one
 abbrev pub schedule_of : Ran → Option (List ℕ)
@@ -63,6 +58,5 @@ pub record EndsRun (t : Threaded) (source input : List ℕ) (before after : Opti
 -- the source is read, then the input, and then they are run
 abbrev pub RunsRead : Threaded → (before after : Option (List Deed)) → (old new : Option (List ℕ)) → ℕ → Type 0
 RunsRead t before after old new status =
-    ReadsFile t.source.now before after old new status (λ read text.
-    ReadsInput (option_map (λ i. i.now) t.input) read after old new status (λ done given.
-    EndsRun t text given done after old new status))
+    ReadsGiven t.source.now (option_map (λ i. i.now) t.input) before after old new status (λ done text given.
+    EndsRun t text given done after old new status)

@@ -5,6 +5,7 @@ use Rattle.pages.specs.declared.fault.EngineFault.{EngineFault}
 use Rattle.pages.specs.declared.outcomes.Outcome.{Outcome}
 use Rattle.pages.specs.declared.page.Page.{Page}
 use Rattle.engines.specs.Engines.{Streaming, Works}
+use Rattle.engines.specs.Lists.{WritesList}
 use Rattle.engines.specs.Schedules.{Replaying, Upgrading}
 use Rattle.engines.specs.declared.replays.Upgraded.{Upgraded}
 use Rattle.engines.specs.declared.replays.Upgraded.TheVariants.{Text, Shown}
@@ -30,6 +31,13 @@ pub record Ends (allows : Outcome → List ℕ → Type 0) (old new : Option (Li
 pub record EndsSeq (store : Bool) (source input : List ℕ) (old new : Option (List ℕ)) (status : ℕ) : Type 0 where
   pub came : Result Outcome EngineFault
   pub streams : Streaming store source input old new came
+  pub is : status ≡ exit_of came
+
+-- loops were listed on standard output, with what `--why` adds or without, and the status is that of
+-- what it came to
+pub record EndsList (why : Bool) (source : List ℕ) (old new : Option (List ℕ)) (status : ℕ) : Type 0 where
+  pub came : Result Outcome EngineFault
+  pub writes : WritesList why source old new came
   pub is : status ≡ exit_of came
 
 -- what `replay` writes, or with its states

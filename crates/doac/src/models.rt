@@ -1,22 +1,24 @@
 //! `model`: in which time a source runs.
 
 ghost use Rattle.std.specs.Prelude.{◌≡◌, option_map};
-ghost use Rattle.files.specs.Deeds.{got};
-ghost use Rattle.doac.specs.Commands.{OnInput};
-ghost use Rattle.doac.specs.Deeds.{AfterFile, ReadsInput};
-ghost use Rattle.doac.specs.Models.{EndsModel, Writes, pace_of};
-ghost use Rattle.modelled.specs.Modelling.{Modelling};
+ghost use Rattle.files.specs.Deeds.{unput};
+ghost use Rattle.doac.specs.Commands.{ModelsFiles};
+ghost use Rattle.doac.specs.Deeds.{AfterCompare, AfterGiven, AfterPut};
+ghost use Rattle.doac.specs.Models.{EndsModel, ModelsRead, ShowsTiming, Shown, WritesTiming};
+ghost use Rattle.doac.specs.Models.{schedule_of};
 
-use crate::told::{refuse_file, tell_known, warn_of_run};
+use crate::threads::clash_of;
+use crate::told::{refuse_file, refuse_out, refuse_write, tell_known, warn_of_names, warn_of_run};
 use command_line::Modelled;
-use files::{FileFault, NamedFiles};
-use modelled::{Pace, model_texts};
+use files::{Clash, Given, NamedFiles, Unread, read_given};
+use modelled::{Pace, Timing, model_texts};
 use pages::{EngineFault, Outcome};
 use std::alloc::Global;
+use std::io;
 use std::io::Write;
 
-/// Runs the source of a file in model time. Where the sequential run tells more of its fault that
-/// is made behind it, onto `nowhere`.
+/// Runs the source of a file in model time, if the file for its schedule may be written. Where the
+/// sequential run tells more of its fault that is made behind it, onto `nowhere`.
 pub fn model_files<R: Eprint + AllocGlobal, F: NamedFiles, W: Write>(
     rt: &R,
     files: &mut F,
@@ -24,113 +26,193 @@ pub fn model_files<R: Eprint + AllocGlobal, F: NamedFiles, W: Write>(
     nowhere: &mut W,
     asked: Modelled<'_>,
 ) -> u8
-    ensures { OnInput (EndsModel asked.entry) asked.entry.source.now
-        (option_map (λ i. i.now) asked.entry.input)
+    ensures { ModelsFiles asked.entry
         (F.done files.old) (F.done files.new) (W.contents out.old) (W.contents out.new) result }
 {
-    let text = files.read(asked.source);
-    model_given(rt, files, out, nowhere, asked, text)
+    let Some(onto) = asked.schedule else {
+        return model_read(rt, files, out, nowhere, asked);
+    };
+    let clash = clash_of(files, onto, asked.source, asked.input);
+    model_unless(rt, files, out, nowhere, asked, onto, clash)
 }
 
-/// What `model` makes of the bytes of its source's file: only where they were had is an input read.
+/// The same, where it is known whether the file `onto`, which is to have the schedule, may be
+/// written.
+fn model_unless<R: Eprint + AllocGlobal, F: NamedFiles, W: Write>(
+    rt: &R,
+    files: &mut F,
+    out: &mut W,
+    nowhere: &mut W,
+    asked: Modelled<'_>,
+    onto: &str,
+    clash: Option<Clash>,
+) -> u8
+    ensures { AfterCompare clash
+        (F.done files.old) (F.done files.new) (W.contents out.old) (W.contents out.new) result
+        (ModelsRead asked.entry
+        (F.done files.old) (F.done files.new) (W.contents out.old) (W.contents out.new) result) }
+{
+    if let Some(clash) = clash {
+        return refuse_out(rt, onto, clash);
+    }
+    model_read(rt, files, out, nowhere, asked)
+}
+
+/// Reads the source of a file and runs it.
+fn model_read<R: Eprint + AllocGlobal, F: NamedFiles, W: Write>(
+    rt: &R,
+    files: &mut F,
+    out: &mut W,
+    nowhere: &mut W,
+    asked: Modelled<'_>,
+) -> u8
+    ensures { ModelsRead asked.entry
+        (F.done files.old) (F.done files.new) (W.contents out.old) (W.contents out.new) result }
+{
+    warn_of_names(rt, asked.source, asked.input);
+    let given = read_given(files, asked.source, asked.input);
+    model_given(rt, files, out, nowhere, asked, given)
+}
+
+/// What `model` makes of the bytes of its files.
 fn model_given<R: Eprint + AllocGlobal, F: NamedFiles, W: Write>(
     rt: &R,
     files: &mut F,
     out: &mut W,
     nowhere: &mut W,
     asked: Modelled<'_>,
-    text: Result<Vec<u8>, FileFault>,
+    given: Result<Given, Unread<'_>>,
 ) -> u8
-    ensures { AfterFile (got text)
+    ensures { AfterGiven given.entry
         (F.done files.old) (F.done files.new) (W.contents out.old) (W.contents out.new) result
-        (λ text. ReadsInput (option_map (λ i. i.now) asked.entry.input)
-        (F.done files.old) (F.done files.new) (W.contents out.old) (W.contents out.new) result
-        (λ done given. (F.done files.new ≡ done)
-        × EndsModel asked.entry text given (W.contents out.old) (W.contents out.new) result)) }
+        (λ text given. EndsModel asked.entry text given
+        (F.done files.old) (F.done files.new) (W.contents out.old) (W.contents out.new) result) }
 {
-    match text {
-        Ok(text) => model_file(rt, files, out, nowhere, asked, &text),
-        Err(fault) => refuse_file(rt, asked.source, &fault),
+    match given {
+        Ok(given) => model_source(rt, files, out, nowhere, asked, &given.source, &given.input),
+        Err(Unread { name, fault }) => refuse_file(rt, name, &fault),
     }
 }
 
-/// Runs the text of a file on the input that a file holds, or on an empty one where none is named.
-fn model_file<R: Eprint + AllocGlobal, F: NamedFiles, W: Write>(
+/// Runs the text of a file on an input.
+fn model_source<R: Eprint + AllocGlobal, F: NamedFiles, W: Write>(
     rt: &R,
     files: &mut F,
     out: &mut W,
     nowhere: &mut W,
     asked: Modelled<'_>,
     text: &[u8],
-) -> u8
-    ensures { ReadsInput (option_map (λ i. i.now) asked.entry.input)
-        (F.done files.old) (F.done files.new) (W.contents out.old) (W.contents out.new) result
-        (λ done given. (F.done files.new ≡ done)
-        × EndsModel asked.entry text.now given (W.contents out.old) (W.contents out.new) result) }
-{
-    let Some(input) = asked.input else {
-        return model_source(rt, out, nowhere, asked, text, &[]);
-    };
-    let given = files.read(input);
-    model_on(rt, out, nowhere, asked, text, input, given)
-}
-
-/// What `model` makes of the bytes of its input's file.
-fn model_on<R: Eprint + AllocGlobal, W: Write>(
-    rt: &R,
-    out: &mut W,
-    nowhere: &mut W,
-    asked: Modelled<'_>,
-    text: &[u8],
-    input: &str,
-    given: Result<Vec<u8>, FileFault>,
-) -> u8
-    ensures { (done : _) → AfterFile (got given) done done
-        (W.contents out.old) (W.contents out.new) result
-        (λ given. EndsModel asked.entry text.now given (W.contents out.old) (W.contents out.new)
-        result) }
-{
-    match given {
-        Ok(given) => model_source(rt, out, nowhere, asked, text, &given),
-        Err(fault) => refuse_file(rt, input, &fault),
-    }
-}
-
-/// Runs the text of a file on an input.
-fn model_source<R: Eprint + AllocGlobal, W: Write>(
-    rt: &R,
-    out: &mut W,
-    nowhere: &mut W,
-    asked: Modelled<'_>,
-    text: &[u8],
     input: &[u8],
 ) -> u8
-    ensures { EndsModel asked.entry text.now input.now (W.contents out.old) (W.contents out.new)
-        result }
-{
-    let outcome = show_model(rt.alloc(), out, asked, text, input);
-    warn_of_run(rt, asked.source, text, &outcome);
-    tell_known(rt, nowhere, asked.source, text, asked.input, input, outcome)
-}
-
-/// Writes what is shown of a text's run on an input.
-fn show_model<W: Write>(
-    alloc: Global,
-    out: &mut W,
-    asked: Modelled<'_>,
-    text: &[u8],
-    input: &[u8],
-) -> Result<Outcome, EngineFault>
-    ensures { Writes (Modelling (pace_of asked.entry) text.now input.now) (W.contents out.old)
-        (W.contents out.new) result }
+    ensures { EndsModel asked.entry text.now input.now
+        (F.done files.old) (F.done files.new) (W.contents out.old) (W.contents out.new) result }
 {
     let pace = Pace {
         processors: asked.processors,
         slots: asked.slots,
         most: asked.most,
+        schedule: asked.schedule.is_some(),
     };
-    match model_texts(alloc, text, input, pace) {
-        Ok(page) => page.write(out),
+    let came = model_texts(rt.alloc(), text, input, pace);
+    write_timing(rt, files, out, nowhere, asked, text, input, came)
+}
+
+/// The text of a run's schedule, if it has one.
+fn schedule_text(came: &Result<Timing, EngineFault>) -> Option<&[u8]>
+    ensures { option_map (λ text. text.now) result ≡ schedule_of came.now }
+{
+    match came {
+        Ok(
+            Timing {
+                schedule: Some(text),
+                ..
+            },
+        ) => Some(text.as_slice()),
+        _ => None,
+    }
+}
+
+/// Writes the schedule, if there is one and a file for it, and then what is shown.
+fn write_timing<R: Eprint + AllocGlobal, F: NamedFiles, W: Write>(
+    rt: &R,
+    files: &mut F,
+    out: &mut W,
+    nowhere: &mut W,
+    asked: Modelled<'_>,
+    text: &[u8],
+    input: &[u8],
+    came: Result<Timing, EngineFault>,
+) -> u8
+    ensures { WritesTiming (option_map (λ o. o.now) asked.entry.schedule) came
+        (F.done files.old) (F.done files.new) (W.contents out.old) (W.contents out.new) result }
+{
+    match (asked.schedule, schedule_text(&came)) {
+        (Some(onto), Some(schedule)) => {
+            let put = files.replace(onto, schedule);
+            write_behind(rt, out, nowhere, asked, text, input, came, onto, put)
+        }
+        _ => write_shown(rt, out, nowhere, asked, text, input, came),
+    }
+}
+
+/// Writes what is shown where the file `onto` was given the schedule.
+fn write_behind<R: Eprint + AllocGlobal, W: Write>(
+    rt: &R,
+    out: &mut W,
+    nowhere: &mut W,
+    asked: Modelled<'_>,
+    text: &[u8],
+    input: &[u8],
+    came: Result<Timing, EngineFault>,
+    onto: &str,
+    put: io::Result<()>,
+) -> u8
+    ensures { AfterPut (unput put) (W.contents out.old) (W.contents out.new) result
+        (Shown came (W.contents out.old) (W.contents out.new) result) }
+{
+    match put {
+        Ok(()) => write_shown(rt, out, nowhere, asked, text, input, came),
+        Err(error) => refuse_write(rt, onto, &error),
+    }
+}
+
+/// Writes what is shown of a run, whose schedule was written before.
+fn show<W: Write>(came: Result<Timing, EngineFault>, out: &mut W) -> Result<Outcome, EngineFault>
+    ensures { ShowsTiming came (W.contents out.old) (W.contents out.new) result }
+{
+    match came {
+        Ok(Timing { page, .. }) => page.write(out),
         Err(fault) => Err(fault),
+    }
+}
+
+/// Writes what is shown; standard error has the message.
+fn write_shown<R: Eprint + AllocGlobal, W: Write>(
+    rt: &R,
+    out: &mut W,
+    nowhere: &mut W,
+    asked: Modelled<'_>,
+    text: &[u8],
+    input: &[u8],
+    came: Result<Timing, EngineFault>,
+) -> u8
+    ensures { Shown came (W.contents out.old) (W.contents out.new) result }
+{
+    let no_memory = matches!(&came, Err(EngineFault::Memory));
+    let outcome = show(came, out);
+    warn_of_run(rt, asked.source, text, &outcome);
+    let status = tell_known(rt, nowhere, asked.source, text, asked.input, input, outcome);
+    if no_memory {
+        say_kept(rt, asked);
+    }
+    status
+}
+
+/// Says that a schedule takes memory, where one was wanted and there was no memory.
+fn say_kept<R: Eprint>(rt: &R, asked: Modelled<'_>) {
+    if asked.schedule.is_some() {
+        let _ = eprintln!(rt;
+            "hint: --schedule keeps the whole schedule in memory, 4 bytes and more a step"
+        );
     }
 }

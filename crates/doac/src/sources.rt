@@ -2,15 +2,14 @@
 
 ghost use Rattle.std.specs.Prelude.{◌≡◌, option_map};
 ghost use Rattle.engines.specs.Engines.{Checks};
-ghost use Rattle.engines.specs.Lists.{ListsAs};
 ghost use Rattle.files.specs.Deeds.{got};
-ghost use Rattle.doac.specs.Commands.{OnInput, OnSource};
-ghost use Rattle.doac.specs.Deeds.{AfterFile, ReadsInput};
-ghost use Rattle.doac.specs.Statuses.{Ends, EndsSeq};
+ghost use Rattle.doac.specs.Commands.{ListsFile, OnInput, OnSource};
+ghost use Rattle.doac.specs.Deeds.{AfterFile, AfterGiven};
+ghost use Rattle.doac.specs.Statuses.{Ends, EndsList, EndsSeq};
 
 use crate::told::{refuse_file, tell, tell_run, warn_of_names, warn_of_run};
 use engines::{Survey, Verdict, judged, seq_noted, surveyed, tell_loops, tell_verdict};
-use files::{FileFault, NamedFiles};
+use files::{FileFault, Given, NamedFiles, Unread, read_given};
 use messages::tell_further;
 use pages::EngineFault;
 use reasons::say_why_serial;
@@ -96,7 +95,7 @@ pub fn list_file<R: Eprint + AllocGlobal, F: NamedFiles, W: Write>(
     name: &str,
     why: bool,
 ) -> u8
-    ensures { OnSource (ListsAs why) name.now
+    ensures { ListsFile why name.now
         (F.done files.old) (F.done files.new) (W.contents out.old) (W.contents out.new) result }
 {
     let text = files.read(name);
@@ -113,7 +112,7 @@ fn list_given<R: Eprint + AllocGlobal, W: Write>(
 ) -> u8
     ensures { (done : _) → AfterFile (got text) done done
         (W.contents out.old) (W.contents out.new) result
-        (λ text. Ends (ListsAs why text) (W.contents out.old) (W.contents out.new) result) }
+        (λ text. EndsList why text (W.contents out.old) (W.contents out.new) result) }
 {
     match text {
         Ok(text) => list_source(rt, out, name, &text, why),
@@ -130,7 +129,7 @@ fn list_source<R: Eprint + AllocGlobal, W: Write>(
     text: &[u8],
     why: bool,
 ) -> u8
-    ensures { Ends (ListsAs why text.now) (W.contents out.old) (W.contents out.new) result }
+    ensures { EndsList why text.now (W.contents out.old) (W.contents out.new) result }
 {
     match surveyed(rt.alloc(), text) {
         Ok(survey) => {
@@ -159,76 +158,36 @@ pub fn seq_files<R: Eprint + AllocGlobal, F: NamedFiles, W: Write>(
         (F.done files.old) (F.done files.new) (W.contents out.old) (W.contents out.new) result }
 {
     warn_of_names(rt, name, input);
-    let text = files.read(name);
-    seq_given(rt, files, out, name, text, input, store, most)
+    let given = read_given(files, name, input);
+    seq_given(rt, out, name, input, store, most, given)
 }
 
-/// What `seq` makes of the bytes of its source's file: only where they were had is an input read.
-fn seq_given<R: Eprint + AllocGlobal, F: NamedFiles, W: Write>(
+/// What `seq` makes of the bytes of its files.
+fn seq_given<R: Eprint + AllocGlobal, W: Write>(
     rt: &R,
-    files: &mut F,
     out: &mut W,
     name: &str,
-    text: Result<Vec<u8>, FileFault>,
     input: Option<&str>,
     store: bool,
     most: usize,
+    given: Result<Given, Unread<'_>>,
 ) -> u8
-    ensures { AfterFile (got text)
-        (F.done files.old) (F.done files.new) (W.contents out.old) (W.contents out.new) result
-        (λ text. ReadsInput (option_map (λ i. i.now) input.entry)
-        (F.done files.old) (F.done files.new) (W.contents out.old) (W.contents out.new) result
-        (λ done given. (F.done files.new ≡ done)
-        × EndsSeq store text given (W.contents out.old) (W.contents out.new) result)) }
-{
-    match text {
-        Ok(text) => seq_file(rt, files, out, name, &text, input, store, most),
-        Err(fault) => refuse_file(rt, name, &fault),
-    }
-}
-
-/// Runs the text of a file on the input that a file holds, or on an empty one where none is named.
-fn seq_file<R: Eprint + AllocGlobal, F: NamedFiles, W: Write>(
-    rt: &R,
-    files: &mut F,
-    out: &mut W,
-    name: &str,
-    text: &[u8],
-    input: Option<&str>,
-    store: bool,
-    most: usize,
-) -> u8
-    ensures { ReadsInput (option_map (λ i. i.now) input.entry)
-        (F.done files.old) (F.done files.new) (W.contents out.old) (W.contents out.new) result
-        (λ done given. (F.done files.new ≡ done)
-        × EndsSeq store text.now given (W.contents out.old) (W.contents out.new) result) }
-{
-    let Some(input) = input else {
-        return seq_source(rt, out, name, text, None, &[], store, most);
-    };
-    let given = files.read(input);
-    seq_read(rt, out, name, text, input, given, store, most)
-}
-
-/// What `seq` makes of the bytes of its input's file.
-fn seq_read<R: Eprint + AllocGlobal, W: Write>(
-    rt: &R,
-    out: &mut W,
-    name: &str,
-    text: &[u8],
-    input: &str,
-    given: Result<Vec<u8>, FileFault>,
-    store: bool,
-    most: usize,
-) -> u8
-    ensures { (done : _) → AfterFile (got given) done done
+    ensures { (done : _) → AfterGiven given.entry done done
         (W.contents out.old) (W.contents out.new) result
-        (λ given. EndsSeq store text.now given
-        (W.contents out.old) (W.contents out.new) result) }
+        (λ text given. EndsSeq store text given (W.contents out.old) (W.contents out.new) result) }
 {
     match given {
-        Ok(given) => seq_source(rt, out, name, text, Some(input), &given, store, most),
-        Err(fault) => refuse_file(rt, input, &fault),
+        Ok(given) => seq_source(
+            rt,
+            out,
+            name,
+            &given.source,
+            input,
+            &given.input,
+            store,
+            most,
+        ),
+        Err(Unread { name, fault }) => refuse_file(rt, name, &fault),
     }
 }
 

@@ -1,16 +1,15 @@
 //! `run`: programs in threads, their files, and what is said of them on standard error.
 
 ghost use Rattle.std.specs.Prelude.{◌≡◌, ◌∷◌, option_map};
-ghost use Rattle.files.specs.Deeds.{Compares, got, noted, unput};
+ghost use Rattle.files.specs.Deeds.{Compares, noted, unput};
 ghost use Rattle.doac.specs.Commands.{RunsFiles};
-ghost use Rattle.doac.specs.Deeds.{AfterCompare, AfterFile, AfterPut, ReadsInput};
-ghost use Rattle.doac.specs.Running.{EndsRun, RunsRead, ShowsRan, Shown, WritesRun, named};
-ghost use Rattle.doac.specs.Running.{schedule_of};
+ghost use Rattle.doac.specs.Deeds.{AfterCompare, AfterGiven, AfterPut, named};
+ghost use Rattle.doac.specs.Running.{EndsRun, RunsRead, ShowsRan, Shown, WritesRun, schedule_of};
 
 use crate::told::{refuse_file, refuse_out, refuse_write, tell_known, warn_of_names, warn_of_run};
 use command_line::Threaded;
 use engines::Wants;
-use files::{Clash, FileFault, NamedFiles};
+use files::{Clash, Given, NamedFiles, Unread, read_given};
 use messages::say_figures;
 use pages::{EngineFault, Outcome};
 use std::io;
@@ -39,7 +38,7 @@ pub fn run_files<R: Eprint + AllocGlobal + Threads + Wait + Sync, F: NamedFiles,
 }
 
 /// Why a file may not be written where the source's and the input's are read.
-fn clash_of<F: NamedFiles>(
+pub fn clash_of<F: NamedFiles>(
     files: &mut F,
     onto: &str,
     source: &str,
@@ -88,72 +87,27 @@ fn run_read<R: Eprint + AllocGlobal + Threads + Wait + Sync, F: NamedFiles, W: W
         (F.done files.old) (F.done files.new) (W.contents out.old) (W.contents out.new) result }
 {
     warn_of_names(rt, asked.source, asked.input);
-    let text = files.read(asked.source);
-    run_given(rt, files, out, nowhere, asked, text)
+    let given = read_given(files, asked.source, asked.input);
+    run_given(rt, files, out, nowhere, asked, given)
 }
 
-/// What `run` makes of the bytes of its source's file: only where they were had is an input read.
+/// What `run` makes of the bytes of its files.
 fn run_given<R: Eprint + AllocGlobal + Threads + Wait + Sync, F: NamedFiles, W: Write>(
     rt: &R,
     files: &mut F,
     out: &mut W,
     nowhere: &mut W,
     asked: Threaded<'_>,
-    text: Result<Vec<u8>, FileFault>,
+    given: Result<Given, Unread<'_>>,
 ) -> u8
-    ensures { AfterFile (got text)
+    ensures { AfterGiven given.entry
         (F.done files.old) (F.done files.new) (W.contents out.old) (W.contents out.new) result
-        (λ text. ReadsInput (option_map (λ i. i.now) asked.entry.input)
-        (F.done files.old) (F.done files.new) (W.contents out.old) (W.contents out.new) result
-        (λ done given. EndsRun asked.entry text given
-        done (F.done files.new) (W.contents out.old) (W.contents out.new) result)) }
-{
-    match text {
-        Ok(text) => run_file(rt, files, out, nowhere, asked, &text),
-        Err(fault) => refuse_file(rt, asked.source, &fault),
-    }
-}
-
-/// Runs the text of a file on the input that a file holds, or on an empty one where none is named.
-fn run_file<R: Eprint + AllocGlobal + Threads + Wait + Sync, F: NamedFiles, W: Write>(
-    rt: &R,
-    files: &mut F,
-    out: &mut W,
-    nowhere: &mut W,
-    asked: Threaded<'_>,
-    text: &[u8],
-) -> u8
-    ensures { ReadsInput (option_map (λ i. i.now) asked.entry.input)
-        (F.done files.old) (F.done files.new) (W.contents out.old) (W.contents out.new) result
-        (λ done given. EndsRun asked.entry text.now given
-        done (F.done files.new) (W.contents out.old) (W.contents out.new) result) }
-{
-    let Some(input) = asked.input else {
-        return run_source(rt, files, out, nowhere, asked, text, &[]);
-    };
-    let given = files.read(input);
-    run_on(rt, files, out, nowhere, asked, text, input, given)
-}
-
-/// What `run` makes of the bytes of its input's file.
-fn run_on<R: Eprint + AllocGlobal + Threads + Wait + Sync, F: NamedFiles, W: Write>(
-    rt: &R,
-    files: &mut F,
-    out: &mut W,
-    nowhere: &mut W,
-    asked: Threaded<'_>,
-    text: &[u8],
-    input: &str,
-    given: Result<Vec<u8>, FileFault>,
-) -> u8
-    ensures { AfterFile (got given)
-        (F.done files.old) (F.done files.new) (W.contents out.old) (W.contents out.new) result
-        (λ given. EndsRun asked.entry text.now given
+        (λ text given. EndsRun asked.entry text given
         (F.done files.old) (F.done files.new) (W.contents out.old) (W.contents out.new) result) }
 {
     match given {
-        Ok(given) => run_source(rt, files, out, nowhere, asked, text, &given),
-        Err(fault) => refuse_file(rt, input, &fault),
+        Ok(given) => run_source(rt, files, out, nowhere, asked, &given.source, &given.input),
+        Err(Unread { name, fault }) => refuse_file(rt, name, &fault),
     }
 }
 

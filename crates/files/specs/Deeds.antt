@@ -8,6 +8,7 @@ use Rattle.pages.specs.declared.texts.Texts.{Texts}
 use Rattle.files.specs.declared.fault.FileFault.{FileFault}
 use Rattle.files.specs.declared.fault.FileFault.TheVariants.{Opening, Reading, Memory}
 use Rattle.files.specs.declared.files.Clash.{Clash}
+use Rattle.files.specs.declared.files.Given.{Given}
 use Rattle.files.specs.declared.files.Unread.{Unread}
 
 -- A name is compared with those of other files, whether its file may not be written; a file is read, and
@@ -51,6 +52,17 @@ abbrev pub file_status : FileFault → ℕ
 file_status (Opening e) = 4
 file_status (Reading e) = 4
 file_status Memory = 5
+
+-- a source's file was read, and then an input's, if one is named, up to the first whose bytes couldn't
+-- be had
+abbrev pub HasGiven : (source : List ℕ) → (input : Option (List ℕ)) → (before after : Option (List Deed)) → Result Given Unread → Type 0
+HasGiven source None before after (Ok given) = (after ≡ noted before (Reads source (Ok given.source.items))) × (given.input.items ≡ [])
+HasGiven source None before after (Err file) = after ≡ noted before (Reads source (Err file.fault))
+HasGiven source (Some input) before after (Ok given) =
+    after ≡ noted (noted before (Reads source (Ok given.source.items))) (Reads input (Ok given.input.items))
+HasGiven source (Some input) before after (Err file) =
+    (after ≡ noted before (Reads source (Err file.fault)))
+    ⊎ ((text : List ℕ) × (after ≡ noted (noted before (Reads source (Ok text))) (Reads input (Err file.fault))))
 
 -- three files were read in this order, up to the first whose bytes couldn't be had
 abbrev pub HasRead : (source input schedule : List ℕ) → (before after : Option (List Deed)) → Result Texts Unread → Type 0

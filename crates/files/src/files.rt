@@ -1,8 +1,8 @@
 //! The files that the program reads and writes, by their names.
 
-ghost use Rattle.std.specs.Prelude.{◌≡◌, List, Option, None, map};
-ghost use Rattle.files.specs.Deeds.{Compares, Deed, HasRead, Reads, Replaces, got, noted, unread};
-ghost use Rattle.files.specs.Deeds.{unput};
+ghost use Rattle.std.specs.Prelude.{◌≡◌, List, Option, None, map, option_map};
+ghost use Rattle.files.specs.Deeds.{Compares, Deed, HasGiven, HasRead, Reads, Replaces, got, noted};
+ghost use Rattle.files.specs.Deeds.{unput, unread};
 
 use crate::fault::FileFault;
 use pages::Texts;
@@ -63,6 +63,35 @@ fn read_named<'a, F: NamedFiles>(files: &mut F, name: &'a str) -> Result<Vec<u8>
 {
     let read = files.read(name);
     named(name, read)
+}
+
+/// The bytes of a source's file, and those of an input's, of which there are none where no file is
+/// named.
+#[derive(Drop)]
+pub struct Given {
+    pub source: Vec<u8>,
+    pub input: Vec<u8>,
+}
+
+/// All bytes of a source's file, and then of an input's, if one is named.
+///
+/// # Errors
+///
+/// The name of the first file whose bytes can't be had, and why.
+pub fn read_given<'a, F: NamedFiles>(
+    files: &mut F,
+    source: &'a str,
+    input: Option<&'a str>,
+) -> Result<Given, Unread<'a>>
+    ensures { HasGiven source.now (option_map (λ i. i.now) input.entry)
+        (F.done files.old) (F.done files.new) result }
+{
+    let source = read_named(files, source)?;
+    let input = match input {
+        Some(input) => read_named(files, input)?,
+        None => Vec::new(*source.allocator()),
+    };
+    Ok(Given { source, input })
 }
 
 /// All bytes of the files that a replay takes, read in this order, each only where those before

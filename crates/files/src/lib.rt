@@ -6,5 +6,5 @@ mod files;
 mod host_files;
 
 pub use fault::FileFault;
-pub use files::{Clash, NamedFiles, Unread, read_texts};
+pub use files::{Clash, Given, NamedFiles, Unread, read_given, read_texts};
 pub use host_files::{HostFiles, STANDARD_INPUT};

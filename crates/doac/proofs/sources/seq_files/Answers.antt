@@ -1,5 +1,5 @@
-use Rattle.doac.proofs.Reading.{read_on}
+use Rattle.doac.proofs.Reading.{read_two_last}
 use Rattle.doac.proofs.sources.seq_files.Goals as goal
 
 pub returns : goal.returns
-returns g c = read_on _ _ _ _ _ _ _ _ _ c.read-text.ensures c.seq_given.ensures
+returns g c = read_two_last _ _ _ _ _ _ _ _ _ c.read_given-given.ensures (c.seq_given.ensures _)

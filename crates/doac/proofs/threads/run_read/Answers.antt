@@ -1,5 +1,5 @@
-use Rattle.doac.proofs.Reading.{read_on}
+use Rattle.doac.proofs.Reading.{read_two}
 use Rattle.doac.proofs.threads.run_read.Goals as goal
 
 pub returns : goal.returns
-returns g c = read_on _ _ _ _ _ _ _ _ _ c.read-text.ensures c.run_given.ensures
+returns g c = read_two _ _ _ _ _ _ _ _ _ _ c.read_given-given.ensures c.run_given.ensures
