@@ -3,6 +3,8 @@
 #![tactic(auto)]
 
 #[cfg(test)]
+mod awaiting;
+#[cfg(test)]
 mod calls;
 #[cfg(test)]
 mod cores;
@@ -26,6 +28,8 @@ mod links;
 mod locals;
 #[cfg(test)]
 mod lying;
+#[cfg(test)]
+mod rounds;
 #[cfg(test)]
 mod sharing;
 #[cfg(test)]
