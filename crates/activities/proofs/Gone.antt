@@ -1,19 +1,21 @@
 -- Activities of which one has another frame, and the store other values.
-use Rattle.std.proofs.Common.{◌≡◌, ◌∙◌, ℕ, ℤ, List, length, get_or, Option, Some, None, refl, sym, ap, subst, arith}
+use Rattle.std.proofs.Common.{◌≡◌, ◌∙◌, ℕ, ◌+◌, ◌<◌, true, false, ℤ, List, length, get_or, Option, Some, None, refl, sym, ap, subst, arith}
 use Rattle.std.specs.Prelude.{IfSome, Vec, ◌%◌, option_map}
 use Rattle.std.specs.Global.{Global}
 use Rattle.std.specs.Vec.{with_item}
 use Rattle.std.proofs.Math.ListN.{set}
+use Rattle.std.proofs.lemmas.Bool.{ltb-true}
 use Rattle.machine.specs.Frame.{Frame}
 use Rattle.machine.specs.FrameView as frames
 use Rattle.machine.specs.declared.frame.Frame.{Frame as FrameValue}
 use Rattle.machine.specs.State.{Machine, Wait, the_main, iteration, put_at}
 use Rattle.activities.specs.Activities.{AreActivities, code_in, kept_in, point_in}
 use Rattle.activities.specs.Core.{IsCore, IsRunning}
-use Rattle.activities.specs.Parts.{Kept, Shared, Standing, active, held_of, machine_of, point_of, standing, wait_in}
+use Rattle.activities.specs.Parts.{Kept, Shared, Standing, active, counts_of, held_of, machine_of, point_of, standing, wait_in}
 use Rattle.activities.specs.PartsView.{standing_of}
 use Rattle.activities.specs.Points.{Point, Steps}
 use Rattle.activities.specs.Sharing.{StrodeAt, with_frame}
+use Rattle.activities.specs.Told.{is_told}
 use Rattle.activities.specs.declared.holding.Activities.{Activities}
 use Rattle.activities.specs.declared.parts.Iteration.{Iteration}
 use Rattle.activities.proofs.Choosing.{placed_machine}
@@ -25,7 +27,7 @@ use Rattle.activities.proofs.Maps.{Mine, put_same, standing_is}
 use Rattle.activities.proofs.Remaining.{stays_core, still}
 use Rattle.activities.proofs.Shares.{at_place, place_put, stand_from}
 use Rattle.machine.specs.StoreView.{store_of}
-use Rattle.machine.specs.Strides.{Held, strides}
+use Rattle.machine.specs.Strides.{Held, strides_past}
 use Rattle.activities.proofs.Strode.{gone_at, strides_made}
 
 -- what is shared, with other cells
@@ -78,8 +80,8 @@ gone_core q k cs g old a h l =
 -- ---- an iteration
 
 pub there : (q k at made : ℕ) (o p : Option Iteration) (cs : List ℤ) (old : Activities) (a : AreActivities old) (h : held_of (kept_in old).held q ≡ Some (iteration k)) → at ≡ k % old.slots → o ≡ get_or old.iterations.items at o
-    → IfSome (option_map standing_of o) (λ z. StrodeAt (code_in old) made (kept_in old).shared.cells z cs (option_map standing_of p)) → StrodeAt (code_in old) made (kept_in old).shared.cells (a.core.runs q k h).standing cs (option_map standing_of p)
-there q k at made o p cs old a h e f w = subst (λ (u : Option Standing). IfSome u (λ z. StrodeAt (code_in old) made (kept_in old).shared.cells z cs (option_map standing_of p))) (at_place q k at o old a h e f) w
+    → IfSome (option_map standing_of o) (λ z. StrodeAt (code_in old) (kept_in old).shared.order.counts made (kept_in old).shared.cells z cs (option_map standing_of p)) → StrodeAt (code_in old) (kept_in old).shared.order.counts made (kept_in old).shared.cells (a.core.runs q k h).standing cs (option_map standing_of p)
+there q k at made o p cs old a h e f w = subst (λ (u : Option Standing). IfSome u (λ z. StrodeAt (code_in old) (kept_in old).shared.order.counts made (kept_in old).shared.cells z cs (option_map standing_of p))) (at_place q k at o old a h e f) w
 
 abbrev pub with_both : ℕ → Option Iteration → Vec ℤ Global → Activities → Activities
 with_both at p v old = record old { shared = record old.shared { cells = v }; iterations = with_item old.iterations at p }
@@ -90,16 +92,18 @@ kept_there k at p b v old e f =
     (place_put old.iterations.items at (k % old.slots) p e ∙ ap (λ (o : Option Standing). set (kept_in old).iterations (k % old.slots) o) f)
 
 pub strode_iteration : (q k at made : ℕ) (p : Option Iteration) (v : Vec ℤ Global) (old : Activities) (a : AreActivities old) → old.shared.ended ≡ None → (h : held_of (kept_in old).held q ≡ Some (iteration k)) → at ≡ k % old.slots
-    → StrodeAt (code_in old) made (kept_in old).shared.cells (a.core.runs q k h).standing v.items (option_map standing_of p) → Steps (code_in old) old.slots made (point_in old) q (point_in (with_both at p v old))
+    → StrodeAt (code_in old) (kept_in old).shared.order.counts made (kept_in old).shared.cells (a.core.runs q k h).standing v.items (option_map standing_of p) → Steps (code_in old) old.slots made (point_in old) q (point_in (with_both at p v old))
 strode_iteration q k at made p v old a g h e w =
+    let s : Standing = (a.core.runs q k h).standing in
     let b : Held = record { frame = w.frame; store = store_of (code_in old).variables v.items } in
     let there : point_in (with_both at p v old) ≡ gone_at (iteration k) b (point_in old) =
     ap (λ (y : Kept). point_of (code_in old).variables old.slots y) (kept_there k at p (with_frame w.frame (a.core.runs q k h).standing) v old e w.standing) ∙ iteration_gone q k v.items w.frame old a h in
     subst (λ (z : Point). Steps (code_in old) old.slots made (point_in old) q z) (sym there)
-    (strides_made (code_in old) old.slots (iteration k) (point_in old) q made (a.core.runs q k h).standing.frame b (stood_iteration q k old a g h) w.leads)
+    (strides_made (is_told (kept_in old).shared.order.counts s.number) (code_in old) old.slots (iteration k) (point_in old) q made s.frame b
+    (λ e d t. subst (λ (n : ℕ). n < counts_of (kept_in old).shared.order.counts e + d) (a.core.runs q k h).number (ltb-true s.number (counts_of (kept_in old).shared.order.counts e + d) t)) (stood_iteration q k old a g h) w.leads)
 
 pub strode_stands : (q k at made : ℕ) (p : Option Iteration) (v : Vec ℤ Global) (old : Activities) (a : AreActivities old) (h : held_of (kept_in old).held q ≡ Some (iteration k)) → at ≡ k % old.slots → length v.items ≡ length (kept_in old).shared.cells
-    → StrodeAt (code_in old) made (kept_in old).shared.cells (a.core.runs q k h).standing v.items (option_map standing_of p) → AreActivities (with_both at p v old)
+    → StrodeAt (code_in old) (kept_in old).shared.order.counts made (kept_in old).shared.cells (a.core.runs q k h).standing v.items (option_map standing_of p) → AreActivities (with_both at p v old)
 strode_stands q k at made p v old a h e l w =
     stand_from old (with_both at p v old) a (record { code_is = refl; processors = refl; slots = refl })
     (subst (λ (y : Kept). IsCore (code_in old) old.slots y) (sym (kept_there k at p (with_frame w.frame (a.core.runs q k h).standing) v old e w.standing)) (gone_core q k v.items w.frame old a h l))
@@ -110,10 +114,10 @@ abbrev pub with_main_both : FrameValue → Vec ℤ Global → Activities → Act
 with_main_both f v old = record old { shared = record old.shared { cells = v }; main = record old.main { frame = f } }
 
 pub strode_main : (q made : ℕ) (f : FrameValue) (v : Vec ℤ Global) (old : Activities) → AreActivities old → old.shared.ended ≡ None → held_of (kept_in old).held q ≡ Some the_main
-    → strides (code_in old) made (record { frame = frames.frame_of old.main.frame; store = store_of (code_in old).variables (kept_in old).shared.cells }) ≡ Some (record { frame = frames.frame_of f; store = store_of (code_in old).variables v.items })
+    → strides_past (λ _ _. false) (code_in old) made (record { frame = frames.frame_of old.main.frame; store = store_of (code_in old).variables (kept_in old).shared.cells }) ≡ Some (record { frame = frames.frame_of f; store = store_of (code_in old).variables v.items })
     → Steps (code_in old) old.slots made (point_in old) q (point_in (with_main_both f v old))
 strode_main q made f v old a g h e =
-    strides_made (code_in old) old.slots the_main (point_in old) q made (kept_in old).main (record { frame = frames.frame_of f; store = store_of (code_in old).variables v.items }) (stood_main q old a g h) e
+    strides_made (λ _ _. false) (code_in old) old.slots the_main (point_in old) q made (kept_in old).main (record { frame = frames.frame_of f; store = store_of (code_in old).variables v.items }) (λ n d t. let z : false ≡ true = t in cc) (stood_main q old a g h) e
 
 pub main_strode_stands : (f : FrameValue) (v : Vec ℤ Global) (old : Activities) → AreActivities old → length v.items ≡ length (kept_in old).shared.cells → AreActivities (with_main_both f v old)
 main_strode_stands f v old a l = record {

@@ -1,5 +1,6 @@
 pub mod Maps
 pub mod Queues
+pub mod Passing
 pub mod Turning
 pub mod Leading
 pub mod Values

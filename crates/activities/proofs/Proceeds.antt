@@ -1,5 +1,5 @@
 -- What a processor does in one go.
-use Rattle.std.proofs.Common.{inl, inr, ◌⊎◌, ◌≡◌, ℕ, zero, suc, ◌+◌, Bool, true, [], subst, sym, arith, refl}
+use Rattle.std.proofs.Common.{inl, inr, ◌≡◌, ℕ, zero, suc, ◌+◌, Bool, true, [], subst, sym, arith, refl}
 use Rattle.machine.specs.Code.{Code}
 use Rattle.machine.specs.State.{take_ticket}
 use Rattle.activities.specs.Activities.{Stays, code_in, point_in}

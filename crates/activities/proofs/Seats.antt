@@ -1,6 +1,6 @@
 -- An iteration that stands in no place yet, and its steps.
 use Rattle.std.proofs.Common.{◌≡◌, ◌∙◌, ℕ, ℤ, ◌+◌, ◌-◌, ◌<◌, ◌≤◌, Bool, true, false, List, length, get_or, Option, Some, None, refl, sym, ap, subst, arith}
-use Rattle.std.specs.Prelude.{Box, Vec, ◌%◌, ◌&&◌, map, option_map, nat_lt, ◌==◌, if◌then◌else◌}
+use Rattle.std.specs.Prelude.{Box, Vec, ◌%◌, ◌&&◌, option_map, nat_lt, ◌==◌, if◌then◌else◌}
 use Rattle.std.specs.Global.{Global}
 use Rattle.std.specs.Vec.{with_item}
 use Rattle.std.proofs.Math.ListN.{set}
@@ -12,8 +12,6 @@ use Rattle.ec_kernel.specs.View.{IsKernel, View, advanced, count_at}
 use Rattle.machine.specs.Code.{Code}
 use Rattle.machine.specs.Local.{going_on}
 use Rattle.machine.specs.State.{Who, iteration, take_ticket, until_count}
-use Rattle.machine.specs.StoreView.{store_of}
-use Rattle.machine.specs.Strides.{strides}
 use Rattle.machine.specs.declared.code.Open.{Open}
 use Rattle.machine.specs.declared.frame.Frame.{Frame as FrameValue}
 use Rattle.machine.specs.declared.next.Next.{Next}
@@ -22,7 +20,7 @@ use Rattle.activities.specs.Activities.{AreActivities, Stays, code_in, kept_in, 
 use Rattle.activities.specs.Core.{IsCore}
 use Rattle.activities.specs.Parts.{Kept, Shared, Standing, held_of, point_of}
 use Rattle.activities.specs.PartsView.{shared_of, standing_of}
-use Rattle.activities.specs.Points.{Moves, Steps}
+use Rattle.activities.specs.Points.{Steps}
 use Rattle.activities.specs.Picking.{begun}
 use Rattle.activities.specs.Seating.{MayBegin, holds, placed, seat, seated}
 use Rattle.activities.specs.Sharing.{StrodeAt, Turned, went, with_frame}
@@ -36,7 +34,7 @@ use Rattle.activities.specs.declared.turn.Outcome.TheVariants as outcomes
 use Rattle.activities.proofs.Entering.{may_run, place_below, runs_of}
 use Rattle.activities.proofs.Gone.{strode_iteration, strode_stands, with_both}
 use Rattle.activities.proofs.Picks.{TakenBy, may_take, ticket_taken, with_ticket}
-use Rattle.activities.proofs.Shares.{SharedBy, did_made, holders, iteration_shared, laid_in, left, place_put, same_point, stand_from, standings}
+use Rattle.activities.proofs.Shares.{SharedBy, holders, iteration_shared, laid_in, left, place_put, stand_from, standings}
 use Rattle.activities.proofs.Strode.{made_on}
 use Rattle.activities.proofs.Turning.{Runs}
 
@@ -221,13 +219,13 @@ strode_kept q place it new v z x s n =
     )
 
 pub strode : (q place made : ℕ) (it new : Iteration) (v : Vec ℤ Global) (z : SharedValue) (x : Activities) → AreActivities (seated q place it x) → x.shared.ended ≡ None → q < length x.held.items → place ≡ it.number % x.slots → shared_of z ≡ shared_of x.shared
-    → StrodeAt (code_in x) made (kept_in x).shared.cells (standing_of it) v.items (Some (standing_of new)) → length v.items ≡ length (kept_in x).shared.cells → SeatedBy q place made outcomes.Stays it new x (strode_as new v z x)
+    → StrodeAt (code_in x) (kept_in x).shared.order.counts made (kept_in x).shared.cells (standing_of it) v.items (Some (standing_of new)) → length v.items ≡ length (kept_in x).shared.cells → SeatedBy q place made outcomes.Stays it new x (strode_as new v z x)
 strode q place made it new v z x a g b e s w l =
     let old = seated q place it x in
     let h = holds_it q place it x b in
     let same : standing_of new ≡ with_frame w.frame (standing_of it) = (let both : Some (standing_of new) ≡ Some (with_frame w.frame (standing_of it)) = w.standing in cc) in
     let n : new.number ≡ it.number = ap (λ (y : Standing). y.number) same in
-    let u = subst (λ (y : Standing). StrodeAt (code_in x) made (kept_in x).shared.cells y v.items (Some (standing_of new))) (sym (stands_it q place it x a e h)) w in
+    let u = subst (λ (y : Standing). StrodeAt (code_in x) (kept_in x).shared.order.counts made (kept_in x).shared.cells y v.items (Some (standing_of new))) (sym (stands_it q place it x a e h)) w in
     let k = strode_kept q place it new v z x s n in (
       subst (λ (y : Kept). Steps (code_in x) x.slots made (point_in old) q (point_of (code_in x).variables x.slots y)) (sym k) (strode_iteration q it.number place made (Some new) v old a g h e u),
       stand_from old (seated q place new (strode_as new v z x)) a (same_sizes outcomes.Stays q place it new (record z { cells = v }) x)

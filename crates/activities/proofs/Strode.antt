@@ -1,12 +1,12 @@
 -- Strides of what a processor holds are its steps.
-use Rattle.std.proofs.Common.{◌≡◌, ◌∙◌, ℕ, zero, suc, ◌+◌, Bool, true, false, Option, Some, None, refl, sym, ap, subst, arith}
-use Rattle.std.specs.Prelude.{eqb, cond}
+use Rattle.std.proofs.Common.{inl, ◌≡◌, ◌∙◌, ℕ, zero, suc, ◌+◌, Bool, true, false, Option, Some, None, refl, sym, ap, subst, arith}
+use Rattle.std.specs.Prelude.{◌<◌, eqb, cond, if◌then◌else◌}
 use Rattle.ast.specs.Store.{StoreOf}
 use Rattle.machine.specs.Code.{Code}
 use Rattle.machine.specs.Frame.{Frame}
 use Rattle.machine.specs.Local.{and_then}
 use Rattle.machine.specs.State.{Active, Machine, MainMove, Move, Turn, Wait, Who, the_main, iteration, put_at, put_cell}
-use Rattle.machine.specs.View.{View, doing, loading, storing, view, trips_of, begin}
+use Rattle.machine.specs.View.{View, awaiting, doing, loading, storing, view, trips_of, begin}
 use Rattle.machine.specs.declared.code.Open.{Open}
 use Rattle.machine.proofs.Puts.{put_same as put_got}
 use Rattle.activities.specs.Activities.{Stays, code_in, point_in}
@@ -14,7 +14,7 @@ use Rattle.activities.specs.declared.holding.Activities.{Activities}
 use Rattle.activities.specs.Points.{Moves, Point, Steps, counted, frame_in, frame_of, local_in, moved, slot, view_in}
 use Rattle.activities.proofs.Locals.{Stood, again}
 use Rattle.activities.proofs.Maps.{put_same}
-use Rattle.machine.specs.Strides.{Held, gone, stride, strides}
+use Rattle.machine.specs.Strides.{Held, Passed, gone_past, stride_past, strides_past}
 
 -- a machine with another frame of an activity, and another store
 abbrev pub gone_to : Who → Held → Machine → Machine
@@ -27,16 +27,30 @@ gone_at u b p = record { machine = gone_to u b p.machine; order = p.order }
 abbrev pub held_in : Machine → Frame → Held
 held_in m f = record { frame = f; store = m.store }
 
+-- an activity needn't wait at an await; main makes none
+abbrev Told : Who → Machine → ℕ → ℕ → Type 0
+Told the_main m e d = ⊥
+Told (iteration k) m e d = k < m.counts e + d
+
+-- nor at any that is passed
+abbrev pub AllTold : Passed → Who → Machine → Type 0
+AllTold ok u m = (e d : ℕ) → ok e d ≡ true → Told u m e d
+
 -- ---- one
 
-main_turn : (v : View Frame Open) (m : Machine) (q : ℕ) (b : Held) → gone v m.store ≡ Some b → MainMove trips_of v m q (gone_to the_main b m)
-main_turn (doing g) m q b e = let same : b ≡ record { frame = g; store = m.store } = cc in ap (λ (x : Held). gone_to the_main x m) same
-main_turn (loading c φ) m q b e = let same : b ≡ record { frame = φ (m.store c.name c.place); store = m.store } = cc in ap (λ (x : Held). gone_to the_main x m) same
-main_turn (storing c v g) m q b e = let same : b ≡ record { frame = g; store = put_cell m.store c v } = cc in ap (λ (x : Held). gone_to the_main x m) same
-main_turn _ m q b e = cc
+main_turn : (ok : Passed) (v : View Frame Open) (m : Machine) (q : ℕ) (b : Held) → AllTold ok the_main m → gone_past ok v m.store ≡ Some b → MainMove trips_of v m q (gone_to the_main b m)
+main_turn ok (doing g) m q b t e = let same : b ≡ record { frame = g; store = m.store } = cc in ap (λ (x : Held). gone_to the_main x m) same
+main_turn ok (loading c φ) m q b t e = let same : b ≡ record { frame = φ (m.store c.name c.place); store = m.store } = cc in ap (λ (x : Held). gone_to the_main x m) same
+main_turn ok (storing c v g) m q b t e = let same : b ≡ record { frame = g; store = put_cell m.store c v } = cc in ap (λ (x : Held). gone_to the_main x m) same
+main_turn ok (awaiting n d g) m q b t e = by (ok n d) refl e
+  where
+    by : (x : Bool) → ok n d ≡ x → (if x then Some (record { frame = g; store = m.store }) else None) ≡ Some b → MainMove trips_of (awaiting n d g) m q (gone_to the_main b m)
+    by true i h = absurd (t n d i)
+    by false i h = cc
+main_turn ok _ m q b t e = cc
 
-iteration_turn : (v : View Frame Open) (m : Machine) (q k : ℕ) (a : Active Frame) (b : Held) → m.iterations k ≡ Some a → gone v m.store ≡ Some b → Move v a m q k (gone_to (iteration k) b m)
-iteration_turn v m q k a b h e = by v e
+iteration_turn : (ok : Passed) (v : View Frame Open) (m : Machine) (q k : ℕ) (a : Active Frame) (b : Held) → m.iterations k ≡ Some a → AllTold ok (iteration k) m → gone_past ok v m.store ≡ Some b → Move v a m q k (gone_to (iteration k) b m)
+iteration_turn ok v m q k a b h t e = by v e
   where
     N : Option (Active Frame) → Held → Machine
     N o x = record m { iterations = put_at m.iterations k (again o x.frame); store = x.store }
@@ -44,24 +58,29 @@ iteration_turn v m q k a b h e = by v e
     from : (c : Held) → b ≡ c → gone_to (iteration k) b m ≡ N (Some a) c
     from c s = ap (λ (o : Option (Active Frame)). N o b) h ∙ ap (λ (x : Held). N (Some a) x) s
 
-    by : (w : View Frame Open) → gone w m.store ≡ Some b → Move w a m q k (gone_to (iteration k) b m)
+    past : (n d : ℕ) (g : Frame) (x : Bool) → ok n d ≡ x → (if x then Some (record { frame = g; store = m.store }) else None) ≡ Some b → Move (awaiting n d g) a m q k (gone_to (iteration k) b m)
+    past n d g true i h = inl (t n d i, from (record { frame = g; store = m.store }) (let same : b ≡ record { frame = g; store = m.store } = cc in same))
+    past n d g false i h = cc
+
+    by : (w : View Frame Open) → gone_past ok w m.store ≡ Some b → Move w a m q k (gone_to (iteration k) b m)
     by (doing g) i = from (record { frame = g; store = m.store }) (let same : b ≡ record { frame = g; store = m.store } = cc in same)
     by (loading c φ) i = from (record { frame = φ (m.store c.name c.place); store = m.store }) (let same : b ≡ record { frame = φ (m.store c.name c.place); store = m.store } = cc in same)
     by (storing c z g) i = from (record { frame = g; store = put_cell m.store c z }) (let same : b ≡ record { frame = g; store = put_cell m.store c z } = cc in same)
+    by (awaiting n d g) i = past n d g (ok n d) refl i
     by _ i = cc
 
-turn_of : (code : Code) (s : ℕ) (u : Who) (p : Point) (q : ℕ) (f : Frame) (b : Held) → frame_of p.machine u ≡ Some f → gone (view code f) p.machine.store ≡ Some b
+turn_of : (ok : Passed) (code : Code) (s : ℕ) (u : Who) (p : Point) (q : ℕ) (f : Frame) (b : Held) → AllTold ok u p.machine → frame_of p.machine u ≡ Some f → gone_past ok (view code f) p.machine.store ≡ Some b
     → Turn Frame Open (view code) trips_of (begin code) s (Some u) p.machine q (gone_to u b p.machine)
-turn_of code s the_main p q f b e g =
+turn_of ok code s the_main p q f b t e g =
     let same : f ≡ p.machine.main = cc in
-    main_turn (view code p.machine.main) p.machine q b (subst (λ (h : Frame). gone (view code h) p.machine.store ≡ Some b) same g)
-turn_of code s (iteration k) p q f b e g = by (p.machine.iterations k) refl e
+    main_turn ok (view code p.machine.main) p.machine q b t (subst (λ (h : Frame). gone_past ok (view code h) p.machine.store ≡ Some b) same g)
+turn_of ok code s (iteration k) p q f b t e g = by (p.machine.iterations k) refl e
   where
     by : (o : Option (Active Frame)) → p.machine.iterations k ≡ o → frame_in o ≡ Some f → (a : Active Frame) × (p.machine.iterations k ≡ Some a) × Move (view code a.frame) a p.machine q k (gone_to (iteration k) b p.machine)
     by None h i = cc
     by (Some a) h i =
         let same : f ≡ a.frame = cc in
-        (a, h, iteration_turn (view code a.frame) p.machine q k a b h (subst (λ (j : Frame). gone (view code j) p.machine.store ≡ Some b) same g))
+        (a, h, iteration_turn ok (view code a.frame) p.machine q k a b h t (subst (λ (j : Frame). gone_past ok (view code j) p.machine.store ≡ Some b) same g))
 
 frame_again : (o : Option (Active Frame)) (f g : Frame) → frame_in o ≡ Some f → frame_in (again o g) ≡ Some g
 frame_again None f g e = cc
@@ -75,25 +94,31 @@ pub stands_on : (u : Who) (p : Point) (q : ℕ) (f : Frame) (b : Held) → Stood
 stands_on the_main p q f b s = record { holds = s.holds; frame = refl; running = s.running; going = s.going }
 stands_on (iteration k) p q f b s = record { holds = s.holds; frame = gone_frame (iteration k) p.machine f b s.frame; running = s.running; going = s.going }
 
-still : (v : View Frame Open) (x : StoreOf) (b : Held) (p : Point) → gone v x ≡ Some b → counted v p.order ≡ p.order
-still (doing g) x b p e = refl
-still (loading c φ) x b p e = refl
-still (storing c v g) x b p e = refl
-still _ x b p e = cc
+still : (ok : Passed) (v : View Frame Open) (x : StoreOf) (b : Held) (p : Point) → gone_past ok v x ≡ Some b → counted v p.order ≡ p.order
+still ok (doing g) x b p e = refl
+still ok (loading c φ) x b p e = refl
+still ok (storing c v g) x b p e = refl
+still ok (awaiting n d g) x b p e = refl
+still ok _ x b p e = cc
 
-one_made : (code : Code) (s : ℕ) (u : Who) (p : Point) (q : ℕ) (f : Frame) (b : Held) → Stood p q u f → stride code (held_in p.machine f) ≡ Some b → Moves code s (local_in code (frame_of p.machine u)) p q (gone_at u b p)
-one_made code s u p q f b t e = record {
+-- so does an activity after such a step
+told_on : (ok : Passed) (u : Who) (b : Held) (m : Machine) → AllTold ok u m → AllTold ok u (gone_to u b m)
+told_on ok the_main b m t = t
+told_on ok (iteration k) b m t = t
+
+one_made : (ok : Passed) (code : Code) (s : ℕ) (u : Who) (p : Point) (q : ℕ) (f : Frame) (b : Held) → AllTold ok u p.machine → Stood p q u f → stride_past ok code (held_in p.machine f) ≡ Some b → Moves code s (local_in code (frame_of p.machine u)) p q (gone_at u b p)
+one_made ok code s u p q f b y t e = record {
   who = u;
   holds = t.holds;
   kind = refl;
   step = record {
     going = t.going;
-    turn = subst (λ (o : Option Who). Turn Frame Open (view code) trips_of (begin code) s o p.machine q (gone_to u b p.machine)) (sym t.holds) (turn_of code s u p q f b t.frame e);
+    turn = subst (λ (o : Option Who). Turn Frame Open (view code) trips_of (begin code) s o p.machine q (gone_to u b p.machine)) (sym t.holds) (turn_of ok code s u p q f b y t.frame e);
   };
   order = sym (
       ap (λ (w : Option Wait). moved w (view_in code (frame_of p.machine u)) (slot s u) p.order) ((stands_on u p q f b t).running)
       ∙ ap (λ (o : Option Frame). counted (view_in code o) p.order) t.frame
-      ∙ still (view code f) p.machine.store b p e
+      ∙ still ok (view code f) p.machine.store b p e
       );
 }
 
@@ -135,23 +160,23 @@ gone_store (iteration k) m b = refl
 abbrev with_store : Frame → StoreOf → Held
 with_store h y = record { frame = h; store = y }
 
--- So many strides of its frame and the store are so many steps.
-pub strides_made : (code : Code) (s : ℕ) (u : Who) (p : Point) (q n : ℕ) (f : Frame) (b : Held) → Stood p q u f → strides code n (held_in p.machine f) ≡ Some b → Steps code s n p q (gone_at u b p)
-strides_made code s u p q zero f b t e =
+-- So many strides of its frame and the store, past awaits at which it needn't wait, are so many steps.
+pub strides_made : (ok : Passed) (code : Code) (s : ℕ) (u : Who) (p : Point) (q n : ℕ) (f : Frame) (b : Held) → AllTold ok u p.machine → Stood p q u f → strides_past ok code n (held_in p.machine f) ≡ Some b → Steps code s n p q (gone_at u b p)
+strides_made ok code s u p q zero f b y t e =
     let same : held_in p.machine f ≡ b = cc in
     ap (λ (m : Machine). record { machine = m; order = p.order }) (gone_same u p.machine f t.frame ∙ ap (λ (x : Held). gone_to u x p.machine) same)
-strides_made code s u p q (suc n) f b t e = by (stride code (held_in p.machine f)) refl e (λ c d r. strides_made code s u (gone_at u c p) q n c.frame b d r)
+strides_made ok code s u p q (suc n) f b y t e = by (stride_past ok code (held_in p.machine f)) refl e (λ c d r. strides_made ok code s u (gone_at u c p) q n c.frame b (told_on ok u c p.machine y) d r)
   where
-    by : (o : Option Held) → stride code (held_in p.machine f) ≡ o → and_then o (λ c. strides code n c) ≡ Some b
-        → ((c : Held) → Stood (gone_at u c p) q u c.frame → strides code n (held_in (gone_to u c p.machine) c.frame) ≡ Some b → Steps code s n (gone_at u c p) q (gone_at u b (gone_at u c p))) → Steps code s (suc n) p q (gone_at u b p)
+    by : (o : Option Held) → stride_past ok code (held_in p.machine f) ≡ o → and_then o (λ c. strides_past ok code n c) ≡ Some b
+        → ((c : Held) → Stood (gone_at u c p) q u c.frame → strides_past ok code n (held_in (gone_to u c p.machine) c.frame) ≡ Some b → Steps code s n (gone_at u c p) q (gone_at u b (gone_at u c p))) → Steps code s (suc n) p q (gone_at u b p)
     by None h i more = cc
     by (Some c) h i more =
         let here : Held = held_in (gone_to u c p.machine) c.frame in
         let same : c ≡ here = ap (λ (x : StoreOf). with_store c.frame x) (sym (gone_store u p.machine c)) in
-        let rest : strides code n here ≡ Some b = subst (λ (x : Held). strides code n x ≡ Some b) same i in (
+        let rest : strides_past ok code n here ≡ Some b = subst (λ (x : Held). strides_past ok code n x ≡ Some b) same i in (
           gone_at u c p,
           local_in code (frame_of p.machine u),
-          one_made code s u p q f c t h,
+          one_made ok code s u p q f c y t h,
           subst (λ (m : Machine). Steps code s n (gone_at u c p) q (record { machine = m; order = p.order })) (gone_twice u p.machine c b) (more c (stands_on u p q f c t) rest),
         )
 

@@ -10,5 +10,6 @@ pub mod Printing
 pub mod Putting
 pub mod Seating
 pub mod Sharing
+pub mod Told
 pub mod Turns
 pub mod Waiting

@@ -7,13 +7,14 @@ use Rattle.machine.specs.Local.{Works}
 use Rattle.machine.specs.declared.instr.Instr.{Instr}
 use Rattle.machine.specs.Next.{Tells}
 use Rattle.machine.specs.StoreView.{store_of}
-use Rattle.machine.specs.Strides.{strides}
+use Rattle.machine.specs.Strides.{strides_past}
 use Rattle.machine.specs.View.{view}
 use Rattle.machine.specs.declared.code.Open.{Open}
 use Rattle.machine.specs.declared.next.Next.{Next}
 use Rattle.machine.specs.declared.next.Next.TheVariants.{Opens}
 use Rattle.activities.specs.Core.{HaveIndices}
 use Rattle.activities.specs.Parts.{Kept, Shared, Standing}
+use Rattle.activities.specs.Told.{is_told}
 use Rattle.activities.specs.Turns.{MainAfter, iteration_after, main_after, staying}
 use Rattle.activities.specs.declared.turn.Outcome.{Outcome}
 use Rattle.activities.specs.declared.turn.Outcome.TheVariants.{Idle}
@@ -63,8 +64,9 @@ pub record WorkedAt (code : List Instr) (n : ℕ) (done : Bool) (a : Standing) (
   pub working : Working code n done a.frame frame
   pub standing : b ≡ Some (with_frame frame a)
 
--- So many strides were made of an iteration, on these cells, and this stands in its place then.
-pub record StrodeAt (code : Code) (made : ℕ) (cells : List ℤ) (a : Standing) (ds : List ℤ) (b : Option Standing) : Type 0 where
+-- So many strides were made of an iteration, on these cells, past awaits that have been told by these
+-- counts, and this stands in its place then.
+pub record StrodeAt (code : Code) (counts : List ℕ) (made : ℕ) (cells : List ℤ) (a : Standing) (ds : List ℤ) (b : Option Standing) : Type 0 where
   pub frame : Frame
-  pub leads : strides code made (record { frame = a.frame; store = store_of code.variables cells }) ≡ Some (record { frame = frame; store = store_of code.variables ds })
+  pub leads : strides_past (is_told counts a.number) code made (record { frame = a.frame; store = store_of code.variables cells }) ≡ Some (record { frame = frame; store = store_of code.variables ds })
   pub standing : b ≡ Some (with_frame frame a)

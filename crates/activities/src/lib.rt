@@ -12,6 +12,7 @@ mod printing;
 mod proceeding;
 mod sharing;
 mod striding;
+mod told;
 mod turn;
 mod values_at;
 

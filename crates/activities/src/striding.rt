@@ -1,13 +1,17 @@
 //! Steps of what processors hold, in its own place.
 
-ghost use Rattle.std.specs.Prelude.{◌≡◌, ◌≤◌, IfSome, length, option_map};
+ghost use Rattle.std.specs.Prelude.{◌≡◌, ◌≤◌, ℕ, IfSome, List, length, option_map};
 ghost use Rattle.machine.specs.CodeView.{code_of};
+ghost use Rattle.machine.specs.FrameView.{frame_of};
+ghost use Rattle.stretches.specs.Stretches.{Leads};
 ghost use Rattle.activities.specs.PartsView.{standing_of};
 ghost use Rattle.activities.specs.Sharing.{StrodeAt};
 
 use crate::holding::{Activities, Holder};
 use crate::parts::Iteration;
-use machine::Code;
+use crate::told::Told;
+use ec_kernel::Kernel;
+use machine::{Code, Frame, Unknown};
 use stretches::{Stale, Stretch, stride_noting};
 
 /// Local instructions, loads and stores, one after another, at most `n`, of what stands in a
@@ -16,32 +20,51 @@ fn stride_at(
     code: &Code,
     place: &mut Option<Iteration>,
     cells: &mut Vec<i64>,
+    kernel: &Kernel,
     stale: &mut Stale,
     n: u32,
 ) -> u32
+    requires counts { length kernel.now.counts ≡ 65 }
     ensures made { IfSome (option_map standing_of place.old) (λ a.
-        StrodeAt (code_of code.now) result cells.old.items a cells.new.items
+        StrodeAt (code_of code.now) kernel.now.counts result cells.old.items a cells.new.items
         (option_map standing_of place.new)) }
     ensures few { result ≤ n }
     ensures cells { length cells.new.items ≡ length cells.old.items }
 {
     match place {
-        Some(iteration) => stride_noting(code, &mut iteration.frame, cells, stale, n),
+        Some(iteration) => {
+            let told = Told {
+                kernel,
+                number: iteration.number,
+            };
+            stride_noting(code, &mut iteration.frame, cells, stale, &told, n)
+        }
         None => 0,
     }
 }
 
-/// The steps of a stretch are made of what stands in a place, if it is right; how many.
+/// The steps of a stretch are made of a frame, if it is right; how many.
+fn commit_on(frame: &mut Frame, cells: &mut Vec<i64>, stretch: &mut Stretch<'_>) -> u32
+    ensures made { Leads (code_of stretch.old.code.now) result (frame_of frame.old) cells.old.items
+        (frame_of frame.new) cells.new.items }
+    ensures few { result ≤ stretch.old.made }
+    ensures cells { length cells.new.items ≡ length cells.old.items }
+    ensures code { code_of stretch.new.code.now ≡ code_of stretch.old.code.now }
+{
+    stretch.commit(frame, cells.as_mut_slice())
+}
+
+/// The same of what stands in a place.
 fn commit_at(place: &mut Option<Iteration>, cells: &mut Vec<i64>, stretch: &mut Stretch<'_>) -> u32
-    ensures made { IfSome (option_map standing_of place.old) (λ a.
-        StrodeAt (code_of stretch.old.code.now) result cells.old.items a cells.new.items
+    ensures made { (counts : List ℕ) → IfSome (option_map standing_of place.old) (λ a.
+        StrodeAt (code_of stretch.old.code.now) counts result cells.old.items a cells.new.items
         (option_map standing_of place.new)) }
     ensures few { result ≤ stretch.old.made }
     ensures cells { length cells.new.items ≡ length cells.old.items }
     ensures code { code_of stretch.new.code.now ≡ code_of stretch.old.code.now }
 {
     match place {
-        Some(iteration) => stretch.commit(&mut iteration.frame, cells.as_mut_slice()),
+        Some(iteration) => commit_on(&mut iteration.frame, cells, stretch),
         None => 0,
     }
 }
@@ -71,6 +94,7 @@ impl<'c> Activities<'c> {
             &mut self.main.frame,
             &mut self.shared.cells,
             stale,
+            &Unknown,
             n,
         )
     }
@@ -98,6 +122,7 @@ impl<'c> Activities<'c> {
             self.code,
             &mut self.iterations[at],
             &mut self.shared.cells,
+            &self.shared.kernel,
             stale,
             n,
         )

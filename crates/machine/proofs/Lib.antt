@@ -15,6 +15,7 @@ pub mod Puts
 pub mod Stores
 pub mod Restarting
 pub mod Joining
+pub mod Past
 mod Formulas
 mod Drafted
 pub mod Moves

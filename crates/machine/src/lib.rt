@@ -3,6 +3,7 @@
 
 mod acting;
 mod alike;
+mod awaits;
 mod cells;
 mod code;
 mod done;
@@ -31,6 +32,7 @@ mod touches;
 mod work;
 mod working;
 
+pub use awaits::{Awaits, Unknown};
 pub use code::{Await, Code, Loop, Open, Parts, Piece, Variable};
 pub use done::Done;
 pub use frame::{Counter, Frame};
@@ -39,6 +41,6 @@ pub use memory::Memory;
 pub use next::{Next, stands_next, synchronization};
 pub use scalar::Scalar;
 pub use shortcut::{Entry, Shortcut};
-pub use striding::stride;
+pub use striding::{stride, stride_past};
 pub use work::Work;
 pub use working::{Stop, local, stands_local};

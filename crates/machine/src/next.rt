@@ -211,7 +211,8 @@ fn print<'c>(code: &'c Code, frame: &Frame, number: u32) -> Next<'c>
 }
 
 /// Whether a loop may have an event of this number.
-fn is_event(event: u32) -> bool
+#[inline(always)]
+pub fn is_event(event: u32) -> bool
     ensures { result ≡ is_event event }
 {
     0 < event && event <= MOST_EVENTS as u32

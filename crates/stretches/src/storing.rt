@@ -2,10 +2,10 @@
 
 ghost use Rattle.std.specs.Prelude.{◌≡◌, ◌≤◌, Some, length};
 ghost use Rattle.machine.specs.CodeView.{code_of};
-ghost use Rattle.machine.specs.Strides.{held_by, strides};
+ghost use Rattle.machine.specs.Strides.{held_by, strides_past};
 
 use crate::stale::Stale;
-use machine::{Code, Frame, Memory, stride};
+use machine::{Awaits, Code, Frame, Memory, stride_past};
 use std::mem::replace;
 
 /// The cells themselves. Those that were stored to are noted.
@@ -35,29 +35,38 @@ impl Memory for Noting {
     }
 }
 
-/// Local instructions, loads and stores of a frame that stand next, at most `n`, in its own place
-/// and on the cells of a store; how many.
+/// Local instructions, loads, stores and awaits that are passed of a frame, those that stand next,
+/// at most `n`, in its own place and on the cells of a store; how many.
 #[inline(never)]
-fn stride_unnoted(code: &Code, frame: &mut Frame, cells: &mut Vec<i64>, n: u32) -> u32
-    ensures made { strides (code_of code.now) result (held_by code.now frame.old cells.old.items)
+fn stride_unnoted<A: Awaits>(
+    code: &Code,
+    frame: &mut Frame,
+    cells: &mut Vec<i64>,
+    awaits: &A,
+    n: u32,
+) -> u32
+    ensures made { strides_past (A.passed awaits.now) (code_of code.now) result
+        (held_by code.now frame.old cells.old.items)
         ≡ Some (held_by code.now frame.new cells.new.items) }
     ensures few { result ≤ n }
     ensures cells { length cells.new.items ≡ length cells.old.items }
 {
-    stride(code, frame, cells, n)
+    stride_past(code, frame, cells, awaits, n)
 }
 
 /// The same. Cells that were stored to are stale.
 // Out of line, as the other one: its caller would clear room for the memory at each call.
 #[inline(never)]
-fn stride_noted(
+fn stride_noted<A: Awaits>(
     code: &Code,
     frame: &mut Frame,
     cells: &mut Vec<i64>,
     stale: &mut Stale,
+    awaits: &A,
     n: u32,
 ) -> u32
-    ensures made { strides (code_of code.now) result (held_by code.now frame.old cells.old.items)
+    ensures made { strides_past (A.passed awaits.now) (code_of code.now) result
+        (held_by code.now frame.old cells.old.items)
         ≡ Some (held_by code.now frame.new cells.new.items) }
     ensures few { result ≤ n }
     ensures cells { length cells.new.items ≡ length cells.old.items }
@@ -67,7 +76,7 @@ fn stride_noted(
         cells: replace(cells, Vec::new(alloc)),
         stale: replace(stale, Stale::nothing(alloc)),
     };
-    let made = stride(code, frame, &mut memory, n);
+    let made = stride_past(code, frame, &mut memory, awaits, n);
     let Noting {
         cells: changed,
         stale: noted,
@@ -77,24 +86,27 @@ fn stride_noted(
     made
 }
 
-/// Local instructions, loads and stores of a frame that stand next, at most `n`, in its own place
-/// and on the cells of a store; how many. Cells that were stored to are stale, where they are noted.
+/// Local instructions, loads, stores and awaits that are passed of a frame, those that stand next,
+/// at most `n`, in its own place and on the cells of a store; how many. Cells that were stored to
+/// are stale, where they are noted.
 #[inline(always)]
-pub fn stride_noting(
+pub fn stride_noting<A: Awaits>(
     code: &Code,
     frame: &mut Frame,
     cells: &mut Vec<i64>,
     stale: &mut Stale,
+    awaits: &A,
     n: u32,
 ) -> u32
-    ensures made { strides (code_of code.now) result (held_by code.now frame.old cells.old.items)
+    ensures made { strides_past (A.passed awaits.now) (code_of code.now) result
+        (held_by code.now frame.old cells.old.items)
         ≡ Some (held_by code.now frame.new cells.new.items) }
     ensures few { result ≤ n }
     ensures cells { length cells.new.items ≡ length cells.old.items }
 {
     if stale.is_unused() {
-        stride_unnoted(code, frame, cells, n)
+        stride_unnoted(code, frame, cells, awaits, n)
     } else {
-        stride_noted(code, frame, cells, stale, n)
+        stride_noted(code, frame, cells, stale, awaits, n)
     }
 }

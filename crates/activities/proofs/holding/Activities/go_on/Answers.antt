@@ -3,14 +3,15 @@ use Rattle.std.specs.Box.{with_value}
 use Rattle.std.specs.Prelude.{if◌then◌else◌}
 use Rattle.machine.specs.FrameView.{frame_of}
 use Rattle.machine.specs.StoreView.{store_of}
-use Rattle.machine.specs.Strides.{strides}
+use Rattle.machine.specs.Strides.{strides_past}
 use Rattle.machine.specs.declared.frame.Frame.{Frame as FrameValue}
-use Rattle.activities.specs.Activities.{code_in, kept_in, point_in}
+use Rattle.activities.specs.Activities.{code_in, point_in}
 use Rattle.activities.specs.Parts.{Shared, Standing}
 use Rattle.activities.specs.PartsView.{shared_of, standing_of}
 use Rattle.activities.specs.Points.{Steps}
 use Rattle.activities.specs.Seating.{seat, seated}
 use Rattle.activities.specs.Sharing.{StrodeAt, went}
+use Rattle.activities.specs.Told.{is_told}
 use Rattle.activities.specs.declared.parts.Iteration.{Iteration}
 use Rattle.activities.specs.declared.turn.Outcome.TheVariants as outcomes
 use Rattle.activities.proofs.Seats.{SeatedBy, may_it, number_kept, still_going, strode, strode_as, synchronized, with_shared}
@@ -49,11 +50,11 @@ strides_made c =
     let v = c.stride_noting.new.cells in
     let shared : shared_of z ≡ shared_of old.shared = c.synchronize.ensures.shared c.in-None.is in
     let standing : standing_of c.synchronize.new.iteration ≡ standing_of c.args.iteration.now = c.synchronize.ensures.iteration c.in-None.is in
-    let leads = subst (λ (f : FrameValue). strides code c.stride_noting.result (record { frame = frame_of f; store = store_of code.variables z.cells.items }) ≡ Some (record { frame = frame_of c.stride_noting.new.frame; store = store_of code.variables v.items })) c.deref_mut.ensures.value c.stride_noting.ensures.made in
-    let strode_there : StrodeAt code c.stride_noting.result (shared_of z).cells (standing_of c.synchronize.new.iteration) v.items (Some (standing_of (came_to c))) = record { frame = frame_of c.stride_noting.new.frame; leads = leads; standing = refl } in
+    let leads = subst (λ (f : FrameValue). strides_past (is_told z.kernel.counts c.synchronize.new.iteration.number) code c.stride_noting.result (record { frame = frame_of f; store = store_of code.variables z.cells.items }) ≡ Some (record { frame = frame_of c.stride_noting.new.frame; store = store_of code.variables v.items })) c.deref_mut.ensures.value c.stride_noting.ensures.made in
+    let strode_there : StrodeAt code (shared_of z).order.counts c.stride_noting.result (shared_of z).cells (standing_of c.synchronize.new.iteration) v.items (Some (standing_of (came_to c))) = record { frame = frame_of c.stride_noting.new.frame; leads = leads; standing = refl } in
     strode c.args.q c.args.place c.stride_noting.result c.args.iteration.now (came_to c) v z old c.requires.seated c.requires.going c.requires.processor c.requires.place shared
-    (subst (λ (y : Standing). StrodeAt code c.stride_noting.result (shared_of old.shared).cells y v.items (Some (standing_of (came_to c)))) standing
-    (subst (λ (s : Shared). StrodeAt code c.stride_noting.result s.cells (standing_of c.synchronize.new.iteration) v.items (Some (standing_of (came_to c)))) shared strode_there))
+    (subst (λ (y : Standing). StrodeAt code (shared_of old.shared).order.counts c.stride_noting.result (shared_of old.shared).cells y v.items (Some (standing_of (came_to c)))) standing
+    (subst (λ (s : Shared). StrodeAt code s.order.counts c.stride_noting.result s.cells (standing_of c.synchronize.new.iteration) v.items (Some (standing_of (came_to c)))) shared strode_there))
     (c.stride_noting.ensures.cells ∙ ap (λ (s : Shared). length s.cells) shared)
 
 pub returns-in-None-clause-made : goal.returns-in-None-clause-made

@@ -1,5 +1,5 @@
 use denote.Enum.Bare.{sameb}
-use Rattle.std.proofs.Common.{◌≡◌, ◌∙◌, ◌-◌, ℕ, false, refl, subst, arith}
+use Rattle.std.proofs.Common.{◌≡◌, ◌∙◌, ◌-◌, false, refl, subst, arith}
 use Rattle.std.specs.Prelude.{not}
 use Rattle.activities.specs.Activities.{AreActivities, code_in, point_in}
 use Rattle.activities.specs.Points.{Steps}

@@ -8,7 +8,6 @@ use Rattle.activities.specs.Points.{Moves}
 use Rattle.activities.specs.Sharing.{Turned}
 use Rattle.activities.specs.Turns.{held_after}
 use Rattle.activities.specs.declared.holding.Activities.{Activities}
-use Rattle.activities.specs.declared.turn.Outcome.{Outcome}
 use Rattle.activities.proofs.Entering.{runs_of}
 use Rattle.activities.proofs.Shares.{SharedBy, did_made, did_same, iteration_shared, laid_in, may_step, place_put, stays_same, turned_there, unchanged}
 use Rattle.activities.proofs.holding.Activities.synchronize_iteration.Goals as goal
