@@ -3,6 +3,7 @@ pub mod Privates
 pub mod Stacks
 pub mod Runs
 pub mod Shortcuts
+pub mod Trips
 pub mod Views
 pub mod Example
 pub mod Equal
