@@ -57,7 +57,7 @@ are_added : (v : Version) (p : ℕ) (es fs : List Entry) → AreEntries v p es �
 are_added v p [] fs a b = b
 are_added v p (e ∷ es) fs a b = (a.0, are_added v p es fs a.1 b)
 
-is_act : (v : Version) (n : ℕ) → 1 ≤ n → n ≤ longest_burst → IsAct v (works n)
+pub is_act : (v : Version) (n : ℕ) → 1 ≤ n → n ≤ longest_burst → IsAct v (works n)
 is_act First n low high = (low, high)
 is_act Second n low high = (low, high)
 

@@ -6,3 +6,4 @@ pub mod Keeping
 pub mod Parsing
 pub mod Taking
 pub mod Bursts
+pub mod Recounting

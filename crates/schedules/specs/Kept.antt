@@ -19,6 +19,11 @@ abbrev pub taken : Short → ℕ
 taken (PickIteration q) = 1
 taken _ = 0
 
+-- the same of so many local instructions, if it is of any
+abbrev pub counting : ℕ → Short → Short
+counting n (Work q m) = Work q n
+counting n s = s
+
 abbrev pub entries_of : List Short → List ℕ → List Entry
 entries_of [] ks = []
 entries_of (s ∷ ss) ks = entry_of s ks ∷ entries_of ss (drop (taken s) ks)

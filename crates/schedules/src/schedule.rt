@@ -1,12 +1,13 @@
 //! Schedules.
 
-ghost use Rattle.std.specs.Prelude.{◌≡◌, ◌≢◌, ◌<◌, ◌^◌, ◌++◌, [], IfOk, IfErr, OnOk, OnErr, length};
+ghost use Rattle.std.specs.Prelude.{◌≡◌, ◌≢◌, ◌<◌, ◌≤◌, ◌^◌, ◌++◌, [], ℕ, IfOk, IfErr, OnOk, OnErr};
+ghost use Rattle.std.specs.Prelude.{length};
 ghost use Rattle.machine.specs.State.{AreSizes};
 ghost use Rattle.schedules.specs.Kept.{entries_of, entry_of, short_bursts, taken};
 ghost use Rattle.schedules.specs.Refusals.{Explains, IsHeaded, Refuses, WantsMemory, number_of};
 ghost use Rattle.schedules.specs.Schedules.{Entry as EntryOf, IsAct, IsSchedule, SchedText};
 ghost use Rattle.schedules.specs.Schedules.{Schedule as ScheduleOf, bursts, text_before, text_of};
-ghost use Rattle.schedules.specs.Schedules.{picks, with_entries, with_entry};
+ghost use Rattle.schedules.specs.Schedules.{longest_burst, picks, with_entries, with_entry, works};
 ghost use Rattle.schedules.specs.View.{act as act_view, entry as entry_view};
 
 use crate::entry::{Act, Entry, Version};
@@ -166,6 +167,7 @@ impl Schedule {
     pub fn take_back(&mut self)
         ensures last { (x : ScheduleOf) (e : EntryOf) → self.old ≡ with_entry x e → self.new ≡ x }
         ensures none { self.old.entries ≡ [] → self.new ≡ self.old }
+        ensures kept { IsSchedule self.new }
     {
         let Some(last) = self.shorts.pop() else {
             return;
@@ -175,7 +177,26 @@ impl Schedule {
         }
     }
 
+    /// The entry that was added last, of local instructions, becomes one of so many; where they are
+    /// none, it is taken back.
+    pub fn recount(&mut self, made: u16)
+        requires few { made ≤ longest_burst }
+        ensures last { (x : ScheduleOf) (q n : ℕ)
+            → self.old ≡ with_entry x (record { processor = q; act = works n })
+            → self.new ≡ with_entries x (bursts q made) }
+        ensures kept { IsSchedule self.new }
+    {
+        if made == 0 {
+            self.take_back();
+            return;
+        }
+        if let Some(last) = self.shorts.pop() {
+            self.shorts.push_reserved(last.counting(made));
+        }
+    }
+
     /// Adds an entry at the end. Where memory is refused nothing has changed.
+    #[inline(always)]
     pub fn push(&mut self, entry: Entry) -> Result<(), AllocError>
         requires below { entry.processor < self.old.processors }
         requires allowed { IsAct self.old.version (act_view entry.act) }
@@ -193,6 +214,7 @@ impl Schedule {
         }
     }
 
+    #[inline(always)]
     fn keep(&mut self, short: Short) -> Result<(), AllocError>
         requires plain { taken short ≡ 0 }
         requires below { (entry_of short []).processor < self.old.processors }

@@ -14,7 +14,7 @@ pub enum Short {
 
 impl Short {
     ghost use Rattle.std.specs.Prelude.{◌≡◌, if◌then◌else◌};
-    ghost use Rattle.schedules.specs.Kept.{taken};
+    ghost use Rattle.schedules.specs.Kept.{counting, taken};
 
     /// Whether a number is kept beside it.
     pub fn has_number(self) -> bool
@@ -26,6 +26,19 @@ impl Short {
             | Short::Share { .. }
             | Short::PickMain { .. }
             | Short::TakeTicket { .. } => false,
+        }
+    }
+
+    /// The same of so many local instructions, if it is of any.
+    pub fn counting(self, count: u16) -> Short
+        ensures { result ≡ counting count self }
+    {
+        match self {
+            Short::Work { processor, .. } => Short::Work { processor, count },
+            Short::Share { .. }
+            | Short::PickMain { .. }
+            | Short::PickIteration { .. }
+            | Short::TakeTicket { .. } => self,
         }
     }
 }

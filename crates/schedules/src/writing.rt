@@ -1,6 +1,6 @@
 //! Writes the parts of a schedule's text.
 
-ghost use Rattle.std.specs.Prelude.{◌≡◌, ◌++◌, [], OnOk};
+ghost use Rattle.std.specs.Prelude.{◌≡◌, ◌<◌, ◌++◌, ◌∷◌, [], OnOk, decimal};
 ghost use Rattle.schedules.specs.Kept.{entries_of};
 ghost use Rattle.schedules.specs.Schedules.{act_text, entries_before, entry_text, header};
 ghost use Rattle.schedules.specs.Schedules.{line_before, sizes_text};
@@ -17,6 +17,35 @@ pub fn append_number<I: Integer>(out: &mut Vec<u8>, number: I) -> Result<(), All
 {
     let mut buffer = Buffer::new();
     out.extend_from_slice(buffer.format(number).as_bytes())
+}
+
+/// The character of a digit.
+fn digit(number: u16) -> u8
+    requires { number < 10 }
+    ensures { decimal number ≡ result ∷ [] }
+{
+    b'0' + number as u8
+}
+
+/// Appends a number in shortest decimal. Most are of one digit.
+#[inline(always)]
+fn append_small(out: &mut Vec<u8>, number: u16) -> Result<(), AllocError>
+    ensures { OnOk result (out.new.items ≡ out.old.items ++ decimal number) }
+{
+    if number >= 10 {
+        return append_number(out, number);
+    }
+    out.push(digit(number))?;
+    Ok(())
+}
+
+/// Appends a byte.
+#[inline(always)]
+fn append_byte(out: &mut Vec<u8>, byte: u8) -> Result<(), AllocError>
+    ensures { OnOk result (out.new.items ≡ out.old.items ++ byte ∷ []) }
+{
+    out.push(byte)?;
+    Ok(())
 }
 
 /// Appends the first line of a schedule.
@@ -41,18 +70,19 @@ pub fn append_sizes(out: &mut Vec<u8>, processors: u16, slots: u16) -> Result<()
 }
 
 /// Appends what a processor does.
+#[inline(always)]
 fn append_act(out: &mut Vec<u8>, act: Act) -> Result<(), AllocError>
     ensures { OnOk result (out.new.items ≡ out.old.items ++ act_text (act_view act)) }
 {
     match act {
-        Act::Work(count) => append_number(out, count),
-        Act::Share => out.extend_from_slice(b"0"),
-        Act::PickMain => out.extend_from_slice(b"M"),
+        Act::Work(count) => append_small(out, count),
+        Act::Share => append_byte(out, b'0'),
+        Act::PickMain => append_byte(out, b'M'),
         Act::PickIteration(iteration) => {
             out.extend_from_slice(b"I ")?;
             append_number(out, iteration)
         }
-        Act::TakeTicket => out.extend_from_slice(b"T"),
+        Act::TakeTicket => append_byte(out, b'T'),
     }
 }
 
@@ -61,10 +91,10 @@ fn append_entry(out: &mut Vec<u8>, entry: Entry) -> Result<(), AllocError>
     ensures { OnOk result (out.new.items ≡ out.old.items
         ++ line_before (entry_text (entry_view entry)) []) }
 {
-    append_number(out, entry.processor)?;
-    out.extend_from_slice(b" ")?;
+    append_small(out, u16::from(entry.processor))?;
+    append_byte(out, b' ')?;
     append_act(out, entry.act)?;
-    out.extend_from_slice(b"\n")
+    append_byte(out, b'\n')
 }
 
 /// Appends the lines of entries.

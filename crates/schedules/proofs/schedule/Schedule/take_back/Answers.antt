@@ -39,3 +39,9 @@ returns-else-has_number-clause-last c x e h =
 pub returns-else-has_number-clause-none : goal.returns-else-has_number-clause-none
 returns-else-has_number-clause-none c h =
     absurd (some_seen c.pop.new.self.items c.self.inside.shorts.items c.in-Some.last c.self.inside.picked.items c.in-Some.ensures.items (ap (λ (y : Schedule). y.entries) c.self.view_is ∙ h))
+
+pub returns-then-has_number-clause-kept : goal.returns-then-has_number-clause-kept
+returns-then-has_number-clause-kept c = (invariant_of-self-then-has_number c).schedule
+
+pub returns-else-has_number-clause-kept : goal.returns-else-has_number-clause-kept
+returns-else-has_number-clause-kept c = (invariant_of-self-else-has_number c).schedule
