@@ -1,20 +1,26 @@
 -- What local work does in as many entries as it takes.
-use Rattle.std.proofs.Common.{inl, ◌≡◌, ℕ, zero, suc, ◌+◌, true, List, [], ◌∷◌, ◌++◌, refl, sym, subst, arith}
+use Rattle.std.proofs.Common.{inl, ◌≡◌, ◌∙◌, ℕ, zero, suc, ◌+◌, true, false, List, [], ◌∷◌, ◌++◌, Option, None, refl, sym, ap, subst, arith}
+use Rattle.std.proofs.lemmas.List.{append-nil}
 use Rattle.std.specs.Prelude.{◌*◌, ◌/◌, ◌%◌, Some, is_some, replicate}
+use Rattle.ast.specs.declared.fault.End.{End}
 use Rattle.machine.specs.Code.{Code}
 use Rattle.machine.specs.Frame.{Frame}
 use Rattle.machine.specs.Local.{locals}
+use Rattle.machine.specs.State.{Who}
 use Rattle.schedules.specs.Schedules.{Entry, Schedule, bursts, last_burst, longest_burst, with_entries}
 use Rattle.schedules.specs.declared.entry.Version.{Version}
 use Rattle.schedules.specs.declared.entry.Version.TheVariants.{Second}
 use Rattle.schedules.proofs.Bursts.{burst}
-use Rattle.activities.specs.Activities.{Stays, code_in, frame_at, point_in}
-use Rattle.activities.specs.Points.{Point, Works, beginning}
+use Rattle.activities.specs.Activities.{Stays, code_in, frame_at, frame_held, point_in}
+use Rattle.activities.specs.Points.{NoLocal, Point, Works, beginning, frame_of, local_in}
+use Rattle.replay.specs.CoreView.{CoreView}
 use Rattle.replay.specs.Replays.{Leads, Replays}
+use Rattle.replay.specs.Stepping.{IsDone, Labours}
 use Rattle.replay.specs.Tallies.{Tallies}
-use Rattle.replay.specs.Whole.{AreParts, IsWhole, IsWorked}
+use Rattle.replay.specs.Whole.{AreParts, IsWhole, IsWorked, seen_as}
 use Rattle.activities.specs.declared.holding.Activities.{Activities}
 use Rattle.replay.specs.declared.stepped.Tally.{Tally}
+use Rattle.replay.proofs.Onwards.{point_seen}
 use Rattle.replay.proofs.Parking.{works_still}
 use Rattle.replay.proofs.Recorded.{here}
 
@@ -109,3 +115,39 @@ put_worked a b x y t u q made to parts holds leads does e n m =
       counted = n;
       parked = omega (arith, m);
     }
+
+-- ---- made in place
+
+pub labour_worked : (a b : Activities) (x y : Schedule) (t u : Tally) (q made : ℕ) → AreParts a x t → Works (code_in a) a.slots made (point_in a) q (point_in b) → y ≡ with_entries x (bursts q made)
+    → u.made ≡ t.made + made → u.again ≡ t.again + 0 → IsWorked q made a x t b y u
+labour_worked a b x y t u q made parts does e n m = record {
+  step = subst (λ (s : ℕ). Works (code_in a) s made (point_in a) q (point_in b)) parts.are.slots does;
+  schedule = e;
+  counted = n;
+  parked = omega (arith, m);
+}
+
+-- ---- where none is made
+
+pub none_local : (code : Code) (s q : ℕ) (p : Point) → frame_at q p ≡ None → NoLocal code s p q
+none_local code s q p e b m =
+    let frame : frame_of p.machine m.who ≡ None = sym (ap (λ (o : Option Who). frame_held p.machine o) m.holds) ∙ e in
+    let z : false ≡ true = sym (ap (λ (o : Option Frame). local_in code o) frame) ∙ m.kind in
+    cc
+
+pub none_ended : (code : Code) (s q : ℕ) (p : Point) (e : End) → p.machine.ended ≡ Some e → NoLocal code s p q
+none_ended code s q p e h b m = let z : ◌≡◌ {A = Option End} None (Some e) = sym m.step.going ∙ h in cc
+
+-- no entry is added for none
+pub none_added : (x : CoreView) (q : ℕ) → Labours x q 0 x
+none_added x q = record {
+  after = record { code_is = refl; input_is = refl; schedule = ap (λ (es : List Entry). record x.schedule { entries = es }) (sym (append-nil x.schedule.entries)) };
+  step = refl;
+}
+
+-- none is left, as its callers see it
+pub none_seen : (input : List ℕ) (a b : Activities) (x y : Schedule) (t u : Tally) (q made : ℕ) → AreParts b y u → Stays a b → IsWorked q made a x t b y u → NoLocal (code_in a) x.slots (point_in b) q → IsDone (seen_as input b y) q
+none_seen input a b x y t u q made parts stays did none =
+    let one = subst (λ (k : Code). NoLocal k x.slots (point_in b) q) (sym stays.code_is) none in
+    let two = subst (λ (z : Schedule). NoLocal (code_in b) z.slots (point_in b) q) (sym did.schedule) one in
+    subst (λ (p : Point). NoLocal (code_in b) y.slots p q) (point_seen input b y u parts) two

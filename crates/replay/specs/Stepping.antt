@@ -8,7 +8,7 @@ use Rattle.schedules.specs.Schedules.{bursts, works, shares}
 use Rattle.activities.specs.Activities.{frame_at}
 use Rattle.replay.specs.CoreView.{CoreView, IsAfter, IsFurther, point_at}
 use Rattle.replay.specs.Making.{pick_of}
-use Rattle.activities.specs.Points.{Point, ByRule, Moves, Picks, Works, local_in}
+use Rattle.activities.specs.Points.{Point, ByRule, Moves, NoLocal, Picks, Works, local_in}
 use Rattle.replay.specs.declared.stepped.CoreRefusal.{CoreRefusal}
 use Rattle.replay.specs.declared.stepped.CoreRefusal.TheVariants as refusals
 use Rattle.replay.specs.declared.stepped.HandIn.{HandIn}
@@ -115,6 +115,15 @@ pub record HandsInAll (x : CoreView) (q : ℕ) (code : Code) (from : Frame) (mad
   pub is_from : IsFrom x q code from
   pub after : IsFurther x (bursts q made) y
   pub step : Works x.code x.schedule.slots made (point_at x) q (point_at y)
+
+-- So many local instructions were made in place, in as many entries as they take.
+pub record Labours (x : CoreView) (q made : ℕ) (y : CoreView) : Type 0 where
+  pub after : IsFurther x (bursts q made) y
+  pub step : Works x.code x.schedule.slots made (point_at x) q (point_at y)
+
+-- no local instruction of what processor q holds stands next
+abbrev pub IsDone : CoreView → ℕ → Type 0
+IsDone x q = NoLocal x.code x.schedule.slots (point_at x) q
 
 -- why local work isn't taken: the run had ended; the processor doesn't hold that frame, in that
 -- code; or, where neither is so, memory was refused

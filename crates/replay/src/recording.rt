@@ -5,10 +5,10 @@ ghost use Rattle.std.specs.Prelude.{is_some, length, option_map};
 ghost use Rattle.machine.specs.FrameView.{frame_of};
 ghost use Rattle.machine.specs.State.{iteration};
 ghost use Rattle.activities.specs.Activities.{AreActivities, Stays, chosen, frame_at, kept_in};
-ghost use Rattle.activities.specs.Activities.{point_in, who};
+ghost use Rattle.activities.specs.Activities.{code_in, point_in, who};
 ghost use Rattle.activities.specs.Parts.{held_of};
 ghost use Rattle.activities.specs.Putting.{LeadTo};
-ghost use Rattle.activities.specs.Points.{wait_of};
+ghost use Rattle.activities.specs.Points.{NoLocal, wait_of};
 ghost use Rattle.replay.specs.Tallies.{takes_parked};
 ghost use Rattle.replay.specs.Whole.{AreParts, IsBurst, IsSame, IsWorked, Shares, TakesUp};
 
@@ -207,4 +207,41 @@ pub fn put_all(
     activities.put(q, to);
     tally.count(made, false);
     Ok(())
+}
+
+/// As many local instructions as stand next of what processor `q` holds, at most `n`, which is from
+/// 1 to 1,024, in its own place; how many. The schedule gets an entry of them, if there are any.
+/// Where memory is refused nothing changes.
+pub fn labour(
+    activities: &mut Activities<'_>,
+    schedule: &mut Schedule,
+    tally: &mut Tally,
+    q: usize,
+    n: u32,
+) -> Result<u32, AllocError>
+    requires parts { AreParts activities.old schedule.old tally.old }
+    requires processor { q < schedule.old.processors }
+    requires some { 1 ≤ n }
+    requires few { n ≤ 1024 }
+    ensures did { IfOk result (λ made. IsWorked q made activities.old schedule.old tally.old
+        activities.new schedule.new tally.new) }
+    ensures all { IfOk result (λ made. made < n
+        → NoLocal (code_in activities.old) schedule.old.slots (point_in activities.new) q) }
+    ensures few { IfOk result (λ made. made ≤ n) }
+    ensures err { OnErr result (IsSame activities.old schedule.old tally.old
+        activities.new schedule.new tally.new) }
+    ensures parts { AreParts activities.new schedule.new tally.new }
+    ensures stays { Stays activities.old activities.new }
+{
+    // Its contract says that there are fewer than 2^63 entries: the tally has room for more.
+    let _ = schedule.len();
+    // Instructions aren't taken back, so the entry has its room before they are made.
+    schedule.push(Entry {
+        processor: q as u8,
+        act: Act::Work(n as u16),
+    })?;
+    let made = activities.labour(q, n);
+    schedule.recount(made as u16);
+    tally.count(made, false);
+    Ok(made)
 }

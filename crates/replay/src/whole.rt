@@ -82,7 +82,8 @@ impl<'c> Core<'c> {
     ghost use Rattle.activities.specs.Points.{beginning, local_in};
     ghost use Rattle.replay.specs.Replays.{Replays};
     ghost use Rattle.replay.specs.Stepping.{CannotHandIn, HandsIn, HasLocal, IsFrom, IsGoing};
-    ghost use Rattle.replay.specs.Stepping.{HasEnded, KeepsGoing, MayTry, NoCore, PicksUp, Steps};
+    ghost use Rattle.replay.specs.Stepping.{HasEnded, IsDone, KeepsGoing, Labours, MayTry, NoCore};
+    ghost use Rattle.replay.specs.Stepping.{PicksUp, Steps};
     ghost use Rattle.replay.specs.Stepping.{WentOrLocal};
     ghost use Rattle.replay.specs.Tallies.{Tallies};
 
@@ -263,6 +264,36 @@ impl<'c> Core<'c> {
             return Ok(Stepped::Idle);
         }
         self.take(q, choice)
+    }
+
+    /// As many local instructions as stand next of what processor `q` holds, at most `n`, which is
+    /// from 1 to 1,024, in its own place; how many. Where memory is refused nothing changes.
+    pub fn labour(&mut self, q: usize, n: u32) -> Result<u32, AllocError>
+        requires some { 1 ≤ n }
+        requires few { n ≤ 1024 }
+        ensures made { IfOk result (λ made. Labours self.old q made self.new) }
+        ensures all { IfOk result (λ made. made < n → IsDone self.new q) }
+        ensures few { IfOk result (λ made. made ≤ n) }
+        ensures err { OnErr result (self.new ≡ self.old) }
+        ensures memory { OnErr result (MayTry self.old q) }
+    {
+        if self.activities.shared.ended.is_some() {
+            return Ok(0);
+        }
+        if q >= self.activities.held.len() {
+            return Ok(0);
+        }
+        let made = match recording::labour(
+            &mut self.activities,
+            &mut self.schedule,
+            &mut self.tally,
+            q,
+            n,
+        ) {
+            Ok(made) => made,
+            Err(error) => return Err(error),
+        };
+        Ok(made)
     }
 
     /// Whether local work leads from the frame of what processor `q` holds, in this code.
