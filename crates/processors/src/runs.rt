@@ -58,6 +58,8 @@ impl Made {
 #[derive(Drop)]
 pub struct Recorded<'c, C: Call> {
     core: Core<'c>,
+    /// How many iterations were open at once, at most, as one began in one go.
+    overlap: u128,
     of: PhantomData<C>,
 }
 
@@ -87,6 +89,7 @@ impl<'c, C: Call> Recorded<'c, C> {
     {
         Recorded {
             core,
+            overlap: 0,
             of: PhantomData,
         }
     }
@@ -109,7 +112,11 @@ impl<'c, C: Call> Recorded<'c, C> {
         ensures tally { HasTally C.code C.input C.slots result.schedule result.tally.made
             result.tally.again }
     {
-        let Recorded { core, .. } = self;
+        let Recorded {
+            core,
+            overlap: in_one_go,
+            ..
+        } = self;
         let tally = core.tally();
         // Their contracts say that this schedule leads to where the core is, and can be written.
         let _ = core.schedule().entries();
@@ -119,7 +126,7 @@ impl<'c, C: Call> Recorded<'c, C> {
             schedule,
             tally,
             efforts,
-            overlap,
+            overlap: overlap.max(in_one_go),
         }
     }
 
@@ -218,6 +225,79 @@ impl<'c, C: Call> Recorded<'c, C> {
         }
     }
 
+    /// Processor `q` makes local instructions in place; whether as many as are made in a row.
+    fn labour(&mut self, q: usize, made: &mut Made) -> Result<bool, AllocError> {
+        let steps = self.core.labour(q, MOST_IN_PLACE)?;
+        made.add(steps);
+        Ok(steps == MOST_IN_PLACE)
+    }
+
+    /// Processor `q`, which holds nothing, takes something up: an iteration that begins only where
+    /// it may begin any; what it does next, where it is not to make more steps in place.
+    fn take_up(
+        &mut self,
+        q: usize,
+        begins: bool,
+        made: &mut Made,
+    ) -> Result<Option<Onward>, AllocError> {
+        let choice = self.core.least();
+        if choice == Choice::Ticket && !begins {
+            return Ok(Some(Onward::Shares));
+        }
+        match self.core.pick(q, choice)? {
+            Stepped::Went(Some(_)) => {
+                made.add(1);
+                made.begin(1);
+                self.overlap = self.overlap.max(self.core.overlap());
+                Ok(None)
+            }
+            Stepped::Went(None) => {
+                made.add(1);
+                Ok(None)
+            }
+            Stepped::Idle | Stepped::Ended => Ok(Some(Onward::Shares)),
+        }
+    }
+
+    /// The shared step of processor `q`, or what it takes up; what it does next, where it is not to
+    /// make more steps in place.
+    fn move_on(
+        &mut self,
+        q: usize,
+        begins: bool,
+        made: &mut Made,
+    ) -> Result<Option<Onward>, AllocError> {
+        if !self.core.holds(q) {
+            return self.take_up(q, begins, made);
+        }
+        match self.core.step(q)? {
+            Stepped::Went(_) => {
+                made.add(1);
+                Ok(None)
+            }
+            Stepped::Idle | Stepped::Ended => Ok(Some(Onward::Shares)),
+        }
+    }
+
+    /// Processor `q` makes local instructions in place, and then a step of another kind; where many
+    /// local ones stand next and another processor could have the lock meanwhile, it loads them.
+    /// What it does next, where it is not to make more in place.
+    fn round(
+        &mut self,
+        q: usize,
+        own: &mut Own<'_, C>,
+        begins: bool,
+        made: &mut Made,
+    ) -> Result<Option<Onward>, AllocError> {
+        if !self.labour(q, made)? {
+            return self.move_on(q, begins, made);
+        }
+        if self.core.processors() > 1 && self.load(q, own)? {
+            return Ok(Some(Onward::Works));
+        }
+        Ok(None)
+    }
+
     /// What has come of a run that nobody gave up, or that can't go on.
     ///
     /// # Errors
@@ -295,18 +375,18 @@ impl<'c, C: Call> Driven<C> for Recorded<'c, C> {
         &mut self,
         q: usize,
         own: &mut Own<'_, C>,
-        _pace: Pace,
+        pace: Pace,
     ) -> Result<Advanced, AllocError> {
-        let onward = if self.load(q, own)? {
-            Onward::Works
-        } else {
-            Onward::Shares
-        };
-        Ok(Advanced {
-            steps: 0,
-            begun: 0,
-            onward,
-        })
+        let mut made = Made::default();
+        for _ in 0..MOST_ROUNDS {
+            if let Some(onward) = self.round(q, own, pace.begins, &mut made)? {
+                return Ok(made.and(onward));
+            }
+            if made.steps >= MOST_STEPS {
+                break;
+            }
+        }
+        Ok(made.and(Onward::Pauses))
     }
 
     fn share(&mut self, q: usize) -> Result<Stepped, AllocError> {
