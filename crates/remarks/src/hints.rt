@@ -115,6 +115,9 @@ fn first_of(signs: &[Sign], text: &[u8]) -> Option<&'static str> {
 
 fn of_character(line: &[u8]) -> Option<&'static str> {
     let known = first_of(&CHARACTERS, line);
+    if known.is_none() && matches!(line.first(), Some(0x80..=0xBF | 0xF8..=0xFF)) {
+        return Some("the line begins with a byte that begins no character; this is no text file");
+    }
     if known.is_none() && holds_one(&TYPOGRAPHY, line) {
         return Some("a dash or a quotation mark is not one of the keyboard");
     }
