@@ -1,6 +1,6 @@
 //! The iteration space of a loop and of the one inside it.
 
-use crate::offsets::{Offset, are_own, inner_offset, is_one_place, outer_offset};
+use crate::offsets::{Offset, are_alike, are_own, inner_offset, is_one_place, outer_offset};
 use arrows::{Space, Vector};
 use ast::{Line, Name};
 use dependence::{Relation, forms, relate_forms};
@@ -13,6 +13,8 @@ use subscripts::Affine;
 const MOST_ROWS: u64 = 6;
 /// How many vectors are drawn at most.
 const MOST_VECTORS: usize = 8;
+/// How many kinds of references are compared at most.
+const MOST_KINDS: usize = 128;
 
 /// A reference of the inner loop, with its subscripts in both loops.
 #[derive(Drop)]
@@ -24,6 +26,15 @@ struct Site {
     defines: bool,
     outer: Vec<Affine>,
     inner: Vec<Affine>,
+}
+
+/// References of the inner loop that may depend on one another.
+#[derive(Drop)]
+struct Sites {
+    /// The first one of each kind: what is found of two references depends on their kinds alone.
+    kinds: Vec<Site>,
+    /// The variables that have more kinds.
+    further: Vec<Name>,
 }
 
 /// Two loops, one of which stands in the other.
@@ -70,13 +81,60 @@ fn site_of(
     })
 }
 
-/// The references of the inner loop, but for what each of its iterations has of its own.
-fn sites(alloc: Global, nest: &Nest<'_, '_>, lines: &[Line]) -> Result<Vec<Site>, AllocError> {
+/// The variables of a loop that are given values in it, by what tells them apart.
+fn defined(alloc: Global, view: &LoopView<'_, '_>) -> Result<Vec<usize>, AllocError> {
+    let mut cells = Vec::new(alloc);
+    for occurrence in view.references() {
+        let cell = occurrence.reference.cell;
+        if occurrence.defines && !cells.iter().any(|other| *other == cell) {
+            cells.push(cell)?;
+        }
+    }
+    Ok(cells)
+}
+
+/// Whether two references are of one kind.
+fn is_alike(one: &Site, two: &Site) -> bool {
+    one.cell == two.cell
+        && one.defines == two.defines
+        && are_alike(&one.inner, &two.inner)
+        && are_alike(&one.outer, &two.outer)
+}
+
+/// Adds a name, unless it is there already.
+fn add_name(names: &mut Vec<Name>, name: Name) -> Result<(), AllocError> {
+    if names.iter().any(|other| *other == name) {
+        return Ok(());
+    }
+    Ok(names.push(name)?)
+}
+
+/// Adds a reference, if it is the first of its kind.
+fn add_site(sites: &mut Sites, site: Site) -> Result<(), AllocError> {
+    if sites.kinds.iter().any(|kind| is_alike(kind, &site)) {
+        return Ok(());
+    }
+    if sites.kinds.len() < MOST_KINDS {
+        return Ok(sites.kinds.push(site)?);
+    }
+    add_name(&mut sites.further, site.name)
+}
+
+/// The references of the inner loop to variables that are given values in it, but for what each of
+/// its iterations has of its own.
+fn sites(alloc: Global, nest: &Nest<'_, '_>, lines: &[Line]) -> Result<Sites, AllocError> {
     let privates = private_scalars(alloc, &nest.inner)?;
-    let mut sites = Vec::new(alloc);
+    let defined = defined(alloc, &nest.inner)?;
+    let mut sites = Sites {
+        kinds: Vec::new(alloc),
+        further: Vec::new(alloc),
+    };
     for occurrence in nest.inner.references() {
-        if !is_among(&privates, occurrence.reference.name) {
-            sites.push(site_of(alloc, nest, lines, occurrence)?)?;
+        let cell = occurrence.reference.cell;
+        if !is_among(&privates, occurrence.reference.name)
+            && defined.iter().any(|other| *other == cell)
+        {
+            add_site(&mut sites, site_of(alloc, nest, lines, occurrence)?)?;
         }
     }
     Ok(sites)
@@ -163,8 +221,7 @@ fn add_found(
 ) -> Result<(), AllocError> {
     match found {
         Found::Nothing => Ok(()),
-        Found::Unknown if space.unknown.iter().any(|name| *name == first.name) => Ok(()),
-        Found::Unknown => Ok(space.unknown.push(first.name)?),
+        Found::Unknown => add_name(&mut space.unknown, first.name),
         Found::Vector(over, along) => add_vector(space, vector_of(first, second, over, along)),
     }
 }
@@ -175,11 +232,9 @@ fn add_vector(space: &mut Space, vector: Vector) -> Result<(), AllocError> {
         return Ok(());
     }
     if space.vectors.len() < MOST_VECTORS {
-        space.vectors.push(vector)?;
-    } else if !space.unknown.iter().any(|name| *name == vector.name) {
-        space.unknown.push(vector.name)?;
+        return Ok(space.vectors.push(vector)?);
     }
-    Ok(())
+    add_name(&mut space.unknown, vector.name)
 }
 
 /// Whether one of two references of a variable gives it a value.
@@ -247,10 +302,13 @@ pub fn space_of(
         outer: tree.view(number),
         inner: tree.view(inside),
     };
-    let sites = sites(alloc, &nest, tree.lines())?;
+    let Sites { kinds, further } = sites(alloc, &nest, tree.lines())?;
     let mut space = empty(alloc, &nest);
-    for first in &sites {
-        add_source(&nest, &mut space, first, &sites)?;
+    for first in &kinds {
+        add_source(&nest, &mut space, first, &kinds)?;
+    }
+    for name in &further {
+        add_name(&mut space.unknown, *name)?;
     }
     Ok(Some(space))
 }

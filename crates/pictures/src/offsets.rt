@@ -92,6 +92,20 @@ fn is_steady(view: &LoopView<'_, '_>, form: &Affine) -> bool {
     }
 }
 
+/// Whether two dimensions have the same form, or both none.
+fn is_alike(one: &[Affine], two: &[Affine]) -> bool {
+    match (one, two) {
+        ([Affine::NotAffine], [Affine::NotAffine]) => true,
+        _ => have_same_forms(one, two),
+    }
+}
+
+/// Whether two references to one variable have the same forms, as far as they have any.
+pub fn are_alike(first: &[Affine], second: &[Affine]) -> bool {
+    let mut pairs = first.chunks(1).zip(second.chunks(1));
+    pairs.all(|(one, two)| is_alike(one, two))
+}
+
 /// Whether two references are to one place, the same in all iterations of a loop.
 pub fn is_one_place(view: &LoopView<'_, '_>, first: &[Affine], second: &[Affine]) -> bool {
     have_same_forms(first, second) && first.iter().all(|form| is_steady(view, form))
