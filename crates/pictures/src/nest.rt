@@ -30,7 +30,7 @@ struct Site {
 
 /// References of the inner loop that may depend on one another.
 #[derive(Drop)]
-struct Sites {
+struct References {
     /// The first one of each kind: what is found of two references depends on their kinds alone.
     kinds: Vec<Site>,
     /// The variables that have more kinds.
@@ -110,22 +110,22 @@ fn add_name(names: &mut Vec<Name>, name: Name) -> Result<(), AllocError> {
 }
 
 /// Adds a reference, if it is the first of its kind.
-fn add_site(sites: &mut Sites, site: Site) -> Result<(), AllocError> {
-    if sites.kinds.iter().any(|kind| is_alike(kind, &site)) {
+fn add_site(found: &mut References, site: Site) -> Result<(), AllocError> {
+    if found.kinds.iter().any(|kind| is_alike(kind, &site)) {
         return Ok(());
     }
-    if sites.kinds.len() < MOST_KINDS {
-        return Ok(sites.kinds.push(site)?);
+    if found.kinds.len() < MOST_KINDS {
+        return Ok(found.kinds.push(site)?);
     }
-    add_name(&mut sites.further, site.name)
+    add_name(&mut found.further, site.name)
 }
 
 /// The references of the inner loop to variables that are given values in it, but for what each of
 /// its iterations has of its own.
-fn sites(alloc: Global, nest: &Nest<'_, '_>, lines: &[Line]) -> Result<Sites, AllocError> {
+fn sites(alloc: Global, nest: &Nest<'_, '_>, lines: &[Line]) -> Result<References, AllocError> {
     let privates = private_scalars(alloc, &nest.inner)?;
     let defined = defined(alloc, &nest.inner)?;
-    let mut sites = Sites {
+    let mut found = References {
         kinds: Vec::new(alloc),
         further: Vec::new(alloc),
     };
@@ -134,10 +134,10 @@ fn sites(alloc: Global, nest: &Nest<'_, '_>, lines: &[Line]) -> Result<Sites, Al
         if !is_among(&privates, occurrence.reference.name)
             && defined.iter().any(|other| *other == cell)
         {
-            add_site(&mut sites, site_of(alloc, nest, lines, occurrence)?)?;
+            add_site(&mut found, site_of(alloc, nest, lines, occurrence)?)?;
         }
     }
-    Ok(sites)
+    Ok(found)
 }
 
 /// What is found of two references.
@@ -302,7 +302,7 @@ pub fn space_of(
         outer: tree.view(number),
         inner: tree.view(inside),
     };
-    let Sites { kinds, further } = sites(alloc, &nest, tree.lines())?;
+    let References { kinds, further } = sites(alloc, &nest, tree.lines())?;
     let mut space = empty(alloc, &nest);
     for first in &kinds {
         add_source(&nest, &mut space, first, &kinds)?;
