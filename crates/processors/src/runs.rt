@@ -292,7 +292,7 @@ impl<'c, C: Call> Recorded<'c, C> {
         if !self.labour(q, made)? {
             return self.move_on(q, begins, made);
         }
-        if self.core.processors() > 1 && self.load(q, own)? {
+        if self.load(q, own)? {
             return Ok(Some(Onward::Works));
         }
         Ok(None)
