@@ -16,21 +16,20 @@ at_first code input p s sizes = record {
   holds = refl;
 }
 
-pub reaches : (code : Code) (input : List ℕ) (p s : ℕ) (x : RunView) (P : Machine → Type 0) → IsRunIn code input p s x → IsRun x → P (point_at x).machine → Reaches code input p s P
-reaches code input p s x P o r h =
+pub reached_in : (code : Code) (input : List ℕ) (p s : ℕ) (x : RunView) → IsRunIn code input p s x → IsRun x → IsReached code input p s (point_at x).machine
+reached_in code input p s x o r =
     let one = subst (λ (k : Code). IsReached k x.input x.processors x.slots (point_at x).machine) o.code_is r in
     let two = subst (λ (i : List ℕ). IsReached code i x.processors x.slots (point_at x).machine) o.input_is one in
     let three = subst (λ (n : ℕ). IsReached code input n x.slots (point_at x).machine) o.processors two in
-    record {
-      sizes = o.sizes;
-      machine = (point_at x).machine;
-      reached = subst (λ (n : ℕ). IsReached code input p n (point_at x).machine) o.slots three;
-      holds = h;
-    }
+    subst (λ (n : ℕ). IsReached code input p n (point_at x).machine) o.slots three
+
+pub reaches : (code : Code) (input : List ℕ) (p s : ℕ) (x : RunView) (P : Machine → Type 0) → IsRunIn code input p s x → IsRun x → P (point_at x).machine → Reaches code input p s P
+reaches code input p s x P o r h = record {
+  sizes = o.sizes;
+  machine = (point_at x).machine;
+  reached = reached_in code input p s x o r;
+  holds = h;
+}
 
 pub output_reached : (code : Code) (input : List ℕ) (p s : ℕ) (x : RunView) (xs : List ℕ) → IsRunIn code input p s x → IsRun x → xs ≡ (point_at x).machine.output → Reaches code input p s (λ m. xs ≡ m.output)
 output_reached code input p s x xs = reaches code input p s x (λ m. xs ≡ m.output)
-
-pub answer_reached : (code : Code) (input : List ℕ) (p s : ℕ) (x : RunView) (answer : Answer) → IsRunIn code input p s x → IsRun x → IsAnswer x.code (point_at x).machine answer → IsAnswerOf code input p s answer
-answer_reached code input p s x answer o r a =
-    reaches code input p s x (λ m. IsAnswer code m answer) o r (subst (λ (k : Code). IsAnswer k (point_at x).machine answer) o.code_is a)

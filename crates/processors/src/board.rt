@@ -3,7 +3,8 @@
 use crate::call::Call;
 use crate::driven::{Advanced, Driven, Onward, Pace};
 use crate::lengths::Lengths;
-use crate::report::{Effort, StartFailure};
+use crate::report::Effort;
+use crate::telling::Told;
 use crate::work::Own;
 use replay::{HandIn, Stepped};
 use std::alloc::{AllocError, Global};
@@ -22,14 +23,16 @@ const LONG: u64 = 512;
 /// one to another takes longer.
 const SHORT: u64 = 256;
 
+/// The processor that hands records on: the caller's thread, which has the writer.
+const TELLER: usize = 0;
+
 /// How a run stands.
 #[derive(Clone, Copy, PartialEq, Eq)]
 pub enum Standing {
     Going,
-    /// A processor has found no memory.
-    NoMemory,
-    /// A thread couldn't be started.
-    NotStarted(StartFailure),
+    /// It was given up: a processor has found no memory, a thread couldn't be started, or the writer
+    /// of the records has failed.
+    GivenUp,
     /// It hasn't ended, and no step is possible.
     Stuck,
 }
@@ -64,12 +67,21 @@ pub struct Board<C: Call, D: Driven<C> + Drop> {
     lengths: Vec<Lengths>,
     overlap: u128,
     efforts: Vec<Effort>,
+    /// How many bytes of records may wait, where they are handed on while the run goes on.
+    most_waiting: Option<usize>,
+    /// How many bytes of them were told.
+    told: usize,
+    /// Whether the one who hands them on sleeps, and wasn't called since.
+    teller_sleeps: bool,
     of: PhantomData<C>,
 }
 
 impl<C: Call, D: Driven<C> + Drop> Board<C, D> {
-    /// A run of code with so many loops in which nothing has happened, and whether the gate is to
-    /// be told of iterations.
+    ghost use Rattle.std.specs.Prelude.{◌≡◌};
+
+    /// A run of code with so many loops in which nothing has happened, whether the gate is to be told
+    /// of iterations, and how many bytes of records may wait, where they are handed on while it goes
+    /// on.
     ///
     /// # Errors
     ///
@@ -79,6 +91,7 @@ impl<C: Call, D: Driven<C> + Drop> Board<C, D> {
         run: D,
         loops: usize,
         tells_gate: bool,
+        most_waiting: Option<usize>,
     ) -> Result<Board<C, D>, AllocError> {
         let efforts = vec![in alloc; Effort::default(); run.processors()]?;
         let lengths = vec![in alloc; Lengths::default(); loops]?;
@@ -90,16 +103,21 @@ impl<C: Call, D: Driven<C> + Drop> Board<C, D> {
             lengths,
             overlap: 0,
             efforts,
+            most_waiting,
+            told: 0,
+            teller_sleeps: false,
             of: PhantomData,
         })
     }
 
-    /// The run is given up for this reason. That a thread couldn't be started counts before all
-    /// else.
-    pub fn give_up(&mut self, standing: Standing) {
-        if self.standing == Standing::Going || matches!(standing, Standing::NotStarted(_)) {
-            self.standing = standing;
-        }
+    /// How many processors there are.
+    pub fn processors(&self) -> usize {
+        self.run.processors()
+    }
+
+    /// The run is given up.
+    pub fn give_up(&mut self) {
+        self.standing = Standing::GivenUp;
     }
 
     /// Whether the run goes on, and if not, why.
@@ -121,14 +139,46 @@ impl<C: Call, D: Driven<C> + Drop> Board<C, D> {
     /// Processor `q` falls asleep.
     pub fn fall_asleep(&mut self, q: usize) {
         self.asleep = self.asleep.wrapping_add(1);
+        self.teller_sleeps |= q == TELLER;
         if let Some(effort) = self.efforts.get_mut(q) {
             effort.waits = effort.waits.wrapping_add(1);
         }
     }
 
-    /// One who slept has its turn.
-    pub fn wake_up(&mut self) {
+    /// Processor `q`, which slept, has its turn.
+    pub fn wake_up(&mut self, q: usize) {
         self.asleep = self.asleep.wrapping_sub(1);
+        self.teller_sleeps &= q != TELLER;
+    }
+
+    /// Whether more records wait than may.
+    fn has_news(&self) -> bool {
+        match self.most_waiting {
+            Some(most) => self.run.printed().saturating_sub(self.told) > most,
+            None => false,
+        }
+    }
+
+    /// The same for one who hands them on.
+    pub fn has_news_for(&self, told: &Told<C>) -> bool {
+        told.streams && self.has_news()
+    }
+
+    /// Records are told to one who hands them on, where more wait than may.
+    pub fn tell(&mut self, told: &mut Told<C>)
+        ensures { told.new.shown ≡ told.old.shown }
+    {
+        if self.has_news_for(told) {
+            self.told = self.run.printed();
+            self.run.tell(told);
+        }
+    }
+
+    /// Whether the one who hands records on is to be woken for them.
+    pub fn calls_teller(&mut self) -> bool {
+        let calls = self.teller_sleeps && self.has_news();
+        self.teller_sleeps &= !calls;
+        calls
     }
 
     /// Whether all are to leave.
@@ -211,7 +261,7 @@ impl<C: Call, D: Driven<C> + Drop> Board<C, D> {
     }
 
     fn no_memory(&mut self) -> Next {
-        self.give_up(Standing::NoMemory);
+        self.give_up();
         Next::Leave
     }
 
@@ -232,7 +282,7 @@ impl<C: Call, D: Driven<C> + Drop> Board<C, D> {
     /// Processor `q` has no step. Where it holds something, or all others sleep, none will come.
     fn idle(&mut self, q: usize) -> Next {
         if self.run.holds(q) || self.is_last_awake() {
-            self.give_up(Standing::Stuck);
+            self.standing = Standing::Stuck;
             return Next::Leave;
         }
         Next::Wait
@@ -286,11 +336,15 @@ impl<C: Call, D: Driven<C> + Drop> Board<C, D> {
         }
     }
 
-    /// Processor `q` makes steps as long as one stands next and its turn isn't over, up to so many.
+    /// Processor `q` makes steps as long as one stands next, no more records wait than may, and its
+    /// turn isn't over.
     fn steps(&mut self, q: usize, own: &mut Own<'_, C>) -> Next {
         for _ in 0..MOST_STEPS {
             if let Some(next) = self.go_on(q, own) {
                 return next;
+            }
+            if self.has_news() {
+                break;
             }
         }
         Next::Again

@@ -5,7 +5,7 @@ use std::marker::Brand;
 /// A call of `run`: its code and input, its number of processors, and how many iterations may be
 /// open. Each call has a type of its own, so that what threads share can't be another call's.
 pub trait Call {
-    ghost use Rattle.std.specs.Prelude.{ℕ, List};
+    ghost use Rattle.std.specs.Prelude.{ℕ, Bool, List};
     ghost use Rattle.machine.specs.Code.{Code};
 
     ghost code: { Code };
@@ -15,10 +15,16 @@ pub trait Call {
     ghost processors: { ℕ };
 
     ghost slots: { ℕ };
+
+    /// Whether records are handed on while the run goes on. Then each state that a run reaches has
+    /// printed a beginning of `text`.
+    ghost streams: { Bool };
+
+    ghost text: { List ℕ };
 }
 
 impl Call for Brand {
-    ghost use Rattle.std.specs.Prelude.{[]};
+    ghost use Rattle.std.specs.Prelude.{[], false};
 
     ghost code = { record { instructions = []; records = []; awaits = []; variables = []; loops = []; operands = 0; counters = 0 } };
 
@@ -27,4 +33,8 @@ impl Call for Brand {
     ghost processors = { 1 };
 
     ghost slots = { 1 };
+
+    ghost streams = { false };
+
+    ghost text = { [] };
 }

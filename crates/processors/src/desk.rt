@@ -1,8 +1,9 @@
 //! The desk at which processors take their turns.
 
-use crate::board::{Board, Next, Standing};
+use crate::board::{Board, Next};
 use crate::call::Call;
 use crate::driven::Driven;
+use crate::telling::Told;
 use crate::work::Own;
 use std::hint::spin_loop;
 use std::sync::{Condvar, Mutex, MutexGuard, Wait};
@@ -20,6 +21,8 @@ pub struct Desk<C: Call, D: Driven<C> + Drop> {
 }
 
 impl<C: Call, D: Driven<C> + Drop> Desk<C, D> {
+    ghost use Rattle.std.specs.Prelude.{◌≡◌};
+
     /// A desk at which nobody stands or sleeps yet.
     pub fn new(board: Board<C, D>) -> Desk<C, D> {
         Desk {
@@ -41,36 +44,42 @@ impl<C: Call, D: Driven<C> + Drop> Desk<C, D> {
     }
 
     /// A turn of processor `q`, which hands in what it did outside the lock. It sleeps until there is
-    /// something to do. Who leaves the desk wakes another where that one could do something, and all
-    /// when the run is over.
-    pub fn turn<R: Wait>(&self, rt: &R, q: usize, own: &mut Own<'_, C>) -> Next {
+    /// something to do. Records that wait are told to it then, where it hands them on.
+    pub fn turn<R: Wait>(&self, rt: &R, q: usize, own: &mut Own<'_, C>, told: &mut Told<C>) -> Next
+        ensures { told.new.shown ≡ told.old.shown }
+    {
         let mut board = self.take(rt);
         let mut next = board.turn(q, own);
         for _ in rt.forever() {
-            match next {
-                Next::Wait => {
-                    board.fall_asleep(q);
-                    board = self.changed.wait(rt, board);
-                    board.wake_up();
-                    next = board.turn(q, own);
-                }
-                _ => break,
+            if !matches!(next, Next::Wait) || board.has_news_for(told) {
+                break;
             }
+            board.fall_asleep(q);
+            board = self.changed.wait(rt, board);
+            board.wake_up(q);
+            next = board.turn(q, own);
         }
-        let is_over = board.is_over();
+        board.tell(told);
+        self.leave(board);
+        next
+    }
+
+    /// The lock is given back. Who leaves the desk wakes another where that one could do something,
+    /// and all when the run is over, or where the one who hands records on is to be woken.
+    fn leave(&self, mut board: MutexGuard<'_, Board<C, D>>) {
+        let wakes_all = board.is_over() || board.calls_teller();
         let wants_another = board.wants_another();
         drop(board);
-        if is_over {
+        if wakes_all {
             self.changed.notify_all();
         } else if wants_another {
             self.changed.notify_one();
         }
-        next
     }
 
-    /// The run is given up for this reason, and all who sleep are woken to leave.
-    pub fn give_up<R: Wait>(&self, rt: &R, standing: Standing) {
-        self.board.lock(rt).give_up(standing);
+    /// The run is given up, and all who sleep are woken to leave.
+    pub fn give_up<R: Wait>(&self, rt: &R) {
+        self.board.lock(rt).give_up();
         self.changed.notify_all();
     }
 

@@ -1,6 +1,7 @@
 //! What processors drive under the lock.
 
 use crate::call::Call;
+use crate::telling::Told;
 use crate::work::Own;
 use replay::{HandIn, Stepped};
 use std::alloc::AllocError;
@@ -38,6 +39,8 @@ pub struct Advanced {
 /// A run of a call, whether or not its schedule is kept. Its type says what is so of it, so that
 /// whoever drives it needs to know nothing of its calls.
 pub trait Driven<C: Call> {
+    ghost use Rattle.std.specs.Prelude.{◌≡◌};
+
     /// How many processors there are.
     fn processors(&self) -> usize;
 
@@ -58,6 +61,13 @@ pub trait Driven<C: Call> {
 
     /// The number of the loop that is open; 0 where none is, or it isn't known.
     fn open_loop(&self) -> usize;
+
+    /// How many bytes have gone out, where they are handed on; else 0.
+    fn printed(&self) -> usize;
+
+    /// What has gone out by now is taken, where it is handed on.
+    fn tell(&self, told: &mut Told<C>)
+        ensures { told.new.shown ≡ told.old.shown };
 
     /// The frame of what processor `q` holds is loaded, if a local instruction stands next, which
     /// is told.

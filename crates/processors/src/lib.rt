@@ -21,8 +21,9 @@ mod lengths;
 mod report;
 mod running;
 mod runs;
+mod telling;
 mod work;
 
 pub use gate::{Gate, NoGate};
-pub use report::{Effort, Report, RunRefusal, StartFailure};
-pub use running::{run, run_unrecorded};
+pub use report::{Effort, Report, RunRefusal, StartFailure, Streamed};
+pub use running::{run, run_onto, run_unrecorded};

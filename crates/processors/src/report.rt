@@ -3,6 +3,7 @@
 use ast::Answer;
 use replay::Tally;
 use schedules::Schedule;
+use std::io::Error;
 use std::thread::SpawnError;
 
 /// What one processor of a run did.
@@ -39,6 +40,23 @@ impl StartFailure {
     pub(crate) fn of<F>(_error: &SpawnError<F>) -> StartFailure {
         StartFailure { made: () }
     }
+}
+
+/// What came of a run whose records were handed on while it went on.
+#[derive(Drop)]
+pub struct Streamed {
+    pub came: Result<Answer, RunRefusal>,
+    /// How many bytes of its output were handed on.
+    pub shown: usize,
+}
+
+/// Why the first processor left a run before its end.
+#[derive(Drop)]
+pub enum Broken {
+    /// A thread couldn't be started.
+    NotStarted(StartFailure),
+    /// The writer of the records has failed.
+    Writing(Error),
 }
 
 /// Why there is no report.

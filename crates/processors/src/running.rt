@@ -1,46 +1,64 @@
 //! Runs in threads.
 
-ghost use Rattle.std.specs.Prelude.{◌≡◌, ℕ, List, IfOk, IfErr};
+ghost use Rattle.std.specs.Prelude.{◌≡◌, ℕ, List, Err, IfOk, IfErr, OnErr, OnOk, is_some, true};
 ghost use Rattle.machine.specs.Code.{Code as PlainCode};
 ghost use Rattle.machine.specs.CodeView.{code_of};
 ghost use Rattle.machine.specs.State.{AreSizes};
 ghost use Rattle.processors.specs.Calls.{HasTally, IsCoreOf, IsRunOf};
 ghost use Rattle.processors.specs.Reached.{IsAnswerOf, IsLeftAt, IsRunIn, IsUnanswered};
 ghost use Rattle.processors.specs.Refused.{IsGivenUp, IsRefused};
+ghost use Rattle.processors.specs.Telling.{AreBeginnings, Breaks, IsBroken, MayTell, Shows};
+ghost use Rattle.processors.specs.Telling.{WasBegun, WritesNone};
 
 use crate::board::{Board, Next, Standing};
 use crate::call::Call;
 use crate::desk::Desk;
 use crate::driven::Driven;
 use crate::gate::Gate;
-use crate::report::{Report, RunRefusal, StartFailure};
+use crate::report::{Broken, Report, RunRefusal, StartFailure, Streamed};
 use crate::runs::{Recorded, Unrecorded};
+use crate::telling::Told;
 use crate::work::{Coded, Own};
 use ast::Answer;
 use machine::Code;
 use replay::{Core, CoreRefusal};
 use std::alloc::{AllocError, Global};
+use std::io::{Sink, Write};
 use std::marker::Brand;
 use std::sync::Wait;
-use std::thread;
 use std::thread::Threads;
+use std::{io, thread};
 use stretches::{Mirror, Stale};
 use unrecorded::Run;
 
 /// How many loads and stores a processor makes outside the lock in a row, at most.
 const MOST_NOTES: usize = 4096;
 
-/// The turns of processor `q` until it leaves. What it does between two of them is `own`.
-fn take_turns<C: Call, D: Driven<C> + Drop, G: Gate, R: Wait>(
+/// The turns of processor `q` until it leaves. What it does between two of them is `own`; it hands on
+/// the records that it is told, and gives how many bytes.
+///
+/// # Errors
+///
+/// The writer's.
+fn take_turns<C: Call, D: Driven<C> + Drop, G: Gate, R: Wait, W: Write>(
     rt: &R,
     desk: &Desk<C, D>,
     own: &mut Own<'_, C>,
     q: usize,
     gate: &G,
-) {
+    told: Told<C>,
+    out: &mut W,
+) -> io::Result<usize>
+    requires { told.shown ≡ 0 }
+    ensures ok { IfOk result (λ n. Shows C.text n (W.contents out.old) (W.contents out.new)) }
+    ensures err { OnErr result (Breaks C.text (W.contents out.old) (W.contents out.new)) }
+{
+    let mut told = told;
     for _ in rt.forever() {
-        match desk.turn(rt, q, own) {
-            Next::Leave => return,
+        let next = desk.turn(rt, q, own, &mut told);
+        told.hand_on(out)?;
+        match next {
+            Next::Leave => return Ok(told.shown),
             Next::Wait | Next::Again => {}
             Next::Begin(k) => gate.before(q, k),
             Next::Work(begun) => {
@@ -48,43 +66,112 @@ fn take_turns<C: Call, D: Driven<C> + Drop, G: Gate, R: Wait>(
                     gate.before(q, k);
                 }
                 if own.run().is_err() {
-                    desk.give_up(rt, Standing::NoMemory);
+                    desk.give_up(rt);
                 }
             }
         }
     }
+    unreachable!()
 }
 
-/// What processor `q` does. Where there is no memory for its work the run is given up.
-fn process<C: Call, D: Driven<C> + Drop, G: Gate, R: Wait>(
+/// What processor `q` does, and how many bytes of records it handed on: none where `streams` is
+/// false. Where there is no memory for its work the run is given up, and where the writer fails.
+///
+/// # Errors
+///
+/// The writer's.
+fn process<C: Call, D: Driven<C> + Drop, G: Gate, R: Wait, W: Write>(
+    rt: &R,
+    desk: &Desk<C, D>,
+    coded: &Coded<'_, C>,
+    q: usize,
+    gate: &G,
+    streams: bool,
+    out: &mut W,
+) -> io::Result<usize>
+    requires { streams ≡ true → C.streams ≡ true }
+    ensures ok { IfOk result (λ n. Shows C.text n (W.contents out.old) (W.contents out.new)) }
+    ensures err { OnErr result (Breaks C.text (W.contents out.old) (W.contents out.new)) }
+{
+    let Ok(mut own) = coded.own() else {
+        desk.give_up(rt);
+        return Ok(0);
+    };
+    let came = take_turns(rt, desk, &mut own, q, gate, coded.told(streams), out);
+    if came.is_err() {
+        desk.give_up(rt);
+    }
+    came
+}
+
+/// What any processor but the first does: it hands no records on.
+fn assist<C: Call, D: Driven<C> + Drop, G: Gate, R: Wait>(
     rt: &R,
     desk: &Desk<C, D>,
     coded: &Coded<'_, C>,
     q: usize,
     gate: &G,
 ) {
-    match coded.own() {
-        Ok(mut own) => take_turns(rt, desk, &mut own, q, gate),
-        Err(_) => desk.give_up(rt, Standing::NoMemory),
-    }
+    let _ = process(rt, desk, coded, q, gate, false, &mut io::sink());
 }
 
-/// Starts a thread for each processor but the first, which the caller is, and joins all of them.
+/// Starts a thread for each processor but the first, which the caller is, and joins all of them. The
+/// first hands records on, and gives the writer back with how many bytes.
+///
+/// # Errors
+///
+/// That a thread couldn't be started; then the first has done nothing. And that of the writer.
 fn run_all<
     C: Call + Send + Sync,
     D: Driven<C> + Drop + Send,
     G: Gate + Sync,
     R: Threads + Wait + Sync,
->(rt: &R, desk: &Desk<C, D>, coded: &Coded<'_, C>, processors: usize, gate: &G) {
-    thread::scope(thread::scope_env(), rt, |scope| {
-        for q in 1..processors {
-            if let Err(error) = scope.spawn(move || process(rt, desk, coded, q, gate)) {
-                desk.give_up(rt, Standing::NotStarted(StartFailure::of(&error)));
-                break;
+    W: Write + Drop,
+>(
+    rt: &R,
+    desk: &Desk<C, D>,
+    coded: &Coded<'_, C>,
+    processors: usize,
+    gate: &G,
+    streams: bool,
+    out: W,
+) -> (W, Result<usize, Broken>)
+    requires { streams ≡ true → C.streams ≡ true }
+    ensures ok { IfOk result.1 (λ n. Shows C.text n (W.contents out) (W.contents result.0)) }
+    ensures err { IfErr result.1 (λ why.
+        IsBroken why C.text (W.contents out) (W.contents result.0)) }
+{
+    thread::scope(
+        thread::scope_env(),
+        rt,
+        move |scope| -> (W, Result<usize, Broken>)
+            requires { streams ≡ true → C.streams ≡ true }
+            ensures ok { IfOk result.1 (λ n.
+                Shows C.text n (W.contents out) (W.contents result.0)) }
+            ensures err { IfErr result.1 (λ why.
+                IsBroken why C.text (W.contents out) (W.contents result.0)) }
+        {
+            for q in 1..processors {
+                if let Err(error) = scope.spawn(move || assist(rt, desk, coded, q, gate)) {
+                    desk.give_up(rt);
+                    return (out, Err(Broken::NotStarted(StartFailure::of(&error))));
+                }
             }
-        }
-        process(rt, desk, coded, 0, gate);
-    });
+            let mut out = out;
+            match process(rt, desk, coded, 0, gate, streams, &mut out) {
+                Ok(shown) => (out, Ok(shown)),
+                Err(error) => (out, Err(Broken::Writing(error))),
+            }
+        },
+    )
+}
+
+/// What processors have left of a run, the writer, and how many bytes of records were handed on to
+/// it; or why the first of them left before the end.
+struct Left<C: Call, D: Driven<C> + Drop, W> {
+    board: Board<C, D>,
+    out: W,
+    shown: Result<usize, Broken>,
 }
 
 /// A run is driven to its end by as many processors as it has, and is found on the board then.
@@ -93,18 +180,29 @@ fn driven<
     D: Driven<C> + Drop + Send,
     G: Gate + Sync,
     R: Threads + Wait + Sync,
+    W: Write + Drop,
 >(
     rt: &R,
-    alloc: Global,
-    run: D,
+    board: Board<C, D>,
     coded: &Coded<'_, C>,
     gate: &G,
-) -> Result<Board<C, D>, AllocError> {
-    let processors = run.processors();
-    let board = Board::<C, D>::new(alloc, run, coded.loops(), gate.wants_calls())?;
+    streams: bool,
+    out: W,
+) -> Left<C, D, W>
+    requires { streams ≡ true → C.streams ≡ true }
+    ensures ok { IfOk result.shown (λ n.
+        Shows C.text n (W.contents out) (W.contents result.out)) }
+    ensures err { IfErr result.shown (λ why.
+        IsBroken why C.text (W.contents out) (W.contents result.out)) }
+{
+    let processors = board.processors();
     let desk = Desk::new(board);
-    run_all(rt, &desk, coded, processors, gate);
-    Ok(desk.into_board())
+    let (out, shown) = run_all(rt, &desk, coded, processors, gate, streams, out);
+    Left {
+        board: desk.into_board(),
+        out,
+        shown,
+    }
 }
 
 /// There was no memory to begin with.
@@ -113,6 +211,7 @@ fn nothing(alloc: Global) -> RunRefusal
         → IsGivenUp code input p s result }
     ensures unrecorded { (code : PlainCode) (input : List ℕ) (p s : ℕ) → AreSizes p s
         → IsLeftAt code input p s result }
+    ensures begun { WasBegun result }
 {
     RunRefusal::Memory {
         output: Vec::new(alloc),
@@ -135,8 +234,7 @@ fn reported<'c, C: Call, R: Wait>(
     let (run, efforts, overlap) = board.into_parts();
     match standing {
         Standing::Going | Standing::Stuck => run.report(rt, coded, efforts, overlap),
-        Standing::NoMemory => Err(run.out_of_memory()),
-        Standing::NotStarted(failure) => Err(RunRefusal::NotStarted(failure)),
+        Standing::GivenUp => Err(run.out_of_memory()),
     }
 }
 
@@ -160,9 +258,18 @@ fn run_call<'c, C: Call + Send + Sync, G: Gate + Sync, R: Threads + Wait + Sync>
         return Err(nothing(alloc));
     };
     let coded = Coded::<C>::new(alloc, code, &mirror, 0);
-    match driven::<C, Recorded<'c, C>, G, R>(rt, alloc, Recorded::new(core), &coded, gate) {
-        Ok(board) => reported(rt, board, &coded),
-        Err(_) => Err(nothing(alloc)),
+    let run = Recorded::new(core);
+    let Ok(board) = Board::new(alloc, run, coded.loops(), gate.wants_calls(), None) else {
+        return Err(nothing(alloc));
+    };
+    let Left {
+        board,
+        out: _,
+        shown,
+    } = driven(rt, board, &coded, gate, false, io::sink());
+    match shown {
+        Err(Broken::NotStarted(failure)) => Err(RunRefusal::NotStarted(failure)),
+        Ok(_) | Err(Broken::Writing(_)) => reported(rt, board, &coded),
     }
 }
 
@@ -206,13 +313,24 @@ fn answered<'c, C: Call, R: Wait>(
 ) -> Result<Answer, RunRefusal>
     ensures ok { IfOk result (IsAnswerOf C.code C.input C.processors C.slots) }
     ensures err { IfErr result (IsLeftAt C.code C.input C.processors C.slots) }
+    ensures begun { IfErr result WasBegun }
 {
     let standing = board.standing();
     let (run, _, _) = board.into_parts();
     match standing {
         Standing::Going | Standing::Stuck => run.answer(rt, coded),
-        Standing::NoMemory => Err(run.out_of_memory()),
-        Standing::NotStarted(failure) => Err(RunRefusal::NotStarted(failure)),
+        Standing::GivenUp => Err(run.out_of_memory()),
+    }
+}
+
+/// There is no answer, and nothing was handed on.
+fn unshown(refusal: RunRefusal) -> Streamed
+    ensures came { result.came ≡ Err refusal }
+    ensures none { result.shown ≡ 0 }
+{
+    Streamed {
+        came: Err(refusal),
+        shown: 0,
     }
 }
 
@@ -225,31 +343,62 @@ fn room(code: &Code, processors: usize) -> (usize, usize) {
     (code.cells(), MOST_NOTES)
 }
 
-/// The run of a call without a record.
-fn answer_call<'c, C: Call + Send + Sync, G: Gate + Sync, R: Threads + Wait + Sync>(
+/// The run of a call without a record, with the writer, and how many bytes of its records were
+/// handed on to it. None are where `most_waiting` is `None`.
+///
+/// # Errors
+///
+/// That a thread couldn't be started; and that of the writer.
+fn answer_call<
+    'c,
+    C: Call + Send + Sync,
+    G: Gate + Sync,
+    R: Threads + Wait + Sync,
+    W: Write + Drop,
+>(
     rt: &R,
     alloc: Global,
     run: Run<'c>,
     code: &Code,
     gate: &G,
-) -> Result<Answer, RunRefusal>
+    most_waiting: Option<usize>,
+    out: W,
+) -> (W, Result<Streamed, Broken>)
     requires of { IsRunIn C.code C.input C.processors C.slots run }
     requires code { code_of code.now ≡ C.code }
-    ensures ok { IfOk result (IsAnswerOf C.code C.input C.processors C.slots) }
-    ensures err { IfErr result (IsLeftAt C.code C.input C.processors C.slots) }
+    requires streams { is_some most_waiting ≡ true → C.streams ≡ true }
+    requires begins { MayTell C.streams C.code C.input C.processors C.slots C.text }
+    ensures ok { IfOk result.1 (λ s.
+        IfOk s.came (IsAnswerOf C.code C.input C.processors C.slots)) }
+    ensures left { IfOk result.1 (λ s.
+        IfErr s.came (IsLeftAt C.code C.input C.processors C.slots)) }
+    ensures begun { IfOk result.1 (λ s. IfErr s.came WasBegun) }
+    ensures shown { IfOk result.1 (λ s.
+        Shows C.text s.shown (W.contents out) (W.contents result.0)) }
+    ensures broken { IfErr result.1 (λ why.
+        IsBroken why C.text (W.contents out) (W.contents result.0)) }
 {
     let (cells, notes) = room(code, run.processors());
     let Ok(mirror) = Mirror::new(alloc, cells) else {
-        return Err(nothing(alloc));
+        return (out, Ok(unshown(nothing(alloc))));
     };
     let Ok(stale) = Stale::new(alloc, cells) else {
-        return Err(nothing(alloc));
+        return (out, Ok(unshown(nothing(alloc))));
     };
     let coded = Coded::<C>::new(alloc, code, &mirror, notes);
     let run = Unrecorded::new(run, stale);
-    match driven::<C, Unrecorded<'c, C>, G, R>(rt, alloc, run, &coded, gate) {
-        Ok(board) => answered(rt, board, &coded),
-        Err(_) => Err(nothing(alloc)),
+    let wants_calls = gate.wants_calls();
+    let Ok(board) = Board::new(alloc, run, coded.loops(), wants_calls, most_waiting) else {
+        return (out, Ok(unshown(nothing(alloc))));
+    };
+    let left = driven(rt, board, &coded, gate, most_waiting.is_some(), out);
+    let Left { board, out, shown } = left;
+    match shown {
+        Ok(shown) => {
+            let came = answered(rt, board, &coded);
+            (out, Ok(Streamed { came, shown }))
+        }
+        Err(broken) => (out, Err(broken)),
     }
 }
 
@@ -277,5 +426,56 @@ pub fn run_unrecorded<G: Gate + Sync, R: Threads + Wait + Sync>(
         Err(CoreRefusal::Refused { number: _ }) => return Err(RunRefusal::OutOfRange),
         Err(CoreRefusal::Memory) => return Err(nothing(alloc)),
     };
-    answer_call::<Brand, G, R>(rt, alloc, run, code, gate)
+    match answer_call::<Brand, G, R, Sink>(rt, alloc, run, code, gate, None, io::sink()) {
+        (_, Ok(Streamed { came, shown: _ })) => came,
+        (_, Err(Broken::NotStarted(failure))) => Err(RunRefusal::NotStarted(failure)),
+        (_, Err(Broken::Writing(_))) => Err(nothing(alloc)),
+    }
+}
+
+/// As `run_unrecorded`, of code whose runs each print a beginning of one text: its records are handed
+/// on to `out` while it goes on, and `out` is given back. Of these some `most_waiting` bytes may
+/// wait; at 0 each goes on as soon as the caller's thread is told. What is still to be written of
+/// the output stands behind what was handed on.
+///
+/// # Errors
+///
+/// The writer's, with a beginning of the text written, not all; the run was given up then.
+pub fn run_onto<G: Gate + Sync, R: Threads + Wait + Sync, W: Write + Drop>(
+    rt: &R,
+    alloc: Global,
+    code: &Code,
+    input: &[u8],
+    p: u64,
+    s: u64,
+    gate: &G,
+    most_waiting: usize,
+    out: W,
+) -> (W, io::Result<Streamed>)
+    ghost text: { List ℕ }
+    requires begins { AreBeginnings (code_of code.now) input.now p s text }
+    ensures ok { IfOk result.1 (λ x. IfOk x.came (IsAnswerOf (code_of code.now) input.now p s)) }
+    ensures refused { IfOk result.1 (λ x.
+        IfErr x.came (IsUnanswered (code_of code.now) input.now p s)) }
+    ensures shown { IfOk result.1 (λ x.
+        Shows text x.shown (W.contents out) (W.contents result.0)) }
+    ensures none { IfOk result.1 (λ x.
+        IfErr x.came (WritesNone (W.contents out) (W.contents result.0))) }
+    ensures err { OnErr result.1 (AreSizes p s
+        × Breaks text (W.contents out) (W.contents result.0)) }
+{
+    let run = match Run::new(alloc, code, input, p, s) {
+        Ok(run) => run,
+        Err(CoreRefusal::Refused { number: _ }) => {
+            return (out, Ok(unshown(RunRefusal::OutOfRange)));
+        }
+        Err(CoreRefusal::Memory) => return (out, Ok(unshown(nothing(alloc)))),
+    };
+    match answer_call::<Brand, G, R, W>(rt, alloc, run, code, gate, Some(most_waiting), out) {
+        (out, Ok(streamed)) => (out, Ok(streamed)),
+        (out, Err(Broken::NotStarted(failure))) => {
+            (out, Ok(unshown(RunRefusal::NotStarted(failure))))
+        }
+        (out, Err(Broken::Writing(error))) => (out, Err(error)),
+    }
 }

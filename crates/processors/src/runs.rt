@@ -3,6 +3,7 @@
 use crate::call::Call;
 use crate::driven::{Advanced, Driven, Onward, Pace};
 use crate::report::{Effort, Report, RunRefusal};
+use crate::telling::Told;
 use crate::work::{Coded, Loaded, Own};
 use ast::Answer;
 use replay::{Choice, Core, HandIn, Stepped};
@@ -353,6 +354,12 @@ impl<'c, C: Call> Driven<C> for Recorded<'c, C> {
         0
     }
 
+    fn printed(&self) -> usize {
+        0
+    }
+
+    fn tell(&self, _told: &mut Told<C>) {}
+
     fn load(&self, q: usize, own: &mut Own<'_, C>) -> Result<bool, AllocError> {
         let loads = self.core.load(q, &mut own.work)?;
         if loads {
@@ -411,23 +418,27 @@ pub struct Unrecorded<'c, C: Call> {
 impl<'c, C: Call> Model for Unrecorded<'c, C> {
     ghost use Rattle.unrecorded.specs.View.{RunView};
     ghost use Rattle.processors.specs.Reached.{IsRunIn};
+    ghost use Rattle.processors.specs.Telling.{MayTell};
 
     ghost Value = { RunView };
 
     ghost view = { λ u. u.run };
 
-    ghost invariant = { λ u. IsRunIn C.code C.input C.processors C.slots u.run };
+    ghost invariant = { λ u. IsRunIn C.code C.input C.processors C.slots u.run
+        × MayTell C.streams C.code C.input C.processors C.slots C.text };
 }
 
 impl<'c, C: Call> Unrecorded<'c, C> {
     ghost use Rattle.std.specs.Prelude.{◌≡◌, ◌<◌, IfOk, IfErr, OnOk, false};
     ghost use Rattle.processors.specs.Left.{NoLocalIn, NoPickIn, NoStepIn, NoneStepsIn};
     ghost use Rattle.processors.specs.Reached.{IsAnswerOf, IsLeftAt, IsRunIn};
+    ghost use Rattle.processors.specs.Telling.{MayTell, WasBegun};
     ghost use Rattle.unrecorded.specs.View.{IsGoing};
 
     /// A run of the call. None of its mirror's cells are stale.
     pub fn new(run: Run<'c>, stale: Stale) -> Unrecorded<'c, C>
-        requires { IsRunIn C.code C.input C.processors C.slots run }
+        requires of { IsRunIn C.code C.input C.processors C.slots run }
+        requires begins { MayTell C.streams C.code C.input C.processors C.slots C.text }
     {
         Unrecorded {
             run,
@@ -438,7 +449,8 @@ impl<'c, C: Call> Unrecorded<'c, C> {
 
     /// What has come of a run that was given up for want of memory.
     pub fn out_of_memory(self) -> RunRefusal
-        ensures { IsLeftAt C.code C.input C.processors C.slots result }
+        ensures left { IsLeftAt C.code C.input C.processors C.slots result }
+        ensures begun { WasBegun result }
     {
         let Unrecorded { run, .. } = self;
         RunRefusal::Memory {
@@ -527,6 +539,7 @@ impl<'c, C: Call> Unrecorded<'c, C> {
         requires none { IsGoing self → NoneStepsIn self }
         ensures ok { IfOk result (IsAnswerOf C.code C.input C.processors C.slots) }
         ensures err { IfErr result (IsLeftAt C.code C.input C.processors C.slots) }
+        ensures begun { IfErr result WasBegun }
     {
         match self.run.answer() {
             Ok(Some(answer)) => Ok(answer),
@@ -688,6 +701,7 @@ impl<'c, C: Call> Unrecorded<'c, C> {
     pub fn answer<R: Wait>(mut self, rt: &R, coded: &Coded<'_, C>) -> Result<Answer, RunRefusal>
         ensures ok { IfOk result (IsAnswerOf C.code C.input C.processors C.slots) }
         ensures err { IfErr result (IsLeftAt C.code C.input C.processors C.slots) }
+        ensures begun { IfErr result WasBegun }
     {
         if !self.run.has_ended() && self.finish(rt, coded).is_err() {
             return Err(self.out_of_memory());
@@ -737,6 +751,14 @@ impl<'c, C: Call> Driven<C> for Unrecorded<'c, C> {
             Some(open) => open.number as usize,
             None => 0,
         }
+    }
+
+    fn printed(&self) -> usize {
+        self.run.output().len()
+    }
+
+    fn tell(&self, told: &mut Told<C>) {
+        told.take(self.run.output());
     }
 
     fn load(&self, q: usize, own: &mut Own<'_, C>) -> Result<bool, AllocError> {

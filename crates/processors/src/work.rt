@@ -5,6 +5,7 @@ ghost use Rattle.std.proofs.Props.{props};
 ghost use Rattle.machine.specs.CodeView.{code_of};
 
 use crate::call::Call;
+use crate::telling::Told;
 use machine::{Code, Work};
 use std::alloc::{AllocError, Global};
 use std::marker::PhantomData;
@@ -90,7 +91,7 @@ pub struct Own<'c, C: Call> {
 }
 
 impl<'c, C: Call> Coded<'c, C> {
-    ghost use Rattle.std.specs.Prelude.{◌≡◌};
+    ghost use Rattle.std.specs.Prelude.{◌≡◌, true};
     ghost use Rattle.machine.specs.CodeView.{code_of};
 
     /// The code of a call, with what its processors' room is taken from, the mirror of its store,
@@ -110,6 +111,14 @@ impl<'c, C: Call> Coded<'c, C> {
     /// How many loops it has whose iterations are run at once.
     pub fn loops(&self) -> usize {
         self.code.loops.len()
+    }
+
+    /// Records of which none have been taken; none will be where `streams` is false.
+    pub fn told(&self, streams: bool) -> Told<C>
+        requires { streams ≡ true → C.streams ≡ true }
+        ensures { result.shown ≡ 0 }
+    {
+        Told::new(self.alloc, streams)
     }
 
     /// Room for a processor's work, of which none has been done.

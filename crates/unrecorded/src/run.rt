@@ -349,6 +349,14 @@ impl<'c> Run<'c> {
         stretch.mend(&self.activities.shared.cells);
     }
 
+    /// What has gone out. A run of the machine leads to where it is.
+    pub fn output(&self) -> &[u8]
+        ensures output { result.now ≡ (point_at self.now).machine.output }
+        ensures reached { IsRun self.now }
+    {
+        &self.activities.shared.output
+    }
+
     /// The answer, where the run has ended. A run of the machine leads to where it is.
     ///
     /// # Errors
