@@ -1,10 +1,11 @@
 -- What `run` reads and writes.
-use Rattle.std.specs.Prelude.{◌≡◌, ℕ, List, Option, Some, None, Result, Ok, Err, is_some, option_map}
+use Rattle.std.specs.Prelude.{◌≡◌, ℕ, List, Option, Some, None, Result, Ok, Err, Bool, true, false, ◌||◌, is_some, option_map}
 use Rattle.pages.specs.declared.fault.EngineFault.{EngineFault}
 use Rattle.pages.specs.declared.fault.EngineFault.TheVariants as faults
 use Rattle.pages.specs.declared.outcomes.Outcome.{Outcome}
 use Rattle.engines.specs.declared.given.Wants.{Wants}
 use Rattle.threaded.specs.Running.{Running, WritesText, text_of}
+use Rattle.threaded.specs.Streaming.{StreamsRun}
 use Rattle.threaded.specs.declared.ran.Ran.{Ran}
 use Rattle.threaded.specs.declared.ran.Ran.TheVariants as ran
 use Rattle.files.specs.Deeds.{Deed}
@@ -50,10 +51,27 @@ WritesRun onto came before after old new status =
     WritesFirst onto (schedule_of came) before after old new status (Shown came old new status)
 
 -- what may come of a source and an input is written
-pub record EndsRun (t : Threaded) (source input : List ℕ) (before after : Option (List Deed)) (old new : Option (List ℕ)) (status : ℕ) : Type 0 where
+pub record EndsRecord (t : Threaded) (source input : List ℕ) (before after : Option (List Deed)) (old new : Option (List ℕ)) (status : ℕ) : Type 0 where
   pub came : Ran
   pub allowed : Running source input (wants_of t) came
   pub written : WritesRun (option_map (λ o. o.now) t.schedule) came before after old new status
+
+-- the records are written while the run goes on, and what follows them; and the status is that of
+-- what it came to
+pub record EndsStream (t : Threaded) (source input : List ℕ) (old new : Option (List ℕ)) (status : ℕ) : Type 0 where
+  pub came : Result Outcome EngineFault
+  pub streams : StreamsRun source input (wants_of t) old new came
+  pub is : status ≡ exit_of came
+
+-- what a run writes: when it has ended, where its record is kept, and otherwise while it goes on
+abbrev pub EndsAs : (recorded : Bool) → Threaded → (source input : List ℕ) → (before after : Option (List Deed)) → (old new : Option (List ℕ)) → ℕ → Type 0
+EndsAs true t source input before after old new status = EndsRecord t source input before after old new status
+EndsAs false t source input before after old new status = (after ≡ before) × EndsStream t source input old new status
+
+-- the record is kept where the schedule is wanted, or figures are
+abbrev pub EndsRun : Threaded → (source input : List ℕ) → (before after : Option (List Deed)) → (old new : Option (List ℕ)) → ℕ → Type 0
+EndsRun t source input before after old new status =
+    EndsAs (is_some t.schedule || t.tally) t source input before after old new status
 
 -- the source is read, then the input, and then they are run
 abbrev pub RunsRead : Threaded → (before after : Option (List Deed)) → (old new : Option (List ℕ)) → ℕ → Type 0

@@ -15,18 +15,16 @@ use files::NamedFiles;
 use std::io::Write;
 use std::sync::Wait;
 use std::thread::Threads;
+use threaded::Nowhere;
 
 /// Does what a command asks for. Of a sequential run's records `most` bytes may wait to be written.
 /// What a sequential run prints that is made for a message alone, at a fault of `run` or `replay`,
 /// goes to `nowhere`, which is to show nothing.
-pub fn obey<R: Print + Eprint + AllocGlobal + Threads + Wait + Sync, F: NamedFiles, W: Write>(
-    rt: &R,
-    files: &mut F,
-    out: &mut W,
-    nowhere: &mut W,
-    command: Command<'_>,
-    most: usize,
-) -> u8
+pub fn obey<
+    R: Print + Eprint + AllocGlobal + Threads + Wait + Sync,
+    F: NamedFiles,
+    W: Write + Nowhere + Drop,
+>(rt: &R, files: &mut F, out: &mut W, nowhere: &mut W, command: Command<'_>, most: usize) -> u8
     ensures { Obeys command.entry
         (F.done files.old) (F.done files.new) (W.contents out.old) (W.contents out.new) result }
 {
@@ -39,7 +37,7 @@ pub fn obey<R: Print + Eprint + AllocGlobal + Threads + Wait + Sync, F: NamedFil
             input,
             store,
         } => seq_files(rt, files, out, source, input, store, most),
-        Command::Run(asked) => run_files(rt, files, out, nowhere, asked),
+        Command::Run(asked) => run_files(rt, files, out, nowhere, asked, most),
         Command::Model(asked) => model_files(rt, files, out, nowhere, asked),
         Command::Replay { names, states } => replay_files(rt, files, out, nowhere, names, states),
         Command::Upgrade(names, onto) => upgrade_files(rt, files, out, names, onto),

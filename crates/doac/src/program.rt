@@ -16,6 +16,7 @@ use std::rt::{Env, Files};
 use std::sync::Wait;
 use std::thread::Threads;
 use std::{env, io};
+use threaded::Nowhere;
 
 /// How many bytes of records may wait to be written where standard output is no terminal. A run that
 /// is ended from outside loses these, so they are few.
@@ -47,7 +48,7 @@ fn follow<
     S: AsStr,
     R: Print + Eprint + AllocGlobal + Threads + Wait + Sync,
     F: NamedFiles,
-    W: Write,
+    W: Write + Nowhere + Drop,
 >(rt: &R, files: &mut F, out: &mut W, nowhere: &mut W, words: &[S], most: usize) -> u8
     ensures { Follows (map S.text words.now)
         (F.done files.old) (F.done files.new) (W.contents out.old) (W.contents out.new) result }

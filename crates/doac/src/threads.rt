@@ -4,7 +4,8 @@ ghost use Rattle.std.specs.Prelude.{◌≡◌, ◌∷◌, option_map};
 ghost use Rattle.files.specs.Deeds.{Compares, noted, unput};
 ghost use Rattle.doac.specs.Commands.{RunsFiles};
 ghost use Rattle.doac.specs.Deeds.{AfterCompare, AfterGiven, AfterPut, named};
-ghost use Rattle.doac.specs.Running.{EndsRun, RunsRead, ShowsRan, Shown, WritesRun, schedule_of};
+ghost use Rattle.doac.specs.Running.{EndsRecord, EndsRun, EndsStream, RunsRead, ShowsRan, Shown};
+ghost use Rattle.doac.specs.Running.{WritesRun, schedule_of, wants_of};
 
 use crate::told::{refuse_file, refuse_out, refuse_write, tell_known, warn_of_names, warn_of_run};
 use command_line::Threaded;
@@ -16,25 +17,30 @@ use std::io;
 use std::io::Write;
 use std::sync::Wait;
 use std::thread::Threads;
-use threaded::{Ran, Whole, run_texts};
+use threaded::{Nowhere, Ran, Whole, run_onto, run_texts};
 
 /// Runs the source of a file in threads, if the file for its schedule may be written. Where the
 /// sequential run tells more of its fault that is made behind it, onto `nowhere`.
-pub fn run_files<R: Eprint + AllocGlobal + Threads + Wait + Sync, F: NamedFiles, W: Write>(
+pub fn run_files<
+    R: Eprint + AllocGlobal + Threads + Wait + Sync,
+    F: NamedFiles,
+    W: Write + Nowhere + Drop,
+>(
     rt: &R,
     files: &mut F,
     out: &mut W,
     nowhere: &mut W,
     asked: Threaded<'_>,
+    most_waiting: usize,
 ) -> u8
     ensures { RunsFiles asked.entry
         (F.done files.old) (F.done files.new) (W.contents out.old) (W.contents out.new) result }
 {
     let Some(onto) = asked.schedule else {
-        return run_read(rt, files, out, nowhere, asked);
+        return run_read(rt, files, out, nowhere, asked, most_waiting);
     };
     let clash = clash_of(files, onto, asked.source, asked.input);
-    run_unless(rt, files, out, nowhere, asked, onto, clash)
+    run_unless(rt, files, out, nowhere, asked, most_waiting, onto, clash)
 }
 
 /// Why a file may not be written where the source's and the input's are read.
@@ -55,12 +61,17 @@ pub fn clash_of<F: NamedFiles>(
 
 /// The same, where it is known whether the file `onto`, which is to have the schedule, may be
 /// written.
-fn run_unless<R: Eprint + AllocGlobal + Threads + Wait + Sync, F: NamedFiles, W: Write>(
+fn run_unless<
+    R: Eprint + AllocGlobal + Threads + Wait + Sync,
+    F: NamedFiles,
+    W: Write + Nowhere + Drop,
+>(
     rt: &R,
     files: &mut F,
     out: &mut W,
     nowhere: &mut W,
     asked: Threaded<'_>,
+    most_waiting: usize,
     onto: &str,
     clash: Option<Clash>,
 ) -> u8
@@ -72,32 +83,42 @@ fn run_unless<R: Eprint + AllocGlobal + Threads + Wait + Sync, F: NamedFiles, W:
     if let Some(clash) = clash {
         return refuse_out(rt, onto, clash);
     }
-    run_read(rt, files, out, nowhere, asked)
+    run_read(rt, files, out, nowhere, asked, most_waiting)
 }
 
 /// Reads the source of a file and runs it.
-fn run_read<R: Eprint + AllocGlobal + Threads + Wait + Sync, F: NamedFiles, W: Write>(
+fn run_read<
+    R: Eprint + AllocGlobal + Threads + Wait + Sync,
+    F: NamedFiles,
+    W: Write + Nowhere + Drop,
+>(
     rt: &R,
     files: &mut F,
     out: &mut W,
     nowhere: &mut W,
     asked: Threaded<'_>,
+    most_waiting: usize,
 ) -> u8
     ensures { RunsRead asked.entry
         (F.done files.old) (F.done files.new) (W.contents out.old) (W.contents out.new) result }
 {
     warn_of_names(rt, asked.source, asked.input);
     let given = read_given(files, asked.source, asked.input);
-    run_given(rt, files, out, nowhere, asked, given)
+    run_given(rt, files, out, nowhere, asked, most_waiting, given)
 }
 
 /// What `run` makes of the bytes of its files.
-fn run_given<R: Eprint + AllocGlobal + Threads + Wait + Sync, F: NamedFiles, W: Write>(
+fn run_given<
+    R: Eprint + AllocGlobal + Threads + Wait + Sync,
+    F: NamedFiles,
+    W: Write + Nowhere + Drop,
+>(
     rt: &R,
     files: &mut F,
     out: &mut W,
     nowhere: &mut W,
     asked: Threaded<'_>,
+    most_waiting: usize,
     given: Result<Given, Unread<'_>>,
 ) -> u8
     ensures { AfterGiven given.entry
@@ -106,13 +127,88 @@ fn run_given<R: Eprint + AllocGlobal + Threads + Wait + Sync, F: NamedFiles, W: 
         (F.done files.old) (F.done files.new) (W.contents out.old) (W.contents out.new) result) }
 {
     match given {
-        Ok(given) => run_source(rt, files, out, nowhere, asked, &given.source, &given.input),
+        Ok(given) => {
+            run_source(
+                rt,
+                files,
+                out,
+                nowhere,
+                asked,
+                most_waiting,
+                &given.source,
+                &given.input,
+            )
+        }
         Err(Unread { name, fault }) => refuse_file(rt, name, &fault),
     }
 }
 
 /// Runs the text of a file on an input.
-fn run_source<R: Eprint + AllocGlobal + Threads + Wait + Sync, F: NamedFiles, W: Write>(
+fn run_source<
+    R: Eprint + AllocGlobal + Threads + Wait + Sync,
+    F: NamedFiles,
+    W: Write + Nowhere + Drop,
+>(
+    rt: &R,
+    files: &mut F,
+    out: &mut W,
+    nowhere: &mut W,
+    asked: Threaded<'_>,
+    most_waiting: usize,
+    text: &[u8],
+    input: &[u8],
+) -> u8
+    ensures { EndsRun asked.entry text.now input.now
+        (F.done files.old) (F.done files.new) (W.contents out.old) (W.contents out.new) result }
+{
+    if asked.schedule.is_some() || asked.tally {
+        record_source(rt, files, out, nowhere, asked, text, input)
+    } else {
+        stream_source(rt, out, nowhere, asked, text, input, most_waiting)
+    }
+}
+
+/// What is wanted of a run.
+fn wants_of(asked: Threaded<'_>) -> Wants
+    ensures { result ≡ wants_of asked.entry }
+{
+    Wants {
+        processors: asked.processors,
+        slots: asked.slots,
+        store: asked.store,
+        schedule: asked.schedule.is_some(),
+        tally: asked.tally,
+    }
+}
+
+/// Runs the text of a file on an input, and writes its records while it goes on.
+fn stream_source<R: Eprint + AllocGlobal + Threads + Wait + Sync, W: Write + Nowhere + Drop>(
+    rt: &R,
+    out: &mut W,
+    nowhere: &mut W,
+    asked: Threaded<'_>,
+    text: &[u8],
+    input: &[u8],
+    most_waiting: usize,
+) -> u8
+    ensures { EndsStream asked.entry text.now input.now
+        (W.contents out.old) (W.contents out.new) result }
+{
+    let outcome = run_onto(
+        rt,
+        rt.alloc(),
+        text,
+        input,
+        wants_of(asked),
+        most_waiting,
+        out,
+    );
+    warn_of_run(rt, asked.source, text, &outcome);
+    tell_known(rt, nowhere, asked.source, text, asked.input, input, outcome)
+}
+
+/// Runs the text of a file on an input, keeps the schedule, and writes it and what is shown.
+fn record_source<R: Eprint + AllocGlobal + Threads + Wait + Sync, F: NamedFiles, W: Write>(
     rt: &R,
     files: &mut F,
     out: &mut W,
@@ -121,17 +217,10 @@ fn run_source<R: Eprint + AllocGlobal + Threads + Wait + Sync, F: NamedFiles, W:
     text: &[u8],
     input: &[u8],
 ) -> u8
-    ensures { EndsRun asked.entry text.now input.now
+    ensures { EndsRecord asked.entry text.now input.now
         (F.done files.old) (F.done files.new) (W.contents out.old) (W.contents out.new) result }
 {
-    let wants = Wants {
-        processors: asked.processors,
-        slots: asked.slots,
-        store: asked.store,
-        schedule: asked.schedule.is_some(),
-        tally: asked.tally,
-    };
-    let ran = run_texts(rt, rt.alloc(), text, input, wants);
+    let ran = run_texts(rt, rt.alloc(), text, input, wants_of(asked));
     write_run(rt, files, out, nowhere, asked, text, input, &ran)
 }
 

@@ -64,10 +64,10 @@ unanswered_of code input p s runs.Stuck (inr h) = inr (h.0, reaches code input p
 
 -- ---- the state at the end
 
-agrees_at : (tree : ProgramTree) (code : Code) (input : List ℕ) (p s : ℕ) (P : Machine → Type 0) → Headline code tree → (r : Reaches code input p s P) → Agrees code tree input p s r.machine
+pub agrees_at : (tree : ProgramTree) (code : Code) (input : List ℕ) (p s : ℕ) (P : Machine → Type 0) → Headline code tree → (r : Reaches code input p s P) → Agrees code tree input p s r.machine
 agrees_at tree code input p s P headline r = headline input p s r.reached.turns r.machine r.sizes r.reached.run
 
-ended_at : (tree : ProgramTree) (code : Code) (input : List ℕ) (p s : ℕ) (answer : Answer) → Headline code tree → (r : IsAnswerOf code input p s answer) → Ended r.machine (seq tree input).output (seq tree input).end (seq tree input).store
+pub ended_at : (tree : ProgramTree) (code : Code) (input : List ℕ) (p s : ℕ) (answer : Answer) → Headline code tree → (r : IsAnswerOf code input p s answer) → Ended r.machine (seq tree input).output (seq tree input).end (seq tree input).store
 ended_at tree code input p s answer headline r = (agrees_at tree code input p s (λ m. IsAnswer code m answer) headline r).answer answer.end r.holds.end
 
 -- ---- its store
@@ -108,7 +108,7 @@ cells_fit program code m answer compiled is =
     ∙ length-map program.symbols.items symbol
 
 -- the answer of a state that has ended as the sequential program does
-sequential : (tree : ProgramTree) (code : Code) (input : List ℕ) (m : Machine) (answer : Answer) → IsCompiled tree code → Ended m (seq tree input).output (seq tree input).end (seq tree input).store → IsAnswer code m answer → IsSequential tree input answer
+pub sequential : (tree : ProgramTree) (code : Code) (input : List ℕ) (m : Machine) (answer : Answer) → IsCompiled tree code → Ended m (seq tree input).output (seq tree input).end (seq tree input).store → IsAnswer code m answer → IsSequential tree input answer
 sequential tree code input m answer compiled ended is =
     let same : answer.end ≡ (seq tree input).end = same_Some answer.end (seq tree input).end (sym is.end ∙ ended.is) in
     record {
@@ -181,7 +181,7 @@ comes_recorded tree code input w answer x text ran compiled headline r kept h =
 -- ---- why there is no answer
 
 -- a run of code that the headline holds of never stands where no step leads
-never_stuck : (tree : ProgramTree) (code : Code) (input : List ℕ) (p s : ℕ) → Headline code tree → Reaches code input p s (IsStuckAt code p s) → ⊥
+pub never_stuck : (tree : ProgramTree) (code : Code) (input : List ℕ) (p s : ℕ) → Headline code tree → Reaches code input p s (IsStuckAt code p s) → ⊥
 never_stuck tree code input p s headline r =
     let next = (agrees_at tree code input p s (IsStuckAt code p s) headline r).next r.holds.0 in
     r.holds.1 next.0 next.1 next.2 next.3

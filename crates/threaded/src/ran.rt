@@ -53,7 +53,7 @@ fn write_schedule<S: Write>(schedule: &mut S, text: &Option<Vec<u8>>) -> Result<
 }
 
 /// Writes the records of a run that was given up.
-fn write_output<W: Write>(out: &mut W, output: &[u8]) -> Result<Outcome, EngineFault>
+pub(crate) fn write_output<W: Write>(out: &mut W, output: &[u8]) -> Result<Outcome, EngineFault>
     ensures { WritesText output.now (Err faults.Memory) (W.contents out.old) (W.contents out.new)
         result }
 {

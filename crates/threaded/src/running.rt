@@ -99,7 +99,7 @@ fn alone<R: Threads + Wait + Sync>(
 
 /// What came of a run that has ended with this answer, beside the text of its schedule: its records
 /// are there, also where there is no memory for the rest.
-fn ended(
+pub(crate) fn ended(
     alloc: Global,
     program: &Program,
     answer: Answer,
@@ -126,7 +126,7 @@ fn ended(
 }
 
 /// What comes of a run that gives no answer.
-fn unanswered(refusal: RunRefusal) -> Ran
+pub(crate) fn unanswered(refusal: RunRefusal) -> Ran
     ensures { IsRefusal refusal result }
 {
     match refusal {
