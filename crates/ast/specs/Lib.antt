@@ -10,6 +10,7 @@ pub mod Record
 pub mod References
 pub mod Regular
 pub mod Results
+pub mod Rule
 pub mod Spelling
 pub mod Stops
 pub mod Store

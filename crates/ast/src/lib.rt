@@ -10,6 +10,7 @@ pub mod limits;
 pub mod name;
 pub mod program;
 pub mod refusal;
+pub mod rule;
 pub mod statement;
 pub mod store;
 pub mod table;
@@ -23,6 +24,7 @@ pub use limits::{LONGEST_NAME, MOST_EVENTS, MOST_NAMES, MOST_NESTED, MOST_STATEM
 pub use name::Name;
 pub use program::{Dimension, Program, Symbol, SymbolKind};
 pub use refusal::Refusal;
+pub use rule::Rule;
 pub use statement::{Bounds, Declarator, Definition, DoHead, Item, Kind, Label, Line, Stmt};
 pub use store::Store;
 pub use table::Table;

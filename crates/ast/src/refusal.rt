@@ -3,6 +3,7 @@
 ghost use Rattle.std.specs.Prelude.{◌≡◌};
 ghost use Rattle.ast.specs.declared.refusal.Refusal.TheVariants.{Memory};
 
+use crate::rule::Rule;
 use crate::statement::Line;
 use std::alloc::{AllocError, AllocFailed};
 
@@ -11,9 +12,9 @@ use std::alloc::{AllocError, AllocFailed};
 pub enum Refusal {
     /// There was no memory.
     Memory,
-    /// The rule that the text breaks, by its number, and the line where it is broken, from 1. An
-    /// empty text has no line; what it lacks is refused at line 0.
-    Refused { number: u8, line: Line },
+    /// The rule that the text breaks, and the line where it is broken, from 1. An empty text has no
+    /// line; what it lacks is refused at line 0.
+    Refused { number: Rule, line: Line },
 }
 
 impl From<AllocError> for Refusal {

@@ -44,7 +44,7 @@ no_mistake l p c Unawaited w = let a = c.held in let b = w.has in let z : true �
 no_mistake l p c Untrue w = let a = c.true_claims in let b = w.has in let z : true ≡ false = sym a ∙ b in cc
 
 pub never_refused : (all : List Loop) (l : Loop) → IsWhole l → are_in_turn (references l.references) ≡ true → are_told (known l) ≡ true → (plan : LoopPlan) → IsPlacement all l plan → (m : Mistake) → Refuses l (plan_of plan) (Refused m) → ⊥
-never_refused all l whole turn told (Serial n) placed m w = w
+never_refused all l whole turn told (Serial reason) placed m w = w
 never_refused all l whole turn told (Body b ps rs) placed m w =
     let p = placed.1.0 in
     let checked : IsChecked l p = are_accepted (cells_of l) l p (loops_around all l) whole turn told (λ c h. below_cells 0 l.assigned c h) placed.0 placed.1.2 in

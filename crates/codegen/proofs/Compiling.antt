@@ -219,7 +219,7 @@ none_refused false b h e f = cc
 
 pub refused_law : (t : ProgramTree) (xs : List Planned) → AreOpened t xs → (r : Refusal) → RefusesWith t xs r → Refuses t r
 refused_law t ys opened Memory w = tt
-refused_law t ys opened (Refused number line) w = (w.0, w.1, (ys, opened, w.2))
+refused_law t ys opened (Refused rule line) w = (w.0, w.1, (ys, opened, w.2))
 
 short_at_most : (n : ℕ) → short n ≤ 2 ^ 32 - 1
 short_at_most n = by (nat_lt n (2 ^ 32)) refl

@@ -9,6 +9,7 @@ use Rattle.dependence.specs.Plan.{PlanTree}
 use Rattle.dependence.specs.PlanView.{plan_of}
 use Rattle.dependence.specs.declared.plan.LoopPlan.{LoopPlan}
 use Rattle.dependence.specs.declared.plan.LoopPlan.TheVariants.{Serial, Body}
+use Rattle.dependence.specs.declared.serial.SerialReason.{SerialReason}
 use Rattle.loop_tree.specs.Loops.{Loop}
 use Rattle.placement.specs.Judged.{IsInside, IsOpened, IsOpenedUnless, IsSerial}
 use Rattle.placement.specs.Opening.{NoneSuits}
@@ -49,7 +50,7 @@ module _ (all : List Loop) (lines : List ℕ) where
   opened_one l ls r w p e = by r.plan w.plan w.good w.body w.once e
     where
       by : (plan : LoopPlan) → IsPlacement all l plan → IsGood l (plan_of plan) → HasBody l (plan_of plan) → HasNamesOnce (plan_of plan) → plan_of plan ≡ Some p → Known all (l ∷ ls) (record { loop = l; plan = p })
-      by (Serial n) i g h o e = absurd (not_none p (sym e))
+      by (Serial reason) i g h o e = absurd (not_none p (sym e))
       by (Body b ps rs) i g h o e =
           let is : i.1.0 ≡ p = same_Some i.1.0 p (sym i.1.1 ∙ e) in
           record { among = inl refl; eligible = i.0; placed = subst (λ (z : PlanTree). IsPlacedBody l z) is i.1.2; good = subst (λ (o : Option PlanTree). IsGood l o) e g; same = subst (λ (o : Option PlanTree). HasBody l o) e h; once = subst (λ (o : Option PlanTree). HasNamesOnce o) e o }
@@ -67,7 +68,7 @@ module _ (all : List Loop) (lines : List ℕ) where
       unless true i o = some_none (loops_around all l) i outermost.1
       unless false i o = opened o
 
-      by : (((w.placed).suits ≡ true) × Suits l × IsOpenedUnless w.inside l w.placed) ⊎ (((w.placed).suits ≡ false) × (Suits l → ⊥) × ((n : ℕ) × IsSerial n w.placed × Rattle.placement.specs.Placement.IsLowest l [] n)) → ⊥
+      by : (((w.placed).suits ≡ true) × Suits l × IsOpenedUnless w.inside l w.placed) ⊎ (((w.placed).suits ≡ false) × (Suits l → ⊥) × ((r : SerialReason) × IsSerial r w.placed × Rattle.placement.specs.Placement.IsLowest l [] r)) → ⊥
       by (inl a) = unless w.inside w.is_inside a.2
       by (inr a) = a.1 outermost.0
 

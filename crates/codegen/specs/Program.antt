@@ -6,6 +6,7 @@ use Rattle.ast.specs.Store.{same_name}
 use Rattle.ast.specs.Symbols.{Symbol}
 use Rattle.ast.specs.declared.refusal.Refusal.{Refusal}
 use Rattle.ast.specs.declared.refusal.Refusal.TheVariants.{Memory, Refused}
+use Rattle.ast.specs.declared.rule.Rule.TheVariants.{LongCode}
 use Rattle.dependence.specs.Kept.{EligibleIn}
 use Rattle.dependence.specs.Plan.{PlanTree}
 use Rattle.loop_tree.specs.Loops.{Loop, loops_of}
@@ -165,7 +166,7 @@ IsTooLong t xs = (most_instructions < length (all_code t xs)) ⊎ ((most_room �
 -- a program has no code with these loops opened: it would be too long, and no line is at fault
 abbrev pub RefusesWith : ProgramTree → List Planned → Refusal → Type 0
 RefusesWith t xs Memory = ⊤
-RefusesWith t xs (Refused number line) = (number ≡ 61) × (line ≡ 0) × IsTooLong t xs
+RefusesWith t xs (Refused rule line) = (rule ≡ LongCode) × (line ≡ 0) × IsTooLong t xs
 
 -- with the loops opened that may be, its code would be too long
 abbrev pub HasLongCode : ProgramTree → Type 0
@@ -174,7 +175,7 @@ HasLongCode t = (xs : List Planned) × AreOpened t xs × IsTooLong t xs
 -- a program has no code
 abbrev pub Refuses : ProgramTree → Refusal → Type 0
 Refuses t Memory = ⊤
-Refuses t (Refused number line) = (number ≡ 61) × (line ≡ 0) × HasLongCode t
+Refuses t (Refused rule line) = (rule ≡ LongCode) × (line ≡ 0) × HasLongCode t
 
 -- the code of a program with these loops opened
 pub record IsCodeOf (t : ProgramTree) (xs : List Planned) (code : Code) : Type 0 where

@@ -22,7 +22,7 @@ use crate::ranges::{Made, emit_ranges, variables_of};
 use crate::reports::{LoopReport, reports};
 use crate::rooms::{loops_of_block, of_block};
 use crate::statements::put;
-use ast::{Program, Refusal, Symbol};
+use ast::{Program, Refusal, Rule, Symbol};
 use expr_code::Places;
 use expr_code::room::greater;
 use loop_tree::{LoopTree, ScalarSet, loops};
@@ -37,7 +37,7 @@ const MOST_SYMBOLS: usize = 4_294_967_296;
 
 /// The program's code would be too long; no line is at fault.
 const TOO_LONG: Refusal = Refusal::Refused {
-    number: 61,
+    number: Rule::LongCode,
     line: 0,
 };
 
@@ -167,9 +167,9 @@ pub struct Compiled {
 ///
 /// # Errors
 ///
-/// 61 at line 0 where the code would have more than 1,048,576 instructions or want room for
-/// 4,294,967,295 values or more, or the program has more than 4,294,967,296 symbols; and want of
-/// memory.
+/// `LongCode` (61) at line 0 where the code would have more than 1,048,576 instructions or want
+/// room for 4,294,967,295 values or more, or the program has more than 4,294,967,296 symbols; and
+/// want of memory.
 pub fn compile(alloc: Global, program: &Program) -> Result<Compiled, Refusal>
     ensures code { IfOk result (λ c. IsCompiled (program_of program.now) (code_of c.code)) }
     ensures opened { IfOk result (λ c. IsOpened (program_of program.now) c) }

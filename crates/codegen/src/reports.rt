@@ -11,7 +11,7 @@ ghost use Rattle.codegen.specs.Reports as spec;
 ghost use Rattle.codegen.specs.Reports.{AreReports, IsPlacedReport, IsReport};
 
 use ast::Line;
-use dependence::LoopPlan;
+use dependence::{LoopPlan, SerialReason};
 use loop_tree::{LoopTree, LoopView};
 use placement::{Kept, Placed, place};
 use plan_check::{PlanFault, check};
@@ -124,7 +124,7 @@ fn note(noted: &mut Vec<bool>, inside: bool, suits: bool) -> Result<(), AllocErr
 }
 
 /// What placement gives for a loop, where the check of plans accepts it. One that it refused would
-/// leave the loop serial, for reason 6; it refuses none.
+/// leave the loop serial for that reason; it refuses none.
 fn checked(alloc: Global, view: &LoopView<'_, '_>, placed: Placed) -> Result<Placed, AllocError>
     requires whole { IsWhole (seen view.now) }
     requires placed { IsPlacement (all_seen view.now) (seen view.now) placed.plan }
@@ -137,7 +137,7 @@ fn checked(alloc: Global, view: &LoopView<'_, '_>, placed: Placed) -> Result<Pla
         Ok(()) => Ok(placed),
         Err(PlanFault::Memory) => Err(AllocError),
         Err(PlanFault::Refused(_)) => Ok(Placed {
-            plan: LoopPlan::Serial(6),
+            plan: LoopPlan::Serial(SerialReason::Refused),
             suits: placed.suits,
             sources: placed.sources,
             kept: placed.kept,

@@ -9,4 +9,5 @@ pub mod Plan
 pub mod PlanView
 pub mod Related
 pub mod Runs
+pub mod Serial
 pub mod Tests

@@ -12,6 +12,7 @@ mod relating;
 mod relation;
 mod relations;
 mod run;
+mod serial;
 mod verifying;
 
 pub use fitting::{has_name, has_read, hides_inner};
@@ -23,4 +24,5 @@ pub use relating::relate;
 pub use relation::{Reason, Relation};
 pub use relations::Relations;
 pub use run::Run;
+pub use serial::SerialReason;
 pub use verifying::verify;

@@ -1,6 +1,7 @@
 //! Plans of loops.
 
 use crate::relations::Relations;
+use crate::serial::SerialReason;
 use ast::{DoHead, Expr, Line, Stmt};
 use loop_tree::ScalarSet;
 
@@ -46,8 +47,8 @@ pub struct PlanArm {
 /// How a loop is to be run.
 #[derive(Drop)]
 pub enum LoopPlan {
-    /// One iteration after another, for the reason of this number, from 1 to 6.
-    Serial(u8),
+    /// One iteration after another, for this reason.
+    Serial(SerialReason),
     /// Iterations at once.
     Body {
         /// The loop's range with awaits and advances.

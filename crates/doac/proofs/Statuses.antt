@@ -14,15 +14,15 @@ use Rattle.doac.specs.Statuses.{Ends, EndsList, exit_of}
 -- what is told of a source's verdict is what `check` may write of the source
 allowed_by : (source : List ℕ) (v : Verdict) (outcome : Outcome) (text : List ℕ) → IsVerdict source v → Tells v outcome text → Checks source outcome text
 allowed_by source (verdict.Accepted program) Completed text judged told = record { tree = program_of program; reads = judged; line = told }
-allowed_by source (verdict.Accepted program) (Refused number line) text judged told = absurd told
+allowed_by source (verdict.Accepted program) (Refused rule line) text judged told = absurd told
 allowed_by source (verdict.Accepted program) (Faulted fault line) text judged told = absurd told
-allowed_by source (verdict.Refused number line) Completed text judged told = absurd told
-allowed_by source (verdict.Refused number line) (Refused n l) text judged told =
-    let shown : IsRefused source number line text = record { refusal = judged; shown = told.2 } in
-    subst (λ m. IsRefused source m l text) (sym told.0) (subst (λ m. IsRefused source number m text) (sym told.1) shown)
-allowed_by source (verdict.Refused number line) (Faulted fault l) text judged told = absurd told
-allowed_by source (verdict.Accepted program) (NoSchedule number line) text judged told = absurd told
-allowed_by source (verdict.Refused number line) (NoSchedule n l) text judged told = absurd told
+allowed_by source (verdict.Refused rule line) Completed text judged told = absurd told
+allowed_by source (verdict.Refused rule line) (Refused n l) text judged told =
+    let shown : IsRefused source rule line text = record { refusal = judged; shown = told.2 } in
+    subst (λ m. IsRefused source m l text) (sym told.0) (subst (λ m. IsRefused source rule m text) (sym told.1) shown)
+allowed_by source (verdict.Refused rule line) (Faulted fault l) text judged told = absurd told
+allowed_by source (verdict.Accepted program) (NoSchedule flaw line) text judged told = absurd told
+allowed_by source (verdict.Refused rule line) (NoSchedule n l) text judged told = absurd told
 
 pub of_verdict : (source : List ℕ) (v : Verdict) (old new : Option (List ℕ)) (r : Result Outcome EngineFault) → IsVerdict source v
     → Works (Tells v) old new r → Works (Checks source) old new r

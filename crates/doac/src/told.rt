@@ -12,6 +12,7 @@ use messages::{LastRecord, Message};
 use pages::{EngineFault, Outcome, Page, Texts};
 use reasons::Met;
 use remarks::{Place, warn_of_columns};
+use schedules::Flaw;
 use std::io::{self, Write};
 
 /// Says that writing failed; where nobody reads any more nobody needs to know.
@@ -212,16 +213,16 @@ pub fn tell_known<R: Eprint + AllocGlobal, W: Write>(
 
 /// Why the entry in a line of a schedule can't be made, or where the run stands behind the last
 /// line, where the schedule is refused for that.
-fn met<R: AllocGlobal>(rt: &R, texts: &Texts, number: u8, line: usize) -> Option<Note> {
+fn met<R: AllocGlobal>(rt: &R, texts: &Texts, flaw: Flaw, line: usize) -> Option<Note> {
     let Texts {
         source,
         input,
         schedule,
     } = texts;
-    let line = match number {
-        54 | 56 => line,
-        55 => line.saturating_add(1),
-        _ => return None,
+    let line = match flaw {
+        Flaw::Impossible | Flaw::BehindEnd => line,
+        Flaw::Unended => line.saturating_add(1),
+        Flaw::Header | Flaw::Entry | Flaw::Processor => return None,
     };
     Met::of(rt.alloc(), source, input, schedule, line).map(Note::Met)
 }

@@ -12,6 +12,7 @@ use Rattle.ast.specs.View.{cells}
 use Rattle.ast.specs.declared.fault.End.{End}
 use Rattle.ast.specs.declared.fault.End.TheVariants.{Done, Stopped, Fault as FaultedAt}
 use Rattle.ast.specs.declared.refusal.Refusal.TheVariants.{Refused as RefusedAt}
+use Rattle.ast.specs.declared.rule.Rule.{Rule}
 use Rattle.interpreter.specs.Answers.{Streams as Ended}
 use Rattle.handing.specs.Handing.{AppendsPart}
 use Rattle.interpreter.specs.declared.run_end.RunEnd.{RunEnd}
@@ -106,31 +107,31 @@ streams_halted store source input program run_faults.Memory old new reads h =
 streams_halted store source input program (run_faults.Writing e) old new reads h =
     inr (record { tree = program; reads = reads; got = h.0; so = h.2; grown = h.1 })
 
-refused_so : (store : Bool) (source input : List ℕ) (number line : ℕ) (outcome : Outcome) (text : List ℕ) → IsRefusal source number line → (outcome ≡ Refused number line) × (text ≡ refused number line) → Runs store source input outcome text
-refused_so store source input number line outcome text refusal is =
+refused_so : (store : Bool) (source input : List ℕ) (rule : Rule) (line : ℕ) (outcome : Outcome) (text : List ℕ) → IsRefusal source rule line → (outcome ≡ Refused rule line) × (text ≡ refused rule line) → Runs store source input outcome text
+refused_so store source input rule line outcome text refusal is =
     subst (λ (o : Outcome). Runs store source input o text) (sym is.0) (record { refusal = refusal; shown = is.1 })
 
 -- a source is refused
-pub streams_refused : (store : Bool) (source input : List ℕ) (number line : ℕ) (old new : Option (List ℕ)) (came : Result Outcome EngineFault)
-    → IsRefusal source number line → Works (λ outcome text. (outcome ≡ Refused number line) × (text ≡ refused number line)) old new came → Streaming store source input old new came
-streams_refused store source input number line old new (Ok outcome) refusal w = record { text = w.text; allowed = refused_so store source input number line outcome w.text refusal w.allowed; grown = w.grown }
-streams_refused store source input number line old new (Err (Writing e)) refusal w = inl (record { outcome = w.outcome; text = w.text; allowed = refused_so store source input number line w.outcome w.text refusal w.allowed; grown = w.grown })
-streams_refused store source input number line old new (Err Memory) refusal w = inl w
-streams_refused store source input number line old new (Err (Source e)) refusal w = w
-streams_refused store source input number line old new (Err (Input e)) refusal w = w
-streams_refused store source input number line old new (Err (Schedule e)) refusal w = w
-streams_refused store source input number line old new (Err OutOfRange) refusal w = w
-streams_refused store source input number line old new (Err NotStarted) refusal w = w
-streams_refused store source input number line old new (Err Stuck) refusal w = w
+pub streams_refused : (store : Bool) (source input : List ℕ) (rule : Rule) (line : ℕ) (old new : Option (List ℕ)) (came : Result Outcome EngineFault)
+    → IsRefusal source rule line → Works (λ outcome text. (outcome ≡ Refused rule line) × (text ≡ refused rule line)) old new came → Streaming store source input old new came
+streams_refused store source input rule line old new (Ok outcome) refusal w = record { text = w.text; allowed = refused_so store source input rule line outcome w.text refusal w.allowed; grown = w.grown }
+streams_refused store source input rule line old new (Err (Writing e)) refusal w = inl (record { outcome = w.outcome; text = w.text; allowed = refused_so store source input rule line w.outcome w.text refusal w.allowed; grown = w.grown })
+streams_refused store source input rule line old new (Err Memory) refusal w = inl w
+streams_refused store source input rule line old new (Err (Source e)) refusal w = w
+streams_refused store source input rule line old new (Err (Input e)) refusal w = w
+streams_refused store source input rule line old new (Err (Schedule e)) refusal w = w
+streams_refused store source input rule line old new (Err OutOfRange) refusal w = w
+streams_refused store source input rule line old new (Err NotStarted) refusal w = w
+streams_refused store source input rule line old new (Err Stuck) refusal w = w
 
 -- a tree is what a refusal says
-abbrev pub Answers : ℕ → ℕ → ProgramTree → Type 0
-Answers number line tree = Fails (RefusedAt number line) (Ok tree)
+abbrev pub Answers : Rule → ℕ → ProgramTree → Type 0
+Answers rule line tree = Fails (RefusedAt rule line) (Ok tree)
 
--- a source that is refused: no tree reads it, and the number has its cause
-pub refusal : (source : List ℕ) (number line : ℕ) → ((tree : ProgramTree) → Reads source tree → Answers number line tree) → Refuses source number line
-    → IsRefusal source number line
-refusal source number line unread truly = record { unread = λ tree reads. none (unread tree reads); cause = truly }
+-- a source that is refused: no tree reads it, and the rule is broken
+pub refusal : (source : List ℕ) (rule : Rule) (line : ℕ) → ((tree : ProgramTree) → Reads source tree → Answers rule line tree) → Refuses source rule line
+    → IsRefusal source rule line
+refusal source rule line unread truly = record { unread = λ tree reads. none (unread tree reads); cause = truly }
   where
-    none : {tree : ProgramTree} → Answers number line tree → ⊥
+    none : {tree : ProgramTree} → Answers rule line tree → ⊥
     none h = cc

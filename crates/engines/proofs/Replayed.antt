@@ -1,5 +1,5 @@
 -- What is shown of a replay is what the sequential program prints, and how it ends.
-use Rattle.std.proofs.Common.{inl, inr, ◌≡◌, ◌∙◌, ◌⊎◌, false, List, [], ℕ, ◌++◌, ap, map, subst, sym}
+use Rattle.std.proofs.Common.{inl, inr, ◌≡◌, ◌∙◌, ◌⊎◌, false, List, [], ℕ, ◌++◌, ap, map, refl, subst, sym}
 use Rattle.std.proofs.lemmas.Option.{same_Some}
 use Rattle.ast.specs.Meaning.{seq}
 use Rattle.ast.specs.Program.{ProgramTree}
@@ -12,13 +12,15 @@ use Rattle.machine.specs.Code.{Code}
 use Rattle.machine.specs.CodeView.{code_of}
 use Rattle.machine.specs.State.{Ended}
 use Rattle.replay.proofs.Running.{is_run}
-use Rattle.replay.specs.Replayed.{GivesNone, IsReplay}
+use Rattle.replay.specs.Replayed.{GivesNone, HasStop, IsReplay}
 use Rattle.schedules.specs.Schedules.{IsSchedule, Schedule}
+use Rattle.schedules.specs.declared.flaw.Flaw.{Flaw}
+use Rattle.schedules.specs.declared.flaw.Flaw.TheVariants.{BehindEnd, Entry, Header, Impossible, Processor, Unended}
 use Rattle.pages.specs.Outcomes.{outcome_of}
 use Rattle.pages.specs.Shown.{EndShown, Extends, Row, no_schedule, row_of}
 use Rattle.pages.specs.declared.outcomes.Outcome.{Outcome}
 use Rattle.pages.specs.declared.outcomes.Outcome.TheVariants.{NoSchedule}
-use Rattle.engines.specs.Prepared.{IsDescribedRun, IsStop, WithRun}
+use Rattle.engines.specs.Prepared.{IsDescribedRun, IsLine, IsStop, WithRun}
 use Rattle.engines.specs.Schedules.{IsReplayed, Replaying}
 use Rattle.engines.specs.Timeline.{IsBegun, IsTimed}
 use Rattle.engines.specs.declared.prepared.Run.{Run}
@@ -77,11 +79,27 @@ replaying source input schedule x answer outcome text is r ended more =
     (replayed (program_of x.coded.program) (code_of x.coded.code) input x.schedule answer outcome text is.coded.headline is.spelled.schedule r ended more))
 
 -- the line of a replay that is refused
-pub unreplayed : (source input schedule : List ℕ) (x : Run) (number line : ℕ) (outcome : Outcome) (text : List ℕ) → IsDescribedRun source schedule x → GivesNone (code_of x.coded.code) input x.schedule number line → outcome ≡ NoSchedule number line
-    → text ≡ no_schedule number line → Replaying source input schedule outcome text
-unreplayed source input schedule x number line outcome text is cause so shown =
+pub unreplayed : (source input schedule : List ℕ) (x : Run) (flaw : Flaw) (line : ℕ) (outcome : Outcome) (text : List ℕ) → IsDescribedRun source schedule x → GivesNone (code_of x.coded.code) input x.schedule flaw line → outcome ≡ NoSchedule flaw line
+    → text ≡ no_schedule flaw line → Replaying source input schedule outcome text
+unreplayed source input schedule x flaw line outcome text is cause so shown =
     inr (inr (with_run source schedule x (λ tree code run. IsStop GivesNone code input run outcome text) is
     (subst (λ (o : Outcome). IsStop GivesNone (code_of x.coded.code) input x.schedule o text) (sym so) (cause, shown))))
+
+-- a schedule that is refused, but not since its run hasn't ended, has an entry that can't be made
+stops : (code : Code) (input : List ℕ) (x : Schedule) (flaw : Flaw) (line : ℕ) → (flaw ≡ Unended → ⊥) → GivesNone code input x flaw line → HasStop code input x flaw line
+stops code input x Header line other cause = cause
+stops code input x Entry line other cause = cause
+stops code input x Processor line other cause = cause
+stops code input x Impossible line other cause = cause
+stops code input x Unended line other cause = absurd (other refl)
+stops code input x BehindEnd line other cause = cause
+
+-- the line in place of a picture of a run
+pub unpictured : (source input schedule : List ℕ) (x : Run) (flaw : Flaw) (line : ℕ) (outcome : Outcome) (text : List ℕ) → IsDescribedRun source schedule x → (flaw ≡ Unended → ⊥) → GivesNone (code_of x.coded.code) input x.schedule flaw line
+    → outcome ≡ NoSchedule flaw line → text ≡ no_schedule flaw line → IsLine HasStop source input schedule outcome text
+unpictured source input schedule x flaw line outcome text is other cause so shown =
+    inr (with_run source schedule x (λ tree code run. IsStop HasStop code input run outcome text) is
+    (subst (λ (o : Outcome). IsStop HasStop (code_of x.coded.code) input x.schedule o text) (sym so) (stops (code_of x.coded.code) input x.schedule flaw line other cause, shown)))
 
 -- what a schedule that leads to an answer leads to
 pub timed : (source input schedule : List ℕ) (x : Run) (answer : Answer) → IsDescribedRun source schedule x → IsReplay (code_of x.coded.code) input x.schedule answer

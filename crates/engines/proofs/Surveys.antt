@@ -3,6 +3,7 @@ use Rattle.std.proofs.Common.{ℕ, List, Option, Result, Ok, Err, inl, inr, subs
 use Rattle.std.specs.Prelude.{◌≡◌, ◌⊎◌, Bool, true, false}
 use Rattle.ast.specs.Program.{ProgramTree}
 use Rattle.ast.specs.ProgramView.{program as program_of}
+use Rattle.ast.specs.declared.rule.Rule.{Rule}
 use Rattle.pages.specs.Shown.{refused}
 use Rattle.codegen.specs.declared.reports.LoopReport.{LoopReport}
 use Rattle.pages.specs.declared.fault.EngineFault.{EngineFault}
@@ -17,26 +18,26 @@ use Rattle.engines.specs.Schedules.{IsNoCode}
 use Rattle.engines.specs.declared.survey.Survey.{Survey}
 use Rattle.engines.specs.declared.survey.Survey.TheVariants as survey
 
-pub no_code : (source : List ℕ) (number line : ℕ) (text : List ℕ) → IsRefusal source number line ⊎ HasLongCode source number line → text ≡ refused number line → IsNoCode source number line text
-no_code source number line text (inl refusal) shown = inl (record { refusal = refusal; shown = shown })
-no_code source number line text (inr long) shown =
-    inr (record { tree = long.tree; reads = long.reads; long = long.long; number_is = long.number_is; line_is = long.line_is; shown = shown })
+pub no_code : (source : List ℕ) (rule : Rule) (line : ℕ) (text : List ℕ) → IsRefusal source rule line ⊎ HasLongCode source rule line → text ≡ refused rule line → IsNoCode source rule line text
+no_code source rule line text (inl refusal) shown = inl (record { refusal = refusal; shown = shown })
+no_code source rule line text (inr long) shown =
+    inr (record { tree = long.tree; reads = long.reads; long = long.long; rule_is = long.rule_is; line_is = long.line_is; shown = shown })
 
 -- what is told of a refusal has no lines of loops
-of_refusal : (K L : ℕ → LoopReport → List ℕ → Type 0) (source : List ℕ) (number line : ℕ) (outcome : Outcome) (text : List ℕ) → IsRefusal source number line ⊎ HasLongCode source number line → TellsBy K (survey.Refused number line) outcome text → ListsBy L source outcome text
-of_refusal K L source number line Completed text is told = absurd told
-of_refusal K L source number line (Refused n l) text is told =
-    subst (λ m. IsNoCode source m l text) (sym told.0) (subst (λ m. IsNoCode source number m text) (sym told.1) (no_code source number line text is told.2))
-of_refusal K L source number line (Faulted fault l) text is told = absurd told
-of_refusal K L source number line (NoSchedule n l) text is told = absurd told
+of_refusal : (K L : ℕ → LoopReport → List ℕ → Type 0) (source : List ℕ) (rule : Rule) (line : ℕ) (outcome : Outcome) (text : List ℕ) → IsRefusal source rule line ⊎ HasLongCode source rule line → TellsBy K (survey.Refused rule line) outcome text → ListsBy L source outcome text
+of_refusal K L source rule line Completed text is told = absurd told
+of_refusal K L source rule line (Refused n l) text is told =
+    subst (λ m. IsNoCode source m l text) (sym told.0) (subst (λ m. IsNoCode source rule m text) (sym told.1) (no_code source rule line text is told.2))
+of_refusal K L source rule line (Faulted fault l) text is told = absurd told
+of_refusal K L source rule line (NoSchedule n l) text is told = absurd told
 
 listed_by : (L : ℕ → LoopReport → List ℕ → Type 0) (source : List ℕ) (s : Survey) (outcome : Outcome) (text : List ℕ) → IsSurvey source s → TellsBy L s outcome text → ListsBy L source outcome text
 listed_by L source (survey.Loops program reports) Completed text is told =
     record { tree = program_of program; reports = reports.items; reported = is; listing = told }
-listed_by L source (survey.Loops program reports) (Refused number line) text is told = absurd told
+listed_by L source (survey.Loops program reports) (Refused rule line) text is told = absurd told
 listed_by L source (survey.Loops program reports) (Faulted fault line) text is told = absurd told
-listed_by L source (survey.Loops program reports) (NoSchedule number line) text is told = absurd told
-listed_by L source (survey.Refused number line) outcome text is told = of_refusal L L source number line outcome text is told
+listed_by L source (survey.Loops program reports) (NoSchedule rule line) text is told = absurd told
+listed_by L source (survey.Refused rule line) outcome text is told = of_refusal L L source rule line outcome text is told
 
 pub of_survey_by : (L : ℕ → LoopReport → List ℕ → Type 0) (source : List ℕ) (s : Survey) (old new : Option (List ℕ)) (r : Result Outcome EngineFault) → IsSurvey source s
     → Works (TellsBy L s) old new r → Works (ListsBy L source) old new r
@@ -70,21 +71,21 @@ of_loops source tree reports old new (Err OutOfRange) is wrote = wrote
 of_loops source tree reports old new (Err NotStarted) is wrote = wrote
 of_loops source tree reports old new (Err Stuck) is wrote = wrote
 
-of_refused : (source : List ℕ) (number line : ℕ) (old new : Option (List ℕ)) (r : Result Outcome EngineFault) → IsRefusal source number line ⊎ HasLongCode source number line → Works (TellsLoops (survey.Refused number line)) old new r → StreamsList source old new r
-of_refused source number line old new (Ok outcome) is wrote = record { text = wrote.text; allowed = of_refusal Lines LinesWhy source number line outcome wrote.text is wrote.allowed; grown = wrote.grown }
-of_refused source number line old new (Err (Source e)) is wrote = wrote
-of_refused source number line old new (Err (Input e)) is wrote = wrote
-of_refused source number line old new (Err (Schedule e)) is wrote = wrote
-of_refused source number line old new (Err (Writing e)) is wrote =
-    inl (record { outcome = wrote.outcome; text = wrote.text; allowed = of_refusal Lines LinesWhy source number line wrote.outcome wrote.text is wrote.allowed; grown = wrote.grown })
-of_refused source number line old new (Err Memory) is wrote = inl wrote
-of_refused source number line old new (Err OutOfRange) is wrote = wrote
-of_refused source number line old new (Err NotStarted) is wrote = wrote
-of_refused source number line old new (Err Stuck) is wrote = wrote
+of_refused : (source : List ℕ) (rule : Rule) (line : ℕ) (old new : Option (List ℕ)) (r : Result Outcome EngineFault) → IsRefusal source rule line ⊎ HasLongCode source rule line → Works (TellsLoops (survey.Refused rule line)) old new r → StreamsList source old new r
+of_refused source rule line old new (Ok outcome) is wrote = record { text = wrote.text; allowed = of_refusal Lines LinesWhy source rule line outcome wrote.text is wrote.allowed; grown = wrote.grown }
+of_refused source rule line old new (Err (Source e)) is wrote = wrote
+of_refused source rule line old new (Err (Input e)) is wrote = wrote
+of_refused source rule line old new (Err (Schedule e)) is wrote = wrote
+of_refused source rule line old new (Err (Writing e)) is wrote =
+    inl (record { outcome = wrote.outcome; text = wrote.text; allowed = of_refusal Lines LinesWhy source rule line wrote.outcome wrote.text is wrote.allowed; grown = wrote.grown })
+of_refused source rule line old new (Err Memory) is wrote = inl wrote
+of_refused source rule line old new (Err OutOfRange) is wrote = wrote
+of_refused source rule line old new (Err NotStarted) is wrote = wrote
+of_refused source rule line old new (Err Stuck) is wrote = wrote
 
 of_survey_why : (source : List ℕ) (s : Survey) (old new : Option (List ℕ)) (r : Result Outcome EngineFault) → IsSurvey source s → StreamsWhy s old new r → StreamsList source old new r
 of_survey_why source (survey.Loops program reports) old new r is wrote = of_loops source (program_of program) reports.items old new r is wrote
-of_survey_why source (survey.Refused number line) old new r is wrote = of_refused source number line old new r is wrote
+of_survey_why source (survey.Refused rule line) old new r is wrote = of_refused source rule line old new r is wrote
 
 -- with what `--why` adds or without
 pub of_survey_as : (why : Bool) (source : List ℕ) (s : Survey) (old new : Option (List ℕ)) (r : Result Outcome EngineFault) → IsSurvey source s

@@ -83,7 +83,7 @@ Draws source p (Picture text) = IsDrawing source p (Picture text)
 Draws source p (Shown page) = IsRefusedPage page.outcome
   where
     IsRefusedPage : Outcome → Type 0
-    IsRefusedPage (Refused number line) = IsNoCode source number line page.text.items
+    IsRefusedPage (Refused rule line) = IsNoCode source rule line page.text.items
     IsRefusedPage _ = ⊥
 Draws source p (NoLoop count) = LacksLoop source p.number count
 Draws source p (TooDense count) = IsDrawing source p (TooDense count)

@@ -6,6 +6,7 @@ use Rattle.ast.specs.Meaning.{seq}
 use Rattle.ast.specs.Program.{ProgramTree}
 use Rattle.ast.specs.ProgramView.{program as program_of}
 use Rattle.ast.specs.declared.fault.Fault.TheVariants as kinds
+use Rattle.ast.specs.declared.rule.Rule.{Rule}
 use Rattle.handing.specs.Handing.{AppendsPart, Begins, FallsShort}
 use Rattle.profile_check.specs.Causes.{Refuses}
 use Rattle.profile_check.specs.Reads.{Reads}
@@ -33,15 +34,15 @@ pub record IsAccepted (source text : List ℕ) : Type 0 where
   pub reads : Reads source tree
   pub line : text ≡ accepted tree
 
--- the source reads as no program, and the number has its cause at the line
-pub record IsRefusal (source : List ℕ) (number line : ℕ) : Type 0 where
+-- the source reads as no program, and the rule is broken at the line
+pub record IsRefusal (source : List ℕ) (rule : Rule) (line : ℕ) : Type 0 where
   pub unread : (tree : ProgramTree) → Reads source tree → ⊥
-  pub cause : Refuses source number line
+  pub cause : Refuses source rule line
 
 -- a source is what its verdict says
 abbrev pub IsVerdict : List ℕ → Verdict → Type 0
 IsVerdict source (verdict.Accepted program) = Reads source (program_of program)
-IsVerdict source (verdict.Refused number line) = IsRefusal source number line
+IsVerdict source (verdict.Refused rule line) = IsRefusal source rule line
 
 -- some source has the verdict
 abbrev pub IsJudged : Verdict → Type 0
@@ -50,20 +51,20 @@ IsJudged v = (source : List ℕ) × IsVerdict source v
 -- what `check` may write of a verdict
 abbrev pub Tells : Verdict → Outcome → List ℕ → Type 0
 Tells (verdict.Accepted program) Completed text = text ≡ accepted (program_of program)
-Tells (verdict.Refused number line) (Refused n l) text = (n ≡ number) × (l ≡ line) × (text ≡ refused number line)
+Tells (verdict.Refused rule line) (Refused r l) text = (r ≡ rule) × (l ≡ line) × (text ≡ refused rule line)
 Tells _ _ text = ⊥
 
 -- the source is refused so, and this is its line
-pub record IsRefused (source : List ℕ) (number line : ℕ) (text : List ℕ) : Type 0 where
-  pub refusal : IsRefusal source number line
-  pub shown : text ≡ refused number line
+pub record IsRefused (source : List ℕ) (rule : Rule) (line : ℕ) (text : List ℕ) : Type 0 where
+  pub refusal : IsRefusal source rule line
+  pub shown : text ≡ refused rule line
 
 -- what `check` may write of a source text
 abbrev pub Checks : List ℕ → Outcome → List ℕ → Type 0
 Checks source Completed text = IsAccepted source text
-Checks source (Refused number line) text = IsRefused source number line text
+Checks source (Refused rule line) text = IsRefused source rule line text
 Checks source (Faulted fault line) text = ⊥
-Checks source (NoSchedule number line) text = ⊥
+Checks source (NoSchedule flaw line) text = ⊥
 
 -- the program's run on the input has this outcome, and this is shown of it
 pub record ShowsRun (store : Bool) (tree : ProgramTree) (input : List ℕ) (outcome : Outcome) (text : List ℕ) : Type 0 where
@@ -79,9 +80,9 @@ pub record IsRun (store : Bool) (source input : List ℕ) (outcome : Outcome) (t
 -- what `seq` may write of a source text and an input
 abbrev pub Runs : Bool → List ℕ → List ℕ → Outcome → List ℕ → Type 0
 Runs store source input Completed text = IsRun store source input Completed text
-Runs store source input (Refused number line) text = IsRefused source number line text
+Runs store source input (Refused rule line) text = IsRefused source rule line text
 Runs store source input (Faulted fault line) text = IsRun store source input (Faulted fault line) text
-Runs store source input (NoSchedule number line) text = ⊥
+Runs store source input (NoSchedule flaw line) text = ⊥
 
 -- the writer's bytes grew by a text that an outcome allows
 pub record Wrote (allows : Outcome → List ℕ → Type 0) (old new : Option (List ℕ)) (outcome : Outcome) : Type 0 where

@@ -5,8 +5,10 @@ use Rattle.ast.specs.Name.{trimmed}
 use Rattle.ast.specs.View.{letters}
 use Rattle.codegen.specs.declared.reports.LoopReport.{LoopReport}
 use Rattle.dependence.specs.PlanView.{plan_block}
+use Rattle.dependence.specs.Serial.{number_of}
 use Rattle.dependence.specs.declared.plan.LoopPlan.{LoopPlan}
 use Rattle.dependence.specs.declared.plan.LoopPlan.TheVariants.{Serial, Body}
+use Rattle.dependence.specs.declared.serial.SerialReason.{SerialReason}
 use Rattle.pages.specs.Shown.{at_line, byte_order}
 use Rattle.engines.specs.Advanced.{is_behind, spots}
 use Rattle.engines.specs.declared.spots.Spot.{Spot}
@@ -17,8 +19,8 @@ abbrev pub loop_words : ℕ → ℕ → List ℕ
 loop_words n line = codes "LOOP " ++ decimal n ++ codes " LINE " ++ decimal line
 
 -- a loop that stays serial, and why
-abbrev pub serial_line : ℕ → ℕ → ℕ → List ℕ
-serial_line n line reason = loop_words n line ++ codes " SERIAL " ++ decimal reason ++ 10 ∷ []
+abbrev pub serial_line : ℕ → ℕ → SerialReason → List ℕ
+serial_line n line reason = loop_words n line ++ codes " SERIAL " ++ decimal (number_of reason) ++ 10 ∷ []
 
 -- a loop that may be open, and how many events it has
 abbrev pub open_line : ℕ → ℕ → ℕ → List ℕ

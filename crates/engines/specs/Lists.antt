@@ -3,6 +3,8 @@ use Rattle.std.specs.Prelude.{◌≡◌, ◌⊎◌, ℕ, Bool, true, false, List
 use Rattle.std.specs.Io.KnownBytes.{Keeps}
 use Rattle.ast.specs.Program.{ProgramTree}
 use Rattle.ast.specs.ProgramView.{program as program_of}
+use Rattle.ast.specs.declared.rule.Rule.{Rule}
+use Rattle.ast.specs.declared.rule.Rule.TheVariants.{LongCode}
 use Rattle.codegen.specs.Program.{IsCompiled, HasLongCode as HasNoCode}
 use Rattle.codegen.specs.Reports.{Reports}
 use Rattle.codegen.specs.declared.reports.LoopReport.{LoopReport}
@@ -29,22 +31,22 @@ pub record IsReported (source : List ℕ) (tree : ProgramTree) (reports : List L
   pub are : Reports tree reports
 
 -- the source reads as a program whose code would be too long
-pub record HasLongCode (source : List ℕ) (number line : ℕ) : Type 0 where
+pub record HasLongCode (source : List ℕ) (rule : Rule) (line : ℕ) : Type 0 where
   pub tree : ProgramTree
   pub reads : Reads source tree
   pub long : HasNoCode tree
-  pub number_is : number ≡ 61
+  pub rule_is : rule ≡ LongCode
   pub line_is : line ≡ 0
 
 -- a source is what a survey of its loops says
 abbrev pub IsSurvey : List ℕ → Survey → Type 0
 IsSurvey source (survey.Loops program reports) = IsReported source (program_of program) reports.items
-IsSurvey source (survey.Refused number line) = IsRefusal source number line ⊎ HasLongCode source number line
+IsSurvey source (survey.Refused rule line) = IsRefusal source rule line ⊎ HasLongCode source rule line
 
 -- what `list` may write of a survey, of each loop such lines
 abbrev pub TellsBy : (ℕ → LoopReport → List ℕ → Type 0) → Survey → Outcome → List ℕ → Type 0
 TellsBy lines (survey.Loops program reports) Completed text = ListingOf lines 1 reports.items text
-TellsBy lines (survey.Refused number line) (Refused n l) text = (n ≡ number) × (l ≡ line) × (text ≡ refused number line)
+TellsBy lines (survey.Refused rule line) (Refused r l) text = (r ≡ rule) × (l ≡ line) × (text ≡ refused rule line)
 TellsBy lines _ _ text = ⊥
 
 -- the source reads as a program that has code, and this lists its loops
@@ -57,9 +59,9 @@ pub record IsListedBy (lines : ℕ → LoopReport → List ℕ → Type 0) (sour
 -- what `list` may write of a source text, of each loop such lines
 abbrev pub ListsBy : (ℕ → LoopReport → List ℕ → Type 0) → List ℕ → Outcome → List ℕ → Type 0
 ListsBy lines source Completed text = IsListedBy lines source text
-ListsBy lines source (Refused number line) text = IsNoCode source number line text
+ListsBy lines source (Refused rule line) text = IsNoCode source rule line text
 ListsBy lines source (Faulted fault line) text = ⊥
-ListsBy lines source (NoSchedule number line) text = ⊥
+ListsBy lines source (NoSchedule flaw line) text = ⊥
 
 -- what `list` may write of a survey without `--why`
 abbrev pub TellsLoops : Survey → Outcome → List ℕ → Type 0
@@ -75,7 +77,7 @@ Lists = ListsBy Lines
 -- refused a beginning of the lines of some loops, or of a refusal's
 abbrev pub StreamsWhy : Survey → (old new : Option (List ℕ)) → Result Outcome EngineFault → Type 0
 StreamsWhy (survey.Loops program reports) old new result = StreamsLoops reports.items old new result
-StreamsWhy (survey.Refused number line) old new result = Works (TellsLoops (survey.Refused number line)) old new result
+StreamsWhy (survey.Refused rule line) old new result = Works (TellsLoops (survey.Refused rule line)) old new result
 
 -- the source reads as a program that has code, and a writer's bytes grew by so much of the lines of
 -- some of its loops, from the first on

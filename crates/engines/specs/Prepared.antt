@@ -3,6 +3,8 @@
 use Rattle.std.specs.Prelude.{◌≡◌, ◌⊎◌, ℕ, List}
 use Rattle.ast.specs.Program.{ProgramTree}
 use Rattle.ast.specs.ProgramView.{program as program_of}
+use Rattle.ast.specs.declared.rule.Rule.{Rule}
+use Rattle.ast.specs.declared.rule.Rule.TheVariants.{LongCode}
 use Rattle.codegen.specs.Headline.{Headline}
 use Rattle.codegen.specs.Program.{HasLongCode, IsCompiled}
 use Rattle.codegen.specs.Reports.{Reports}
@@ -11,6 +13,7 @@ use Rattle.machine.specs.CodeView.{code_of}
 use Rattle.profile_check.specs.Reads.{Reads}
 use Rattle.schedules.specs.Refusals.{Refuses}
 use Rattle.schedules.specs.Schedules.{SchedText, Schedule}
+use Rattle.schedules.specs.declared.flaw.Flaw.{Flaw}
 use Rattle.pages.specs.Shown.{no_schedule, refused}
 use Rattle.pages.specs.declared.outcomes.Outcome.{Outcome}
 use Rattle.pages.specs.declared.outcomes.Outcome.TheVariants.{Refused as RefusedWith, NoSchedule}
@@ -36,38 +39,38 @@ WithRun source schedule P =
     WithCode source (λ tree code. (x : Schedule) × SchedText x schedule × P tree code x)
 
 -- a source reads as a program whose code would be too long, which is refused so
-pub record IsLong (source : List ℕ) (number line : ℕ) (text : List ℕ) : Type 0 where
+pub record IsLong (source : List ℕ) (rule : Rule) (line : ℕ) (text : List ℕ) : Type 0 where
   pub tree : ProgramTree
   pub reads : Reads source tree
   pub long : HasLongCode tree
-  pub number_is : number ≡ 61
+  pub rule_is : rule ≡ LongCode
   pub line_is : line ≡ 0
-  pub shown : text ≡ refused number line
+  pub shown : text ≡ refused rule line
 
 -- a source is refused, by its text or for its code
-abbrev pub IsNoCode : List ℕ → ℕ → ℕ → List ℕ → Type 0
-IsNoCode source number line text =
-    IsRefused source number line text ⊎ IsLong source number line text
+abbrev pub IsNoCode : List ℕ → Rule → ℕ → List ℕ → Type 0
+IsNoCode source rule line text =
+    IsRefused source rule line text ⊎ IsLong source rule line text
 
 -- the line that is shown of a source which has no code
 abbrev pub IsUncoded : (source : List ℕ) → Outcome → List ℕ → Type 0
-IsUncoded source (RefusedWith number line) text = IsNoCode source number line text
+IsUncoded source (RefusedWith rule line) text = IsNoCode source rule line text
 IsUncoded source _ text = ⊥
 
 -- the line that is shown where a source has no code, or the text is no schedule's
 abbrev pub IsNoRun : (source schedule : List ℕ) → Outcome → List ℕ → Type 0
-IsNoRun source schedule (NoSchedule number line) text =
-    WithCode source (λ tree code. Refuses schedule number line) × (text ≡ no_schedule number line)
+IsNoRun source schedule (NoSchedule flaw line) text =
+    WithCode source (λ tree code. Refuses schedule flaw line) × (text ≡ no_schedule flaw line)
 IsNoRun source schedule outcome text = IsUncoded source outcome text
 
--- why a schedule is refused for code and an input: with this number, at this line
+-- why a schedule is refused for code and an input: with this flaw, at this line
 abbrev pub Reason : Type 1
-Reason = Code → List ℕ → Schedule → ℕ → ℕ → Type 0
+Reason = Code → List ℕ → Schedule → Flaw → ℕ → Type 0
 
 -- the line that is shown where a run of code is refused so for what its schedule says
 abbrev pub IsStop : Reason → Code → (input : List ℕ) → Schedule → Outcome → List ℕ → Type 0
-IsStop why code input x (NoSchedule number line) text =
-    why code input x number line × (text ≡ no_schedule number line)
+IsStop why code input x (NoSchedule flaw line) text =
+    why code input x flaw line × (text ≡ no_schedule flaw line)
 IsStop why code input x _ text = ⊥
 
 -- the line that is shown where there is no run, or where its schedule is refused so

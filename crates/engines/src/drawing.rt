@@ -11,7 +11,7 @@ use crate::drawn::Drawn;
 use crate::survey::{Survey, surveyed};
 use ast::{Line, Node, Program};
 use codegen::LoopReport;
-use dependence::{LoopPlan, PlanStmt};
+use dependence::{LoopPlan, PlanStmt, SerialReason};
 use loop_tree::{LoopTree, ScalarSet, loops};
 use pages::refused;
 use pictures::{
@@ -113,7 +113,7 @@ fn serial<'a>(
     tree: &LoopTree<'_>,
     reports: &[LoopReport],
     frame: Frame,
-    reason: u8,
+    reason: SerialReason,
 ) -> Result<LoopPicture<'a>, AllocError>
     ensures frame { IfOk result (λ p. (p.number ≡ frame.number) × (p.line ≡ frame.line) ×
         (p.columns ≡ frame.columns)) }

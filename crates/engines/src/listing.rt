@@ -12,7 +12,7 @@ ghost use Rattle.engines.specs.declared.spots.Spot.TheVariants.{Behind};
 use crate::spots::{Spot, add_spots};
 use ast::{Line, Name};
 use codegen::LoopReport;
-use dependence::{LoopPlan, PlanStmt};
+use dependence::{LoopPlan, PlanStmt, SerialReason};
 use explanations::append_number;
 use pages::append_line;
 use std::alloc::{AllocError, Global};
@@ -28,12 +28,17 @@ fn append_loop(out: &mut Vec<u8>, number: usize, line: Line) -> Result<(), Alloc
 }
 
 /// Appends the line of a loop that stays serial.
-fn append_serial(out: &mut Vec<u8>, number: usize, line: Line, reason: u8) -> Result<(), AllocError>
+fn append_serial(
+    out: &mut Vec<u8>,
+    number: usize,
+    line: Line,
+    reason: SerialReason,
+) -> Result<(), AllocError>
     ensures { OnOk result (out.new.items ≡ out.old.items ++ spec.serial_line number line reason) }
 {
     append_loop(out, number, line)?;
     out.extend_from_slice(b" SERIAL ")?;
-    append_number(out, reason)?;
+    append_number(out, reason.number())?;
     out.extend_from_slice(b"\n")
 }
 

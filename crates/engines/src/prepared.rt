@@ -13,7 +13,7 @@ use ast::Program;
 use codegen::{CompileRefusal, Compiled, LoopReport, compile};
 use machine::Code;
 use pages::{Outcome, Page, append_no_schedule, refused};
-use schedules::{ReplayRefusal, Schedule};
+use schedules::{Flaw, ReplayRefusal, Schedule};
 use std::alloc::{AllocError, Global};
 
 /// A program with its code, and the reports of its loops.
@@ -54,15 +54,15 @@ pub enum Described {
 /// # Errors
 ///
 /// `AllocError` where memory is refused.
-pub fn unscheduled(alloc: Global, number: u8, line: usize) -> Result<Page, AllocError>
-    ensures { IfOk result (λ page. (page.outcome ≡ outcomes.NoSchedule number line)
-        × (page.text.items ≡ no_schedule number line)) }
+pub fn unscheduled(alloc: Global, flaw: Flaw, line: usize) -> Result<Page, AllocError>
+    ensures { IfOk result (λ page. (page.outcome ≡ outcomes.NoSchedule flaw line)
+        × (page.text.items ≡ no_schedule flaw line)) }
 {
     let mut text = Vec::new(alloc);
-    append_no_schedule(&mut text, number, line)?;
+    append_no_schedule(&mut text, flaw, line)?;
     Ok(Page {
         text,
-        outcome: Outcome::NoSchedule { number, line },
+        outcome: Outcome::NoSchedule { number: flaw, line },
     })
 }
 

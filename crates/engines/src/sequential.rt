@@ -11,7 +11,7 @@ ghost use Rattle.engines.specs.Engines.{FollowsRecords, Streaming, Works, engine
 
 use crate::note::Note;
 use crate::verdict::{Verdict, judged};
-use ast::{End, Fault, Line, Program, Store};
+use ast::{End, Fault, Line, Program, Rule, Store};
 use interpreter::{RunEnd, RunFault, run_onto};
 use pages::{EngineFault, Outcome, Page, append_end, outcome, refused, rows};
 use remarks::Beyond;
@@ -119,14 +119,14 @@ fn run_program<W: Write>(
 /// Writes the line of a refusal.
 fn refuse<W: Write>(
     alloc: Global,
-    number: u8,
+    rule: Rule,
     line: Line,
     out: &mut W,
 ) -> Result<Outcome, EngineFault>
-    ensures { Works (λ outcome text. (outcome ≡ Outcome.Refused number line)
-        × (text ≡ refused number line)) (W.contents out.old) (W.contents out.new) result }
+    ensures { Works (λ outcome text. (outcome ≡ Outcome.Refused rule line)
+        × (text ≡ refused rule line)) (W.contents out.old) (W.contents out.new) result }
 {
-    let page = refused(alloc, number, line)?;
+    let page = refused(alloc, rule, line)?;
     page.write(out)
 }
 

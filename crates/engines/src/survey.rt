@@ -8,7 +8,7 @@ ghost use Rattle.engines.specs.Lists.{IsSurvey, TellsLoops};
 
 use crate::listing::listing;
 use crate::verdict::{Verdict, judged};
-use ast::{Line, Program};
+use ast::{Line, Program, Rule};
 use codegen::{CompileRefusal, LoopReport, compile};
 use pages::{Outcome, Page, refused};
 use std::alloc::{AllocError, Global};
@@ -23,7 +23,7 @@ pub enum Survey {
     },
     /// The source is refused, by its text or for its code.
     Refused {
-        number: u8,
+        number: Rule,
         line: Line,
     },
 }

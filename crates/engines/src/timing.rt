@@ -12,11 +12,8 @@ use bstr::ByteSlice;
 use pages::append_end;
 use pictures::{Ending, Gathered, timeline as draw_run};
 use replay::replay;
-use schedules::ReplayRefusal;
+use schedules::{Flaw, ReplayRefusal};
 use std::alloc::{AllocError, Global};
-
-/// The number that says that a run hasn't ended behind a schedule's last entry.
-const NOT_ENDED: u8 = 55;
 
 /// How a run ended, in words, by the line that says so, if one does.
 fn words_of(alloc: Global, told: &[u8]) -> Result<Vec<u8>, AllocError> {
@@ -103,13 +100,10 @@ pub fn timeline_texts(
             let end = Some(answer.end);
             Ok(Drawn::Picture(text_of(alloc, name, &run, input, end)?))
         }
-        Err(ReplayRefusal::Refused { number, line }) => {
-            if number == NOT_ENDED {
-                Ok(Drawn::Picture(text_of(alloc, name, &run, input, None)?))
-            } else {
-                Ok(Drawn::Shown(unscheduled(alloc, number, line)?))
-            }
-        }
+        Err(ReplayRefusal::Refused { number, line }) => match number {
+            Flaw::Unended => Ok(Drawn::Picture(text_of(alloc, name, &run, input, None)?)),
+            _ => Ok(Drawn::Shown(unscheduled(alloc, number, line)?)),
+        },
         Err(ReplayRefusal::Memory) => Err(AllocError),
     }
 }

@@ -3,7 +3,7 @@
 ghost use Rattle.std.specs.Prelude.{IfOk};
 ghost use Rattle.engines.specs.Engines.{IsVerdict};
 
-use ast::{Line, Program, Refusal};
+use ast::{Line, Program, Refusal, Rule};
 use profile_check::program;
 use std::alloc::{AllocError, Global};
 
@@ -13,7 +13,7 @@ pub enum Verdict {
     /// A program of the profile.
     Accepted(Program),
     /// None: the first rule that it breaks, and the line.
-    Refused { number: u8, line: Line },
+    Refused { number: Rule, line: Line },
 }
 
 /// Judges a source.

@@ -7,7 +7,7 @@ mod faults;
 mod lines;
 mod profile;
 mod reasons;
-mod schedules;
+mod replays;
 mod statements;
 
 use crate::fault::fault_name;
@@ -146,7 +146,7 @@ pub fn refusal(number: u8) -> Option<Explanation>
         0..=19 => lines::page(number),
         20..=29 => statements::page(number),
         30..=49 => profile::page(number),
-        _ => schedules::page(number),
+        _ => replays::page(number),
     }
 }
 

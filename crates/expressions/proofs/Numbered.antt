@@ -1,4 +1,4 @@
--- Each fault that reading gives is at the line and has a refusal's number: with the room that it
+-- Each fault that reading gives is at the line and of a rule of statements: with the room that it
 -- has, reading comes to an end.
 use Rattle.std.proofs.Common.{◌≡◌, ℕ, zero, suc, pos, ◌+◌, ◌-◌, ◌*◌, ◌<◌, ◌≤◌, Bool, true, false, cond, eqb, leb, ltb, List, [], ◌∷◌, ◌++◌, length, take, drop, Option, Some, None, Result, Ok, Err, refl, ap, subst, arith}
 use Rattle.std.specs.Prelude.{codes}
@@ -14,6 +14,9 @@ use Rattle.ast.specs.declared.expression.Prefix.{Prefix}
 use Rattle.expressions.specs.Answers.{refuse}
 use Rattle.expressions.specs.Characters.{is_digit, is_alphanumeric, begins_digit, begins_letter, after, value, constant_limit, longest_name}
 use Rattle.ast.specs.Spelling.{prefix_spelling, spelling}
+use Rattle.ast.specs.Rule.{number_of}
+use Rattle.ast.specs.declared.rule.Rule.{Rule}
+use Rattle.ast.specs.declared.rule.Rule.TheVariants.{UnendedText, RealConstant, LargeConstant, LongName, Malformed, Deep}
 use Rattle.expressions.specs.Levels.{relation}
 use Rattle.expressions.specs.Grammar.{reference_to, depth_limit}
 use Rattle.expressions.specs.Real.{begins_real}
@@ -24,9 +27,9 @@ use Rattle.expressions.proofs.Tools.{after_law}
 
 -- a fault of the text of a statement that is cut into pieces
 pub record IsFault (line : ℕ) (fault : Break) : Type 0 where
-  pub low : 20 ≤ fault.number
-  pub high : fault.number ≤ 27
-  pub whole : fault.number ≡ 21 → ⊥
+  pub low : 20 ≤ number_of fault.rule
+  pub high : number_of fault.rule ≤ 27
+  pub whole : fault.rule ≡ UnendedText → ⊥
   pub at : fault.line ≡ line
 
 abbrev pub Numbered : {X : Type 0} → ℕ → Result X Break → Type 0
@@ -45,15 +48,15 @@ pub either : {X : Type 0} (line : ℕ) (b : Bool) (r s : Result X Break) → (b 
 either line true r s h k = h refl
 either line false r s h k = k refl
 
-pub of_number : (line n : ℕ) → 20 ≤ n → n ≤ 27 → (n ≡ 21 → ⊥) → IsFault line (record { number = n; line = line })
-of_number line n low high whole = record { low = low; high = high; whole = whole; at = refl }
+pub of_rule : (line : ℕ) (rule : Rule) → 20 ≤ number_of rule → number_of rule ≤ 27 → (rule ≡ UnendedText → ⊥) → IsFault line (record { rule = rule; line = line })
+of_rule line rule low high whole = record { low = low; high = high; whole = whole; at = refl }
 
-pub misplaced_numbered : (line : ℕ) (t : List ℕ) → IsFault line (record { number = misplaced t; line = line })
+pub misplaced_numbered : (line : ℕ) (t : List ℕ) → IsFault line (record { rule = misplaced t; line = line })
 misplaced_numbered line t = go (begins_real t)
   where
-    go : (b : Bool) → IsFault line (record { number = cond b 22 25; line = line })
-    go true = of_number line 22 (omega arith) (omega arith) (λ e. omega arith)
-    go false = of_number line 25 (omega arith) (omega arith) (λ e. omega arith)
+    go : (b : Bool) → IsFault line (record { rule = cond b RealConstant Malformed; line = line })
+    go true = of_rule line RealConstant (omega arith) (omega arith) (λ e. cc)
+    go false = of_rule line Malformed (omega arith) (omega arith) (λ e. cc)
 
 pub wanted_numbered : (line : ℕ) (mark t : List ℕ) → Numbered line (wanted_at line mark t)
 wanted_numbered line mark t = go (after mark t)
@@ -68,18 +71,18 @@ end_numbered line t = either line (eqb (length t) 0) (Ok []) (refuse line (mispl
 pub name_numbered : (line : ℕ) (t : List ℕ) → Numbered line (name_at line t)
 name_numbered line t =
     let n = prefix_len is_alphanumeric t in
-    either line (begins_letter t) (cond (leb n longest_name) (Ok (padded (take n t), drop n t)) (refuse line 24)) (refuse line 25)
-    (λ _. either line (leb n longest_name) (Ok (padded (take n t), drop n t)) (refuse line 24) (λ _. tt) (λ _. of_number line 24 (omega arith) (omega arith) (λ e. omega arith)))
-    (λ _. of_number line 25 (omega arith) (omega arith) (λ e. omega arith))
+    either line (begins_letter t) (cond (leb n longest_name) (Ok (padded (take n t), drop n t)) (refuse line LongName)) (refuse line Malformed)
+    (λ _. either line (leb n longest_name) (Ok (padded (take n t), drop n t)) (refuse line LongName) (λ _. tt) (λ _. of_rule line LongName (omega arith) (omega arith) (λ e. cc)))
+    (λ _. of_rule line Malformed (omega arith) (omega arith) (λ e. cc))
 
 literal_numbered : (line : ℕ) (t : List ℕ) → Numbered line (literal_at line t)
 literal_numbered line t =
     let n = prefix_len is_digit t in
-    either line (begins_real t) (refuse line 22) (cond (begins_digit t) (constant_at line t >>= λ x. Ok (Some x)) (Ok (truth_at t)))
-    (λ _. of_number line 22 (omega arith) (omega arith) (λ e. omega arith))
+    either line (begins_real t) (refuse line RealConstant) (cond (begins_digit t) (constant_at line t >>= λ x. Ok (Some x)) (Ok (truth_at t)))
+    (λ _. of_rule line RealConstant (omega arith) (omega arith) (λ e. cc))
     (λ _. either line (begins_digit t) (constant_at line t >>= λ x. Ok (Some x)) (Ok (truth_at t))
     (λ _. bind line (constant_at line t) (λ x. Ok (Some x))
-    (either line (ltb (value (take n t)) constant_limit) (Ok (constant (pos (value (take n t))), drop n t)) (refuse line 23) (λ _. tt) (λ _. of_number line 23 (omega arith) (omega arith) (λ e. omega arith)))
+    (either line (ltb (value (take n t)) constant_limit) (Ok (constant (pos (value (take n t))), drop n t)) (refuse line LargeConstant) (λ _. tt) (λ _. of_rule line LargeConstant (omega arith) (omega arith) (λ e. cc)))
     (λ x e. tt))
     (λ _. tt))
 
@@ -198,4 +201,4 @@ whole_numbered line t = bind line (front_at line t) (ended line) (front_numbered
 pub expression_numbered : (line : ℕ) (t : List ℕ) → Numbered line (expression_at line t)
 expression_numbered line t =
     bind line (whole_at line t) (shallow line) (whole_numbered line t)
-    (λ e h. either line (leb (depth e) depth_limit) (Ok e) (refuse line 26) (λ _. tt) (λ _. of_number line 26 (omega arith) (omega arith) (λ e. omega arith)))
+    (λ e h. either line (leb (depth e) depth_limit) (Ok e) (refuse line Deep) (λ _. tt) (λ _. of_rule line Deep (omega arith) (omega arith) (λ e. cc)))

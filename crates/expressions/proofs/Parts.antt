@@ -29,13 +29,13 @@ spent_at meant e room line none is ends = subst (λ (n : ℕ). Fails e (meant n)
 pub fails_at : {X Y Z : Type 0} (view : X → Y) (r : Result X Refusal) (e : Refusal) (part : Result Z Break) (next : Z → Result Y Break) (meant : Result Y Break) → IsErrAnd r (λ x. x ≡ e) → Fails e part → meant ≡ (part >>= next) → Gives view r meant
 fails_at view (Ok x) e part next meant h f whole = absurd h
 fails_at view (Err Memory) e part next meant h f whole = tt
-fails_at {Z = Z} view (Err (Refused number line)) e part next meant h f whole =
+fails_at {Z = Z} view (Err (Refused rule line)) e part next meant h f whole =
     whole ∙ ap (λ (p : Result Z Break). p >>= next) (subst (λ (x : Refusal). Fails x part) (sym h) f)
 
 pub wants_memory : {X Y : Type 0} (view : X → Y) (r : Result X Refusal) (meant : Result Y Break) → IsErrAnd r (λ x. x ≡ Memory) → Gives view r meant
 wants_memory view (Ok x) meant h = absurd h
 wants_memory view (Err Memory) meant h = tt
-wants_memory view (Err (Refused number line)) meant h = absurd cc
+wants_memory view (Err (Refused rule line)) meant h = absurd cc
 
 -- the whole goes on behind a part
 pub goes_on : {Y Z : Type 0} (part : Result Z Break) (x : Z) (next : Z → Result Y Break) (meant : Result Y Break) → part ≡ Ok x → meant ≡ (part >>= next) → meant ≡ next x

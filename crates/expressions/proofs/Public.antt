@@ -8,7 +8,8 @@ use Rattle.ast.specs.View.{term}
 use Rattle.ast.specs.declared.expression.Expr.{Expr}
 use Rattle.ast.specs.declared.refusal.Refusal.{Refusal}
 use Rattle.ast.specs.declared.refusal.Refusal.TheVariants.{Memory, Refused}
-use Rattle.expressions.specs.Answers.{refuse, IsNumber}
+use Rattle.ast.specs.declared.rule.Rule.TheVariants.{Deep}
+use Rattle.expressions.specs.Answers.{refuse, IsOfStatement}
 use Rattle.expressions.specs.Grammar.{IsExpression, depth_limit}
 use Rattle.expressions.specs.Reading.{whole_at, shallow, expression_at}
 use Rattle.expressions.proofs.Complete.{whole_again}
@@ -19,7 +20,7 @@ use Rattle.expressions.proofs.Tools.{done, bind_ok, then_reads, ok_is, on_true, 
 expression_sound : (line : ℕ) (t : List ℕ) (e : Term) → expression_at line t ≡ Ok e → IsExpression t e
 expression_sound line t e h =
     let b = bind_ok (whole_at line t) (shallow line) e h in
-    elim (choice (leb (depth b.0) depth_limit) (Ok b.0) (refuse line 26) (Ok e) b.2) [
+    elim (choice (leb (depth b.0) depth_limit) (Ok b.0) (refuse line Deep) (Ok e) b.2) [
       | on_true low f ↦ subst (λ (x : Term). IsExpression t x) (ok_is b.0 e f) (whole_sound line t b.0 b.1, leb-true (depth b.0) depth_limit low)
       | on_false deep f ↦ absurd cc
     ]
@@ -34,9 +35,9 @@ expression_found line t (Err f) h = tt
 pub expression_only : (line : ℕ) (t : List ℕ) (r : Result Expr Refusal) → Gives term r (expression_at line t) → (e : Term) → IsExpression t e → Gives term r (Ok e)
 expression_only line t r h e is = subst (λ (x : Result Term Break). Gives term r x) (expression_again line t e is) h
 
-pub expression_refused : (line : ℕ) (t : List ℕ) (r : Result Expr Refusal) → Gives term r (expression_at line t) → IfErr r (Says (λ number at. (at ≡ line) × IsNumber number × ((e : Term) → IsExpression t e → ⊥)))
+pub expression_refused : (line : ℕ) (t : List ℕ) (r : Result Expr Refusal) → Gives term r (expression_at line t) → IfErr r (Says (λ rule at. (at ≡ line) × IsOfStatement rule × ((e : Term) → IsExpression t e → ⊥)))
 expression_refused line t (Ok e) h = tt
 expression_refused line t (Err Memory) h = tt
-expression_refused line t (Err (Refused number at)) h =
-    let f = fault line (expression_at line t) (record { number = number; line = at }) (expression_numbered line t) h in
-    (f.at, (f.low, f.high), λ e is. let both : done e ≡ Err (record { number = number; line = at }) = sym (expression_again line t e is) ∙ h in absurd cc)
+expression_refused line t (Err (Refused rule at)) h =
+    let f = fault line (expression_at line t) (record { rule = rule; line = at }) (expression_numbered line t) h in
+    (f.at, (f.low, f.high), λ e is. let both : done e ≡ Err (record { rule = rule; line = at }) = sym (expression_again line t e is) ∙ h in absurd cc)

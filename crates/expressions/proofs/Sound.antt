@@ -15,6 +15,7 @@ use Rattle.ast.specs.declared.expression.Prefix.TheVariants.{Plus, Minus, Not}
 use Rattle.expressions.specs.Answers.{refuse}
 use Rattle.expressions.specs.Characters.{is_digit, is_letter, is_alphanumeric, begins_digit, begins_letter, after, value, constant_limit, longest_name}
 use Rattle.ast.specs.Spelling.{prefix_spelling, spelling}
+use Rattle.ast.specs.declared.rule.Rule.TheVariants.{RealConstant, LargeConstant, LongName, Malformed}
 use Rattle.expressions.specs.Levels.{top, relation, level_of, left_level, right_level, prefix_level, operand_level, truth_spelling}
 use Rattle.expressions.specs.Real.{begins_real}
 use Rattle.expressions.specs.Grammar.{IsName, IsAccess, reference_to, Spells, AreSubscripts, AreFurther}
@@ -54,7 +55,7 @@ digits_some (c ∷ cs) h = front_some is_digit c cs h
 constant_sound : (line level : ℕ) (t : List ℕ) (x : Term × List ℕ) → begins_digit t ≡ true → constant_at line t ≡ Ok x → ReadsAs level t x.0 x.1
 constant_sound line level t x h e =
     let n = prefix_len is_digit t in
-    elim (choice (ltb (value (take n t)) constant_limit) (Ok (constant (pos (value (take n t))), drop n t)) (refuse line 23) (Ok x) e) [
+    elim (choice (ltb (value (take n t)) constant_limit) (Ok (constant (pos (value (take n t))), drop n t)) (refuse line LargeConstant) (Ok x) e) [
       | on_true small is ↦
           subst (λ (y : Term × List ℕ). ReadsAs level t y.0 y.1) (ok_is (constant (pos (value (take n t))), drop n t) x is)
           (take n t, sym (take-append-drop n t), (digits_some t h, front_passes is_digit t, ltb-true _ _ small, refl))
@@ -74,8 +75,8 @@ name_sound line t x e = go t e
     go [] e = absurd cc
     go (c ∷ cs) e =
         let n = prefix_len is_alphanumeric (c ∷ cs) in
-        elim (choice (is_letter c) (cond (leb n longest_name) (Ok (padded (take n (c ∷ cs)), drop n (c ∷ cs))) (refuse line 24)) (refuse line 25) (Ok x) e) [
-          | on_true letter f ↦ elim (choice (leb n longest_name) (Ok (padded (take n (c ∷ cs)), drop n (c ∷ cs))) (refuse line 24) (Ok x) f) [
+        elim (choice (is_letter c) (cond (leb n longest_name) (Ok (padded (take n (c ∷ cs)), drop n (c ∷ cs))) (refuse line LongName)) (refuse line Malformed) (Ok x) e) [
+          | on_true letter f ↦ elim (choice (leb n longest_name) (Ok (padded (take n (c ∷ cs)), drop n (c ∷ cs))) (refuse line LongName) (Ok x) f) [
             | on_true short is ↦
                 subst (λ (y : List ℕ × List ℕ). (u : List ℕ) × (c ∷ cs ≡ u ++ y.1) × IsName y.0 u) (ok_is (padded (take n (c ∷ cs)), drop n (c ∷ cs)) x is)
                 (take n (c ∷ cs), sym (take-append-drop n (c ∷ cs)), (fits c cs n refl letter, front_passes is_alphanumeric (c ∷ cs), omega (arith, leb-true _ _ short, length-take n (c ∷ cs)), refl))
@@ -97,7 +98,7 @@ truth_sound level t x e = go (after (truth_spelling true) t) refl (after (truth_
 
 literal_sound : (line level : ℕ) (t : List ℕ) (x : Term × List ℕ) → literal_at line t ≡ Ok (Some x) → ReadsAs level t x.0 x.1
 literal_sound line level t x e =
-    elim (choice (begins_real t) (refuse line 22) (cond (begins_digit t) (constant_at line t >>= λ y. Ok (Some y)) (Ok (truth_at t))) (Ok (Some x)) e) [
+    elim (choice (begins_real t) (refuse line RealConstant) (cond (begins_digit t) (constant_at line t >>= λ y. Ok (Some y)) (Ok (truth_at t))) (Ok (Some x)) e) [
       | on_true real is ↦ absurd cc
       | on_false other f ↦ elim (choice (begins_digit t) (constant_at line t >>= λ y. Ok (Some y)) (Ok (truth_at t)) (Ok (Some x)) f) [
         | on_true digit is ↦

@@ -1,4 +1,4 @@
--- Reading from left to right, with the number of the first fault that is met, at a line.
+-- Reading from left to right, with the rule of the first fault that is met, at a line.
 use Rattle.std.specs.Prelude.{ℕ, zero, suc, pos, ◌+◌, ◌-◌, ◌*◌, nat_lt, nat_le, ◌==◌, if◌then◌else◌, true, false, List, [], ◌∷◌, ◌++◌, length, take, drop, Option, Some, None, Result, Ok, codes}
 use Rattle.std.specs.List.{prefix_len}
 use Rattle.ast.specs.Answers.{Break}
@@ -13,24 +13,26 @@ use Rattle.expressions.specs.Answers.{refuse}
 use Rattle.expressions.specs.Characters.{is_digit, is_alphanumeric, begins_digit, begins_letter, after, value, constant_limit, longest_name}
 use Rattle.expressions.specs.Grammar.{reference_to, depth_limit}
 use Rattle.ast.specs.Spelling.{prefix_spelling, spelling}
+use Rattle.ast.specs.declared.rule.Rule.{Rule}
+use Rattle.ast.specs.declared.rule.Rule.TheVariants.{RealConstant, LargeConstant, LongName, Malformed, Deep, LargeProgram}
 use Rattle.expressions.specs.Levels.{relation, top, truth_spelling}
 use Rattle.expressions.specs.Real.{begins_real}
 
 -- what stands after an operand, a name, an item or a parenthesis, where it may not stand
-abbrev pub misplaced : List ℕ → ℕ
-misplaced t = if begins_real t then 22 else 25
+abbrev pub misplaced : List ℕ → Rule
+misplaced t = if begins_real t then RealConstant else Malformed
 
 -- a constant and the text after it: the digits, as many as there are
 abbrev pub constant_at : ℕ → List ℕ → Result (Term × List ℕ) Break
 constant_at line t =
     let n = prefix_len is_digit t in
-    if nat_lt (value (take n t)) constant_limit then Ok (constant (pos (value (take n t))), drop n t) else refuse line 23
+    if nat_lt (value (take n t)) constant_limit then Ok (constant (pos (value (take n t))), drop n t) else refuse line LargeConstant
 
 -- a name and the text after it: letters and digits, as many as there are
 abbrev pub name_at : ℕ → List ℕ → Result (List ℕ × List ℕ) Break
 name_at line t =
     let n = prefix_len is_alphanumeric t in
-    if begins_letter t then (if nat_le n longest_name then Ok (padded (take n t), drop n t) else refuse line 24) else refuse line 25
+    if begins_letter t then (if nat_le n longest_name then Ok (padded (take n t), drop n t) else refuse line LongName) else refuse line Malformed
 
 abbrev pub truth_at : List ℕ → Option (Term × List ℕ)
 truth_at t = elim (after (truth_spelling true) t) [
@@ -40,7 +42,7 @@ truth_at t = elim (after (truth_spelling true) t) [
 
 -- a constant or a logical constant, if one stands there
 abbrev pub literal_at : ℕ → List ℕ → Result (Option (Term × List ℕ)) Break
-literal_at line t = if begins_real t then refuse line 22 else (if begins_digit t then (constant_at line t >>= λ x. Ok (Some x)) else Ok (truth_at t))
+literal_at line t = if begins_real t then refuse line RealConstant else (if begins_digit t then (constant_at line t >>= λ x. Ok (Some x)) else Ok (truth_at t))
 
 -- the operators and the prefixes of each level
 abbrev pub operators_of : ℕ → List Operator
@@ -86,9 +88,9 @@ end_at line t = if length t == 0 then Ok [] else refuse line (misplaced t)
 abbrev pub closed_at : ℕ → Term → List ℕ → Result (Term × List ℕ) Break
 closed_at line e t = wanted_at line (codes ")") t >>= λ u. Ok (parentheses e, u)
 
--- Where the room for calls ends. It is the number of no refusal, and no text comes there.
-abbrev pub spent : ℕ
-spent = 0
+-- Where the room for calls ends. It is no rule of statements, and no text comes there.
+abbrev pub spent : Rule
+spent = LargeProgram
 
 -- Reading one expression of a level. n bounds the depth of the calls.
 abbrev mutual
@@ -158,7 +160,7 @@ abbrev pub whole_at : ℕ → List ℕ → Result Term Break
 whole_at line t = front_at line t >>= ended line
 
 abbrev pub shallow : ℕ → Term → Result Term Break
-shallow line e = if nat_le (depth e) depth_limit then Ok e else refuse line 26
+shallow line e = if nat_le (depth e) depth_limit then Ok e else refuse line Deep
 
 -- the expression that is a whole text, folded and without blanks
 abbrev pub expression_at : ℕ → List ℕ → Result Term Break

@@ -10,6 +10,6 @@ mod scan;
 
 pub use ast::Refusal as SyntaxRefusal;
 pub use depth::{DEPTH_LIMIT, is_access_within, is_within};
-pub use literal::{end, misplaced, name, reference_to, wanted};
+pub use literal::{end, misplaced, name, reference_to, refused, wanted};
 pub use parse::{access, expr, expression, whole};
 pub use scan::{after, begins_digit, begins_letter, begins_with, digits, letters_and_digits};

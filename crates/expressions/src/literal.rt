@@ -14,7 +14,7 @@ ghost use Rattle.expressions.specs.Real.{continues_real, begins_fraction, begins
 ghost use Rattle.ast.specs.declared.refusal.Refusal.TheVariants.{Refused};
 
 use crate::scan::{after, begins_digit, begins_letter, begins_with, digits, letters_and_digits};
-use ast::{Expr, LONGEST_NAME, Line, Name, RefId, Reference, Refusal};
+use ast::{Expr, LONGEST_NAME, Line, Name, RefId, Reference, Refusal, Rule};
 
 /// The least constant that is too large.
 const CONSTANT_LIMIT: u128 = 1 << 63;
@@ -76,17 +76,28 @@ fn begins_real(text: &[u8]) -> bool
     begins_fraction(text) || (begins_digit(text) && continues_real(&text[digits(text)..]))
 }
 
+/// The refusal of a text that breaks a rule.
+pub fn refused(rule: Rule, line: Line) -> Refusal
+    ensures { result ≡ Refused rule line }
+{
+    Refusal::Refused { number: rule, line }
+}
+
 /// The refusal of what stands after an operand, a name, an item or a parenthesis, where it may not
-/// stand: 22 for a real constant, otherwise 25.
+/// stand: `RealConstant`, or else `Malformed`.
 pub fn misplaced(text: &[u8], line: Line) -> Refusal
     ensures { result ≡ Refused (misplaced text.now) line }
 {
-    let number = if begins_real(text) { 22 } else { 25 };
-    Refusal::Refused { number, line }
+    let rule = if begins_real(text) {
+        Rule::RealConstant
+    } else {
+        Rule::Malformed
+    };
+    refused(rule, line)
 }
 
-/// What stands behind a mark that is wanted after an operand, a name or a parenthesis. Numbers 22
-/// and 25.
+/// What stands behind a mark that is wanted after an operand, a name or a parenthesis.
+/// `RealConstant` (22) and `Malformed` (25).
 pub fn wanted<'a>(text: &'a [u8], mark: &[u8], line: Line) -> Result<&'a [u8], Refusal>
     ensures reads { Gives (λ x. x.now) result (wanted_at line mark.now text.now) }
     ensures sure { IfErr result IsRefused }
@@ -97,7 +108,7 @@ pub fn wanted<'a>(text: &'a [u8], mark: &[u8], line: Line) -> Result<&'a [u8], R
     }
 }
 
-/// The empty text, where nothing is wanted any more. Numbers 22 and 25.
+/// The empty text, where nothing is wanted any more. `RealConstant` (22) and `Malformed` (25).
 pub fn end(text: &[u8], line: Line) -> Result<&[u8], Refusal>
     ensures reads { Gives (λ x. x.now) result (end_at line text.now) }
     ensures sure { IfErr result IsRefused }
@@ -125,22 +136,24 @@ pub fn value(digits: &[u8]) -> Option<i64>
     Some(total as i64)
 }
 
-/// The name that the text begins with, and what stands after it. Numbers 24 and 25.
+/// The name that the text begins with, and what stands after it. `LongName` (24) and
+/// `Malformed` (25).
 pub fn name(text: &[u8], line: Line) -> Result<(Name, &[u8]), Refusal>
     ensures reads { Gives (λ x. (x.0.letters, x.1.now)) result (name_at line text.now) }
     ensures sure { IfErr result IsRefused }
 {
     if !begins_letter(text) {
-        return Err(Refusal::Refused { number: 25, line });
+        return Err(refused(Rule::Malformed, line));
     }
     let count = letters_and_digits(text);
     if count > LONGEST_NAME {
-        return Err(Refusal::Refused { number: 24, line });
+        return Err(refused(Rule::LongName, line));
     }
     Ok((Name::padded(&text[..count]), &text[count..]))
 }
 
-/// The digits that the text begins with as a constant, and what stands after them. Number 23.
+/// The digits that the text begins with as a constant, and what stands after them.
+/// `LargeConstant` (23).
 fn constant(text: &[u8], line: Line) -> Result<(Expr, &[u8]), Refusal>
     ensures reads { Gives (λ x. (term x.0, x.1.now)) result (constant_at line text.now) }
     ensures sure { IfErr result IsRefused }
@@ -148,7 +161,7 @@ fn constant(text: &[u8], line: Line) -> Result<(Expr, &[u8]), Refusal>
     let count = digits(text);
     match value(&text[..count]) {
         Some(value) => Ok((Expr::Constant(value), &text[count..])),
-        None => Err(Refusal::Refused { number: 23, line }),
+        None => Err(refused(Rule::LargeConstant, line)),
     }
 }
 
@@ -165,14 +178,14 @@ fn truth(text: &[u8]) -> Option<(Expr, &[u8])>
 }
 
 /// The constant or logical constant that the text begins with, and what stands after it, if there
-/// is one. Numbers 22 and 23.
+/// is one. `RealConstant` (22) and `LargeConstant` (23).
 pub fn literal(text: &[u8], line: Line) -> Result<Option<(Expr, &[u8])>, Refusal>
     ensures reads { Gives (λ o.
         option_map (λ x. (term x.0, x.1.now)) o) result (literal_at line text.now) }
     ensures sure { IfErr result IsRefused }
 {
     if begins_real(text) {
-        return Err(Refusal::Refused { number: 22, line });
+        return Err(refused(Rule::RealConstant, line));
     }
     if begins_digit(text) {
         Ok(Some(constant(text, line)?))

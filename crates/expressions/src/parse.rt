@@ -5,7 +5,7 @@ ghost use Rattle.ast.specs.declared.refusal.Refusal.TheVariants.{Refused};
 ghost use Rattle.ast.specs.Answers.{Gives, Says};
 ghost use Rattle.ast.specs.Tree.{Term};
 ghost use Rattle.ast.specs.View.{term, access};
-ghost use Rattle.expressions.specs.Answers.{IsNumber};
+ghost use Rattle.expressions.specs.Answers.{IsOfStatement};
 ghost use Rattle.expressions.specs.Grammar.{IsExpression};
 ghost use Rattle.expressions.specs.Ranks.{rank};
 ghost use Rattle.expressions.specs.Reading.{level_at, chain_at, primary_at, operand_at, access_at};
@@ -16,13 +16,10 @@ ghost use Rattle.expressions.specs.Reading.{spent};
 use crate::build::{binary, parentheses, with_further, with_prefix};
 use crate::depth::{DEPTH_LIMIT, is_within};
 use crate::level::{Level, operator_at, prefix_at};
-use crate::literal::{end, literal, name, reference_to, wanted};
+use crate::literal::{end, literal, name, reference_to, refused, wanted};
 use crate::scan::after;
-use ast::{Access, Expr, Line, Refusal};
+use ast::{Access, Expr, Line, Refusal, Rule};
 use std::alloc::Global;
-
-/// The number where the room for calls ends: that of no refusal.
-const SPENT: u8 = 0;
 
 /// What reading needs beside the text.
 #[derive(Clone, Copy)]
@@ -34,13 +31,14 @@ struct Reader {
 
 /// The expression that a whole text is.
 ///
-/// Refused are 22 to 25, the first fault from the left; and 26, an expression deeper than 128,
-/// where the text is one otherwise. The line is that of its statement.
+/// Refused are `RealConstant` (22), `LargeConstant` (23), `LongName` (24) and `Malformed` (25), the
+/// first fault from the left; and `Deep` (26), an expression deeper than 128, where the text is one
+/// otherwise. The line is that of its statement.
 pub fn expr(alloc: Global, text: &[u8], line: Line) -> Result<Expr, Refusal>
     ensures found { IfOk result (λ e. IsExpression text.now (term e)) }
     ensures only { (e : Term) → IsExpression text.now e → Gives term result (Ok e) }
     ensures refused { IfErr result
-        (Says (λ number at. (at ≡ line) × IsNumber number
+        (Says (λ rule at. (at ≡ line) × IsOfStatement rule
         × ((e : Term) → IsExpression text.now e → ⊥))) }
     ensures exact { Gives term result (expression_at line text.now) }
 {
@@ -54,11 +52,11 @@ fn read(alloc: Global, text: &[u8], line: Line) -> Result<Expr, Refusal>
     if is_within(&tree, DEPTH_LIMIT) {
         Ok(tree)
     } else {
-        Err(Refusal::Refused { number: 26, line })
+        Err(refused(Rule::Deep, line))
     }
 }
 
-/// The expression that the whole text is, of any depth. Numbers 22 to 25.
+/// The expression that the whole text is, of any depth. Rules 22 to 25.
 pub fn whole(alloc: Global, text: &[u8], line: Line) -> Result<Expr, Refusal>
     ensures { Gives term result (whole_at line text.now) }
 {
@@ -67,8 +65,8 @@ pub fn whole(alloc: Global, text: &[u8], line: Line) -> Result<Expr, Refusal>
     Ok(tree)
 }
 
-/// The expression, of any depth, that the text begins with, and what stands after it. Numbers 22
-/// to 25.
+/// The expression, of any depth, that the text begins with, and what stands after it. Rules 22 to
+/// 25.
 pub fn expression(alloc: Global, text: &[u8], line: Line) -> Result<(Expr, &[u8]), Refusal>
     ensures { Gives (λ x. (term x.0, x.1.now)) result (front_at line text.now) }
 {
@@ -76,7 +74,7 @@ pub fn expression(alloc: Global, text: &[u8], line: Line) -> Result<(Expr, &[u8]
 }
 
 /// The name with its list of expressions, if it has one, that the text begins with, and what stands
-/// after it. Numbers 22 to 25.
+/// after it. Rules 22 to 25.
 pub fn access(alloc: Global, text: &[u8], line: Line) -> Result<(Access, &[u8]), Refusal>
     ensures { Gives (λ x. (access x.0, x.1.now)) result (element_at line text.now) }
 {
@@ -90,14 +88,11 @@ fn room(text: &[u8]) -> u128
     12 * text.len() as u128 + 12
 }
 
-/// The refusal where the room ends. No text comes there.
+/// The refusal where the room ends: of no rule of statements. No text comes there.
 fn spent(line: Line) -> Refusal
     ensures { result ≡ Refused spent line }
 {
-    Refusal::Refused {
-        number: SPENT,
-        line,
-    }
+    refused(Rule::LargeProgram, line)
 }
 
 /// Operands of the level below, with operators of this level between them, from the left, and at

@@ -7,6 +7,7 @@ use Rattle.std.proofs.lemmas.Bool.{and_parts, or_parts}
 use Rattle.std.proofs.lemmas.List.{map-append}
 use Rattle.std.proofs.lemmas.List.Folds.{list_any-append}
 use Rattle.ast.specs.declared.refusal.Refusal.{Refusal}
+use Rattle.ast.specs.declared.rule.Rule.TheVariants.{ManyLines, LineBehindEnd}
 use Rattle.fixed_form.specs.Line.{part_of, is_comment, is_readable, is_continuation, is_empty, is_label, label_field, is_end, is_end_line}
 use Rattle.fixed_form.specs.Lines.{Card, cards_from, cards, continues, Group, cards_of, is_statement, AreGrouped, Entry, statement_of, AreUnbroken, HaveStatements, AreEnded, is_end_statement, AreRising, AreShaped, Lines, lines_in}
 use Rattle.fixed_form.proofs.Facts.{width_of_part}
@@ -37,9 +38,9 @@ first {X} p (x ∷ xs) e = by (p x) refl (λ d. first p xs d)
         record { front = x ∷ f.front; item = f.item; back = f.back; cut = ap (λ (l : List X). x ∷ l) f.cut; passes = f.passes; none = subst (λ (b : Bool). (b || list_any p f.front) ≡ false) (sym h) f.none }
 
 comment_only : (past comment ended readable continuation empty lone full label : Bool) → ended ≡ true → verdict past comment ended readable continuation empty lone full label ≡ None → comment ≡ true
-comment_only true c e r k m o f l t h = absurd (let d : Some 6 ≡ None = h in cc)
+comment_only true c e r k m o f l t h = absurd (let d : Some ManyLines ≡ None = h in cc)
 comment_only false true e r k m o f l t h = refl
-comment_only false false true r k m o f l t h = absurd (let d : Some 8 ≡ None = h in cc)
+comment_only false false true r k m o f l t h = absurd (let d : Some LineBehindEnd ≡ None = h in cc)
 comment_only false false false r k m o f l t h = absurd (let d : false ≡ true = t in cc)
 
 comments_after : (front back : List (List ℕ)) (n : ℕ) → AreUnbroken (front ++ back) → list_any is_end_line front ≡ true → cards_from n back ≡ []

@@ -9,6 +9,7 @@ use Rattle.std.specs.Str.{all_ascii_digits}
 use Rattle.std.specs.Str.Parse.{digits_value}
 use Rattle.std.proofs.lemmas.Str.Parse.{digits_value_short, numerals_by_value, tells_all_ascii_digits}
 use Rattle.std.proofs.lemmas.Bool.{ltb-true, le-leb, and_parts}
+use Rattle.ast.specs.declared.rule.Rule.TheVariants.{StrangeByte, MalformedLabel, LabelledContinuation}
 use Rattle.fixed_form.specs.declared.label.LabelField.TheVariants.{Blank, Label, Malformed}
 use Rattle.fixed_form.specs.declared.line.Class.{Class}
 use Rattle.fixed_form.specs.declared.line.Class.TheVariants as class
@@ -54,17 +55,17 @@ label_in_range line e =
     in_range (digits_value 10 (label_field line)) (ltb-true 0 (digits_value 10 (label_field line)) b.1) (omega (arith, below))
 
 abbrev by_tests : Bool → Bool → Bool → Bool → Bool → ℕ → Class
-by_tests comment readable continuation empty label v = if comment then class.Comment else if not readable then class.Refused 1 else class_by continuation (if empty then Blank else if label then Label v else Malformed)
+by_tests comment readable continuation empty label v = if comment then class.Comment else if not readable then class.Refused StrangeByte else class_by continuation (if empty then Blank else if label then Label v else Malformed)
 
 initial_label : (comment readable continuation empty label : Bool) (v : ℕ) (given : Option ℕ) → (label ≡ true → is_label_or_none (Some v) ≡ true) → by_tests comment readable continuation empty label v ≡ class.Initial given → is_label_or_none given ≡ true
 initial_label true r c e l v o h k = absurd (not_initial k)
   where
     not_initial : class.Comment ≡ class.Initial o → ⊥
     not_initial k = cc
-initial_label false false c e l v o h k = absurd (let d : class.Refused 1 ≡ class.Initial o = k in cc)
+initial_label false false c e l v o h k = absurd (let d : class.Refused StrangeByte ≡ class.Initial o = k in cc)
 initial_label false true true true l v o h k = absurd (let d : class.Continuation ≡ class.Initial o = k in cc)
-initial_label false true true false true v o h k = absurd (let d : class.Refused 5 ≡ class.Initial o = k in cc)
-initial_label false true true false false v o h k = absurd (let d : class.Refused 5 ≡ class.Initial o = k in cc)
+initial_label false true true false true v o h k = absurd (let d : class.Refused LabelledContinuation ≡ class.Initial o = k in cc)
+initial_label false true true false false v o h k = absurd (let d : class.Refused LabelledContinuation ≡ class.Initial o = k in cc)
 initial_label false true false true l v o h k = subst (λ (m : Option ℕ). is_label_or_none m ≡ true) (same None o k) refl
   where
     same : (m n : Option ℕ) → class.Initial m ≡ class.Initial n → m ≡ n
@@ -73,7 +74,7 @@ initial_label false true false false true v o h k = subst (λ (m : Option ℕ). 
   where
     same : (m n : Option ℕ) → class.Initial m ≡ class.Initial n → m ≡ n
     same m n k = cc
-initial_label false true false false false v o h k = absurd (let d : class.Refused 2 ≡ class.Initial o = k in cc)
+initial_label false true false false false v o h k = absurd (let d : class.Refused MalformedLabel ≡ class.Initial o = k in cc)
 
 -- the label of an initial line
 pub label_given : (line : List ℕ) (given : Option ℕ) → class_of line ≡ class.Initial given → is_label_or_none given ≡ true

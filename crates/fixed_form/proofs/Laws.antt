@@ -9,12 +9,14 @@ use Rattle.std.proofs.lemmas.List.Folds.{list_any-append}
 use Rattle.ast.specs.declared.refusal.Refusal.{Refusal}
 use Rattle.ast.specs.declared.refusal.Refusal.TheVariants.{Memory, Refused}
 use Rattle.ast.specs.Answers.{Break, Gives, Says}
+use Rattle.ast.specs.declared.rule.Rule.{Rule}
+use Rattle.ast.specs.declared.rule.Rule.TheVariants.{StrangeByte, MalformedLabel, LooseContinuation, ManyContinuations, LabelledContinuation, ManyLines, LineBehindEnd}
 use Rattle.ast.proofs.Lists.{not_empty, one_longer}
 use Rattle.fixed_form.specs.declared.label.LabelField.TheVariants.{Blank, Label, Malformed}
 use Rattle.fixed_form.specs.declared.line.Class.{Class}
 use Rattle.fixed_form.specs.declared.line.Class.TheVariants as class
 use Rattle.fixed_form.specs.Line.{part_of, is_comment, is_readable, is_continuation, is_empty, is_label, label_field, label_of, is_end, is_end_line}
-use Rattle.fixed_form.specs.Lines.{Card, cards, continues, Group, Entry, AreGrouped, statement_of, first_broken, rules, AreUnbroken, HaveStatements, BreakFirst, LackEnd, Lines, Broken, lines_in}
+use Rattle.fixed_form.specs.Lines.{Card, cards, continues, Group, Entry, AreGrouped, statement_of, first_broken, checks, AreUnbroken, HaveStatements, BreakFirst, LackEnd, Lines, Broken, lines_in}
 use Rattle.fixed_form.specs.Steps.{broken, class_by, longer, continued, take_class, ◌>>=◌, read_on}
 use Rattle.fixed_form.proofs.Snoc.{snoc}
 use Rattle.fixed_form.proofs.Groups.{cards-comment, cards-more, alone, longer_by, none_grouped, begun_by, continued_by, all_continue, not_all_continue, count_continued, length-text, longer_text, lone_text, one_grouping}
@@ -24,15 +26,15 @@ use Rattle.fixed_form.proofs.Splits.{Places, places}
 -- ---- one line
 
 -- the first rule that is broken, by the tests on the line
-abbrev pub verdict : Bool → Bool → Bool → Bool → Bool → Bool → Bool → Bool → Bool → Option ℕ
-verdict past comment ended readable continuation empty lone full label = if past then Some 6 else if not comment && ended then Some 8 else if not comment && not readable then Some 1 else if not comment && (continuation && not empty) then Some 5 else if not comment && (continuation && lone) then Some 3 else if not comment && (continuation && full) then Some 4 else if not comment && (not continuation && (not empty && not label)) then Some 2 else None
+abbrev pub verdict : Bool → Bool → Bool → Bool → Bool → Bool → Bool → Bool → Bool → Option Rule
+verdict past comment ended readable continuation empty lone full label = if past then Some ManyLines else if not comment && ended then Some LineBehindEnd else if not comment && not readable then Some StrangeByte else if not comment && (continuation && not empty) then Some LabelledContinuation else if not comment && (continuation && lone) then Some LooseContinuation else if not comment && (continuation && full) then Some ManyContinuations else if not comment && (not continuation && (not empty && not label)) then Some MalformedLabel else None
 
 -- a line's class, by the tests on it
 abbrev class_from : Bool → Bool → Bool → Bool → Bool → ℕ → Class
-class_from comment readable continuation empty label v = if comment then class.Comment else if not readable then class.Refused 1 else class_by continuation (if empty then Blank else if label then Label v else Malformed)
+class_from comment readable continuation empty label v = if comment then class.Comment else if not readable then class.Refused StrangeByte else class_by continuation (if empty then Blank else if label then Label v else Malformed)
 
 abbrev stepped : Bool → Class → List Entry → Bool → ℕ → List ℕ → Result (List Entry × Bool) Break
-stepped past k es ended n line = if past then broken 6 n else take_class k es ended n line
+stepped past k es ended n line = if past then broken ManyLines n else take_class k es ended n line
 
 abbrev first_line : Bool → ℕ → ℕ → List ℕ → Entry
 first_line label v n line = record { label = if label then Some v else None; line = n; text = part_of line }
@@ -43,7 +45,7 @@ grown comment continuation label v es fs n line = if comment then es else if con
 
 -- what a continuation line gives
 abbrev goes : Bool → Bool → ℕ → List Entry → Result (List Entry) Break
-goes lone full n fs = if lone then broken 3 n else if full then broken 4 n else Ok fs
+goes lone full n fs = if lone then broken LooseContinuation n else if full then broken ManyContinuations n else Ok fs
 
 -- What a step gives, whatever the tests say.
 abbrev Steps : Bool → Bool → Bool → Bool → Bool → Bool → Bool → Bool → Bool → ℕ → List Entry → List Entry → ℕ → List ℕ → Type 0
@@ -186,26 +188,26 @@ record Taken (front : List (List ℕ)) (line : List ℕ) (es : List Entry) : Typ
   stands : Stands (front ++ line ∷ []) after
 
 -- What reading a line after a front does.
-abbrev Took : List (List ℕ) → List ℕ → List Entry → Option ℕ → Type 0
+abbrev Took : List (List ℕ) → List ℕ → List Entry → Option Rule → Type 0
 Took front line es o = MatchOption o (Taken front line es) (λ rule. step_of front line es ≡ broken rule (length front + 1))
 
 not_lone : (past comment ended readable continuation empty lone full label : Bool) → verdict past comment ended readable continuation empty lone full label ≡ None → comment ≡ false → continuation ≡ true → lone ≡ false
 not_lone p c e r k m false f l h u v = refl
-not_lone true c e r k m true f l h u v = absurd (let d : Some 6 ≡ None = h in cc)
+not_lone true c e r k m true f l h u v = absurd (let d : Some ManyLines ≡ None = h in cc)
 not_lone false true e r k m true f l h u v = absurd (let d : true ≡ false = u in cc)
-not_lone false false true r k m true f l h u v = absurd (let d : Some 8 ≡ None = h in cc)
-not_lone false false false false k m true f l h u v = absurd (let d : Some 1 ≡ None = h in cc)
+not_lone false false true r k m true f l h u v = absurd (let d : Some LineBehindEnd ≡ None = h in cc)
+not_lone false false false false k m true f l h u v = absurd (let d : Some StrangeByte ≡ None = h in cc)
 not_lone false false false true false m true f l h u v = absurd (let d : false ≡ true = v in cc)
-not_lone false false false true true false true f l h u v = absurd (let d : Some 5 ≡ None = h in cc)
-not_lone false false false true true true true f l h u v = absurd (let d : Some 3 ≡ None = h in cc)
+not_lone false false false true true false true f l h u v = absurd (let d : Some LabelledContinuation ≡ None = h in cc)
+not_lone false false false true true true true f l h u v = absurd (let d : Some LooseContinuation ≡ None = h in cc)
 
 stands_after : (front : List (List ℕ)) (line : List ℕ) (es : List Entry) → Stands front es → (k : Continues front line es) → (comment continuation : Bool) → is_comment line ≡ comment → is_continuation line ≡ continuation → (comment ≡ false → continuation ≡ true → is_lone front ≡ false) → Stands (front ++ line ∷ []) (grown comment continuation (is_label (label_field line)) (digits_value 10 (label_field line)) es k.after (length front + 1) line)
 stands_after front line es s k true b c d h = stands_comment front line es s c
 stands_after front line es s k false true c d h = k.stands c d (h refl refl)
 stands_after front line es s k false false c d h = stands_initial front line es s c d
 
-took : (front : List (List ℕ)) (line : List ℕ) (es : List Entry) → Stands front es → Took front line es (first_broken rules front line)
-took front line es s = by (first_broken rules front line) refl (steps (nat_lt 65535 (length front + 1)) (is_comment line) (list_any is_end_line front) (is_readable line) (is_continuation line) (is_empty (label_field line)) (is_lone front) (is_full front) (is_label (label_field line)) (no_label (label_field line)) (digits_value 10 (label_field line)) es k.after (length front + 1) line k.gives)
+took : (front : List (List ℕ)) (line : List ℕ) (es : List Entry) → Stands front es → Took front line es (first_broken checks front line)
+took front line es s = by (first_broken checks front line) refl (steps (nat_lt 65535 (length front + 1)) (is_comment line) (list_any is_end_line front) (is_readable line) (is_continuation line) (is_empty (label_field line)) (is_lone front) (is_full front) (is_label (label_field line)) (no_label (label_field line)) (digits_value 10 (label_field line)) es k.after (length front + 1) line k.gives)
   where
     k : Continues front line es
     k = continues_from front line es s
@@ -213,7 +215,7 @@ took front line es s = by (first_broken rules front line) refl (steps (nat_lt 65
     after : List Entry
     after = grown (is_comment line) (is_continuation line) (is_label (label_field line)) (digits_value 10 (label_field line)) es k.after (length front + 1) line
 
-    by : (o : Option ℕ) → first_broken rules front line ≡ o → MatchOption o (step_of front line es ≡ Ok (after, list_any is_end_line front || is_end_line line)) (λ rule. step_of front line es ≡ broken rule (length front + 1)) → Took front line es o
+    by : (o : Option Rule) → first_broken checks front line ≡ o → MatchOption o (step_of front line es ≡ Ok (after, list_any is_end_line front || is_end_line line)) (λ rule. step_of front line es ≡ broken rule (length front + 1)) → Took front line es o
     by None h g = record {
       after = after;
       gives = g ∙ ap (λ (b : Bool). Ok (after, b)) (sym (ended_after front line));
@@ -229,34 +231,34 @@ unbroken_none = record { each = λ front line back e. absurd (not_empty front li
 not_longer : (front : List (List ℕ)) (line : List ℕ) (more back : List (List ℕ)) (x : List ℕ) → front ++ line ∷ [] ≡ (front ++ line ∷ more) ++ x ∷ back → ⊥
 not_longer front line more back x e = omega (arith, length-append front (line ∷ []), length-append (front ++ line ∷ more) (x ∷ back), length-append front (line ∷ more), ap length e)
 
-unbroken_more : (front : List (List ℕ)) (line : List ℕ) → AreUnbroken front → first_broken rules front line ≡ None → AreUnbroken (front ++ line ∷ [])
+unbroken_more : (front : List (List ℕ)) (line : List ℕ) → AreUnbroken front → first_broken checks front line ≡ None → AreUnbroken (front ++ line ∷ [])
 unbroken_more front line u h = record { each = λ a x b e. at a x b e (places front [] a b line x e) }
   where
-    at : (a : List (List ℕ)) (x : List ℕ) (b : List (List ℕ)) → front ++ line ∷ [] ≡ a ++ x ∷ b → Places front a line x → first_broken rules a x ≡ None
-    at a x b e (inl s) = subst (λ (q : List (List ℕ)). first_broken rules q x ≡ None) s.fronts (subst (λ (q : List ℕ). first_broken rules front q ≡ None) s.items h)
+    at : (a : List (List ℕ)) (x : List ℕ) (b : List (List ℕ)) → front ++ line ∷ [] ≡ a ++ x ∷ b → Places front a line x → first_broken checks a x ≡ None
+    at a x b e (inl s) = subst (λ (q : List (List ℕ)). first_broken checks q x ≡ None) s.fronts (subst (λ (q : List ℕ). first_broken checks front q ≡ None) s.items h)
     at a x b e (inr (inl s)) = absurd (not_longer front line s.between b x (subst (λ (q : List (List ℕ)). front ++ line ∷ [] ≡ q ++ x ∷ b) s.longer e))
     at a x b e (inr (inr s)) = u.each a x s.between s.longer
 
-abbrev BreakAt : List (List ℕ) → ℕ → ℕ → Type 0
+abbrev BreakAt : List (List ℕ) → Rule → ℕ → Type 0
 BreakAt lines n l = BreakFirst lines n l ⊎ LackEnd lines n l
 
 -- what reading answers, in the words of the relations
 abbrev pub Answers : List (List ℕ) → Result (List Entry) Break → Type 0
 Answers lines (Ok es) = HaveStatements lines es
-Answers lines (Err b) = BreakAt lines b.number b.line
+Answers lines (Err b) = BreakAt lines b.rule b.line
 
 at_end : (lines : List (List ℕ)) (es : List Entry) → AreUnbroken lines → Stands lines es → (ended : Bool) → list_any is_end_line lines ≡ ended → Answers lines (read_on es (length lines) ended [])
 at_end lines es u s true e = record { unbroken = u; ended = e; groups = s.groups; grouped = s.grouped; whole = s.whole }
-at_end lines es u s false e = inr (record { unbroken = u; endless = e; seven = refl; place = refl })
+at_end lines es u s false e = inr (record { unbroken = u; endless = e; lack = refl; place = refl })
 
 abbrev after_step : ℕ → List (List ℕ) → List Entry × Bool → Result (List Entry) Break
 after_step n lines s = read_on s.0 n s.1 lines
 
 pub reads : (front back : List (List ℕ)) (es : List Entry) → AreUnbroken front → Stands front es → Answers (front ++ back) (read_on es (length front) (list_any is_end_line front) back)
 reads front [] es u s = subst (λ (ls : List (List ℕ)). Answers ls (read_on es (length front) (list_any is_end_line front) [])) (sym (append-nil front)) (at_end front es u s (list_any is_end_line front) refl)
-reads front (line ∷ lines) es u s = next (λ fs v t. reads (front ++ line ∷ []) lines fs v t) (first_broken rules front line) refl (took front line es s)
+reads front (line ∷ lines) es u s = next (λ fs v t. reads (front ++ line ∷ []) lines fs v t) (first_broken checks front line) refl (took front line es s)
   where
-    next : ((fs : List Entry) → AreUnbroken (front ++ line ∷ []) → Stands (front ++ line ∷ []) fs → Answers ((front ++ line ∷ []) ++ lines) (read_on fs (length (front ++ line ∷ [])) (list_any is_end_line (front ++ line ∷ [])) lines)) → (o : Option ℕ) → first_broken rules front line ≡ o → Took front line es o → Answers (front ++ line ∷ lines) (step_of front line es >>= after_step (length front + 1) lines)
+    next : ((fs : List Entry) → AreUnbroken (front ++ line ∷ []) → Stands (front ++ line ∷ []) fs → Answers ((front ++ line ∷ []) ++ lines) (read_on fs (length (front ++ line ∷ [])) (list_any is_end_line (front ++ line ∷ [])) lines)) → (o : Option Rule) → first_broken checks front line ≡ o → Took front line es o → Answers (front ++ line ∷ lines) (step_of front line es >>= after_step (length front + 1) lines)
     next more None e t =
         let r = more t.after (unbroken_more front line u e) t.stands in
         let r2 = subst (λ (n : ℕ). Answers ((front ++ line ∷ []) ++ lines) (read_on t.after n (list_any is_end_line (front ++ line ∷ [])) lines)) (one_longer front line) r in
@@ -270,30 +272,30 @@ reads front (line ∷ lines) es u s = next (λ fs v t. reads (front ++ line ∷ 
 pub one_list : (lines : List (List ℕ)) (es fs : List Entry) → HaveStatements lines es → HaveStatements lines fs → es ≡ fs
 one_list lines es fs a b = a.whole ∙ ap (λ (gs : List Group). map statement_of gs) (one_grouping (cards lines) a.groups b.groups a.grouped b.grouped) ∙ sym b.whole
 
-unbroken_breaks : (lines : List (List ℕ)) (n l : ℕ) → AreUnbroken lines → BreakFirst lines n l → ⊥
+unbroken_breaks : (lines : List (List ℕ)) (n : Rule) (l : ℕ) → AreUnbroken lines → BreakFirst lines n l → ⊥
 unbroken_breaks lines n l u b = let e : Some n ≡ None = sym b.broken ∙ u.each b.front b.line b.back b.cut in cc
 
 -- A text that has statements breaks no rule.
-pub not_both : (lines : List (List ℕ)) (es : List Entry) (n l : ℕ) → HaveStatements lines es → BreakAt lines n l → ⊥
+pub not_both : (lines : List (List ℕ)) (es : List Entry) (n : Rule) (l : ℕ) → HaveStatements lines es → BreakAt lines n l → ⊥
 not_both lines es n l a (inl b) = unbroken_breaks lines n l a.unbroken b
 not_both lines es n l a (inr b) = let e : true ≡ false = sym a.ended ∙ b.endless in cc
 
-breaks_apart : (front : List (List ℕ)) (line : List ℕ) (whole more : List (List ℕ)) (n : ℕ) → AreUnbroken whole → whole ≡ front ++ line ∷ more → first_broken rules front line ≡ Some n → ⊥
+breaks_apart : (front : List (List ℕ)) (line : List ℕ) (whole more : List (List ℕ)) (n : Rule) → AreUnbroken whole → whole ≡ front ++ line ∷ more → first_broken checks front line ≡ Some n → ⊥
 breaks_apart front line whole more n u e h = let d : Some n ≡ None = sym h ∙ u.each front line more e in cc
 
-one_place : (lines : List (List ℕ)) (n l m k : ℕ) → (a : BreakFirst lines n l) (b : BreakFirst lines m k) → Places a.front b.front a.line b.line → (n ≡ m) × (l ≡ k)
+one_place : (lines : List (List ℕ)) (n : Rule) (l : ℕ) (m : Rule) (k : ℕ) → (a : BreakFirst lines n l) (b : BreakFirst lines m k) → Places a.front b.front a.line b.line → (n ≡ m) × (l ≡ k)
 one_place lines n l m k a b (inl s) =
-    let e : Some n ≡ Some m = sym a.broken ∙ ap (λ (q : List (List ℕ)). first_broken rules q a.line) s.fronts ∙ ap (λ (q : List ℕ). first_broken rules b.front q) s.items ∙ b.broken in
+    let e : Some n ≡ Some m = sym a.broken ∙ ap (λ (q : List (List ℕ)). first_broken checks q a.line) s.fronts ∙ ap (λ (q : List ℕ). first_broken checks b.front q) s.items ∙ b.broken in
     (cc, a.place ∙ ap (λ (q : List (List ℕ)). length q + 1) s.fronts ∙ sym b.place)
 one_place lines n l m k a b (inr (inl s)) = absurd (breaks_apart a.front a.line b.front s.between n b.unbroken s.longer a.broken)
 one_place lines n l m k a b (inr (inr s)) = absurd (breaks_apart b.front b.line a.front s.between m a.unbroken s.longer b.broken)
 
 -- One text breaks one rule first, at one line.
-pub one_refusal : (lines : List (List ℕ)) (n l m k : ℕ) → BreakAt lines n l → BreakAt lines m k → (n ≡ m) × (l ≡ k)
+pub one_refusal : (lines : List (List ℕ)) (n : Rule) (l : ℕ) (m : Rule) (k : ℕ) → BreakAt lines n l → BreakAt lines m k → (n ≡ m) × (l ≡ k)
 one_refusal lines n l m k (inl a) (inl b) = one_place lines n l m k a b (places a.front a.back b.front b.back a.line b.line (sym a.cut ∙ b.cut))
 one_refusal lines n l m k (inl a) (inr b) = absurd (unbroken_breaks lines n l b.unbroken a)
 one_refusal lines n l m k (inr a) (inl b) = absurd (unbroken_breaks lines m k a.unbroken b)
-one_refusal lines n l m k (inr a) (inr b) = (a.seven ∙ sym b.seven, a.place ∙ sym b.place)
+one_refusal lines n l m k (inr a) (inr b) = (a.lack ∙ sym b.lack, a.place ∙ sym b.place)
 
 -- ---- the answers of `statements`
 
@@ -308,16 +310,16 @@ reads_list text es h = by (reading text) refl
   where
     by : (r : Result (List Entry) Break) → reading text ≡ r → reading text ≡ Ok es
     by (Ok fs) e = e ∙ ap (λ (l : List Entry). Ok l) (one_list (lines_in text) fs es (read_as text (Ok fs) e) h)
-    by (Err b) e = absurd (not_both (lines_in text) es b.number b.line h (read_as text (Err b) e))
+    by (Err b) e = absurd (not_both (lines_in text) es b.rule b.line h (read_as text (Err b) e))
 
-reads_break : (text : List ℕ) (n l : ℕ) → Broken text n l → reading text ≡ broken n l
+reads_break : (text : List ℕ) (n : Rule) (l : ℕ) → Broken text n l → reading text ≡ broken n l
 reads_break text n l h = by (reading text) refl
   where
     by : (r : Result (List Entry) Break) → reading text ≡ r → reading text ≡ broken n l
     by (Ok es) e = absurd (not_both (lines_in text) es n l (read_as text (Ok es) e) h)
     by (Err b) e =
-        let s = one_refusal (lines_in text) b.number b.line n l (read_as text (Err b) e) h in
-        e ∙ ap (λ (k : ℕ). broken k b.line) s.0 ∙ ap (λ (k : ℕ). broken n k) s.1
+        let s = one_refusal (lines_in text) b.rule b.line n l (read_as text (Err b) e) h in
+        e ∙ ap (λ (k : Rule). broken k b.line) s.0 ∙ ap (λ (k : ℕ). broken n k) s.1
 
 abbrev Read : {X : Type 0} → (X → List Entry) → Result X Refusal → List ℕ → Type 0
 Read view result text = Gives view result (reading text)
@@ -334,5 +336,5 @@ refused_of view (Err (Refused n l)) text g = read_as text (broken n l) g
 pub only_of : {X : Type 0} (view : X → List Entry) (r : Result X Refusal) (text : List ℕ) → Read view r text → (es : List Entry) → Lines text es → Gives view r (Ok es)
 only_of view r text g es h = subst (λ (q : Result (List Entry) Break). Gives view r q) (reads_list text es h) g
 
-pub exactly_of : {X : Type 0} (view : X → List Entry) (r : Result X Refusal) (text : List ℕ) → Read view r text → (n l : ℕ) → Broken text n l → Gives view r (Err (record { number = n; line = l }))
+pub exactly_of : {X : Type 0} (view : X → List Entry) (r : Result X Refusal) (text : List ℕ) → Read view r text → (n : Rule) (l : ℕ) → Broken text n l → Gives view r (Err (record { rule = n; line = l }))
 exactly_of view r text g n l h = subst (λ (q : Result (List Entry) Break). Gives view r q) (reads_break text n l h) g

@@ -5,6 +5,7 @@ use Rattle.std.proofs.lemmas.Bool.{le-leb, lt-leb}
 use Rattle.std.proofs.lemmas.List.{map-append}
 use Rattle.std.proofs.Math.Seq.{get_or-append_seam, set-append_seam}
 use Rattle.ast.specs.Answers.{Break}
+use Rattle.ast.specs.declared.rule.Rule.TheVariants.{ManyContinuations}
 use Rattle.fixed_form.specs.declared.labelled.Labelled.{Labelled}
 use Rattle.fixed_form.specs.Line.{part_of}
 use Rattle.fixed_form.specs.Lines.{Entry}
@@ -41,7 +42,7 @@ has_last (a ∷ more) k x n h e =
 
 -- what a continuation line gives, by whether the last statement has its last line
 abbrev by_length : Bool → List Labelled → Labelled → ℕ → List ℕ → Result (List Entry) Break
-by_length longest front x n line = (if longest then broken 4 n else Ok (record (entry x) { text = x.text.items ++ part_of line })) >>= λ f. Ok (entries front ++ f ∷ [])
+by_length longest front x n line = (if longest then broken ManyContinuations n else Ok (record (entry x) { text = x.text.items ++ part_of line })) >>= λ f. Ok (entries front ++ f ∷ [])
 
 continued_entries : (xs : List Labelled) (k : ℕ) (x : Labelled) (n : ℕ) (line : List ℕ) → (l : HasLast xs k x) → continued (entries xs) n line ≡ by_length (nat_le 1320 (length x.text.items)) l.front x n line
 continued_entries xs k x n line l =
@@ -49,7 +50,7 @@ continued_entries xs k x n line l =
     ∙ ap (λ (es : List Entry). continued es n line) (map-append entry l.front (x ∷ []))
     ∙ continued-last (entries l.front) (entry x) n line
 
-pub is_longest : (xs : List Labelled) (k : ℕ) (x : Labelled) (n : ℕ) (line : List ℕ) → k ≡ length xs → 0 < length xs → x ≡ slice_index_or xs (k - 1) x → 1320 ≤ length x.text.items → continued (entries xs) n line ≡ broken 4 n
+pub is_longest : (xs : List Labelled) (k : ℕ) (x : Labelled) (n : ℕ) (line : List ℕ) → k ≡ length xs → 0 < length xs → x ≡ slice_index_or xs (k - 1) x → 1320 ≤ length x.text.items → continued (entries xs) n line ≡ broken ManyContinuations n
 is_longest xs k x n line c h e m =
     let l = has_last xs k x c h e in
     continued_entries xs k x n line l ∙ ap (λ (b : Bool). by_length b l.front x n line) (le-leb 1320 (length x.text.items) m)

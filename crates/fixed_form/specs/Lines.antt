@@ -2,6 +2,8 @@
 -- X3.9-1978, 3.2 to 3.5) and the profile.
 use Rattle.std.specs.Prelude.{◌≡◌, ◌⊎◌, ⊤, ℕ, ◌+◌, ◌<◌, Bool, true, false, not, ◌&&◌, nat_lt, nat_le, if◌then◌else◌, List, [], ◌∷◌, ◌++◌, Option, Some, None, length, take, reverse, map}
 use Rattle.std.specs.List.{list_any, list_all, flat_map, prefix_len}
+use Rattle.ast.specs.declared.rule.Rule.{Rule}
+use Rattle.ast.specs.declared.rule.Rule.TheVariants.{StrangeByte, MalformedLabel, LooseContinuation, ManyContinuations, LabelledContinuation, ManyLines, NoEnd, LineBehindEnd}
 use Rattle.bstr.specs.Text.{lines_of, without_terminator}
 use Rattle.fixed_form.specs.Limits.{text_width, most_continuations, greatest_line}
 use Rattle.fixed_form.specs.Line.{part_of, is_comment, is_readable, is_continuation, is_empty, is_label, label_field, label_of, is_end, is_end_line}
@@ -27,10 +29,9 @@ cards lines = cards_from 1 lines
 abbrev pub continues : Card → Bool
 continues c = is_continuation c.line
 
--- A rule of lines, by the number of its refusal: whether a line that stands after the lines of a
--- front breaks it.
-pub record Rule : Type 0 where
-  pub number : ℕ
+-- The check of a rule of lines: whether a line that stands after the lines of a front breaks it.
+pub record Check : Type 0 where
+  pub rule : Rule
   pub is_broken : List (List ℕ) → List ℕ → Bool
 
 -- A text has at most 65,535 lines.
@@ -61,25 +62,25 @@ is_twentieth_continuation front line = not (is_comment line) && (is_continuation
 abbrev pub is_badly_labelled : List (List ℕ) → List ℕ → Bool
 is_badly_labelled front line = not (is_comment line) && (not (is_continuation line) && (not (is_empty (label_field line)) && not (is_label (label_field line))))
 
--- The rules in the order in which they count on one line.
-abbrev pub rules : List Rule
-rules = record { number = 6; is_broken = is_past_limit }
-    ∷ record { number = 8; is_broken = is_after_end }
-    ∷ record { number = 1; is_broken = is_unreadable }
-    ∷ record { number = 5; is_broken = is_labelled_continuation }
-    ∷ record { number = 3; is_broken = is_lone_continuation }
-    ∷ record { number = 4; is_broken = is_twentieth_continuation }
-    ∷ record { number = 2; is_broken = is_badly_labelled }
+-- The checks in the order in which they count on one line.
+abbrev pub checks : List Check
+checks = record { rule = ManyLines; is_broken = is_past_limit }
+    ∷ record { rule = LineBehindEnd; is_broken = is_after_end }
+    ∷ record { rule = StrangeByte; is_broken = is_unreadable }
+    ∷ record { rule = LabelledContinuation; is_broken = is_labelled_continuation }
+    ∷ record { rule = LooseContinuation; is_broken = is_lone_continuation }
+    ∷ record { rule = ManyContinuations; is_broken = is_twentieth_continuation }
+    ∷ record { rule = MalformedLabel; is_broken = is_badly_labelled }
     ∷ []
 
--- The number of the first of the rules that a line breaks, if it breaks one.
-abbrev pub first_broken : List Rule → List (List ℕ) → List ℕ → Option ℕ
+-- The first of the rules that a line breaks, if it breaks one.
+abbrev pub first_broken : List Check → List (List ℕ) → List ℕ → Option Rule
 first_broken [] front line = None
-first_broken (r ∷ rs) front line = if r.is_broken front line then Some r.number else first_broken rs front line
+first_broken (c ∷ cs) front line = if c.is_broken front line then Some c.rule else first_broken cs front line
 
 -- No line breaks a rule.
 pub record AreUnbroken (lines : List (List ℕ)) : Type 0 where
-  pub each : (front : List (List ℕ)) (line : List ℕ) (back : List (List ℕ)) → lines ≡ front ++ line ∷ back → first_broken rules front line ≡ None
+  pub each : (front : List (List ℕ)) (line : List ℕ) (back : List (List ℕ)) → lines ≡ front ++ line ∷ back → first_broken checks front line ≡ None
 
 -- The cards of a statement: an initial line, and the continuation lines that follow it.
 pub record Group : Type 0 where
@@ -115,30 +116,30 @@ pub record HaveStatements (lines : List (List ℕ)) (statements : List Entry) : 
   pub grouped : AreGrouped (cards lines) groups
   pub whole : statements ≡ map statement_of groups
 
--- Line `at` is the first that breaks a rule, and the first rule that it breaks has that number.
-pub record BreakFirst (lines : List (List ℕ)) (number at : ℕ) : Type 0 where
+-- Line `at` is the first that breaks a rule, and that rule is the first that it breaks.
+pub record BreakFirst (lines : List (List ℕ)) (rule : Rule) (at : ℕ) : Type 0 where
   pub front : List (List ℕ)
   pub line : List ℕ
   pub back : List (List ℕ)
   pub cut : lines ≡ front ++ line ∷ back
   pub unbroken : AreUnbroken front
-  pub broken : first_broken rules front line ≡ Some number
+  pub broken : first_broken checks front line ≡ Some rule
   pub place : at ≡ length front + 1
 
--- Without an END line, where no other rule is broken, the refusal is 7 at the number of lines.
-pub record LackEnd (lines : List (List ℕ)) (number at : ℕ) : Type 0 where
+-- Without an END line, where no other rule is broken, the refusal is at the number of lines.
+pub record LackEnd (lines : List (List ℕ)) (rule : Rule) (at : ℕ) : Type 0 where
   pub unbroken : AreUnbroken lines
   pub endless : list_any is_end_line lines ≡ false
-  pub seven : number ≡ 7
+  pub lack : rule ≡ NoEnd
   pub place : at ≡ length lines
 
 -- The text has these labelled statements, and no line rule is broken.
 abbrev pub Lines : List ℕ → List Entry → Type 0
 Lines text statements = HaveStatements (lines_in text) statements
 
--- The first line rule that the text breaks is that of the number, at that line.
-abbrev pub Broken : List ℕ → ℕ → ℕ → Type 0
-Broken text number at = BreakFirst (lines_in text) number at ⊎ LackEnd (lines_in text) number at
+-- The first line rule that the text breaks is that one, at that line.
+abbrev pub Broken : List ℕ → Rule → ℕ → Type 0
+Broken text rule at = BreakFirst (lines_in text) rule at ⊎ LackEnd (lines_in text) rule at
 
 -- END is said by the initial line alone: by the first 66 characters of a statement's text.
 abbrev pub is_end_statement : Entry → Bool

@@ -7,6 +7,7 @@ ghost use Rattle.fixed_form.specs.Line as spec;
 ghost use Rattle.fixed_form.specs.Steps.{field_of, class_of};
 
 use crate::label::{LabelField, read_label};
+use ast::Rule;
 use std::alloc::AllocError;
 
 /// The last column of a label.
@@ -21,11 +22,11 @@ pub const LAST_COLUMN: usize = 72;
 /// The columns of a statement's text on one line.
 pub const TEXT_WIDTH: usize = LAST_COLUMN - CONTINUATION_COLUMN;
 
-/// What a line is, and the number of the rule that it breaks wherever it stands.
+/// What a line is, and the rule that it breaks wherever it stands.
 #[derive(Clone, Copy)]
 pub enum Class {
     Comment,
-    Refused(u8),
+    Refused(Rule),
     Continuation,
     Initial(Option<u32>),
 }
@@ -111,14 +112,14 @@ pub fn classify(line: &[u8]) -> Class
         return Class::Comment;
     }
     if !is_printable_to(line, LAST_COLUMN) {
-        return Class::Refused(1);
+        return Class::Refused(Rule::StrangeByte);
     }
     match (is_continuation(line), label_field(line, LAST_LABEL_COLUMN)) {
         (true, LabelField::Blank) => Class::Continuation,
-        (true, _) => Class::Refused(5),
+        (true, _) => Class::Refused(Rule::LabelledContinuation),
         (false, LabelField::Blank) => Class::Initial(None),
         (false, LabelField::Label(label)) => Class::Initial(Some(label)),
-        (false, LabelField::Malformed) => Class::Refused(2),
+        (false, LabelField::Malformed) => Class::Refused(Rule::MalformedLabel),
     }
 }
 

@@ -3,6 +3,7 @@
 ghost use Rattle.std.specs.Prelude.{◌≡◌, ◌≤◌, ℕ, List, IfOk, IfErr, Ok, Err, [], true, false};
 ghost use Rattle.ast.specs.Answers.{Gives, Says};
 ghost use Rattle.ast.specs.declared.refusal.Refusal.TheVariants.{Refused};
+ghost use Rattle.ast.specs.declared.rule.Rule.{Rule};
 ghost use Rattle.fixed_form.specs.Limits.{greatest_line, is_label_or_none};
 ghost use Rattle.fixed_form.specs.Lines.{Entry, Lines, AreShaped, Broken, lines_in};
 ghost use Rattle.fixed_form.specs.Answers.{entries};
@@ -10,7 +11,7 @@ ghost use Rattle.fixed_form.specs.Steps.{read_on, take_line, begun, continued};
 
 use crate::labelled::Labelled;
 use crate::line::{Class, TEXT_WIDTH, append_part, classify, is_end};
-use ast::{Line, Refusal};
+use ast::{Line, Refusal, Rule};
 use bstr::ByteSlice;
 use std::alloc::Global;
 
@@ -23,10 +24,10 @@ const MOST_CONTINUATIONS: usize = 19;
 /// The characters of the longest text.
 const LONGEST_TEXT: usize = TEXT_WIDTH * (1 + MOST_CONTINUATIONS);
 
-fn refused(number: u8, line: Line) -> Refusal
-    ensures { result ≡ Refused number line }
+fn refused(rule: Rule, line: Line) -> Refusal
+    ensures { result ≡ Refused rule line }
 {
-    Refusal::Refused { number, line }
+    Refusal::Refused { number: rule, line }
 }
 
 /// Adds the statement that an initial line begins, and answers whether that line is END.
@@ -63,10 +64,10 @@ fn continue_statement(list: &mut Vec<Labelled>, number: Line, line: &[u8]) -> Re
         (continued (entries list.old.items) number line.now) }
 {
     let Some(statement) = list.last_mut() else {
-        return Err(refused(3, number));
+        return Err(refused(Rule::LooseContinuation, number));
     };
     if statement.text.len() >= LONGEST_TEXT {
-        return Err(refused(4, number));
+        return Err(refused(Rule::ManyContinuations, number));
     }
     append_part(&mut statement.text, line)?;
     Ok(())
@@ -89,7 +90,7 @@ fn add_line(
 {
     match classify(line) {
         Class::Comment => Ok(ended),
-        _ if ended => Err(refused(8, number)),
+        _ if ended => Err(refused(Rule::LineBehindEnd, number)),
         Class::Refused(rule) => Err(refused(rule, number)),
         Class::Continuation => {
             continue_statement(list, number, line)?;
@@ -108,7 +109,7 @@ fn read_all(alloc: Global, text: &[u8]) -> Result<Vec<Labelled>, Refusal>
     let mut ended = false;
     for line in text.lines() {
         if number >= LAST_LINE {
-            return Err(refused(6, number + 1));
+            return Err(refused(Rule::ManyLines, number + 1));
         }
         number += 1;
         ended = add_line(alloc, &mut list, ended, number, line)?;
@@ -116,27 +117,29 @@ fn read_all(alloc: Global, text: &[u8]) -> Result<Vec<Labelled>, Refusal>
     if ended {
         Ok(list)
     } else {
-        Err(refused(7, number))
+        Err(refused(Rule::NoEnd, number))
     }
 }
 
 /// The labelled statements of a source text, line by line: a comment gives none, an initial line
 /// begins one, continuation lines make it longer, and END is the last and stands nowhere else.
 ///
-/// The refusals, in the order in which they count on one line: 6 at line 65,536, 8 at a line after
-/// END that is no comment, 1 where columns 1 to 72 hold a byte outside 32 to 126, 5 at a
-/// continuation line with something in columns 1 to 5, 3 at one with no initial line before it, 4
-/// at the twentieth of a statement, 2 where columns 1 to 5 of an initial line are neither blank nor
-/// a label. 7, at the number of lines, is that of a text with no END that breaks no other rule.
-/// `Memory` says that memory was refused, and nothing of the text.
+/// The refusals, in the order in which they count on one line: `ManyLines` (6) at line 65,536,
+/// `LineBehindEnd` (8) at a line after END that is no comment, `StrangeByte` (1) where columns 1 to
+/// 72 hold a byte outside 32 to 126, `LabelledContinuation` (5) at a continuation line with
+/// something in columns 1 to 5, `LooseContinuation` (3) at one with no initial line before it,
+/// `ManyContinuations` (4) at the twentieth of a statement, `MalformedLabel` (2) where columns 1 to
+/// 5 of an initial line are neither blank nor a label. `NoEnd` (7), at the number of lines, is that
+/// of a text with no END that breaks no other rule. `Memory` says that memory was refused, and
+/// nothing of the text.
 pub fn statements(alloc: Global, text: &[u8]) -> Result<Vec<Labelled>, Refusal>
     ensures found { IfOk result (λ v. Lines text.now (entries v.items)) }
     ensures shaped { IfOk result (λ v. AreShaped (entries v.items)) }
     ensures only { (es : List Entry) → Lines text.now es
         → Gives (λ v. entries v.items) result (Ok es) }
     ensures refused { IfErr result (Says (Broken text.now)) }
-    ensures exactly { (number line : ℕ) → Broken text.now number line
-        → Gives (λ v. entries v.items) result (Err (record { number = number; line = line })) }
+    ensures exactly { (rule : Rule) (line : ℕ) → Broken text.now rule line
+        → Gives (λ v. entries v.items) result (Err (record { rule = rule; line = line })) }
 {
     read_all(alloc, text)
 }

@@ -1,6 +1,6 @@
 //! Trees of expressions.
 
-use ast::{Access, Expr, Name, Operator, Prefix, Refusal};
+use ast::{Access, Expr, Name, Operator, Prefix, Refusal, Rule};
 use std::alloc::Global;
 use std::process::Abort;
 use std::test::Fail;
@@ -101,8 +101,8 @@ pub enum Wanted {
     Enclosed(usize),
     /// A name with so many in its list.
     List(usize),
-    /// A refusal of this number.
-    Refused(u8),
+    /// A refusal by this rule.
+    Refused(Rule),
 }
 
 /// Whether an expression is 7 in so many parentheses.
@@ -129,8 +129,12 @@ fn is_wanted(tree: &Expr, wanted: Wanted) -> bool {
 pub fn comes(alloc: Global, text: &[u8], wanted: Wanted) -> bool {
     match (expr(alloc, text, LINE), wanted) {
         (Ok(tree), _) => is_wanted(&tree, wanted),
-        (Err(refusal), Wanted::Refused(number)) => {
-            refusal == Refusal::Refused { number, line: LINE }
+        (Err(refusal), Wanted::Refused(rule)) => {
+            refusal
+                == Refusal::Refused {
+                    number: rule,
+                    line: LINE,
+                }
         }
         _ => false,
     }

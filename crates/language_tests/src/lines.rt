@@ -1,6 +1,6 @@
 //! Statements of texts.
 
-use ast::Refusal;
+use ast::{Refusal, Rule};
 use fixed_form::Labelled;
 use std::alloc::Global;
 use std::process::Abort;
@@ -18,8 +18,8 @@ pub type Statement = (Option<u32>, u32, &'static [&'static [u8]]);
 #[derive(Clone, Copy)]
 pub enum Wanted {
     Statements(&'static [Statement]),
-    /// A refusal of this number, by this line.
-    Refused(u8, u32),
+    /// A refusal by this rule and this line.
+    Refused(Rule, u32),
     /// So many statements as long as one may be, and one more.
     Longest(usize),
 }
@@ -85,8 +85,8 @@ fn is_wanted(list: &[Labelled], wanted: Wanted) -> bool {
 pub fn comes(alloc: Global, text: &[u8], wanted: Wanted) -> bool {
     match (statements(alloc, text), wanted) {
         (Ok(list), _) => is_wanted(&list, wanted),
-        (Err(refusal), Wanted::Refused(number, line)) => {
-            refusal == Refusal::Refused { number, line }
+        (Err(refusal), Wanted::Refused(rule, line)) => {
+            refusal == Refusal::Refused { number: rule, line }
         }
         _ => false,
     }
@@ -94,21 +94,21 @@ pub fn comes(alloc: Global, text: &[u8], wanted: Wanted) -> bool {
 
 // ---- texts of one byte
 
-/// By which number a byte alone is refused.
-fn refused_in_column_1(byte: u8) -> u8 {
+/// By which rule a byte alone is refused.
+fn refused_in_column_1(byte: u8) -> Rule {
     match byte {
-        b'\n' | b'C' | b'c' | b'*' | b' ' | b'1'..=b'9' => 7,
-        32..=126 => 2,
-        _ => 1,
+        b'\n' | b'C' | b'c' | b'*' | b' ' | b'1'..=b'9' => Rule::NoEnd,
+        32..=126 => Rule::MalformedLabel,
+        _ => Rule::StrangeByte,
     }
 }
 
-/// By which number a byte behind five blanks is refused.
-fn refused_in_column_6(byte: u8) -> u8 {
+/// By which rule a byte behind five blanks is refused.
+fn refused_in_column_6(byte: u8) -> Rule {
     match byte {
-        b'\n' | b' ' | b'0' => 7,
-        32..=126 => 3,
-        _ => 1,
+        b'\n' | b' ' | b'0' => Rule::NoEnd,
+        32..=126 => Rule::LooseContinuation,
+        _ => Rule::StrangeByte,
     }
 }
 

@@ -1,6 +1,6 @@
 //! Where DO ranges and IF blocks stand.
 
-use ast::{Refusal, Stmt};
+use ast::{Refusal, Rule, Stmt};
 use fixed_form::{Labelled, statements};
 use std::alloc::Global;
 use std::process::Abort;
@@ -99,8 +99,8 @@ fn want_of_memory_in_nests(rt: HostRuntime) -> Result<(), Fail> {
 pub enum Wanted {
     /// So many, one behind the other.
     InTurn(usize),
-    /// A refusal of this number, by this line.
-    Refused(u8, u32),
+    /// A refusal by this rule and this line.
+    Refused(Rule, u32),
 }
 
 /// Whether spans are of two statements each, one behind the other.
@@ -118,8 +118,8 @@ fn are_in_turn(spans: &[Span]) -> bool {
 pub fn comes(alloc: Global, source: &[u8], wanted: Wanted) -> bool {
     match (blocks_of(alloc, source), wanted) {
         (Ok(made), Wanted::InTurn(count)) => made.spans.len() == count && are_in_turn(&made.spans),
-        (Err(refusal), Wanted::Refused(number, line)) => {
-            refusal == Refusal::Refused { number, line }
+        (Err(refusal), Wanted::Refused(rule, line)) => {
+            refusal == Refusal::Refused { number: rule, line }
         }
         _ => false,
     }

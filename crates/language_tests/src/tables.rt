@@ -1,6 +1,7 @@
 //! Texts, and what is wanted of them.
 
 use crate::{grammar, lines, nests};
+use ast::Rule;
 use std::alloc::{AllocError, Global};
 use std::process::Abort;
 use std::test::Fail;
@@ -269,81 +270,87 @@ fn statements_of_texts(rt: HostRuntime) -> Result<(), Fail> {
     are_right(&rt, &ACCEPTED)
 }
 
-/// Texts, each with the number and the line of its refusal.
+/// Texts, each with the rule and the line of its refusal.
 static REFUSED: [Row; 24] = [
-    (&[(b"", 1)], Wanted::Lines(lines::Wanted::Refused(7, 0))),
-    (&[(b"\n", 1)], Wanted::Lines(lines::Wanted::Refused(7, 1))),
+    (
+        &[(b"", 1)],
+        Wanted::Lines(lines::Wanted::Refused(Rule::NoEnd, 0)),
+    ),
+    (
+        &[(b"\n", 1)],
+        Wanted::Lines(lines::Wanted::Refused(Rule::NoEnd, 1)),
+    ),
     (
         &[(b"      K=1\nC", 1)],
-        Wanted::Lines(lines::Wanted::Refused(7, 2)),
+        Wanted::Lines(lines::Wanted::Refused(Rule::NoEnd, 2)),
     ),
     (
         &[(b"      E\n     1ND\n", 1)],
-        Wanted::Lines(lines::Wanted::Refused(7, 2)),
+        Wanted::Lines(lines::Wanted::Refused(Rule::NoEnd, 2)),
     ),
     (
         &[(b"\t     END\n", 1)],
-        Wanted::Lines(lines::Wanted::Refused(1, 1)),
+        Wanted::Lines(lines::Wanted::Refused(Rule::StrangeByte, 1)),
     ),
     (
         &[(b"  1A  K=1\n      END\n", 1)],
-        Wanted::Lines(lines::Wanted::Refused(2, 1)),
+        Wanted::Lines(lines::Wanted::Refused(Rule::MalformedLabel, 1)),
     ),
     (
         &[(b"00000 K=1\n      END\n", 1)],
-        Wanted::Lines(lines::Wanted::Refused(2, 1)),
+        Wanted::Lines(lines::Wanted::Refused(Rule::MalformedLabel, 1)),
     ),
     (
         &[(b"      END\n      PRINT *\n", 1)],
-        Wanted::Lines(lines::Wanted::Refused(8, 2)),
+        Wanted::Lines(lines::Wanted::Refused(Rule::LineBehindEnd, 2)),
     ),
     // A continuation line with something in columns 1 to 5, and with no initial line before it
     (
         &[(b"      K=1\n   10+2\n      END\n", 1)],
-        Wanted::Lines(lines::Wanted::Refused(5, 2)),
+        Wanted::Lines(lines::Wanted::Refused(Rule::LabelledContinuation, 2)),
     ),
     (
         &[(b"PROGRAM X\n      END\n", 1)],
-        Wanted::Lines(lines::Wanted::Refused(5, 1)),
+        Wanted::Lines(lines::Wanted::Refused(Rule::LabelledContinuation, 1)),
     ),
     (
         &[(b"     1PRINT *\n", 1)],
-        Wanted::Lines(lines::Wanted::Refused(3, 1)),
+        Wanted::Lines(lines::Wanted::Refused(Rule::LooseContinuation, 1)),
     ),
     (
         &[(b"C\n\n     1PRINT *\n      K=1\n", 1)],
-        Wanted::Lines(lines::Wanted::Refused(3, 3)),
+        Wanted::Lines(lines::Wanted::Refused(Rule::LooseContinuation, 3)),
     ),
     // A byte that is none of the profile counts before both.
     (
         &[(b"PROGRAM\x7f\n", 1)],
-        Wanted::Lines(lines::Wanted::Refused(1, 1)),
+        Wanted::Lines(lines::Wanted::Refused(Rule::StrangeByte, 1)),
     ),
     (
         &[(b"     1X\x7f\n", 1)],
-        Wanted::Lines(lines::Wanted::Refused(1, 1)),
+        Wanted::Lines(lines::Wanted::Refused(Rule::StrangeByte, 1)),
     ),
     // After END a continuation line is a line, whatever stands in it.
     (
         &[(b"      END\n     1X\n", 1)],
-        Wanted::Lines(lines::Wanted::Refused(8, 2)),
+        Wanted::Lines(lines::Wanted::Refused(Rule::LineBehindEnd, 2)),
     ),
     (
         &[(b"      END\nC\nPROGRAM\n", 1)],
-        Wanted::Lines(lines::Wanted::Refused(8, 3)),
+        Wanted::Lines(lines::Wanted::Refused(Rule::LineBehindEnd, 3)),
     ),
     (
         &[(b"      END\n      \t\n", 1)],
-        Wanted::Lines(lines::Wanted::Refused(8, 2)),
+        Wanted::Lines(lines::Wanted::Refused(Rule::LineBehindEnd, 2)),
     ),
     // A CR that no LF follows, and one of two before an LF
     (
         &[(b"      END\r", 1)],
-        Wanted::Lines(lines::Wanted::Refused(1, 1)),
+        Wanted::Lines(lines::Wanted::Refused(Rule::StrangeByte, 1)),
     ),
     (
         &[(b"      END\r\r\n", 1)],
-        Wanted::Lines(lines::Wanted::Refused(1, 1)),
+        Wanted::Lines(lines::Wanted::Refused(Rule::StrangeByte, 1)),
     ),
     // A byte of column 72, and a label that is none beside it
     (
@@ -351,25 +358,25 @@ static REFUSED: [Row; 24] = [
             b"0                                                                      \x1f\n      END",
             1,
         )],
-        Wanted::Lines(lines::Wanted::Refused(1, 1)),
+        Wanted::Lines(lines::Wanted::Refused(Rule::StrangeByte, 1)),
     ),
     // The first line that breaks a rule decides.
     (
         &[(b"      K=1\n1+    K=2\n\x80\n", 1)],
-        Wanted::Lines(lines::Wanted::Refused(2, 2)),
+        Wanted::Lines(lines::Wanted::Refused(Rule::MalformedLabel, 2)),
     ),
     (
         &[(b"      K=1\n     1+2\n A   1+3\n      \x80\n", 1)],
-        Wanted::Lines(lines::Wanted::Refused(5, 3)),
+        Wanted::Lines(lines::Wanted::Refused(Rule::LabelledContinuation, 3)),
     ),
     // One continuation line too many, and one line too many
     (
         &[(LONG_TEXT, 2), (b"*\n     1+1\n      END\n", 1)],
-        Wanted::Lines(lines::Wanted::Refused(4, 80)),
+        Wanted::Lines(lines::Wanted::Refused(Rule::ManyContinuations, 80)),
     ),
     (
         &[(b"      END\n", 1), (b"C\n", 65_535)],
-        Wanted::Lines(lines::Wanted::Refused(6, 65_536)),
+        Wanted::Lines(lines::Wanted::Refused(Rule::ManyLines, 65_536)),
     ),
 ];
 
@@ -388,7 +395,7 @@ static OTHERS: [Row; 16] = [
     ),
     (
         &[(b"(", 128), (b"7", 1), (b")", 128)],
-        Wanted::Expression(grammar::Wanted::Refused(26)),
+        Wanted::Expression(grammar::Wanted::Refused(Rule::Deep)),
     ),
     (
         &[(b"MAX(1", 1), (b",1", 999), (b")", 1)],
@@ -396,27 +403,27 @@ static OTHERS: [Row; 16] = [
     ),
     (
         &[(b"1.5", 1)],
-        Wanted::Expression(grammar::Wanted::Refused(22)),
+        Wanted::Expression(grammar::Wanted::Refused(Rule::RealConstant)),
     ),
     (
         &[(b"9223372036854775808", 1)],
-        Wanted::Expression(grammar::Wanted::Refused(23)),
+        Wanted::Expression(grammar::Wanted::Refused(Rule::LargeConstant)),
     ),
     (
         &[(b"ABCDEFG", 1)],
-        Wanted::Expression(grammar::Wanted::Refused(24)),
+        Wanted::Expression(grammar::Wanted::Refused(Rule::LongName)),
     ),
     (
         &[(b"", 1)],
-        Wanted::Expression(grammar::Wanted::Refused(25)),
+        Wanted::Expression(grammar::Wanted::Refused(Rule::Malformed)),
     ),
     (
         &[(b"1+", 1)],
-        Wanted::Expression(grammar::Wanted::Refused(25)),
+        Wanted::Expression(grammar::Wanted::Refused(Rule::Malformed)),
     ),
     (
         &[(b"I.LT.J.LT.K", 1)],
-        Wanted::Expression(grammar::Wanted::Refused(25)),
+        Wanted::Expression(grammar::Wanted::Refused(Rule::Malformed)),
     ),
     (
         &[
@@ -427,27 +434,27 @@ static OTHERS: [Row; 16] = [
     ),
     (
         &[(b"      K=1\n      INTEGER L\n      END\n", 1)],
-        Wanted::Blocks(nests::Wanted::Refused(30, 2)),
+        Wanted::Blocks(nests::Wanted::Refused(Rule::OutOfOrder, 2)),
     ),
     (
         &[(b"      DO 10 I=1,2\n      END\n", 1)],
-        Wanted::Blocks(nests::Wanted::Refused(34, 2)),
+        Wanted::Blocks(nests::Wanted::Refused(Rule::OpenLoop, 2)),
     ),
     (
         &[(b"      DO 10 I=1,2\n   10 STOP\n      END\n", 1)],
-        Wanted::Blocks(nests::Wanted::Refused(35, 2)),
+        Wanted::Blocks(nests::Wanted::Refused(Rule::WrongTerminal, 2)),
     ),
     (
         &[(b"      K=1\n      ELSE\n      END\n", 1)],
-        Wanted::Blocks(nests::Wanted::Refused(36, 2)),
+        Wanted::Blocks(nests::Wanted::Refused(Rule::CrossedBlocks, 2)),
     ),
     (
         &[(b"      IF (I.EQ.1) THEN\n      END\n", 1)],
-        Wanted::Blocks(nests::Wanted::Refused(36, 2)),
+        Wanted::Blocks(nests::Wanted::Refused(Rule::CrossedBlocks, 2)),
     ),
     (
         &[(b"   10 K=1\n   10 K=2\n      END\n", 1)],
-        Wanted::Blocks(nests::Wanted::Refused(41, 2)),
+        Wanted::Blocks(nests::Wanted::Refused(Rule::RepeatedLabel, 2)),
     ),
 ];
 

@@ -3,7 +3,7 @@
 use crate::calls::{check, loop_of, loops, plan, program};
 use crate::looks::{Places, elements_at};
 use ast::{Access, Expr, Kind, Name, Program, RefId, Reference, Stmt};
-use dependence::{LoopPlan, PlanStmt, Relation, Relations};
+use dependence::{LoopPlan, PlanStmt, Relation, Relations, SerialReason};
 use loop_tree::LoopView;
 use plan_check::PlanFault;
 use std::alloc::{AllocError, Global};
@@ -42,8 +42,8 @@ pub enum Change<'a> {
     ClaimBefore(Places, Relation),
     /// This relation is claimed of two elements, behind the true one.
     ClaimBehind(Places, Relation),
-    /// It is serial, for the reason of this number.
-    Serial(u8),
+    /// It is serial, for this reason.
+    Serial(SerialReason),
 }
 
 // Each change says whether it could be made.

@@ -3,7 +3,7 @@
 use crate::calls::plan;
 use crate::changes::is_answered;
 use ast::{Line, Name};
-use dependence::{LoopPlan, PlanArm, PlanStmt};
+use dependence::{LoopPlan, PlanArm, PlanStmt, SerialReason};
 use loop_tree::LoopView;
 use std::alloc::{AllocError, Global};
 
@@ -104,8 +104,8 @@ fn is_marked(body: &[PlanStmt], wanted: &[Mark]) -> bool {
 /// What is wanted of a plan.
 #[derive(Clone, Copy)]
 pub enum Wanted<'a> {
-    /// It is serial, for the reason of this number.
-    Serial(u8),
+    /// It is serial, for this reason.
+    Serial(SerialReason),
     /// It has these private scalars, and this stands in its body.
     Body(&'a [Name], &'a [Mark]),
 }
@@ -113,7 +113,7 @@ pub enum Wanted<'a> {
 /// Whether a plan is the wanted one.
 fn is_wanted(found: &LoopPlan, wanted: Wanted<'_>) -> bool {
     match (found, wanted) {
-        (LoopPlan::Serial(reason), Wanted::Serial(number)) => *reason == number,
+        (LoopPlan::Serial(reason), Wanted::Serial(wanted)) => *reason == wanted,
         (LoopPlan::Body { body, privates, .. }, Wanted::Body(names, marks)) => {
             privates.names.as_slice() == names && is_marked(body, marks)
         }

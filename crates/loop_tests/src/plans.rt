@@ -5,7 +5,7 @@ use crate::changes::Change;
 use crate::looks::Places;
 use crate::marks::{Mark, Wanted};
 use ast::Name;
-use dependence::{Reason, Relation};
+use dependence::{Reason, Relation, SerialReason};
 use std::process::Abort;
 use std::test::Fail;
 
@@ -237,7 +237,7 @@ static PLANNED: [Row<'static>; 12] = [
     (
         Source::Whole(INNER_VARIABLE_NOT_PRIVATE),
         1,
-        Question::Planned(Wanted::Serial(3)),
+        Question::Planned(Wanted::Serial(SerialReason::SharedVariable)),
     ),
     (
         Source::Whole(INNER_VARIABLE_NOT_PRIVATE),
@@ -252,7 +252,7 @@ static PLANNED: [Row<'static>; 12] = [
     (
         Source::Whole(INNER_LOOP),
         2,
-        Question::Planned(Wanted::Serial(5)),
+        Question::Planned(Wanted::Serial(SerialReason::Inside)),
     ),
 ];
 
@@ -475,7 +475,7 @@ static CHANGED: [Row<'static>; 26] = [
     (
         Source::Whole(DISTANCE_TWO),
         1,
-        Question::Changed(&[Change::Serial(1)], ACCEPTED),
+        Question::Changed(&[Change::Serial(SerialReason::NoStep)], ACCEPTED),
     ),
 ];
 

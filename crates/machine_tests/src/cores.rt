@@ -130,11 +130,11 @@ fn end_alone(rt: HostRuntime) -> Result<(), Fail> {
     Ok(())
 }
 
-/// Whether there is a core of so many processors and slots, and otherwise 57.
+/// Whether there is a core of so many processors and slots.
 fn has_sizes(alloc: Global, code: &Code, p: u64, s: u64) -> Result<bool, AllocError> {
     match core_of(alloc, code, b"", p, s) {
         Ok(_) => Ok(true),
-        Err(CoreRefusal::Refused { number }) => Ok(number != 57),
+        Err(CoreRefusal::OutOfRange) => Ok(false),
         Err(CoreRefusal::Memory) => Err(AllocError),
     }
 }

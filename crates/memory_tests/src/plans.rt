@@ -59,7 +59,7 @@ fn are_parts(body: &[PlanStmt], wanted: &[Mark]) -> bool {
 /// Whether a plan is the wanted one.
 pub fn is_planned(found: &LoopPlan, wanted: &Range) -> bool {
     match (found, &wanted.plan) {
-        (LoopPlan::Serial(reason), Planned::Serial(number)) => reason == number,
+        (LoopPlan::Serial(reason), Planned::Serial(wanted)) => reason == wanted,
         (LoopPlan::Body { body, privates, .. }, Planned::Body(marks)) => {
             are_named(&privates.names, wanted.privates) && are_parts(body, marks)
         }

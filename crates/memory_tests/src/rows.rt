@@ -1,6 +1,7 @@
 //! Worked programs, and what is known of them.
 
 use ast::{End, Fault, Line};
+use dependence::SerialReason;
 
 /// What a panic says where a call gives nothing again.
 pub const AGAIN: &str = "there is memory for a second call";
@@ -23,8 +24,8 @@ pub enum Mark {
 
 /// A plan.
 pub enum Planned {
-    /// The loop stays serial, for the reason of this number.
-    Serial(u8),
+    /// The loop stays serial, for this reason.
+    Serial(SerialReason),
     /// It is open, and this stands in its body.
     Body(&'static [Mark]),
 }
@@ -296,31 +297,31 @@ const WIDE: Row = Row {
             first: 5,
             last: 10,
             privates: &[b"K", b"L", b"M", b"II"],
-            plan: Planned::Serial(5),
+            plan: Planned::Serial(SerialReason::Inside),
         },
         Range {
             first: 6,
             last: 10,
             privates: &[b"L", b"M", b"II"],
-            plan: Planned::Serial(5),
+            plan: Planned::Serial(SerialReason::Inside),
         },
         Range {
             first: 7,
             last: 10,
             privates: &[b"M", b"II"],
-            plan: Planned::Serial(5),
+            plan: Planned::Serial(SerialReason::Inside),
         },
         Range {
             first: 8,
             last: 10,
             privates: &[b"II"],
-            plan: Planned::Serial(5),
+            plan: Planned::Serial(SerialReason::Inside),
         },
         Range {
             first: 9,
             last: 10,
             privates: &[],
-            plan: Planned::Serial(5),
+            plan: Planned::Serial(SerialReason::Inside),
         },
     ],
     accepted: b"ACCEPTED STATEMENTS 15 LOOPS 6\n",

@@ -1,12 +1,14 @@
 //! What else is wrong with a source, behind its first refusal.
 
 use crate::message::Message;
-use ast::{Label, Line, Name};
+use ast::{Label, Line, Name, Rule};
 use bstr::ByteSlice;
 use engines::{Verdict, judged};
 use fixed_form::LAST_LABEL_COLUMN;
 use pages::Outcome;
-use remarks::{Squeezed, cause_of, is_blank, is_comment, is_continuation, line_at};
+use remarks::{
+    Squeezed, cause_of, is_blank, is_comment, is_continuation, is_of_profile, is_of_text, line_at,
+};
 use std::alloc::{AllocError, Global};
 
 /// How many further refusals are told at most.
@@ -15,28 +17,16 @@ const MOST: usize = 20;
 /// How many statements are left out at most.
 const MOST_STRUCK: usize = 60;
 
-/// The number of a name that isn't an integer, which is told once of each name.
-const NO_INTEGER: u8 = 31;
-
-/// The number of subscripts or arguments that don't fit, which is told once of each name.
-const MISFIT: u8 = 33;
-
-/// The number of a program that is too large, as it most often still is without a statement.
-const TOO_LARGE: u8 = 40;
-
-/// The number of a label that stands twice.
-const LABEL_TWICE: u8 = 41;
-
 /// A source without the statements that were refused, and its first refusal.
 #[derive(Drop)]
 struct Reduced {
     source: Vec<u8>,
-    number: u8,
+    rule: Rule,
     line: Line,
     /// Whether what was left out can't be what another statement stands on.
     is_sure: bool,
-    /// The names that refusals were of, with their numbers.
-    names: Vec<(u8, Name)>,
+    /// The names that refusals were of, with their rules.
+    names: Vec<(Rule, Name)>,
 }
 
 /// Says on standard error what else is wrong with a source that is refused at a statement: of the
@@ -52,12 +42,12 @@ pub fn tell_further<R: Eprint + AllocGlobal>(rt: &R, file: &str, source: &[u8], 
 }
 
 impl Reduced {
-    fn of(alloc: Global, source: &[u8], number: u8, line: Line) -> Result<Self, AllocError> {
+    fn of(alloc: Global, source: &[u8], rule: Rule, line: Line) -> Result<Self, AllocError> {
         let mut copy = Vec::new(alloc);
         copy.extend_from_slice(source)?;
         Ok(Reduced {
             source: copy,
-            number,
+            rule,
             line,
             is_sure: true,
             names: Vec::new(alloc),
@@ -96,24 +86,24 @@ impl Reduced {
 
     /// Whether the refusal isn't one of a name that was told before; notes the name.
     fn is_news(&mut self, alloc: Global) -> Result<bool, AllocError> {
-        if !matches!(self.number, NO_INTEGER | MISFIT) {
+        if !matches!(self.rule, Rule::NotInteger | Rule::WrongSubscripts) {
             return Ok(true);
         }
-        let cause = cause_of(alloc, &self.source, self.number, self.line)?;
+        let cause = cause_of(alloc, &self.source, self.rule, self.line)?;
         let Some(name) = cause.and_then(|cause| cause.name()) else {
             return Ok(true);
         };
-        if self.names.contains(&(self.number, name)) {
+        if self.names.contains(&(self.rule, name)) {
             return Ok(false);
         }
-        self.names.push((self.number, name))?;
+        self.names.push((self.rule, name))?;
         Ok(true)
     }
 
     /// Says the refusal that it has, of a source.
     fn say<R: Eprint + AllocGlobal>(&self, rt: &R, file: &str, source: &[u8]) {
         let outcome = Outcome::Refused {
-            number: self.number,
+            number: self.rule,
             line: self.line,
         };
         if let Some(message) = Message::of(rt.alloc(), file, &self.source, outcome) {
@@ -123,15 +113,16 @@ impl Reduced {
 
     /// Leaves the refused statement out: whether what is left has a refusal that is worth telling.
     fn strike(&mut self, alloc: Global) -> Result<bool, AllocError> {
-        if self.number == TOO_LARGE {
+        // A program that is too large most often still is without a statement.
+        if self.rule == Rule::LargeProgram {
             return Ok(false);
         }
         let is_isolated = self.is_isolated(alloc)?;
-        if !is_of_text(self.number) && !(is_of_rule(self.number) && is_isolated) {
+        if !is_of_text(self.rule) && !(is_of_profile(self.rule) && is_isolated) {
             return Ok(false);
         }
         self.is_sure = self.is_sure && is_isolated;
-        self.source = struck(alloc, &self.source, self.number, self.line)?;
+        self.source = struck(alloc, &self.source, self.rule, self.line)?;
         self.judge(alloc)
     }
 
@@ -140,7 +131,7 @@ impl Reduced {
     fn is_isolated(&self, alloc: Global) -> Result<bool, AllocError> {
         let statement = Squeezed::of(alloc, &self.source, self.line)?;
         match statement.label {
-            Some(label) if self.number == LABEL_TWICE => {
+            Some(label) if self.rule == Rule::RepeatedLabel => {
                 Ok(!ends_loop(&Squeezed::all(alloc, &self.source)?, label))
             }
             _ => Ok(statement.stands_alone()),
@@ -152,9 +143,9 @@ impl Reduced {
         match judged(alloc, &self.source)? {
             Verdict::Accepted(_) => Ok(false),
             Verdict::Refused { number, line } => {
-                self.number = number;
+                self.rule = number;
                 self.line = line;
-                Ok(is_of_text(number) || self.is_sure && is_of_rule(number))
+                Ok(is_of_text(number) || self.is_sure && is_of_profile(number))
             }
         }
     }
@@ -165,20 +156,10 @@ fn ends_loop(statements: &[Squeezed], label: Label) -> bool {
     statements.iter().any(|statement| statement.is_loop() && statement.terminal() == label)
 }
 
-/// Whether a refusal is of a text that is no statement.
-fn is_of_text(number: u8) -> bool {
-    matches!(number, 20..=27)
-}
-
-/// Whether a refusal is of a rule of the profile.
-fn is_of_rule(number: u8) -> bool {
-    matches!(number, 30..=43)
-}
-
-/// A source without the statement that was refused by a number, or without its label where that
+/// A source without the statement that was refused by a rule, or without its label where that
 /// stands twice.
-fn struck(alloc: Global, source: &[u8], number: u8, line: Line) -> Result<Vec<u8>, AllocError> {
-    if number == LABEL_TWICE {
+fn struck(alloc: Global, source: &[u8], rule: Rule, line: Line) -> Result<Vec<u8>, AllocError> {
+    if rule == Rule::RepeatedLabel {
         unlabelled(alloc, source, line)
     } else {
         without(alloc, source, line)

@@ -1,6 +1,6 @@
 //! What standard error says of a refusal or a fault.
 
-use ast::Line;
+use ast::{Line, Rule};
 use bstr::ByteSlice;
 use engines::Note;
 use explanations::explain::{Explanation, Origin, fault, refusal};
@@ -10,6 +10,7 @@ use remarks::{
     Caret, Cause, Place, Squeezed, Visible, break_place, cause_of, hint, hint_of_fault,
     hint_of_schedule,
 };
+use schedules::Flaw;
 use std::alloc::Global;
 use std::fmt::{Display, Formatter, Result as FmtResult, Write};
 
@@ -35,22 +36,24 @@ impl<'a> Message<'a> {
     pub fn of(alloc: Global, file: &'a str, source: &'a [u8], outcome: Outcome) -> Option<Self> {
         let (explanation, line) = match outcome {
             Outcome::Completed => return None,
-            Outcome::Refused { number, line } => (refusal(number)?, line),
+            Outcome::Refused { number, line } => (refusal(number.number())?, line),
             Outcome::Faulted { fault: kind, line } => (fault(fault_number(kind))?, line),
             Outcome::NoSchedule { number, line } => {
-                (refusal(number)?, Line::try_from(line).unwrap_or(Line::MAX))
+                let line = Line::try_from(line).unwrap_or(Line::MAX);
+                (refusal(number.number())?, line)
             }
         };
-        let cause = cause_in(alloc, source, &explanation, line);
+        let rule = rule_of(outcome);
+        let cause = rule.and_then(|rule| cause_of(alloc, source, rule, line).unwrap_or(None));
         Some(Message {
             file,
             line,
             text: text_of_line(source, line),
-            caret: caret_of(alloc, source, &explanation, line, cause),
+            caret: rule.and_then(|rule| caret_of(alloc, source, rule, line, cause)),
             explanation,
             cause,
             note: None,
-            hint: hint_in(alloc, source, &explanation, line),
+            hint: hint_in(alloc, source, outcome, line),
             is_further: false,
         })
     }
@@ -137,26 +140,24 @@ fn verdict_of(origin: Origin) -> &'static str {
     }
 }
 
-fn hint_in(
-    alloc: Global,
-    source: &[u8],
-    explanation: &Explanation,
-    line: Line,
-) -> Option<&'static str> {
-    match explanation.origin {
-        Origin::Refusal => hint_of_source(alloc, source, explanation.number, line),
-        Origin::Schedule => hint_of_line(source, explanation.number, line),
-        Origin::Fault(_) => {
-            let statement = Squeezed::of(alloc, source, line).ok()?;
-            hint_of_fault(explanation.number, &statement)
-        }
+/// The rule by which a source is refused, if it is.
+fn rule_of(outcome: Outcome) -> Option<Rule> {
+    match outcome {
+        Outcome::Refused { number, .. } => Some(number),
+        _ => None,
     }
 }
 
-fn cause_in(alloc: Global, source: &[u8], explanation: &Explanation, line: Line) -> Option<Cause> {
-    match explanation.origin {
-        Origin::Refusal => cause_of(alloc, source, explanation.number, line).unwrap_or(None),
-        _ => None,
+/// The hint at an outcome, if there is one; the line is that of the file.
+fn hint_in(alloc: Global, source: &[u8], outcome: Outcome, line: Line) -> Option<&'static str> {
+    match outcome {
+        Outcome::Completed => None,
+        Outcome::Refused { number, .. } => hint_of_source(alloc, source, number, line),
+        Outcome::NoSchedule { number, .. } => hint_of_line(source, number, line),
+        Outcome::Faulted { fault, .. } => {
+            let statement = Squeezed::of(alloc, source, line).ok()?;
+            hint_of_fault(fault, &statement)
+        }
     }
 }
 
@@ -164,17 +165,13 @@ fn cause_in(alloc: Global, source: &[u8], explanation: &Explanation, line: Line)
 fn caret_of<'a>(
     alloc: Global,
     source: &'a [u8],
-    explanation: &Explanation,
+    rule: Rule,
     line: Line,
     cause: Option<Cause>,
 ) -> Option<Caret<'a>> {
-    match explanation.origin {
-        Origin::Refusal => {}
-        _ => return None,
-    }
     let place = match cause {
         Some(cause) => cause.place()?,
-        None => break_place(explanation.number, &Squeezed::of(alloc, source, line).ok()?)?,
+        None => break_place(rule, &Squeezed::of(alloc, source, line).ok()?)?,
     };
     Caret::of(source, line, place)
 }
@@ -190,15 +187,15 @@ fn write_caret<W: Write>(f: &mut Formatter<W>, line: Line, caret: &Caret<'_>) ->
     writeln!(f, "^")
 }
 
-fn hint_of_source(alloc: Global, source: &[u8], number: u8, line: Line) -> Option<&'static str> {
+fn hint_of_source(alloc: Global, source: &[u8], rule: Rule, line: Line) -> Option<&'static str> {
     let text = text_of_line(source, line)?;
     let statement = Squeezed::of(alloc, source, line).ok()?;
-    hint(number, text, &statement)
+    hint(rule, text, &statement)
 }
 
-fn hint_of_line(source: &[u8], number: u8, line: Line) -> Option<&'static str> {
-    match number {
-        51 | 52 => hint_of_schedule(number, whole_line(source, line)?),
+fn hint_of_line(source: &[u8], flaw: Flaw, line: Line) -> Option<&'static str> {
+    match flaw {
+        Flaw::Header | Flaw::Entry => hint_of_schedule(flaw, whole_line(source, line)?),
         _ => None,
     }
 }

@@ -34,7 +34,7 @@ pub struct Timed {
 ///
 /// # Errors
 ///
-/// 57 where a number of the pace is out of its range; and want of memory.
+/// `OutOfRange` where a number of the pace is out of its range; and want of memory.
 pub fn time(alloc: Global, code: &Code, input: &[u8], pace: Pace) -> Result<Timed, CoreRefusal>
     ensures ok { IfOk result (IsTimed (code_of code.now) input.now pace) }
     ensures err { IfErr result (NoCore pace.processors pace.slots) }

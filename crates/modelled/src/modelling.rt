@@ -86,7 +86,7 @@ fn model_code(alloc: Global, coded: &Coded, input: &[u8], pace: Pace) -> Result<
 {
     match time(alloc, &coded.code, input, pace) {
         Ok(timed) => Ok(texts(alloc, &coded.reports, timed)?),
-        Err(CoreRefusal::Refused { number: _ }) => Err(EngineFault::OutOfRange),
+        Err(CoreRefusal::OutOfRange) => Err(EngineFault::OutOfRange),
         Err(CoreRefusal::Memory) => Err(EngineFault::Memory),
     }
 }

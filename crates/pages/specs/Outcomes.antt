@@ -12,9 +12,9 @@ use Rattle.pages.specs.declared.outcomes.Outcome.TheVariants.{Completed, Refused
 -- the exit status of an outcome
 abbrev pub status_of : Outcome → ℕ
 status_of Completed = 0
-status_of (Refused number line) = 1
+status_of (Refused rule line) = 1
 status_of (Faulted fault line) = 2
-status_of (NoSchedule number line) = 6
+status_of (NoSchedule flaw line) = 6
 
 -- the outcome of a run that ended so
 abbrev pub outcome_of : End → Outcome

@@ -8,12 +8,16 @@ use Rattle.std.specs.Ordering.{nat_cmp}
 use Rattle.std.specs.declared.cmp.Ordering.{Ordering}
 use Rattle.ast.specs.Name.{trimmed}
 use Rattle.ast.specs.Program.{ProgramTree, loops_in}
+use Rattle.ast.specs.Rule.{number_of as rule_number}
 use Rattle.ast.specs.Store.{StoreOf, values_from}
 use Rattle.ast.specs.Symbols.{Extent, Symbol, width, dimensions_of, size}
 use Rattle.ast.specs.declared.fault.End.{End}
 use Rattle.ast.specs.declared.fault.End.TheVariants.{Done, Stopped, Fault as Faulted}
 use Rattle.ast.specs.declared.fault.Fault.{Fault}
+use Rattle.ast.specs.declared.rule.Rule.{Rule}
 use Rattle.explanations.specs.Faults.{fault_name, fault_number}
+use Rattle.schedules.specs.Flaw.{number_of as flaw_number}
+use Rattle.schedules.specs.declared.flaw.Flaw.{Flaw}
 
 -- the number of a line, and the LF
 abbrev pub at_line : ℕ → List ℕ
@@ -30,12 +34,12 @@ abbrev pub accepted : ProgramTree → List ℕ
 accepted program = accepted_with program.count (loops_in program.block)
 
 -- the line of a source that is refused
-abbrev pub refused : ℕ → ℕ → List ℕ
-refused number line = codes "REFUSED " ++ decimal number ++ at_line line
+abbrev pub refused : Rule → ℕ → List ℕ
+refused rule line = codes "REFUSED " ++ decimal (rule_number rule) ++ at_line line
 
 -- the line of a schedule that is refused
-abbrev pub no_schedule : ℕ → ℕ → List ℕ
-no_schedule number line = codes "SCHEDULE " ++ decimal number ++ at_line line
+abbrev pub no_schedule : Flaw → ℕ → List ℕ
+no_schedule flaw line = codes "SCHEDULE " ++ decimal (flaw_number flaw) ++ at_line line
 
 -- ---- ends of a run
 

@@ -3,7 +3,8 @@
 ghost use Rattle.std.specs.Prelude.{◌≡◌};
 ghost use Rattle.pages.specs.Outcomes.{status_of};
 
-use ast::{Fault, Line};
+use ast::{Fault, Line, Rule};
+use schedules::Flaw;
 
 /// How an engine's work on a source ended. Lines are counted from 1; a refusal for what an empty
 /// file lacks has line 0.
@@ -11,12 +12,12 @@ use ast::{Fault, Line};
 pub enum Outcome {
     /// The source was accepted, and its run, if it was wanted, came to END or to a STOP.
     Completed,
-    /// The source was refused by this number, at this line.
-    Refused { number: u8, line: Line },
+    /// The source was refused by this rule, at this line.
+    Refused { number: Rule, line: Line },
     /// The run faulted at this line.
     Faulted { fault: Fault, line: Line },
-    /// The schedule was refused by this number, at this line of its own text.
-    NoSchedule { number: u8, line: usize },
+    /// The schedule was refused with this flaw, at this line of its own text.
+    NoSchedule { number: Flaw, line: usize },
 }
 
 impl Outcome {

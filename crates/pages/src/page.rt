@@ -10,7 +10,7 @@ use crate::outcomes::Outcome;
 use crate::row::Row;
 use crate::shown::{append_fault, append_refused, append_stopped};
 use crate::store::append_store;
-use ast::{End, Line};
+use ast::{End, Line, Rule};
 use handing::write_all;
 use std::alloc::{AllocError, Global};
 use std::io::Write;
@@ -23,15 +23,15 @@ pub struct Page {
 }
 
 /// The page of a source that is refused.
-pub fn refused(alloc: Global, number: u8, line: Line) -> Result<Page, AllocError>
-    ensures { IfOk result (λ page. (page.outcome ≡ Outcome.Refused number line)
-        × (page.text.items ≡ refused number line)) }
+pub fn refused(alloc: Global, rule: Rule, line: Line) -> Result<Page, AllocError>
+    ensures { IfOk result (λ page. (page.outcome ≡ Outcome.Refused rule line)
+        × (page.text.items ≡ refused rule line)) }
 {
     let mut text = Vec::new(alloc);
-    append_refused(&mut text, number, line)?;
+    append_refused(&mut text, rule, line)?;
     Ok(Page {
         text,
-        outcome: Outcome::Refused { number, line },
+        outcome: Outcome::Refused { number: rule, line },
     })
 }
 

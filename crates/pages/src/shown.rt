@@ -3,8 +3,9 @@
 ghost use Rattle.std.specs.Prelude.{◌≡◌, ◌++◌, OnOk};
 ghost use Rattle.pages.specs.Shown.{accepted_with, at_line, no_schedule, refused, faulted, stopped};
 
-use ast::{Fault, Line};
+use ast::{Fault, Line, Rule};
 use explanations::{append_number, fault_name, fault_number};
+use schedules::Flaw;
 use std::alloc::AllocError;
 
 /// Appends the number of a source line, and ends the line of output.
@@ -36,20 +37,20 @@ pub fn append_accepted(out: &mut Vec<u8>, statements: usize, loops: usize) -> Re
 }
 
 /// Appends the line of a source that is refused.
-pub fn append_refused(out: &mut Vec<u8>, number: u8, line: Line) -> Result<(), AllocError>
-    ensures { OnOk result (out.new.items ≡ out.old.items ++ refused number line) }
+pub fn append_refused(out: &mut Vec<u8>, rule: Rule, line: Line) -> Result<(), AllocError>
+    ensures { OnOk result (out.new.items ≡ out.old.items ++ refused rule line) }
 {
     out.extend_from_slice(b"REFUSED ")?;
-    append_number(out, number)?;
+    append_number(out, rule.number())?;
     append_line(out, line)
 }
 
 /// Appends the line of a schedule that is refused.
-pub fn append_no_schedule(out: &mut Vec<u8>, number: u8, line: usize) -> Result<(), AllocError>
-    ensures { OnOk result (out.new.items ≡ out.old.items ++ no_schedule number line) }
+pub fn append_no_schedule(out: &mut Vec<u8>, flaw: Flaw, line: usize) -> Result<(), AllocError>
+    ensures { OnOk result (out.new.items ≡ out.old.items ++ no_schedule flaw line) }
 {
     out.extend_from_slice(b"SCHEDULE ")?;
-    append_number(out, number)?;
+    append_number(out, flaw.number())?;
     out.extend_from_slice(b" LINE ")?;
     append_number(out, line)?;
     out.extend_from_slice(b"\n")

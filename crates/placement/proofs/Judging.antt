@@ -5,6 +5,9 @@ use Rattle.std.specs.List.{Contains, list_all}
 use Rattle.ast.specs.Tree.{Ref}
 use Rattle.ast.specs.View.{letters}
 use Rattle.dependence.specs.Kept.{IsNonzero, Kept, Suits, block_reads, block_variables}
+use Rattle.dependence.specs.Serial.{number_of}
+use Rattle.dependence.specs.declared.serial.SerialReason.{SerialReason}
+use Rattle.dependence.specs.declared.serial.SerialReason.TheVariants.{NoStep, Reads, SharedVariable, ManySources, Inside, Refused}
 use Rattle.loop_tree.specs.Loops.{IsWhole, Loop}
 use Rattle.loop_tree.specs.Private.{Private}
 use Rattle.loop_tree.specs.Told.{are_told, known}
@@ -52,14 +55,15 @@ module _ (l : Loop) (whole : IsWhole l) (told : are_told (known l) ≡ true) whe
     all = analysed.sources.all;
   }
 
-  -- no reason below n holds
-  refuted : (around : List Loop) (n m : ℕ) → n ≤ 5 → (1 < n → IsNonzero l.step) → (2 < n → block_reads l.body ≡ false) → (3 < n → (r : Ref) → In r (block_variables l.body) → Private l r.cell)
-      → (4 < n → HasManySources l → ⊥) → m < n → Reason l around m → ⊥
-  refuted around n m top a b c d less (inl (e, refutes)) = refutes (a (omega (arith, less, e)))
-  refuted around n m top a b c d less (inr (inl (e, reads))) = true≢false (sym reads ∙ b (omega (arith, less, e)))
-  refuted around n m top a b c d less (inr (inr (inl (e, (r, i, shared))))) = shared (c (omega (arith, less, e)) r (among r (block_variables l.body) i))
-  refuted around n m top a b c d less (inr (inr (inr (inl (e, many))))) = d (omega (arith, less, e)) many
-  refuted around n m top a b c d less (inr (inr (inr (inr (e, some))))) = absurd (omega (arith, less, e, top))
+  -- no reason below this one holds
+  refuted : (around : List Loop) (r q : SerialReason) → number_of r ≤ 5 → (1 < number_of r → IsNonzero l.step) → (2 < number_of r → block_reads l.body ≡ false)
+      → (3 < number_of r → (v : Ref) → In v (block_variables l.body) → Private l v.cell) → (4 < number_of r → HasManySources l → ⊥) → number_of q < number_of r → Reason l around q → ⊥
+  refuted around r NoStep top a b c d less refutes = refutes (a less)
+  refuted around r Reads top a b c d less reads = true≢false (sym reads ∙ b less)
+  refuted around r SharedVariable top a b c d less (v, i, shared) = shared (c less v (among v (block_variables l.body) i))
+  refuted around r ManySources top a b c d less many = d less many
+  refuted around r Inside top a b c d less some = absurd (omega (arith, less, top))
+  refuted around r Refused top a b c d less none = none
 
   few_and_many : Suits l → HasManySources l → ⊥
   few_and_many s many =
@@ -68,32 +72,34 @@ module _ (l : Loop) (whole : IsWhole l) (told : are_told (known l) ≡ true) whe
       let more = many.2 in
       absurd (omega (arith, g, most, more))
 
-  pub hindered : (n : ℕ) → IsHindered l n → (Suits l → ⊥) × IsLowest l [] n
-  hindered n (inl (e, refutes)) = (
+  pub hindered : (r : SerialReason) → IsHindered l r → (Suits l → ⊥) × IsLowest l [] r
+  hindered NoStep refutes = (
     λ s. refutes s.step,
-    (inl (e, refutes), λ m less r. refuted [] n m (omega (arith, e)) (λ k. absurd (omega (arith, k, e))) (λ k. absurd (omega (arith, k, e))) (λ k. absurd (omega (arith, k, e))) (λ k. absurd (omega (arith, k, e))) less r),
+    (refutes, λ q less h. refuted [] NoStep q (omega arith) (λ k. absurd (omega (arith, k))) (λ k. absurd (omega (arith, k))) (λ k. absurd (omega (arith, k))) (λ k. absurd (omega (arith, k))) less h),
   )
-  hindered n (inr (inl (e, step, reads))) = (
+  hindered Reads (step, reads) = (
     λ s. true≢false (sym reads ∙ s.no_read),
-    (inr (inl (e, reads)), λ m less r. refuted [] n m (omega (arith, e)) (λ k. step) (λ k. absurd (omega (arith, k, e))) (λ k. absurd (omega (arith, k, e))) (λ k. absurd (omega (arith, k, e))) less r),
+    (reads, λ q less h. refuted [] Reads q (omega arith) (λ k. step) (λ k. absurd (omega (arith, k))) (λ k. absurd (omega (arith, k))) (λ k. absurd (omega (arith, k))) less h),
   )
-  hindered n (inr (inr (inl (e, (names, plain, h))))) =
-      let one = one_shared names plain h in (
+  hindered SharedVariable (names, plain, hidden) =
+      let one = one_shared names plain hidden in (
         λ s. one.2 (s.inner one.0 (contained one.0 (block_variables l.body) one.1)),
-        (inr (inr (inl (e, (one.0, contained one.0 (block_variables l.body) one.1, one.2)))), λ m less r. refuted [] n m (omega (arith, e)) (λ k. plain.step) (λ k. plain.no_read) (λ k. absurd (omega (arith, k, e))) (λ k. absurd (omega (arith, k, e))) less r),
+        ((one.0, contained one.0 (block_variables l.body) one.1, one.2), λ q less h. refuted [] SharedVariable q (omega arith) (λ k. plain.step) (λ k. plain.no_read) (λ k. absurd (omega (arith, k))) (λ k. absurd (omega (arith, k))) less h),
       )
-  hindered n (inr (inr (inr (e, (names, plain, h, many))))) = (
+  hindered ManySources (names, plain, hidden, many) = (
     λ s. few_and_many s many,
-    (inr (inr (inr (inl (e, many)))), λ m less r. refuted [] n m (omega (arith, e)) (λ k. plain.step) (λ k. plain.no_read) (λ k. all_private names plain h) (λ k. absurd (omega (arith, k, e))) less r),
+    (many, λ q less h. refuted [] ManySources q (omega arith) (λ k. plain.step) (λ k. plain.no_read) (λ k. all_private names plain hidden) (λ k. absurd (omega (arith, k))) less h),
   )
+  hindered Inside none = absurd none
+  hindered Refused none = absurd none
 
   -- a loop that suits has none of the reasons but that of a loop around it
-  pub lowest_fifth : (around : List Loop) → Suits l → SomeEligible around → IsLowest l around 5
-  lowest_fifth around s some = (
-    inr (inr (inr (inr (refl, some)))),
-    λ m less r. refuted around 5 m (omega arith) (λ k. s.step) (λ k. s.no_read) (λ k q i. s.inner q (contained q (block_variables l.body) i)) (λ k many. few_and_many s many) less r,
+  pub lowest_inside : (around : List Loop) → Suits l → SomeEligible around → IsLowest l around Inside
+  lowest_inside around s some = (
+    some,
+    λ q less h. refuted around Inside q (omega arith) (λ k. s.step) (λ k. s.no_read) (λ k v i. s.inner v (contained v (block_variables l.body) i)) (λ k many. few_and_many s many) less h,
   )
 
   pub suiting_by : (j : Judged) → IsJudged l j → IsSuiting l (suits_by j)
-  suiting_by (judged.Serial n) h = (hindered n h).0
+  suiting_by (judged.Serial reason) h = (hindered reason h).0
   suiting_by (judged.Suits privates a) h = suiting (map letters privates.names.items) a h.0 h.1 h.2

@@ -5,6 +5,8 @@ use Rattle.dependence.specs.Hiding.{hides}
 use Rattle.dependence.specs.Kept.{Suits}
 use Rattle.dependence.specs.Plan.{PlanTree}
 use Rattle.dependence.specs.Related.{relations as relations_in}
+use Rattle.dependence.specs.declared.serial.SerialReason.{SerialReason}
+use Rattle.dependence.specs.declared.serial.SerialReason.TheVariants.{Inside}
 use Rattle.loop_tree.specs.Loops.{IsWhole, Loop}
 use Rattle.loop_tree.specs.Told.{are_told, known}
 use Rattle.placement.specs.Analysed.{AreAnalysed, AreTriples, triple}
@@ -35,13 +37,13 @@ placed_body l p a s o b plain found same spots e f h r = record {
 }
 
 module _ (l : Loop) (whole : IsWhole l) (told : are_told (known l) ≡ true) (placed : Placed) where
-  pub stays_serial : (inside : Bool) (n : ℕ) → IsHindered l n → IsSerial n placed → placed.suits ≡ false → IsPlaced l inside placed
-  stays_serial inside n h p s = let g = hindered l whole told n h in inr (s, g.0, (n, p, g.1))
+  pub stays_serial : (inside : Bool) (r : SerialReason) → IsHindered l r → IsSerial r placed → placed.suits ≡ false → IsPlaced l inside placed
+  stays_serial inside r h p s = let g = hindered l whole told r h in inr (s, g.0, (r, p, g.1))
 
   suits : (names : List (List ℕ)) (a : Analysis) → IsPlain l names → hides names l ≡ true → AreAnalysed l names a → Suits l
   suits names a plain h found = suiting l whole told names a plain h found
 
-  pub stays_inside : (names : List (List ℕ)) (a : Analysis) → IsPlain l names → hides names l ≡ true → AreAnalysed l names a → IsSerial 5 placed → placed.suits ≡ true → IsPlaced l true placed
+  pub stays_inside : (names : List (List ℕ)) (a : Analysis) → IsPlain l names → hides names l ≡ true → AreAnalysed l names a → IsSerial Inside placed → placed.suits ≡ true → IsPlaced l true placed
   stays_inside names a plain h found p s = inl (s, suits names a plain h found, p)
 
   pub is_open : (names : List (List ℕ)) (a : Analysis) → IsPlain l names → hides names l ≡ true → AreAnalysed l names a → IsOpened l placed → placed.suits ≡ true → IsPlaced l false placed

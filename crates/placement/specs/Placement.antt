@@ -6,10 +6,13 @@ use Rattle.ast.specs.Tree.{Ref}
 use Rattle.dependence.specs.Kept.{EligibleIn, IsNonzero, Kept, block_reads, block_variables, most_events}
 use Rattle.dependence.specs.Plan.{PlanTree}
 use Rattle.dependence.specs.PlanView.{plan_of}
+use Rattle.dependence.specs.Serial.{number_of}
 use Rattle.dependence.specs.Tests.{relation}
 use Rattle.dependence.specs.declared.plan.LoopPlan.{LoopPlan}
 use Rattle.dependence.specs.declared.plan.LoopPlan.TheVariants.{Serial, Body}
 use Rattle.dependence.specs.declared.relation.Relation.{Relation}
+use Rattle.dependence.specs.declared.serial.SerialReason.{SerialReason}
+use Rattle.dependence.specs.declared.serial.SerialReason.TheVariants.{NoStep, Reads, SharedVariable, ManySources, Inside, Refused}
 use Rattle.loop_tree.specs.Loops.{Loop, loop_around}
 use Rattle.loop_tree.specs.Occurrences.{Occurrence}
 use Rattle.loop_tree.specs.Private.{Private}
@@ -91,18 +94,19 @@ SomeEligible [] = ⊥
 SomeEligible (m ∷ around) = EligibleIn m around ⊎ SomeEligible around
 
 -- Why a loop isn't opened: its step is no constant other than 0; it has a READ; the variable of a
--- loop inside isn't private; more than 64 statements are sources; a loop around it may be open.
-abbrev pub Reason : Loop → List Loop → ℕ → Type 0
-Reason l around n =
-    ((n ≡ 1) × (IsNonzero l.step → ⊥))
-    ⊎ (((n ≡ 2) × (block_reads l.body ≡ true))
-    ⊎ (((n ≡ 3) × ((r : Ref) × Contains (block_variables l.body) r × (Private l r.cell → ⊥)))
-    ⊎ (((n ≡ 4) × ((ss : List ℕ) × AreSources l ss × (most_events < length ss)))
-    ⊎ ((n ≡ 5) × SomeEligible around))))
+-- loop inside isn't private; more than 64 statements are sources; a loop around it may be open. The
+-- check of plans refuses none.
+abbrev pub Reason : Loop → List Loop → SerialReason → Type 0
+Reason l around NoStep = IsNonzero l.step → ⊥
+Reason l around Reads = block_reads l.body ≡ true
+Reason l around SharedVariable = (r : Ref) × Contains (block_variables l.body) r × (Private l r.cell → ⊥)
+Reason l around ManySources = (ss : List ℕ) × AreSources l ss × (most_events < length ss)
+Reason l around Inside = SomeEligible around
+Reason l around Refused = ⊥
 
 -- the lowest that holds
-abbrev pub IsLowest : Loop → List Loop → ℕ → Type 0
-IsLowest l around n = Reason l around n × ((m : ℕ) → m < n → Reason l around m → ⊥)
+abbrev pub IsLowest : Loop → List Loop → SerialReason → Type 0
+IsLowest l around r = Reason l around r × ((q : SerialReason) → number_of q < number_of r → Reason l around q → ⊥)
 
 -- a loop around, if there is one, and those around that
 abbrev pub with_outer : (Loop → List Loop) → Option Loop → List Loop
@@ -120,5 +124,5 @@ loops_around all l = around_in (length all) all l
 
 -- What placement gives for a loop of a program with these loops.
 abbrev pub IsPlacement : List Loop → Loop → LoopPlan → Type 0
-IsPlacement all l (Serial n) = IsLowest l (loops_around all l) n
+IsPlacement all l (Serial reason) = IsLowest l (loops_around all l) reason
 IsPlacement all l (Body b privates relations) = EligibleIn l (loops_around all l) × ((p : PlanTree) × (plan_of (Body b privates relations) ≡ Some p) × IsPlacedBody l p)

@@ -13,7 +13,7 @@ use crate::analysis::{Analysis, Kept, analyse};
 use crate::counting::add;
 use crate::placing::placed_range;
 use crate::spots::spots_of;
-use dependence::{LoopPlan, has_read, hides_inner};
+use dependence::{LoopPlan, SerialReason, has_read, hides_inner};
 use loop_tree::{LoopView, ScalarSet};
 use privatise::private_scalars;
 use std::alloc::{AllocError, Global};
@@ -21,8 +21,8 @@ use std::alloc::{AllocError, Global};
 /// What a loop is by itself.
 #[derive(Drop)]
 enum Judged {
-    /// It stays serial, for the reason of this number, from 1 to 4.
-    Serial(u8),
+    /// It stays serial, for this reason.
+    Serial(SerialReason),
     /// Its iterations may overlap.
     Suits {
         privates: ScalarSet,
@@ -73,18 +73,18 @@ fn judge(alloc: Global, view: &LoopView<'_, '_>) -> Result<Judged, AllocError>
     ensures { IfOk result (λ judged. IsJudged (seen view.now) judged) }
 {
     if !is_nonzero(view.step()) {
-        return Ok(Judged::Serial(1));
+        return Ok(Judged::Serial(SerialReason::NoStep));
     }
     if has_read(view) {
-        return Ok(Judged::Serial(2));
+        return Ok(Judged::Serial(SerialReason::Reads));
     }
     let privates = private_scalars(alloc, view)?;
     if !hides_inner(view, &privates.names) {
-        return Ok(Judged::Serial(3));
+        return Ok(Judged::Serial(SerialReason::SharedVariable));
     }
     match analyse(alloc, view, &privates.names)? {
         Some(analysis) => Ok(Judged::Suits { privates, analysis }),
-        None => Ok(Judged::Serial(4)),
+        None => Ok(Judged::Serial(SerialReason::ManySources)),
     }
 }
 
@@ -115,7 +115,7 @@ fn opened(
 }
 
 /// A loop that stays serial.
-fn serial(alloc: Global, reason: u8, suits: bool) -> Placed
+fn serial(alloc: Global, reason: SerialReason, suits: bool) -> Placed
     ensures serial { IsSerial reason result }
     ensures suits { result.suits ≡ suits }
 {
@@ -139,7 +139,7 @@ pub fn place(alloc: Global, view: &LoopView<'_, '_>, inside: bool) -> Result<Pla
 {
     match judge(alloc, view)? {
         Judged::Serial(reason) => Ok(serial(alloc, reason, false)),
-        Judged::Suits { .. } if inside => Ok(serial(alloc, 5, true)),
+        Judged::Suits { .. } if inside => Ok(serial(alloc, SerialReason::Inside, true)),
         Judged::Suits { privates, analysis } => opened(alloc, view, privates, analysis),
     }
 }
@@ -166,10 +166,8 @@ fn is_inside(alloc: Global, view: &LoopView<'_, '_>, most: usize) -> Result<bool
     }
 }
 
-/// The plan of a loop: where its iterations wait and tell, or for which reason, from 1 to 5, it
-/// stays serial. The lowest that holds is given: its step is no constant other than 0; it has a
-/// READ; the variable of a loop inside isn't private; more than 64 statements are sources; a loop
-/// around it may be open.
+/// The plan of a loop: where its iterations wait and tell, or the reason of the lowest number that
+/// keeps it serial, which is never that the check refuses its plan.
 pub fn plan(alloc: Global, view: &LoopView<'_, '_>) -> Result<LoopPlan, AllocError>
     ensures { IfOk result (λ plan. AreWhole (all_seen view.now) → IsWhole (seen view.now)
         → IsPlacement (all_seen view.now) (seen view.now) plan) }

@@ -299,7 +299,7 @@ pub fn run<G: Gate + Sync, R: Threads + Wait + Sync>(
 {
     let core = match Core::new(alloc, code, input, p, s) {
         Ok(core) => core,
-        Err(CoreRefusal::Refused { number: _ }) => return Err(RunRefusal::OutOfRange),
+        Err(CoreRefusal::OutOfRange) => return Err(RunRefusal::OutOfRange),
         Err(CoreRefusal::Memory) => return Err(nothing(alloc)),
     };
     run_call::<Brand, G, R>(rt, alloc, core, code, gate)
@@ -423,7 +423,7 @@ pub fn run_unrecorded<G: Gate + Sync, R: Threads + Wait + Sync>(
 {
     let run = match Run::new(alloc, code, input, p, s) {
         Ok(run) => run,
-        Err(CoreRefusal::Refused { number: _ }) => return Err(RunRefusal::OutOfRange),
+        Err(CoreRefusal::OutOfRange) => return Err(RunRefusal::OutOfRange),
         Err(CoreRefusal::Memory) => return Err(nothing(alloc)),
     };
     match answer_call::<Brand, G, R, Sink>(rt, alloc, run, code, gate, None, io::sink()) {
@@ -466,9 +466,7 @@ pub fn run_onto<G: Gate + Sync, R: Threads + Wait + Sync, W: Write + Drop>(
 {
     let run = match Run::new(alloc, code, input, p, s) {
         Ok(run) => run,
-        Err(CoreRefusal::Refused { number: _ }) => {
-            return (out, Ok(unshown(RunRefusal::OutOfRange)));
-        }
+        Err(CoreRefusal::OutOfRange) => return (out, Ok(unshown(RunRefusal::OutOfRange))),
         Err(CoreRefusal::Memory) => return (out, Ok(unshown(nothing(alloc)))),
     };
     match answer_call::<Brand, G, R, W>(rt, alloc, run, code, gate, Some(most_waiting), out) {

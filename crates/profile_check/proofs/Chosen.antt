@@ -4,6 +4,7 @@ use Rattle.std.specs.Prelude.{◌+◌, ◌&&◌, ◌||◌, nat_le, nat_lt, if◌
 use Rattle.std.specs.List.{list_any}
 use Rattle.ast.specs.Symbols.{most_elements}
 use Rattle.ast.specs.Tree.{Declarator, Kind}
+use Rattle.ast.specs.declared.rule.Rule.{Rule}
 use Rattle.structure.specs.Open.{Open}
 use Rattle.profile_check.specs.Counted.{counted}
 use Rattle.profile_check.specs.Declarations.{Arrays, total_elements}
@@ -11,11 +12,11 @@ use Rattle.profile_check.specs.Rules.{is_larger, opens, most_statements, most_ne
 use Rattle.profile_check.specs.Uses.{has_bounds}
 use Rattle.profile_check.proofs.Sums.{limit_law}
 
-pub pass : {b : Bool} (n : ℕ) {rest r : Option ℕ} → b ≡ false → r ≡ rest → r ≡ (if b then Some n else rest)
-pass n {rest} h e = e ∙ sym (ap (λ x. if x then Some n else rest) h)
+pub pass : {b : Bool} (rule : Rule) {rest r : Option Rule} → b ≡ false → r ≡ rest → r ≡ (if b then Some rule else rest)
+pass rule {rest} h e = e ∙ sym (ap (λ x. if x then Some rule else rest) h)
 
-pub hit : {b : Bool} (n : ℕ) (rest : Option ℕ) → b ≡ true → Some n ≡ (if b then Some n else rest)
-hit n rest h = sym (ap (λ x. if x then Some n else rest) h)
+pub hit : {b : Bool} (rule : Rule) (rest : Option Rule) → b ≡ true → Some rule ≡ (if b then Some rule else rest)
+hit rule rest h = sym (ap (λ x. if x then Some rule else rest) h)
 
 pub known : {b r c : Bool} → r ≡ b → r ≡ c → b ≡ c
 known h e = sym h ∙ e

@@ -4,8 +4,9 @@ use Rattle.std.specs.Prelude.{◌&&◌, ◌||◌, ◌==◌, if◌then◌else◌}
 use Rattle.std.proofs.lemmas.Bool.{or_parts}
 use Rattle.std.specs.List.{list_any}
 use Rattle.ast.specs.Tree.{Term, Statement, Kind, do_loop, block_if, else_if, else_arm, end_if, logical_if, program, integer, dimension, parameters, assign, go_on, print, read, stop, end, Node, loop, block}
+use Rattle.ast.specs.declared.rule.Rule.TheVariants.{OutOfOrder, OpenLoop, WrongTerminal, CrossedBlocks}
 use Rattle.structure.specs.Open.{Open, do_range, if_block, open_after, after, begun, ended_by, ended as spec_ended, with_else, without_block}
-use Rattle.structure.specs.Rules.{is_out_of_order, is_some_and, is_end, by_label, is_range_of, is_around, is_other_range, is_block, is_any_range, begins_with, may_go_on, may_not_end_a_range, is_misplaced_arm, holds_wrong_statement, crosses, ends_wrongly, breaks_blocks, rules, lowest_broken}
+use Rattle.structure.specs.Rules.{is_out_of_order, is_some_and, is_end, by_label, is_range_of, is_around, is_other_range, is_block, is_any_range, begins_with, may_go_on, may_not_end_a_range, is_misplaced_arm, holds_wrong_statement, crosses, ends_wrongly, breaks_blocks, checks, lowest_broken}
 use Rattle.profile_check.specs.Nesting.{Frame, in_range, in_block, Nest, nest, next_arm, end_block, end_ranges, ended, own_node, with_kind, with_statement}
 use Rattle.profile_check.proofs.Laid.{IsInBlock, MayStand}
 use Rattle.profile_check.proofs.Fresh.{none-first}
@@ -29,12 +30,12 @@ pub record Kept (opened : List Open) (s : Statement) : Type 0 where
   pub ends : ends_wrongly opened s ≡ false
   pub blocks : breaks_blocks opened s ≡ false
 
-pub kept : (front : List Statement) (s : Statement) → lowest_broken rules front s ≡ None → Kept (open_after front) s
+pub kept : (front : List Statement) (s : Statement) → lowest_broken checks front s ≡ None → Kept (open_after front) s
 kept front s h =
-    let a = none-first (is_out_of_order front s) 30 _ h in
-    let b = none-first (crosses (open_after front) s) 34 _ a.1 in
-    let c = none-first (ends_wrongly (open_after front) s) 35 _ b.1 in
-    let d = none-first (breaks_blocks (open_after front) s) 36 _ c.1 in
+    let a = none-first (is_out_of_order front s) OutOfOrder _ h in
+    let b = none-first (crosses (open_after front) s) OpenLoop _ a.1 in
+    let c = none-first (ends_wrongly (open_after front) s) WrongTerminal _ b.1 in
+    let d = none-first (breaks_blocks (open_after front) s) CrossedBlocks _ c.1 in
     record { crosses = b.0; ends = c.0; blocks = d.0 }
 
 is-not : (b : Bool) → not b ≡ false → b ≡ true

@@ -10,6 +10,8 @@ use Rattle.indexmap.specs.IndexSet.{insert_key, insert_all}
 use Rattle.ast.specs.Store.{same_name}
 use Rattle.ast.specs.Symbols.{Extent}
 use Rattle.ast.specs.Tree.{Declarator, Statement}
+use Rattle.ast.specs.Rule.{number_of}
+use Rattle.ast.specs.declared.rule.Rule.{Rule}
 use Rattle.ast.proofs.SameNames.{same_is}
 use Rattle.profile_check.specs.Checking.{and_then_declared}
 use Rattle.profile_check.specs.Declarations.{Declared, Arrays, Constants, declared_in, arrays_by, or_no_extents, extents_of, with_arrays, total_elements, objects_by}
@@ -19,18 +21,18 @@ use Rattle.profile_check.specs.Uses.{is_among, bounded_by, defined_by, declarato
 use Rattle.profile_check.proofs.OneMore.{declared-append}
 use Rattle.profile_check.proofs.Sums.{total-append}
 
-pub lower-none : (a b : Option ℕ) → lower a b ≡ None → (a ≡ None) × (b ≡ None)
+pub lower-none : (a b : Option Rule) → lower a b ≡ None → (a ≡ None) × (b ≡ None)
 lower-none None b h = (refl, h)
-lower-none (Some m) None h = absurd cc
-lower-none (Some m) (Some n) h = absurd (by (nat_le m n) h)
+lower-none (Some a) None h = absurd cc
+lower-none (Some a) (Some b) h = absurd (by (nat_le (number_of a) (number_of b)) h)
   where
-    by : (b : Bool) → (if b then Some m else Some n) ≡ None → ⊥
+    by : (first : Bool) → (if first then Some a else Some b) ≡ None → ⊥
     by true h = cc
     by false h = cc
 
-pub none-first : (b : Bool) (n : ℕ) (rest : Option ℕ) → (if b then Some n else rest) ≡ None → (b ≡ false) × (rest ≡ None)
-none-first true n rest h = absurd cc
-none-first false n rest h = (refl, h)
+pub none-first : (b : Bool) (rule : Rule) (rest : Option Rule) → (if b then Some rule else rest) ≡ None → (b ≡ false) × (rest ≡ None)
+none-first true rule rest h = absurd cc
+none-first false rule rest h = (refl, h)
 
 -- A table has what was taken into it.
 had-equal : (x y : List ℕ) (keys : List (List ℕ)) (b : Bool) → same_name x y ≡ b → list_any (same_name y) keys ≡ true → list_any (same_name x) keys ≡ (list_any (same_name x) keys || b)

@@ -6,9 +6,11 @@ use Rattle.std.specs.List.{list_any}
 use Rattle.ast.specs.Answers.{Break}
 use Rattle.ast.specs.Store.{same_name}
 use Rattle.ast.specs.Tree.{Statement}
+use Rattle.ast.specs.declared.rule.Rule.{Rule}
+use Rattle.ast.specs.declared.rule.Rule.TheVariants.{NotInteger, DeclaredTwice, WrongSubscripts, ActiveVariable, ChangedConstant, CrossedBounds, LargeProgram, NoValue, WrongKind}
 use Rattle.structure.proofs.Agreement.{agrees as order-agrees, one-more}
 use Rattle.structure.specs.Open.{open_after}
-use Rattle.structure.specs.Rules.{rules as order_rules, lowest_broken as lowest_order}
+use Rattle.structure.specs.Rules.{checks as order_checks, lowest_broken as lowest_order}
 use Rattle.profile_check.proofs.Fresh.{had-all, lower-none, none-first, elements-more}
 use Rattle.profile_check.proofs.OneMore.{declared-append}
 use Rattle.profile_check.proofs.Sums.{counted_law, limit_before}
@@ -26,16 +28,16 @@ real-table : (typed names : List (List ℕ)) → are_real (table_of typed) names
 real-table typed names = λ i. list_any (λ x. not (begins_i_to_n x || in-table typed x i)) names
 
 -- the rules on values where it is known whether a program is too large
-abbrev by_size : Context → Statement → Bool → Option ℕ
+abbrev by_size : Context → Statement → Bool → Option Rule
 by_size c s large =
-    if declares_again c.declared.program c.declared.typed c.declared.objects s.kind then Some 32
-    else if miscounts c s.kind then Some 33
-    else if changes_active c s.kind then Some 37
-    else if changes_constant c s.kind then Some 38
-    else if crosses_bounds c s.kind then Some 39
-    else if large then Some 40
-    else if lacks_value c.declared.constants s.kind then Some 42
-    else if not (is_well_kinded s.kind) then Some 43
+    if declares_again c.declared.program c.declared.typed c.declared.objects s.kind then Some DeclaredTwice
+    else if miscounts c s.kind then Some WrongSubscripts
+    else if changes_active c s.kind then Some ActiveVariable
+    else if changes_constant c s.kind then Some ChangedConstant
+    else if crosses_bounds c s.kind then Some CrossedBounds
+    else if large then Some LargeProgram
+    else if lacks_value c.declared.constants s.kind then Some NoValue
+    else if not (is_well_kinded s.kind) then Some WrongKind
     else None
 
 size-agrees : (typed : List (List ℕ)) (front : List Statement) (s : Statement) → is_too_large (context_by typed (before_of front)) s ≡ is_too_large (context_after typed front) s
@@ -50,7 +52,7 @@ agrees typed front s =
     let b = real-table typed (definition_names (defined_by s.kind)) in
     let d = real-table typed (names_used s.kind) in
     let large = size-agrees typed front s in
-    ap₂ lower (order-agrees front s) (λ i. if (a i || (b i || d i)) then Some 31 else by_size (context_after typed front) s (large i))
+    ap₂ lower (order-agrees front s) (λ i. if (a i || (b i || d i)) then Some NotInteger else by_size (context_after typed front) s (large i))
 
 -- how many elements there are with those of one more statement
 elements-snoc : (front : List Statement) (s : Statement) → taken_before (declared_in front).objects (objects_by s.kind) ≡ false
@@ -80,23 +82,23 @@ pub record Breaking (typed : List (List ℕ)) (front ps : List Statement) (d : B
   pub back : List Statement
   pub cut : ps ≡ kept ++ statement ∷ back
   pub keep : Keep typed front kept
-  pub broken : rule_broken typed (front ++ kept) statement ≡ Some d.number
+  pub broken : rule_broken typed (front ++ kept) statement ≡ Some d.rule
   pub place : d.line ≡ statement.line
 
-grown : (typed : List (List ℕ)) (front f : List Statement) (q p : Statement) {r : Option ℕ}
+grown : (typed : List (List ℕ)) (front f : List Statement) (q p : Statement) {r : Option Rule}
     → rule_broken typed ((front ++ q ∷ []) ++ f) p ≡ r → rule_broken typed (front ++ q ∷ f) p ≡ r
 grown typed front f q p h = ap (λ xs. rule_broken typed xs p) (sym (append_assoc front (q ∷ []) f)) ∙ h
 
-here : (typed : List (List ℕ)) (front : List Statement) (p : Statement) {r : Option ℕ} → rule_broken typed front p ≡ r → rule_broken typed (front ++ []) p ≡ r
+here : (typed : List (List ℕ)) (front : List Statement) (p : Statement) {r : Option Rule} → rule_broken typed front p ≡ r → rule_broken typed (front ++ []) p ≡ r
 here typed front p h = ap (λ xs. rule_broken typed xs p) (append-nil front) ∙ h
 
 -- a statement that breaks no rule declares nothing again
 declares-new : (typed : List (List ℕ)) (front : List Statement) (q : Statement) → rule_broken typed front q ≡ None → taken_before (declared_in front).objects (objects_by q.kind) ≡ false
 declares-new typed front q h =
     let d = declared_in front in
-    let own = (lower-none (lowest_order order_rules front q) _ h).1 in
-    let real = none-first (names_real typed q.kind) 31 _ own in
-    let again = none-first (declares_again d.program d.typed d.objects q.kind) 32 _ real.1 in
+    let own = (lower-none (lowest_order order_checks front q) _ h).1 in
+    let real = none-first (names_real typed q.kind) NotInteger _ own in
+    let again = none-first (declares_again d.program d.typed d.objects q.kind) DeclaredTwice _ real.1 in
     let names = or_parts (taken_before d.typed (declarator_names (typed_by q.kind))) _ again.0 in
     (or_parts (taken_before d.objects (objects_by q.kind)) _ names.1).0
 
@@ -127,7 +129,7 @@ pub record Whole (typed : List (List ℕ)) (front ps : List Statement) (d : Decl
 
 whole-step : (typed : List (List ℕ)) (front : List Statement) (q : Statement) (qs : List Statement) (d : Declared)
     → (checked (table_of typed) (before_of (front ++ q ∷ [])) qs ≡ Ok d → Whole typed (front ++ q ∷ []) qs d)
-    → (r : Option ℕ) → rule_by (table_of typed) (before_of front) q ≡ r
+    → (r : Option Rule) → rule_by (table_of typed) (before_of front) q ≡ r
     → going_on r q (checked (table_of typed) (and_one (before_of front) q) qs) ≡ Ok d → Whole typed front (q ∷ qs) d
 whole-step typed front q qs d later (Some n) h e = cc
 whole-step typed front q qs d later None h e =
@@ -146,7 +148,7 @@ ok-whole typed front (q ∷ qs) d h = whole-step typed front q qs d (ok-whole ty
 
 break-step : (typed : List (List ℕ)) (front : List Statement) (q : Statement) (qs : List Statement) (d : Break)
     → (checked (table_of typed) (before_of (front ++ q ∷ [])) qs ≡ Err d → Breaking typed (front ++ q ∷ []) qs d)
-    → (r : Option ℕ) → rule_by (table_of typed) (before_of front) q ≡ r
+    → (r : Option Rule) → rule_by (table_of typed) (before_of front) q ≡ r
     → going_on r q (checked (table_of typed) (and_one (before_of front) q) qs) ≡ Err d → Breaking typed front (q ∷ qs) d
 break-step typed front q qs d later None h e =
     let b = later (there typed front q qs h ∙ e) in
@@ -160,7 +162,7 @@ break-step typed front q qs d later None h e =
       place = b.place;
     }
 break-step typed front q qs d later (Some n) h e =
-    let same : record { number = n; line = q.line } ≡ d = cc in
+    let same : record { rule = n; line = q.line } ≡ d = cc in
     let P : Break → Type 0 = λ x. Breaking typed front (q ∷ qs) x in
     subst P same (record {
       kept = [];

@@ -6,7 +6,7 @@ use Rattle.ast.specs.Program.{ProgramTree, is_placed}
 use Rattle.ast.specs.References.{block_expressions, block_references}
 use Rattle.ast.specs.Symbols.{Symbol}
 use Rattle.ast.specs.Tree.{Statement}
-use Rattle.structure.specs.Rules.{Keep, rules}
+use Rattle.structure.specs.Rules.{Keep, checks}
 use Rattle.profile_check.specs.Declarations.{declared_in, symbols_of}
 use Rattle.profile_check.specs.Erasure.{block_erased}
 use Rattle.profile_check.specs.Reads.{AreProgram, is_meant}
@@ -20,7 +20,7 @@ settled ss p h = record {
   numbered = h.numbered;
 }
 
-pub one-program : (ss : List Statement) (p q : ProgramTree) → AreProgram ss p → AreProgram ss q → Keep rules ss → Known (symbols_of (declared_in ss)) → p ≡ q
+pub one-program : (ss : List Statement) (p q : ProgramTree) → AreProgram ss p → AreProgram ss q → Keep checks ss → Known (symbols_of (declared_in ss)) → p ≡ q
 one-program ss p q h g keep known =
     let texts : block_erased p.block ≡ block_erased q.block = same-tree (block_erased p.block) (block_erased q.block) ss h.laid g.laid keep in
     let blocks : p.block ≡ q.block = same-block (symbols_of (declared_in ss)) known 0 p.block q.block texts (settled ss p h) (settled ss q g) in

@@ -10,7 +10,7 @@ use Rattle.ast.specs.Store.{same_name}
 use Rattle.ast.specs.Tree.{Term, Access, Statement, Kind, DoHead, do_loop, block_if, else_if, else_arm, end_if, logical_if, program, integer, dimension, parameters, assign, go_on, print, read, stop, end, Node, plain, loop, choose, block, Arm, arms}
 use Rattle.ast.proofs.Lists.{all_joined}
 use Rattle.structure.specs.Open.{Open, open_after, is_active}
-use Rattle.structure.specs.Rules.{holds_wrong_statement, may_stand_in_if, rules, Keep}
+use Rattle.structure.specs.Rules.{holds_wrong_statement, may_stand_in_if, checks, Keep}
 use Rattle.profile_check.proofs.Frames.{Kept, kept, shapes, all-ended}
 use Rattle.profile_check.proofs.SameShape.{Nested, nested-one, kept-alike, alike, EndsInEnd}
 use Rattle.profile_check.specs.Nesting.{Frame, in_range, in_block, Nest, nest, arm_of, next_arm, end_block, end_ranges, ended, own_node, logical_node, with_kind, with_statement, nested_from, nested}
@@ -261,7 +261,7 @@ is-end : (k : Kind) → is_end_kind k ≡ true → k ≡ end
 is-end end h = refl
 is-end k h = absurd cc
 
--- what rules 36 and 37 say of a statement
+-- what `CrossedBlocks` and `ActiveVariable` say of a statement
 pub record Rightly (opened : List Open) (s : Statement) : Type 0 where
   pub active : list_any (λ u. u.is_given && is_active opened u.name) (uses s.kind) ≡ false
   pub alone : holds_wrong_statement s.kind ≡ false
@@ -293,7 +293,7 @@ last-ended n r e q =
     let none : n.frames ≡ [] = all-ended n.frames r e q in
     ap (λ (j : Kind). (with_kind n r j).frames) e ∙ ap (λ (fs : List Frame). (ended r.label fs (n.nodes ++ own_node r end ∷ [])).frames) none ∙ nothing-left r.label (n.nodes ++ own_node r end ∷ [])
 
-orderly-all : (t : Table) (m : ℕ) (n : Nest) (whole front resolved rest : List Statement) → Keep rules whole
+orderly-all : (t : Table) (m : ℕ) (n : Nest) (whole front resolved rest : List Statement) → Keep checks whole
     → ((f : List Statement) (s : Statement) (b : List Statement) → whole ≡ f ++ s ∷ b → Rightly (open_after f) s)
     → whole ≡ front ++ rest → EndsInEnd rest → Nested n front resolved → Orderly n.frames n.nodes
     → list_all (stands []) (nested_from n (statements_resolved t m rest)).nodes ≡ true
@@ -321,7 +321,7 @@ from-top (n ∷ ns) h =
     (and_from (node_keeps [] n) (block_keeps [] (block ns)) q.0 more.0, and_from (not (holds_end n)) (ends_outside (block ns)) q.1 more.1)
 
 -- the resolved statements of a text that keeps the rules, nested
-pub nested-orderly : (t : Table) (ss : List Statement) → Keep rules ss
+pub nested-orderly : (t : Table) (ss : List Statement) → Keep checks ss
     → ((f : List Statement) (s : Statement) (b : List Statement) → ss ≡ f ++ s ∷ b → Rightly (open_after f) s) → EndsInEnd ss
     → (block_keeps [] (block (nested (statements_resolved t 0 ss)).nodes) ≡ true) × (ends_outside (block (nested (statements_resolved t 0 ss)).nodes) ≡ true)
 nested-orderly t ss keep right last =

@@ -10,7 +10,7 @@ use Rattle.fixed_form.specs.Answers.{entry, entries}
 use Rattle.fixed_form.specs.Lines.{Entry}
 use Rattle.fixed_form.specs.declared.labelled.Labelled.{Labelled}
 use Rattle.syntax.specs.Statements.{IsStatement}
-use Rattle.expressions.specs.Answers.{IsNumber, refuse}
+use Rattle.expressions.specs.Answers.{IsOfStatement, refuse}
 use Rattle.ast.specs.Answers.{Break, Gives, Says}
 use Rattle.syntax.specs.Pieces.{Piece, Cut, marks, constants}
 use Rattle.syntax.specs.ReadingStatements.{statement_at}
@@ -19,6 +19,8 @@ use Rattle.profile_check.specs.ReadsView.{statements_of}
 use Rattle.profile_check.specs.Reads.{Spelled}
 use Rattle.ast.specs.declared.refusal.Refusal.{Refusal}
 use Rattle.ast.specs.declared.refusal.Refusal.TheVariants.{Memory, Refused}
+use Rattle.ast.specs.declared.rule.Rule.{Rule}
+use Rattle.ast.specs.declared.rule.Rule.TheVariants.{UnendedText}
 
 pub spelled-snoc : (es : List Entry) (ss : List Statement) (e : Entry) (s : Statement)
     → Spelled es ss → IsStatement e.line e.label e.text s → Spelled (es ++ e ∷ []) (ss ++ s ∷ [])
@@ -78,7 +80,7 @@ pub handed-trees : (r : Result (Vec Stmt Global) Refusal) (e : Refusal) (x : Res
     → IsErrAnd r (λ y. y ≡ e) → x ≡ Err e → Gives statement x (Ok s) → Gives statements_of r (Ok ss)
 handed-trees (Ok xs) e x s ss h k g = absurd h
 handed-trees (Err Memory) e x s ss h k g = tt
-handed-trees (Err (Refused n l)) e x s ss h k g = impossible s (record { number = n; line = l }) (subst (λ r. Gives statement r (Ok s)) (k ∙ ap (λ y. Err y) (sym h)) g)
+handed-trees (Err (Refused n l)) e x s ss h k g = impossible s (record { rule = n; line = l }) (subst (λ r. Gives statement r (Ok s)) (k ∙ ap (λ y. Err y) (sym h)) g)
 
 pub handed-cause : (r : Result (Vec Stmt Global) Refusal) (e : Refusal) (es : List Entry) → IsErrAnd r (λ y. y ≡ e) → Says (UnspelledAt es) e → IfErr r (Says (UnspelledAt es))
 handed-cause (Ok x) e es h m = absurd h
@@ -109,8 +111,8 @@ read-next body more x e = ap (map statement) e ∙ map-append statement body (x 
 
 -- a refusal of the text's reader has its cause
 pub no-statement : (r : Result Stmt Refusal) (e : Entry)
-    → IfErr r (Says (λ n l. (l ≡ e.line) × IsNumber n × ((s : Statement) → IsStatement e.line e.label e.text s → ⊥)))
-    → (((ps : List Piece) → Cut ps e.text → ⊥) → Gives statement r (refuse e.line 21))
+    → IfErr r (Says (λ n l. (l ≡ e.line) × IsOfStatement n × ((s : Statement) → IsStatement e.line e.label e.text s → ⊥)))
+    → (((ps : List Piece) → Cut ps e.text → ⊥) → Gives statement r (refuse e.line UnendedText))
     → ((ps : List Piece) → Cut ps e.text → Gives statement r (statement_at e.line e.label e.text (marks ps) (constants ps)))
     → IfErr r (Says (IsNoStatement e))
 no-statement (Ok x) e refused unfinished exact = tt
@@ -119,12 +121,12 @@ no-statement (Err (Refused n l)) e refused unfinished exact = record {
   place = refused.0;
   known = refused.1;
   fault = record {
-    read = λ ps cut. subst (λ m. statement_at e.line e.label e.text (marks ps) (constants ps) ≡ Err (record { number = n; line = m })) refused.0 (exact ps cut);
-    unfinished = λ none. sym (ap number-in (unfinished none));
+    read = λ ps cut. subst (λ m. statement_at e.line e.label e.text (marks ps) (constants ps) ≡ Err (record { rule = n; line = m })) refused.0 (exact ps cut);
+    unfinished = λ none. sym (ap rule-in (unfinished none));
   };
   none = refused.2;
 }
   where
-    number-in : Answer → ℕ
-    number-in (Ok s) = 0
-    number-in (Err b) = b.number
+    rule-in : Answer → Rule
+    rule-in (Ok s) = UnendedText
+    rule-in (Err b) = b.rule

@@ -4,7 +4,7 @@ use Rattle.std.proofs.Common.{◌≡◌, ◌∙◌, ℕ, ◌+◌, Bool, not, Lis
 use Rattle.std.specs.Prelude.{◌&&◌, ◌||◌}
 use Rattle.ast.specs.Tree.{Statement, Kind, do_loop, block_if, else_if, else_arm, end_if, logical_if, program, integer, dimension, parameters, assign, go_on, print, read, stop, end, Node, block}
 use Rattle.structure.specs.Open.{Open, open_after, after, begun, ended as spec_ended}
-use Rattle.structure.specs.Rules.{is_end, is_some_and, is_around, is_other_range, is_range_of, is_block, is_any_range, begins_with, may_not_end_a_range, is_misplaced_arm, holds_wrong_statement, rules, lowest_broken, Keep}
+use Rattle.structure.specs.Rules.{is_end, is_some_and, is_around, is_other_range, is_range_of, is_block, is_any_range, begins_with, may_not_end_a_range, is_misplaced_arm, holds_wrong_statement, checks, lowest_broken, Keep}
 use Rattle.structure.proofs.Agreement.{open-append}
 use Rattle.profile_check.specs.Layout.{Lays}
 use Rattle.profile_check.specs.Nesting.{Frame, Nest, nest, ended, own_node, with_kind, with_statement, nested_from, nested}
@@ -56,7 +56,7 @@ pub record Nested (n : Nest) (ss resolved : List Statement) : Type 0 where
   pub laid : LaysNest n.frames n.nodes resolved
   pub shaped : shapes n.frames ≡ open_after ss
 
-pub nested-one : (t : Table) (m : ℕ) (n : Nest) (ss resolved : List Statement) (s : Statement) → Nested n ss resolved → lowest_broken rules ss s ≡ None
+pub nested-one : (t : Table) (m : ℕ) (n : Nest) (ss resolved : List Statement) (s : Statement) → Nested n ss resolved → lowest_broken checks ss s ≡ None
     → Nested (with_statement n (statement_resolved t m s)) (ss ++ s ∷ []) (resolved ++ statement_resolved t m s ∷ [])
 nested-one t m n ss resolved s h k =
     let r = statement_resolved t m s in
@@ -85,7 +85,7 @@ EndsInEnd [] = ⊥
 EndsInEnd (s ∷ []) = s.kind ≡ end
 EndsInEnd (s ∷ s2 ∷ ss) = EndsInEnd (s2 ∷ ss)
 
-nested-all : (t : Table) (m : ℕ) (n : Nest) (whole front resolved rest : List Statement) → Keep rules whole → whole ≡ front ++ rest → EndsInEnd rest
+nested-all : (t : Table) (m : ℕ) (n : Nest) (whole front resolved rest : List Statement) → Keep checks whole → whole ≡ front ++ rest → EndsInEnd rest
     → Nested n front resolved → Lays (block (nested_from n (statements_resolved t m rest)).nodes) (resolved ++ statements_resolved t m rest)
 nested-all t m n whole front resolved [] keep cut last h = absurd last
 nested-all t m n whole front resolved (s ∷ []) keep cut last h =
@@ -100,5 +100,5 @@ nested-all t m n whole front resolved (s ∷ s2 ∷ ss) keep cut last h =
     (nested-one t m n front resolved s h (keep.each front s (s2 ∷ ss) cut)))
 
 -- The resolved statements of a text that keeps the rules, nested, lay out as they stand.
-pub nested-lays : (t : Table) (ss : List Statement) → Keep rules ss → EndsInEnd ss → Lays (block (nested (statements_resolved t 0 ss)).nodes) (statements_resolved t 0 ss)
+pub nested-lays : (t : Table) (ss : List Statement) → Keep checks ss → EndsInEnd ss → Lays (block (nested (statements_resolved t 0 ss)).nodes) (statements_resolved t 0 ss)
 nested-lays t ss keep last = nested-all t 0 (nest [] []) ss [] [] ss keep refl last (record { laid = refl; shaped = refl })

@@ -15,7 +15,7 @@ use Rattle.profile_check.specs.Rules.{context_after, is_crossed, is_ill_bounded,
 use Rattle.profile_check.specs.Uses.{bounded_by}
 use Rattle.profile_check.proofs.Sound.{Kept, kept, along, along-declared}
 
--- the parts of rule 40
+-- the parts of `LargeProgram`
 record Small (front : List Statement) (s : Statement) : Type 0 where
   statements : nat_le most_statements (length front) ≡ false
   elements : nat_lt most_elements (total_elements (declared_in front).arrays + total_elements (arrays_by (declared_in front).constants (bounded_by s.kind))) ≡ false

@@ -12,12 +12,13 @@ use Rattle.indexmap.specs.IndexSet.{insert_key, insert_all}
 use Rattle.ast.specs.Store.{same_name}
 use Rattle.ast.specs.Symbols.{Extent}
 use Rattle.ast.specs.Tree.{Declarator, Definition, Statement, Kind, program, integer, dimension, parameters, assign, do_loop, go_on, block_if, else_if, else_arm, end_if, logical_if, print, read, stop, end}
+use Rattle.ast.specs.declared.rule.Rule.TheVariants.{OutOfOrder, NotInteger, DeclaredTwice, WrongSubscripts, OpenLoop, WrongTerminal, CrossedBlocks, ActiveVariable, ChangedConstant, CrossedBounds, LargeProgram, RepeatedLabel, NoValue, WrongKind}
 use Rattle.ast.proofs.SameNames.{same_is}
 use Rattle.structure.specs.Open.{open_after}
-use Rattle.structure.specs.Rules.{is_empty, is_program, is_out_of_order, is_declaration, is_executable, is_misplaced_arm, is_around, is_block, by_label, may_stand_in_if, holds_wrong_statement, crosses, ends_wrongly, breaks_blocks, is_label_again, rules as order_rules, lowest_broken as lowest_order, Keep as KeepOrder}
+use Rattle.structure.specs.Rules.{is_empty, is_program, is_out_of_order, is_declaration, is_executable, is_misplaced_arm, is_around, is_block, by_label, may_stand_in_if, holds_wrong_statement, crosses, ends_wrongly, breaks_blocks, is_label_again, checks as order_checks, lowest_broken as lowest_order, Keep as KeepOrder}
 use Rattle.profile_check.specs.Checking.{nothing, and_then_declared}
 use Rattle.profile_check.specs.Declarations.{Declared, Arrays, Constants, declared_in, arrays_by, or_no_extents, extents_of, with_arrays, constant_value, with_constant, with_constants, dimensions_named, constant_named, objects_by}
-use Rattle.profile_check.specs.Rules.{Context, context_after, is_some_and, is_other, is_constant, names_real, declares_again, is_miscounted, miscounts, changes_active, changes_constant, crosses_bounds, is_too_large, lacks_value, is_well_kinded, rules, lowest_of, typed_in_whole, InProfile}
+use Rattle.profile_check.specs.Rules.{Context, context_after, is_some_and, is_other, is_constant, names_real, declares_again, is_miscounted, miscounts, changes_active, changes_constant, crosses_bounds, is_too_large, lacks_value, is_well_kinded, checks, lowest_of, typed_in_whole, InProfile}
 use Rattle.profile_check.specs.Resolving.{Table}
 use Rattle.profile_check.specs.TakenBefore.{taken_before}
 use Rattle.profile_check.specs.Uses.{Use, uses, is_among, is_call, is_name, has_its_arguments, typed_by, bounded_by, defined_by, declarator_names, definition_names, program_named_by, names_used, names_declared, names_mentioned}
@@ -28,14 +29,14 @@ use Rattle.profile_check.proofs.Parts.{own_expressions, table_in, is_free, is_so
 
 -- ---- the rules that each statement keeps
 
-pub keeps-structure : (ss : List Statement) → InProfile ss → KeepOrder order_rules ss
-keeps-structure ss h = record { each = λ front s back e. (lower-none (lowest_order order_rules front s) _ (h.each front s back e)).0 }
+pub keeps-structure : (ss : List Statement) → InProfile ss → KeepOrder order_checks ss
+keeps-structure ss h = record { each = λ front s back e. (lower-none (lowest_order order_checks front s) _ (h.each front s back e)).0 }
 
 pub keeps-own : (ss : List Statement) → InProfile ss → (front : List Statement) (s : Statement) (back : List Statement) → ss ≡ front ++ s ∷ back
-    → lowest_of rules (context_after (typed_in_whole ss) front) s ≡ None
-keeps-own ss h front s back e = (lower-none (lowest_order order_rules front s) _ (h.each front s back e)).1
+    → lowest_of checks (context_after (typed_in_whole ss) front) s ≡ None
+keeps-own ss h front s back e = (lower-none (lowest_order order_checks front s) _ (h.each front s back e)).1
 
--- the rules 30, 34, 35, 36 and 41
+-- the rules on structure
 pub record InOrder (front : List Statement) (s : Statement) : Type 0 where
   pub order : is_out_of_order front s ≡ false
   pub crossing : crosses (open_after front) s ≡ false
@@ -46,14 +47,14 @@ pub record InOrder (front : List Statement) (s : Statement) : Type 0 where
 pub in-order : (ss : List Statement) → InProfile ss → (front : List Statement) (s : Statement) (back : List Statement) → ss ≡ front ++ s ∷ back → InOrder front s
 in-order ss h front s back e =
     let k = (keeps-structure ss h).each front s back e in
-    let a = none-first (is_out_of_order front s) 30 _ k in
-    let b = none-first (crosses (open_after front) s) 34 _ a.1 in
-    let c = none-first (ends_wrongly (open_after front) s) 35 _ b.1 in
-    let d = none-first (breaks_blocks (open_after front) s) 36 _ c.1 in
-    let f = none-first (is_label_again front s) 41 None d.1 in
+    let a = none-first (is_out_of_order front s) OutOfOrder _ k in
+    let b = none-first (crosses (open_after front) s) OpenLoop _ a.1 in
+    let c = none-first (ends_wrongly (open_after front) s) WrongTerminal _ b.1 in
+    let d = none-first (breaks_blocks (open_after front) s) CrossedBlocks _ c.1 in
+    let f = none-first (is_label_again front s) RepeatedLabel None d.1 in
     record { order = a.0; crossing = b.0; ending = c.0; blocks = d.0; label = f.0 }
 
--- the rules 31 to 33, 37 to 40, 42 and 43
+-- the rules on names, values and sizes
 pub record Kept (c : Context) (s : Statement) : Type 0 where
   pub integral : names_real c.typed s.kind ≡ false
   pub once : declares_again c.declared.program c.declared.typed c.declared.objects s.kind ≡ false
@@ -65,17 +66,17 @@ pub record Kept (c : Context) (s : Statement) : Type 0 where
   pub values : lacks_value c.declared.constants s.kind ≡ false
   pub kinds : not (is_well_kinded s.kind) ≡ false
 
-kept-all : (c : Context) (s : Statement) → lowest_of rules c s ≡ None → Kept c s
+kept-all : (c : Context) (s : Statement) → lowest_of checks c s ≡ None → Kept c s
 kept-all c s k =
-    let a = none-first (names_real c.typed s.kind) 31 _ k in
-    let b = none-first (declares_again c.declared.program c.declared.typed c.declared.objects s.kind) 32 _ a.1 in
-    let d = none-first (miscounts c s.kind) 33 _ b.1 in
-    let f = none-first (changes_active c s.kind) 37 _ d.1 in
-    let g = none-first (changes_constant c s.kind) 38 _ f.1 in
-    let i = none-first (crosses_bounds c s.kind) 39 _ g.1 in
-    let j = none-first (is_too_large c s) 40 _ i.1 in
-    let l = none-first (lacks_value c.declared.constants s.kind) 42 _ j.1 in
-    let m = none-first (not (is_well_kinded s.kind)) 43 None l.1 in
+    let a = none-first (names_real c.typed s.kind) NotInteger _ k in
+    let b = none-first (declares_again c.declared.program c.declared.typed c.declared.objects s.kind) DeclaredTwice _ a.1 in
+    let d = none-first (miscounts c s.kind) WrongSubscripts _ b.1 in
+    let f = none-first (changes_active c s.kind) ActiveVariable _ d.1 in
+    let g = none-first (changes_constant c s.kind) ChangedConstant _ f.1 in
+    let i = none-first (crosses_bounds c s.kind) CrossedBounds _ g.1 in
+    let j = none-first (is_too_large c s) LargeProgram _ i.1 in
+    let l = none-first (lacks_value c.declared.constants s.kind) NoValue _ j.1 in
+    let m = none-first (not (is_well_kinded s.kind)) WrongKind None l.1 in
     record { integral = a.0; once = b.0; counts = d.0; active = f.0; constants = g.0; bounds = i.0; size = j.0; values = l.0; kinds = m.0 }
 
 pub kept : (ss : List Statement) → InProfile ss → (front : List Statement) (s : Statement) (back : List Statement) → ss ≡ front ++ s ∷ back
@@ -317,7 +318,7 @@ apart-more d s h p =
         let none : is_constant d.constants x ≡ false = ap is_some (p.constant x (taken-new d.objects (declarator_names (bounded_by s.kind)) x t e)) in
         let q : true ≡ false = sym c ∙ none in absurd cc
 
--- the parts of rule 32
+-- the parts of `DeclaredTwice`
 pub record Once (d : Declared) (k : Kind) : Type 0 where
   pub objects : taken_before d.objects (objects_by k) ≡ false
   pub names : list_any (is_other d.program) (names_mentioned k) ≡ false

@@ -8,6 +8,7 @@ use Rattle.ast.specs.View.{statement}
 use Rattle.ast.specs.declared.refusal.Refusal.{Refusal}
 use Rattle.ast.specs.declared.refusal.Refusal.TheVariants.{Memory, Refused}
 use Rattle.ast.specs.declared.statement.Stmt.{Stmt}
+use Rattle.ast.specs.declared.rule.Rule.{Rule}
 use Rattle.ast.proofs.Lists.{item_here}
 use Rattle.profile_check.proofs.Laws.{ok-whole, err-breaks}
 use Rattle.profile_check.specs.Checking.{Before, before_of, and_one, rule_by, going_on, checked, table_of, IsRuleOf}
@@ -28,7 +29,7 @@ pub passed : (typed : List (List ℕ)) (old new : Before) (stmts : List Stmt) (i
 passed typed old new stmts i y meant h e more free same =
     let others = map statement (drop (i + 1) stmts) in
     ap (λ (b : Before). checked typed b others) more
-    ∙ ap (λ (rule : Option ℕ). going_on rule (statement y) (checked typed (and_one old (statement y)) others)) (sym free)
+    ∙ ap (λ (rule : Option Rule). going_on rule (statement y) (checked typed (and_one old (statement y)) others)) (sym free)
     ∙ sym (next-statement typed old stmts i y h e)
     ∙ same
 
@@ -37,13 +38,13 @@ pub all-passed : (typed : List (List ℕ)) (b : Before) (stmts : List Stmt) (i :
     → checked typed b (map statement (drop i stmts)) ≡ meant → Ok b.declared ≡ meant
 all-passed typed b stmts i meant h same = ap (λ (ys : List Stmt). checked typed b (map statement ys)) (sym (drop_all i stmts h)) ∙ same
 
-rule-found : (e : Refusal) (s : Statement) (rule : Option ℕ) (later : Result Declared Break) → IsRuleOf e s rule → Fails e (going_on rule s later)
+rule-found : (e : Refusal) (s : Statement) (rule : Option Rule) (later : Result Declared Break) → IsRuleOf e s rule → Fails e (going_on rule s later)
 rule-found Memory s rule later h = tt
 rule-found (Refused n l) s rule later h =
-    ap (λ r. going_on r s later) h.0 ∙ ap (λ k. Err (record { number = n; line = k })) (sym h.1)
+    ap (λ r. going_on r s later) h.0 ∙ ap (λ k. Err (record { rule = n; line = k })) (sym h.1)
 
 -- what `?` hands on
-pub refused : (r : Result Declarations Refusal) (e : Refusal) (s : Statement) (rule : Option ℕ) (later meant : Result Declared Break)
+pub refused : (r : Result Declarations Refusal) (e : Refusal) (s : Statement) (rule : Option Rule) (later meant : Result Declared Break)
     → IsErrAnd r (λ y. y ≡ e) → IsRuleOf e s rule → going_on rule s later ≡ meant → Gives declared r meant
 refused (Ok x) e s rule later meant h b same = absurd h
 refused (Err y) e s rule later meant h b same =
@@ -71,5 +72,5 @@ pub first-refused : (r : Result Declarations Refusal) (ss : List Statement) → 
 first-refused (Ok d) ss g = tt
 first-refused (Err Memory) ss g = tt
 first-refused (Err (Refused n l)) ss g =
-    let b = err-breaks (typed_in_whole ss) [] ss (record { number = n; line = l }) g in
+    let b = err-breaks (typed_in_whole ss) [] ss (record { rule = n; line = l }) g in
     record { front = b.kept; statement = b.statement; back = b.back; cut = b.cut; kept = record { each = b.keep.each }; broken = b.broken; place = b.place }

@@ -7,13 +7,14 @@ use Rattle.std.proofs.lemmas.List.Folds.{list_any-append}
 use Rattle.std.specs.List.{list_any}
 use Rattle.std.proofs.lemmas.List.{append-nil}
 use Rattle.ast.specs.Tree.{Term, Statement, Kind, DoHead, do_loop, block_if, else_if, else_arm, end_if, logical_if, program, integer, dimension, parameters, assign, go_on, print, read, stop, end, Node, plain, loop, choose, Block, no_nodes, then_node, block, Arm, Arms, arms, no_arms, then_arm}
+use Rattle.ast.specs.declared.rule.Rule.TheVariants.{OutOfOrder, OpenLoop, WrongTerminal, CrossedBlocks, RepeatedLabel}
 use Rattle.ast.proofs.Lists.{not_empty}
 use Rattle.ast.proofs.Numbers.{equal_itself}
 use Rattle.profile_check.specs.Layout.{stands_alone, EndsWith, arm_head, Lays, LaysNode, LaysIf, LaysArms, LaysLogicalIf}
 use Rattle.profile_check.specs.Nesting.{Frame, in_range, in_block, Nest, nest, arm_of, begins_with_range_of, end_ranges, ended, with_kind, with_statement, nested_from}
 use Rattle.profile_check.proofs.Fresh.{none-first}
 use Rattle.structure.specs.Open.{Open, do_range, if_block, begun, after, open_from, open_after, ended as spec_ended}
-use Rattle.structure.specs.Rules.{is_out_of_order, is_end, is_range_of, is_some_and, has_label, is_label_again, crosses, ends_wrongly, breaks_blocks, may_not_end_a_range, rules, lowest_broken, Keep}
+use Rattle.structure.specs.Rules.{is_out_of_order, is_end, is_range_of, is_some_and, has_label, is_label_again, crosses, ends_wrongly, breaks_blocks, may_not_end_a_range, checks, lowest_broken, Keep}
 use Rattle.structure.specs.Spans.{is_end_if}
 
 -- ---- lists
@@ -334,13 +335,13 @@ record Unbroken (front : List Statement) (s : Statement) : Type 0 where
   ends : ends_wrongly (open_after front) s ≡ false
   label : is_label_again front s ≡ false
 
-unbroken : (front : List Statement) (s : Statement) → lowest_broken rules front s ≡ None → Unbroken front s
+unbroken : (front : List Statement) (s : Statement) → lowest_broken checks front s ≡ None → Unbroken front s
 unbroken front s h =
-    let a = none-first (is_out_of_order front s) 30 _ h in
-    let b = none-first (crosses (open_after front) s) 34 _ a.1 in
-    let c = none-first (ends_wrongly (open_after front) s) 35 _ b.1 in
-    let d = none-first (breaks_blocks (open_after front) s) 36 _ c.1 in
-    let e = none-first (is_label_again front s) 41 _ d.1 in
+    let a = none-first (is_out_of_order front s) OutOfOrder _ h in
+    let b = none-first (crosses (open_after front) s) OpenLoop _ a.1 in
+    let c = none-first (ends_wrongly (open_after front) s) WrongTerminal _ b.1 in
+    let d = none-first (breaks_blocks (open_after front) s) CrossedBlocks _ c.1 in
+    let e = none-first (is_label_again front s) RepeatedLabel _ d.1 in
     record { ends = c.0; label = e.0 }
 
 -- the statements before have another label
@@ -406,7 +407,7 @@ not-end-if : (k : Kind) → (may_not_end_a_range k && (not (is_end k) && true)) 
 not-end-if end_if h = absurd cc
 not-end-if _ h = refl
 
-pub fine-kept : (ss : List Statement) → Keep rules ss → Fine ss
+pub fine-kept : (ss : List Statement) → Keep checks ss → Fine ss
 fine-kept ss keep = record { distinct = distinct; ends = ends }
   where
     known : (f g k : List Statement) (s t : Statement) → ss ≡ f ++ s ∷ (g ++ t ∷ k) → Unbroken (f ++ s ∷ g) t
@@ -427,5 +428,5 @@ fine-kept ss keep = record { distinct = distinct; ends = ends }
         not-end-if t.kind (ap (λ (b : Bool). may_not_end_a_range t.kind && (not (is_end t.kind) && b)) (sym by) ∙ u.ends)
 
 -- Trees that lay out as the same statements, which keep the rules on structure, are equal.
-pub same-tree : (b c : Block) (ss : List Statement) → Lays b ss → Lays c ss → Keep rules ss → b ≡ c
+pub same-tree : (b c : Block) (ss : List Statement) → Lays b ss → Lays c ss → Keep checks ss → b ≡ c
 same-tree b c ss h k keep = one-tree b c ss h k (fine-kept ss keep)

@@ -42,6 +42,7 @@ use Rattle.profile_check.specs.Resolving.{Table, kind_count, kind_resolved, stat
 use Rattle.profile_check.specs.Rules.{InProfile, BreaksFirst, most_statements, is_miscounted}
 use Rattle.std.specs.Prelude.{◌⊎◌, ⊤}
 use Rattle.ast.specs.Regular.{is_counted, is_fitting, block_keeps, ends_outside, is_regular, are_fitting}
+use Rattle.ast.specs.declared.rule.Rule.{Rule}
 use Rattle.ast.proofs.Lists.{all_joined, all_parts}
 use Rattle.ast.proofs.References.{references_append}
 use Rattle.profile_check.proofs.CountedTerms.{Ranked, kind-counted}
@@ -260,7 +261,7 @@ one-reading text p q a b =
 
 -- ---- what an answer says of a text that reads as a program, and of one that is refused
 
-no-break : (ss : List Statement) (n l : ℕ) → InProfile ss → BreaksFirst ss n l → ⊥
+no-break : (ss : List Statement) (n : Rule) (l : ℕ) → InProfile ss → BreaksFirst ss n l → ⊥
 no-break ss n l h b = let both = sym (h.each b.front b.statement b.back b.cut) ∙ b.broken in cc
 
 pub in-lines : (text : List ℕ) (e : Refusal) → Says (Broken text) e → Says (Refuses text) e
@@ -304,7 +305,7 @@ same-statements ss ts e = cc
 
 none-fails : (e : Refusal) (ss : List Statement) (m : Result ProgramTree Break) → Fails e (spelt ss) → Fails e m
 none-fails Memory ss m h = tt
-none-fails (Refused n l) ss m h = absurd (let q : spelt ss ≡ Err (record { number = n; line = l }) = h in differ ss _ q)
+none-fails (Refused n l) ss m h = absurd (let q : spelt ss ≡ Err (record { rule = n; line = l }) = h in differ ss _ q)
   where
     differ : (ss : List Statement) (d : Break) → spelt ss ≡ Err d → ⊥
     differ ss d h = cc

@@ -6,10 +6,11 @@ use Rattle.ast.specs.Store.{same_name}
 use Rattle.ast.specs.Tree.{Statement}
 use Rattle.ast.specs.declared.refusal.Refusal.{Refusal}
 use Rattle.ast.specs.declared.refusal.Refusal.TheVariants.{Memory, Refused}
+use Rattle.ast.specs.declared.rule.Rule.{Rule}
 use Rattle.structure.specs.Standing.{Standing, standing_after, next, rule_by as order_by}
 use Rattle.profile_check.specs.Counted.{few_or_more, counted}
 use Rattle.profile_check.specs.Declarations.{Declared, declared_in, newer, objects_by, with_arrays, with_constants, arrays_by, total_elements}
-use Rattle.profile_check.specs.Rules.{Context, lower, lowest_of, rules}
+use Rattle.profile_check.specs.Rules.{Context, lower, lowest_of, checks}
 use Rattle.profile_check.specs.Uses.{typed_by, bounded_by, defined_by, declarator_names, names_mentioned, program_named_by}
 
 abbrev pub nothing : Declared
@@ -49,13 +50,13 @@ abbrev pub context_by : List (List ℕ) → Before → Context
 context_by typed b = record { typed = typed; statements = b.count; opened = b.order.opened; declared = b.declared; elements = b.elements }
 
 -- the lowest rule that a statement breaks, by the table of names with a type
-abbrev pub rule_by : List (List ℕ) → Before → Statement → Option ℕ
-rule_by typed b s = lower (order_by b.order s) (lowest_of rules (context_by typed b) s)
+abbrev pub rule_by : List (List ℕ) → Before → Statement → Option Rule
+rule_by typed b s = lower (order_by b.order s) (lowest_of checks (context_by typed b) s)
 
 -- what is declared after all, or the first broken rule
-abbrev pub going_on : Option ℕ → Statement → Result Declared Break → Result Declared Break
+abbrev pub going_on : Option Rule → Statement → Result Declared Break → Result Declared Break
 going_on None s later = later
-going_on (Some n) s later = Err (record { number = n; line = s.line })
+going_on (Some rule) s later = Err (record { rule = rule; line = s.line })
 
 abbrev pub checked : List (List ℕ) → Before → List Statement → Result Declared Break
 checked typed b [] = Ok b.declared
@@ -66,10 +67,10 @@ abbrev pub table_of : List (List ℕ) → List (List ℕ)
 table_of names = insert_all same_name [] names
 
 -- one statement's answer: a broken rule at its line, or none
-abbrev pub IsRuleOf : Refusal → Statement → Option ℕ → Type 0
-IsRuleOf Memory s rule = Unit {0}
-IsRuleOf (Refused number line) s rule = (rule ≡ Some number) × (line ≡ s.line)
+abbrev pub IsRuleOf : Refusal → Statement → Option Rule → Type 0
+IsRuleOf Memory s broken = Unit {0}
+IsRuleOf (Refused rule line) s broken = (broken ≡ Some rule) × (line ≡ s.line)
 
-abbrev pub Breaks : {X : Type 0} → Result X Refusal → Statement → Option ℕ → Type 0
+abbrev pub Breaks : {X : Type 0} → Result X Refusal → Statement → Option Rule → Type 0
 Breaks (Ok x) s rule = rule ≡ None
 Breaks (Err e) s rule = IsRuleOf e s rule

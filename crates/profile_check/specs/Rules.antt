@@ -6,8 +6,11 @@ use Rattle.indexmap.specs.IndexSet.{insert_all}
 use Rattle.ast.specs.Store.{same_name}
 use Rattle.ast.specs.Symbols.{Extent, most_elements}
 use Rattle.ast.specs.Tree.{Term, PrintItem, value_item, text_item, Bounds, Declarator, Definition, DoHead, Kind, Statement, integer, dimension, parameters, assign, do_loop, block_if, else_if, logical_if, print, read}
+use Rattle.ast.specs.Rule.{number_of}
+use Rattle.ast.specs.declared.rule.Rule.{Rule}
+use Rattle.ast.specs.declared.rule.Rule.TheVariants.{NotInteger, DeclaredTwice, WrongSubscripts, ActiveVariable, ChangedConstant, CrossedBounds, LargeProgram, NoValue, WrongKind}
 use Rattle.structure.specs.Open.{Open, is_active, open_after}
-use Rattle.structure.specs.Rules.{rules as order_rules, lowest_broken as lowest_order}
+use Rattle.structure.specs.Rules.{checks as order_checks, lowest_broken as lowest_order}
 use Rattle.profile_check.specs.Declarations.{Declared, Constants, Arrays, declared_in, constant_named, constant_value, extent_of, arrays_by, total_elements, dimensions_named, with_constant, objects_by}
 use Rattle.profile_check.specs.Kinds.{integral, logical, is_of, are_integral}
 use Rattle.profile_check.specs.TakenBefore.{taken_before}
@@ -33,7 +36,8 @@ context_after typed front = record {
   elements = total_elements (declared_in front).arrays;
 }
 
--- ---- 31: a name that isn't integer, by its first letter or by an INTEGER statement anywhere
+-- ---- `NotInteger`: a name that isn't integer, by its first letter or by an INTEGER statement
+-- anywhere
 
 -- the first letter of a name is one of I to N
 abbrev pub begins_i_to_n : List ℕ → Bool
@@ -48,13 +52,14 @@ is_integer typed name = begins_i_to_n name || is_among typed name
 abbrev pub are_real : List (List ℕ) → List (List ℕ) → Bool
 are_real typed names = list_any (λ x. not (is_integer typed x)) names
 
--- Refusal 31: a name isn't integer that the statement declares by DIMENSION or PARAMETER, or uses.
+-- `NotInteger`: a name isn't integer that the statement declares by DIMENSION or PARAMETER, or
+-- uses.
 abbrev pub names_real : List (List ℕ) → Kind → Bool
 names_real typed k =
     are_real typed (declarator_names (dimensioned_by k))
     || (are_real typed (definition_names (defined_by k)) || are_real typed (names_used k))
 
--- ---- 32: declared twice, or a name of something else
+-- ---- `DeclaredTwice`: declared twice, or a name of something else
 
 -- something is there, and passes a test
 abbrev pub is_some_and : {X : Type 0} → (X → Bool) → Option X → Bool
@@ -65,15 +70,16 @@ is_some_and test (Some x) = test x
 abbrev pub is_other : Option (List ℕ) → List ℕ → Bool
 is_other program name = is_intrinsic name || is_some_and (same_name name) program
 
--- Refusal 32: a name is given a type a second time; or bounds or a constant where it has either; or
--- the name of an intrinsic function or of the program is declared, defined or used otherwise.
+-- `DeclaredTwice`: a name is given a type a second time; or bounds or a constant where it has
+-- either; or the name of an intrinsic function or of the program is declared, defined or used
+-- otherwise.
 abbrev pub declares_again : Option (List ℕ) → List (List ℕ) → List (List ℕ) → Kind → Bool
 declares_again program typed objects k =
     taken_before typed (declarator_names (typed_by k))
     || (taken_before objects (objects_by k)
     || (is_some_and (is_other program) (program_named_by k) || list_any (is_other program) (names_mentioned k)))
 
--- ---- 33: subscripts and arguments in another number
+-- ---- `WrongSubscripts`: subscripts and arguments in another number
 
 -- a call with another number of arguments than its function takes, or another use of a name with
 -- another number of subscripts than the name has dimensions
@@ -82,13 +88,15 @@ is_miscounted arrays u =
     if is_call u then not (has_its_arguments u)
     else not (u.count == length (dimensions_named arrays u.name))
 
--- Refusal 33: one of the uses in the statement is so. A scalar has no subscripts, an array always.
+-- `WrongSubscripts`: one of the uses in the statement is so. A scalar has no subscripts, an array
+-- always.
 abbrev pub miscounts : Context → Kind → Bool
 miscounts c k = list_any (is_miscounted c.declared.arrays) (uses k)
 
--- ---- 37: an active DO variable is assigned, read or used by an inner DO; 38: a constant is
+-- ---- `ActiveVariable`: an active DO variable is assigned, read or used by an inner DO;
+-- `ChangedConstant`: a constant is
 
--- Refusal 37: the statement gives a value to the DO variable of a range that is open.
+-- `ActiveVariable`: the statement gives a value to the DO variable of a range that is open.
 abbrev pub changes_active : Context → Kind → Bool
 changes_active c k = list_any (λ u. u.is_given && is_active c.opened u.name) (uses k)
 
@@ -96,11 +104,11 @@ changes_active c k = list_any (λ u. u.is_given && is_active c.opened u.name) (u
 abbrev pub is_constant : Constants → List ℕ → Bool
 is_constant cs name = is_some (constant_named cs name)
 
--- Refusal 38: the statement gives a value to a constant.
+-- `ChangedConstant`: the statement gives a value to a constant.
 abbrev pub changes_constant : Context → Kind → Bool
 changes_constant c k = list_any (λ u. u.is_given && is_constant c.declared.constants u.name) (uses k)
 
--- ---- 39: bounds that are crossed, or more than seven dimensions
+-- ---- `CrossedBounds`: bounds that are crossed, or more than seven dimensions
 
 -- an array has at most so many dimensions
 abbrev pub most_dimensions : ℕ
@@ -115,11 +123,11 @@ is_crossed None = false
 abbrev pub is_ill_bounded : Constants → Declarator → Bool
 is_ill_bounded cs d = nat_lt most_dimensions (length d.bounds) || list_any (λ b. is_crossed (extent_of cs b)) d.bounds
 
--- Refusal 39: the statement declares such an array.
+-- `CrossedBounds`: the statement declares such an array.
 abbrev pub crosses_bounds : Context → Kind → Bool
 crosses_bounds c k = list_any (is_ill_bounded c.declared.constants) (bounded_by k)
 
--- ---- 40: too large
+-- ---- `LargeProgram`: too large
 
 -- a program has at most so many statements
 abbrev pub most_statements : ℕ
@@ -146,13 +154,13 @@ is_larger statements opened k names elements =
     || ((opens k && nat_le most_nested (length opened))
     || (nat_lt most_names (length names) || nat_lt most_elements elements))
 
--- Refusal 40: with this statement there are more than 4,096 statements, more than 16 ranges and
+-- `LargeProgram`: with this statement there are more than 4,096 statements, more than 16 ranges and
 -- blocks open at once, more than 512 names, or more than 1,048,576 elements of arrays.
 abbrev pub is_too_large : Context → Statement → Bool
 is_too_large c s =
     is_larger c.statements c.opened s.kind (insert_all same_name c.declared.names (names_mentioned s.kind)) (c.elements + total_elements (arrays_by c.declared.constants (bounded_by s.kind)))
 
--- ---- 42: a constant expression without a value; a logical one, as such, is 43
+-- ---- `NoValue`: a constant expression without a value; a logical one, as such, is `WrongKind`
 
 -- one of the bounds of a dimension has no value
 abbrev pub lacks_either : Constants → Bounds → Bool
@@ -167,12 +175,12 @@ abbrev pub lacks_constant : Constants → List Definition → Bool
 lacks_constant cs [] = false
 lacks_constant cs (d ∷ ds) = is_none (constant_value cs d.value) || lacks_constant (with_constant cs d.name (constant_value cs d.value)) ds
 
--- Refusal 42: a bound or a constant of the statement has no value, since a variable, an element or
+-- `NoValue`: a bound or a constant of the statement has no value, since a variable, an element or
 -- an intrinsic function stands in its expression, or since the value faults.
 abbrev pub lacks_value : Constants → Kind → Bool
 lacks_value cs k = list_any (lacks_bound cs) (bounded_by k) || lacks_constant cs (defined_by k)
 
--- ---- 43: logical against integer
+-- ---- `WrongKind`: logical against integer
 
 -- an expression that is integer, or none
 abbrev pub optional_is_integral : Option Term → Bool
@@ -192,8 +200,9 @@ bounds_are_integral b = optional_is_integral b.lower && is_of integral b.upper
 abbrev pub head_is_integral : DoHead → Bool
 head_is_integral h = is_of integral h.first && (is_of integral h.last && optional_is_integral h.step)
 
--- Refusal 43 is that of a statement that isn't this: its conditions are logical; bounds, values of
--- constants, values that are assigned, subscripts, parameters of a DO and items are integer.
+-- `WrongKind` is the rule of a statement that isn't this: its conditions are logical; bounds,
+-- values of constants, values that are assigned, subscripts, parameters of a DO and items are
+-- integer.
 abbrev pub is_well_kinded : Kind → Bool
 is_well_kinded (integer ds) = list_all (λ d. list_all bounds_are_integral d.bounds) ds
 is_well_kinded (dimension ds) = list_all (λ d. list_all bounds_are_integral d.bounds) ds
@@ -207,37 +216,37 @@ is_well_kinded (print items) = list_all item_is_integral items
 is_well_kinded (read elements) = list_all (λ a. are_integral a.subscripts) elements
 is_well_kinded _ = true
 
--- a rule, by the number of its refusal
-pub record Rule : Type 0 where
-  pub number : ℕ
+-- the check of a rule
+pub record Check : Type 0 where
+  pub rule : Rule
   pub is_broken : Context → Statement → Bool
 
--- the rules from 32 on, in the order of their numbers
-abbrev pub rules_on_values : List Rule
-rules_on_values = record { number = 32; is_broken = λ c s. declares_again c.declared.program c.declared.typed c.declared.objects s.kind }
-    ∷ record { number = 33; is_broken = λ c s. miscounts c s.kind }
-    ∷ record { number = 37; is_broken = λ c s. changes_active c s.kind }
-    ∷ record { number = 38; is_broken = λ c s. changes_constant c s.kind }
-    ∷ record { number = 39; is_broken = λ c s. crosses_bounds c s.kind }
-    ∷ record { number = 40; is_broken = is_too_large }
-    ∷ record { number = 42; is_broken = λ c s. lacks_value c.declared.constants s.kind }
-    ∷ record { number = 43; is_broken = λ c s. not (is_well_kinded s.kind) }
+-- the checks from `DeclaredTwice` on, in the order of their rules' numbers
+abbrev pub checks_on_values : List Check
+checks_on_values = record { rule = DeclaredTwice; is_broken = λ c s. declares_again c.declared.program c.declared.typed c.declared.objects s.kind }
+    ∷ record { rule = WrongSubscripts; is_broken = λ c s. miscounts c s.kind }
+    ∷ record { rule = ActiveVariable; is_broken = λ c s. changes_active c s.kind }
+    ∷ record { rule = ChangedConstant; is_broken = λ c s. changes_constant c s.kind }
+    ∷ record { rule = CrossedBounds; is_broken = λ c s. crosses_bounds c s.kind }
+    ∷ record { rule = LargeProgram; is_broken = is_too_large }
+    ∷ record { rule = NoValue; is_broken = λ c s. lacks_value c.declared.constants s.kind }
+    ∷ record { rule = WrongKind; is_broken = λ c s. not (is_well_kinded s.kind) }
     ∷ []
 
--- all rules of this file, in the order of their numbers
-abbrev pub rules : List Rule
-rules = record { number = 31; is_broken = λ c s. names_real c.typed s.kind } ∷ rules_on_values
+-- all checks of this file, in the order of their rules' numbers
+abbrev pub checks : List Check
+checks = record { rule = NotInteger; is_broken = λ c s. names_real c.typed s.kind } ∷ checks_on_values
 
--- the number of the first of these rules that a statement breaks, if it breaks one
-abbrev pub lowest_of : List Rule → Context → Statement → Option ℕ
+-- the first of these rules that a statement breaks, if it breaks one
+abbrev pub lowest_of : List Check → Context → Statement → Option Rule
 lowest_of [] c s = None
-lowest_of (r ∷ rs) c s = if r.is_broken c s then Some r.number else lowest_of rs c s
+lowest_of (check ∷ more) c s = if check.is_broken c s then Some check.rule else lowest_of more c s
 
--- the lower of two numbers, where there are any
-abbrev pub lower : Option ℕ → Option ℕ → Option ℕ
-lower None n = n
-lower (Some m) None = Some m
-lower (Some m) (Some n) = if nat_le m n then Some m else Some n
+-- the rule of the lower number of two, where there are any
+abbrev pub lower : Option Rule → Option Rule → Option Rule
+lower None b = b
+lower (Some a) None = Some a
+lower (Some a) (Some b) = if nat_le (number_of a) (number_of b) then Some a else Some b
 
 -- the names that the INTEGER statements of a program give a type; one in a logical IF gives none
 abbrev pub typed_at_top : Kind → List (List ℕ)
@@ -250,8 +259,8 @@ typed_in_whole [] = []
 typed_in_whole (s ∷ ss) = typed_at_top s.kind ++ typed_in_whole ss
 
 -- the lowest rule that a statement breaks
-abbrev pub rule_broken : List (List ℕ) → List Statement → Statement → Option ℕ
-rule_broken typed front s = lower (lowest_order order_rules front s) (lowest_of rules (context_after typed front) s)
+abbrev pub rule_broken : List (List ℕ) → List Statement → Statement → Option Rule
+rule_broken typed front s = lower (lowest_order order_checks front s) (lowest_of checks (context_after typed front) s)
 
 -- no statement breaks a rule
 pub record KeepRules (typed : List (List ℕ)) (ss : List Statement) : Type 0 where
@@ -261,13 +270,13 @@ pub record KeepRules (typed : List (List ℕ)) (ss : List Statement) : Type 0 wh
 abbrev pub InProfile : List Statement → Type 0
 InProfile ss = KeepRules (typed_in_whole ss) ss
 
--- the first statement that breaks a rule stands at the line, and the lowest rule that it breaks has
--- the number
-pub record BreaksFirst (ss : List Statement) (number line : ℕ) : Type 0 where
+-- the first statement that breaks a rule stands at the line, and the lowest rule that it breaks is
+-- the one
+pub record BreaksFirst (ss : List Statement) (rule : Rule) (line : ℕ) : Type 0 where
   pub front : List Statement
   pub statement : Statement
   pub back : List Statement
   pub cut : ss ≡ front ++ statement ∷ back
   pub kept : KeepRules (typed_in_whole ss) front
-  pub broken : rule_broken (typed_in_whole ss) front statement ≡ Some number
+  pub broken : rule_broken (typed_in_whole ss) front statement ≡ Some rule
   pub place : line ≡ statement.line

@@ -15,7 +15,7 @@ ghost use Rattle.profile_check.specs.Rules.{typed_in_whole};
 use crate::declarations::Declarations;
 use crate::names::{add_all, typed_at_top};
 use crate::uses::add_uses;
-use ast::{Kind, Name, Refusal, Stmt};
+use ast::{Kind, Name, Refusal, Rule, Stmt};
 use indexmap::IndexSet;
 use std::alloc::{AllocError, Global};
 use structure::Structure;
@@ -28,15 +28,21 @@ pub struct Seen {
     count: usize,
 }
 
-/// The lower of two numbers, where there are any.
-fn lower(left: Option<u8>, right: Option<u8>) -> Option<u8>
+/// The rule of the lower number of two, where there are any.
+fn lower(left: Option<Rule>, right: Option<Rule>) -> Option<Rule>
     ensures { result ≡ lower left right }
 {
     match left {
         None => right,
         Some(a) => match right {
             None => Some(a),
-            Some(b) => { if a <= b { Some(a) } else { Some(b) } }
+            Some(b) => {
+                if a.number() <= b.number() {
+                    Some(a)
+                } else {
+                    Some(b)
+                }
+            }
         },
     }
 }
@@ -48,7 +54,7 @@ fn rule_broken(
     typed: &IndexSet<Name>,
     seen: &mut Seen,
     stmt: &Stmt,
-) -> Result<Option<u8>, AllocError>
+) -> Result<Option<Rule>, AllocError>
     requires { seen.old.count < 2 ^ 63 }
     ensures rule { IfOk result (λ rule. rule
         ≡ spec.rule_by (map view.letters typed.now.keys) (before seen.old)
@@ -103,8 +109,8 @@ fn check_statement(
         (view.statement stmt.now)) }
 {
     match rule_broken(alloc, typed, seen, stmt)? {
-        Some(number) => Err(Refusal::Refused {
-            number,
+        Some(rule) => Err(Refusal::Refused {
+            number: rule,
             line: stmt.line,
         }),
         None => Ok(()),

@@ -21,7 +21,7 @@ use crate::rules::{
     changes_active, changes_constant, has_other, is_misnamed, miscounts, names_real, opens,
 };
 use crate::uses::Use;
-use ast::{Kind, MOST_NAMES, MOST_NESTED, MOST_STATEMENTS, Name, Stmt};
+use ast::{Kind, MOST_NAMES, MOST_NESTED, MOST_STATEMENTS, Name, Rule, Stmt};
 use indexmap::{IndexMap, IndexSet};
 use std::alloc::{AllocError, Global};
 use structure::Structure;
@@ -162,10 +162,10 @@ impl Declarations {
         statements: usize,
         stmt: &Stmt,
         used: &[Use],
-    ) -> Result<Option<u8>, AllocError>
+    ) -> Result<Option<Rule>, AllocError>
         requires { map use_of used.now ≡ uses (view.kind stmt.now.kind) }
         ensures rule { IfOk result (λ rule. rule
-            ≡ spec.lowest_of spec.rules (context typed.now structure.now statements self.old)
+            ≡ spec.lowest_of spec.checks (context typed.now structure.now statements self.old)
             (view.statement stmt.now)) }
         ensures kept { IfOk result (λ rule. rule ≡ None → declared self.new
             ≡ and_then_declared (declared self.old) (view.statement stmt.now)) }
@@ -176,7 +176,7 @@ impl Declarations {
     {
         let kind = &stmt.kind;
         if names_real(typed, kind, used) {
-            return Ok(Some(31));
+            return Ok(Some(Rule::NotInteger));
         }
         let names = mentioned(alloc, kind, used)?;
         if declares_again(
@@ -187,19 +187,19 @@ impl Declarations {
             kind,
             &names,
         )? {
-            return Ok(Some(32));
+            return Ok(Some(Rule::DeclaredTwice));
         }
         if miscounts(&self.arrays, used) {
-            return Ok(Some(33));
+            return Ok(Some(Rule::WrongSubscripts));
         }
         if changes_active(structure, used) {
-            return Ok(Some(37));
+            return Ok(Some(Rule::ActiveVariable));
         }
         if changes_constant(&self.constants, used) {
-            return Ok(Some(38));
+            return Ok(Some(Rule::ChangedConstant));
         }
         if crosses_bounds(&self.constants, declarators_of(kind)) {
-            return Ok(Some(39));
+            return Ok(Some(Rule::CrossedBounds));
         }
         add_all(&mut self.names, &names)?;
         let elements = add_arrays(
@@ -210,14 +210,14 @@ impl Declarations {
             declarators_of(kind),
         )?;
         if is_larger(statements, structure, kind, &self.names, elements) {
-            return Ok(Some(40));
+            return Ok(Some(Rule::LargeProgram));
         }
         self.elements = elements as u32;
         if lacks_value(&mut self.constants, kind)? {
-            return Ok(Some(42));
+            return Ok(Some(Rule::NoValue));
         }
         if !is_well_kinded(kind) {
-            return Ok(Some(43));
+            return Ok(Some(Rule::WrongKind));
         }
         if let Some(name) = program_named_by(kind) {
             self.program = Some(name);

@@ -15,7 +15,7 @@ use fixed_form::Labelled;
 use std::alloc::Global;
 use syntax::statement;
 
-/// The statement of a text. Numbers 20 to 27.
+/// The statement of a text. Rules 20 to 27.
 fn parse_one(alloc: Global, labelled: &Labelled) -> Result<Stmt, Refusal>
     ensures found { IfOk result (λ stmt.
         IsStatement labelled.now.line labelled.now.label labelled.now.text.items

@@ -2,20 +2,17 @@
 
 use crate::course::Amount;
 use codegen::LoopReport;
-use dependence::LoopPlan;
+use dependence::{LoopPlan, SerialReason};
 use explanations::append_number;
 use loop_tree::{LoopTree, LoopView};
 use placement::place;
 use std::alloc::{AllocError, Global};
 
-/// The reason of a loop that is serial only as one around it may be open.
-const INSIDE: u8 = 5;
-
 /// Whether the loop of a number is serial only as one around it may be open.
 fn is_held_back(reports: &[LoopReport], number: usize) -> bool {
     match reports.get(number.wrapping_sub(1)) {
         Some(report) => match report.plan {
-            LoopPlan::Serial(reason) => reason == INSIDE,
+            LoopPlan::Serial(reason) => reason == SerialReason::Inside,
             LoopPlan::Body { .. } => false,
         },
         None => false,

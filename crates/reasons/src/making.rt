@@ -20,7 +20,7 @@ pub fn new_core<'c>(
     match Core::new(alloc, code, input, processors, slots) {
         Ok(core) => Ok(Some(core)),
         Err(CoreRefusal::Memory) => Err(AllocError),
-        Err(CoreRefusal::Refused { .. }) => Ok(None),
+        Err(CoreRefusal::OutOfRange) => Ok(None),
     }
 }
 

@@ -2,7 +2,7 @@
 
 use ast::{Line, MOST_EVENTS, Name, Program};
 use codegen::LoopReport;
-use dependence::LoopPlan;
+use dependence::{LoopPlan, SerialReason};
 use loop_tree::{LoopTree, LoopView, loops};
 use placement::{first_read, first_shared, first_sources};
 use remarks::{Place, Visible};
@@ -105,7 +105,7 @@ fn outer_of(view: &LoopView<'_, '_>, reports: &[LoopReport]) -> Option<Hindrance
             return None;
         };
         if let Some(report) = reports.get(place.wrapping_sub(1)) {
-            if let LoopPlan::Body { .. } | LoopPlan::Serial(6) = report.plan {
+            if let LoopPlan::Body { .. } | LoopPlan::Serial(SerialReason::Refused) = report.plan {
                 return Some(Hindrance::Outer(report.line));
             }
         }
@@ -115,26 +115,28 @@ fn outer_of(view: &LoopView<'_, '_>, reports: &[LoopReport]) -> Option<Hindrance
     None
 }
 
-/// What keeps the loop of a view serial, for the reason of a number, by the lines of the program's
-/// statements.
+/// What keeps the loop of a view serial, for a reason, by the lines of the program's statements.
 fn hindrance_in(
     alloc: Global,
-    reason: u8,
+    reason: SerialReason,
     view: &LoopView<'_, '_>,
     lines: &[Line],
     reports: &[LoopReport],
 ) -> Result<Option<Hindrance>, AllocError> {
     Ok(match reason {
-        1 => match view.step() {
+        SerialReason::NoStep => match view.step() {
             Some(_) => Some(Hindrance::ZeroStep),
             None => Some(Hindrance::NoConstant),
         },
-        2 => first_read(view).map(Hindrance::Read),
-        3 => first_shared(alloc, view)?.map(|(name, line)| Hindrance::Variable { name, line }),
-        4 => Some(Hindrance::Sources(first_sources(alloc, view, lines)?)),
-        5 => outer_of(view, reports),
-        6 => Some(Hindrance::Refused),
-        _ => None,
+        SerialReason::Reads => first_read(view).map(Hindrance::Read),
+        SerialReason::SharedVariable => {
+            first_shared(alloc, view)?.map(|(name, line)| Hindrance::Variable { name, line })
+        }
+        SerialReason::ManySources => {
+            Some(Hindrance::Sources(first_sources(alloc, view, lines)?))
+        }
+        SerialReason::Inside => outer_of(view, reports),
+        SerialReason::Refused => Some(Hindrance::Refused),
     })
 }
 
@@ -148,7 +150,7 @@ pub fn hindrance_of(
     alloc: Global,
     tree: &LoopTree<'_>,
     number: usize,
-    reason: u8,
+    reason: SerialReason,
     reports: &[LoopReport],
 ) -> Result<Option<Hindrance>, AllocError> {
     if number < 1 || number > tree.count() {

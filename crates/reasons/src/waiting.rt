@@ -11,7 +11,7 @@ use crate::serial::hindrance_of;
 use crate::spelled::append_reference;
 use ast::{Line, Name, RefId};
 use codegen::LoopReport;
-use dependence::{LoopPlan, PlanStmt, Reason, Relation, Relations, Run};
+use dependence::{LoopPlan, PlanStmt, Reason, Relation, Relations, Run, SerialReason};
 use explanations::append_number;
 use loop_tree::{LoopTree, LoopView, Occurrence};
 use remarks::early_use;
@@ -296,7 +296,7 @@ fn append_serial(
     out: &mut Vec<u8>,
     tree: &LoopTree<'_>,
     number: usize,
-    reason: u8,
+    reason: SerialReason,
     reports: &[LoopReport],
 ) -> Result<(), AllocError> {
     let Some(hindrance) = hindrance_of(alloc, tree, number, reason, reports)? else {
@@ -321,7 +321,7 @@ fn why_serial<'t, 'p>(
     alloc: Global,
     tree: &'t LoopTree<'p>,
     number: usize,
-    reason: u8,
+    reason: SerialReason,
     reports: &[LoopReport],
 ) -> Result<Why<'t, 'p>, AllocError> {
     let mut first = Vec::new(alloc);

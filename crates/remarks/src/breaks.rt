@@ -5,6 +5,7 @@ mod tokens;
 
 use crate::mentions::without_keyword;
 use crate::squeezed::{Squeezed, action, has_outer};
+use ast::Rule;
 pub use tokens::OPERATORS;
 use tokens::{Flaw, digits_at, open_text, operator_length, quoted_length, word_length};
 
@@ -38,16 +39,16 @@ struct Reading<'a> {
     is_list: bool,
 }
 
-/// The place in the text of a statement of what it is refused for by a number that is of texts, if
+/// The place in the text of a statement of what it is refused for by a rule that is of texts, if
 /// that can be told.
-pub fn break_place(number: u8, statement: &Squeezed) -> Option<usize> {
-    match number {
-        20 | 27 => action_place(&statement.text),
-        21 => open_text(&statement.text),
-        22 => flaw_place(Flaw::RealConstant, statement),
-        23 => flaw_place(Flaw::TooLarge, statement),
-        24 => flaw_place(Flaw::TooLong, statement),
-        25 => end_of_form(statement),
+pub fn break_place(rule: Rule, statement: &Squeezed) -> Option<usize> {
+    match rule {
+        Rule::UnknownStatement | Rule::LeftOut => action_place(&statement.text),
+        Rule::UnendedText => open_text(&statement.text),
+        Rule::RealConstant => flaw_place(Flaw::RealConstant, statement),
+        Rule::LargeConstant => flaw_place(Flaw::TooLarge, statement),
+        Rule::LongName => flaw_place(Flaw::TooLong, statement),
+        Rule::Malformed => end_of_form(statement),
         _ => None,
     }
 }

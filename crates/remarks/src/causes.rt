@@ -6,9 +6,10 @@ mod limits;
 mod near;
 
 use crate::mentions::{Mention, mentions};
+use crate::rules::{is_of_profile, is_of_text};
 use crate::squeezed::Squeezed;
 use crate::visible::Visible;
-use ast::{Intrinsic, Label, Line, Name};
+use ast::{Intrinsic, Label, Line, Name, Rule};
 use declared::Declared;
 use kinds::wrong_kind;
 use limits::limit;
@@ -119,57 +120,63 @@ struct Before {
     labels: Vec<(Label, Line)>,
 }
 
-/// What the refusal of a source by this number, at this line, is of, as far as that can be told.
+/// What the refusal of a source by this rule, at this line, is of, as far as that can be told.
 pub fn cause_of(
     alloc: Global,
     source: &[u8],
-    number: u8,
+    rule: Rule,
     line: Line,
 ) -> Result<Option<Cause>, AllocError> {
-    if !matches!(number, 20..=27 | 30..=38 | 40..=43) {
+    let has_cause = is_of_text(rule) || is_of_profile(rule) && rule != Rule::CrossedBounds;
+    if !has_cause {
         return Ok(None);
     }
     let statements = Squeezed::all(alloc, source)?;
     match statements.iter().find(|statement| statement.line == line) {
-        Some(statement) => cause_in(alloc, number, &statements, statement),
+        Some(statement) => cause_in(alloc, rule, &statements, statement),
         None => Ok(None),
     }
 }
 
-/// What the refusal of a statement by this number is of.
+/// What the refusal of a statement by this rule is of.
 fn cause_in(
     alloc: Global,
-    number: u8,
+    rule: Rule,
     statements: &[Squeezed],
     statement: &Squeezed,
 ) -> Result<Option<Cause>, AllocError> {
-    if number <= 27 {
+    if is_of_text(rule) {
         return Ok(statement.late_label.map(Cause::LateLabel));
     }
-    if matches!(number, 37 | 38 | 43) {
-        return cause_in_action(alloc, number, statements, statement);
+    if matches!(
+        rule,
+        Rule::ActiveVariable | Rule::ChangedConstant | Rule::WrongKind
+    ) {
+        return cause_in_action(alloc, rule, statements, statement);
     }
     let names = mentions(alloc, statement)?;
-    match number {
-        30 => Ok(early(statements, statement.line)),
-        31 => real(alloc, statements, &names),
-        32 | 42 => by_declarations(alloc, number, statements, statement, &names),
-        _ => by_place(alloc, number, statements, statement, &names),
+    match rule {
+        Rule::OutOfOrder => Ok(early(statements, statement.line)),
+        Rule::NotInteger => real(alloc, statements, &names),
+        Rule::DeclaredTwice | Rule::NoValue => {
+            by_declarations(alloc, rule, statements, statement, &names)
+        }
+        _ => by_place(alloc, rule, statements, statement, &names),
     }
 }
 
 /// The same, where it goes by what the statement does.
 fn cause_in_action(
     alloc: Global,
-    number: u8,
+    rule: Rule,
     statements: &[Squeezed],
     statement: &Squeezed,
 ) -> Result<Option<Cause>, AllocError> {
     let done = statement.action(alloc)?;
     let names = mentions(alloc, &done)?;
-    match number {
-        37 => by_place(alloc, number, statements, &done, &names),
-        38 => by_declarations(alloc, number, statements, &done, &names),
+    match rule {
+        Rule::ActiveVariable => by_place(alloc, rule, statements, &done, &names),
+        Rule::ChangedConstant => by_declarations(alloc, rule, statements, &done, &names),
         _ => Ok(wrong_kind(statement, &mentions(alloc, statement)?, &done, &names)),
     }
 }
@@ -177,15 +184,15 @@ fn cause_in_action(
 /// The same, where it goes by what the statements before declare.
 fn by_declarations(
     alloc: Global,
-    number: u8,
+    rule: Rule,
     statements: &[Squeezed],
     statement: &Squeezed,
     names: &[Mention],
 ) -> Result<Option<Cause>, AllocError> {
     let declared = Declared::before(alloc, statements, statement.line)?;
-    Ok(match number {
-        32 => declared.twice(statement, names),
-        38 => declared.assigned(statement, names),
+    Ok(match rule {
+        Rule::DeclaredTwice => declared.twice(statement, names),
+        Rule::ChangedConstant => declared.assigned(statement, names),
         _ => declared.unknown(statement, names),
     })
 }
@@ -193,20 +200,20 @@ fn by_declarations(
 /// The same, where it goes by what is open before, or by labels and counts.
 fn by_place(
     alloc: Global,
-    number: u8,
+    rule: Rule,
     statements: &[Squeezed],
     statement: &Squeezed,
     names: &[Mention],
 ) -> Result<Option<Cause>, AllocError> {
     let before = Before::of(alloc, statements, statement.line)?;
-    Ok(match number {
-        33 => before.misfit(statement, names),
-        35 => before.ended(statement).or(before.open()),
-        36 if statement.is_misplaced() => Some(Cause::Misplaced),
-        36 if is_part_of_block(&statement.text) => before.block(),
-        37 => before.active(statement, names),
-        40 => Some(limit(alloc, statements, &before, statement)?),
-        41 => before.labelled(statement),
+    Ok(match rule {
+        Rule::WrongSubscripts => before.misfit(statement, names),
+        Rule::WrongTerminal => before.ended(statement).or(before.open()),
+        Rule::CrossedBlocks if statement.is_misplaced() => Some(Cause::Misplaced),
+        Rule::CrossedBlocks if is_part_of_block(&statement.text) => before.block(),
+        Rule::ActiveVariable => before.active(statement, names),
+        Rule::LargeProgram => Some(limit(alloc, statements, &before, statement)?),
+        Rule::RepeatedLabel => before.labelled(statement),
         _ => before.open(),
     })
 }

@@ -1,26 +1,27 @@
 //! Hints at the commonest causes of a refusal, by what stands in its statement.
 
-mod schedules;
+mod replays;
 mod signs;
 
 use crate::breaks::OPERATORS;
 use crate::columns::{is_continuation, label_of, text_of};
 use crate::mentions::behind_label;
 use crate::squeezed::{Squeezed, action, assigns, behind_parentheses, has_outer, names_label};
+use ast::{Fault, Rule};
 use bstr::ByteSlice;
 use fixed_form::LAST_LABEL_COLUMN;
-pub use schedules::hint_of_schedule;
+pub use replays::hint_of_schedule;
 use signs::{
     BEGINNINGS, CHARACTERS, COMPARISONS, CONTINUED, FOREIGN, FREE_FORM, GREAT, LEFT_OUT, LENGTHS,
     NEIGHBOURS, SUBPROGRAMS, Sign, TRANSFERS, TYPOGRAPHY, WHILE,
 };
 use std::cmp::Ordering;
 
-/// What is said of 31, where nothing more is known.
+/// What is said of a name that is not integer, where nothing more is known.
 const DECLARE: &str = "INTEGER X declares a name, and INTEGER A(5) an array; the functions are \
 MOD, ABS, IABS, MAX, MAX0, MIN and MIN0";
 
-/// What is said of 33.
+/// What is said of wrong subscripts.
 const FIT: &str = "an array stands with all its subscripts, a variable without; the functions are \
 MOD of two arguments, ABS and IABS of one, MAX, MAX0, MIN and MIN0 of two or more";
 
@@ -40,39 +41,42 @@ const POINTS: &str = "an operator has a point at each end, as in .EQ. and .AND.;
 /// What is said of a parenthesis without its end.
 const OPEN: &str = "a parenthesis is not closed";
 
-/// What may have caused the refusal of a source by this number, at this line and the statement that
+/// What may have caused the refusal of a source by this rule, at this line and the statement that
 /// begins there.
-pub fn hint(number: u8, line: &[u8], statement: &Squeezed) -> Option<&'static str> {
+pub fn hint(rule: Rule, line: &[u8], statement: &Squeezed) -> Option<&'static str> {
     let text = statement.text.as_slice();
-    match number {
-        1 => of_character(line),
-        2 | 3 | 5 => of_columns(line),
-        7 => of_missing_end(line, text),
-        8 => of_rest(line, text),
-        20 | 25 => of_form(line, statement),
-        24 => of_signs(text)
+    match rule {
+        Rule::StrangeByte => of_character(line),
+        Rule::MalformedLabel | Rule::LooseContinuation | Rule::LabelledContinuation => {
+            of_columns(line)
+        }
+        Rule::NoEnd => of_missing_end(line, text),
+        Rule::LineBehindEnd => of_rest(line, text),
+        Rule::UnknownStatement | Rule::Malformed => of_form(line, statement),
+        Rule::LongName => of_signs(text)
             .or(first_of(&LENGTHS, text))
             .or(of_constant(text))
             .or(of_form(line, statement))
             .or(Some("a name has six characters at most")),
-        21 => of_mark(text)
+        Rule::UnendedText => of_mark(text)
             .or(past_columns(statement))
             .or(of_apostrophes(text)),
-        22 => of_real(text).or(of_points(text)),
-        23 => first_of(&GREAT, text),
-        27 => of_left_out(text),
-        31 => of_name(text).or(Some(DECLARE)),
-        33 => Some(FIT),
-        35 => Some("give the label to a CONTINUE behind the statement"),
-        43 => of_kind(line, text),
+        Rule::RealConstant => of_real(text).or(of_points(text)),
+        Rule::LargeConstant => first_of(&GREAT, text),
+        Rule::LeftOut => of_left_out(text),
+        Rule::NotInteger => of_name(text).or(Some(DECLARE)),
+        Rule::WrongSubscripts => Some(FIT),
+        Rule::WrongTerminal => Some("give the label to a CONTINUE behind the statement"),
+        Rule::WrongKind => of_kind(line, text),
         _ => None,
     }
 }
 
-/// What may have caused a fault by this number, at the statement.
-pub fn hint_of_fault(number: u8, statement: &Squeezed) -> Option<&'static str> {
+/// What may have caused a fault, at the statement.
+pub fn hint_of_fault(fault: Fault, statement: &Squeezed) -> Option<&'static str> {
     let text = statement.text.as_slice();
-    if matches!(number, 2 | 3) && is_if(text) && holds_one(&[b".AND.", b".OR."], text) {
+    let is_guarded = matches!(fault, Fault::Index | Fault::ZeroDivisor);
+    if is_guarded && is_if(text) && holds_one(&[b".AND.", b".OR."], text) {
         return Some("both sides of .AND. and .OR. have to have a value; put one IF into another");
     }
     None

@@ -1,5 +1,5 @@
 -- Where a schedule leads from the beginning.
-use Rattle.std.proofs.Common.{inl, ◌≡◌, ◌∙◌, ℕ, ◌+◌, List, length, Some, None, sym, ap, subst}
+use Rattle.std.proofs.Common.{◌≡◌, ◌∙◌, ℕ, ◌+◌, List, length, Some, None, sym, ap, subst}
 use Rattle.std.specs.Prelude.{Result, Ok, Err, IfOk, IfErr}
 use Rattle.std.proofs.lemmas.Result.{IfOk-weaker}
 use Rattle.ast.specs.View.{cells}
@@ -8,6 +8,8 @@ use Rattle.ast.specs.declared.fault.End.{End}
 use Rattle.machine.specs.Code.{Code}
 use Rattle.schedules.specs.Refusals.{Explains}
 use Rattle.schedules.specs.Schedules.{Schedule}
+use Rattle.schedules.specs.declared.flaw.Flaw.{Flaw}
+use Rattle.schedules.specs.declared.flaw.Flaw.TheVariants.{Header, Entry, Processor, Impossible, Unended, BehindEnd}
 use Rattle.schedules.specs.declared.refusal.ReplayRefusal.{ReplayRefusal}
 use Rattle.activities.specs.Activities.{AreOf, Stays, code_in, point_in}
 use Rattle.replay.specs.Making.{LeadsOnly}
@@ -58,20 +60,29 @@ pub has_stop : (code : Code) (input : List ℕ) (x : Schedule) (a : Activities) 
 has_stop code input x a r h p s =
     begins code input x.processors x.slots a (λ k c. Explains r (StopsAt x.version k x.slots c x.entries)) h p s
 
+-- an entry that can't be made is no want of an end
+stop_gives_none : (code : Code) (input : List ℕ) (x : Schedule) (w : Flaw) (l : ℕ) → HasStop code input x w l → GivesNone code input x w l
+stop_gives_none code input x Header l d = d
+stop_gives_none code input x Entry l d = d
+stop_gives_none code input x Processor l d = d
+stop_gives_none code input x Impossible l d = d
+stop_gives_none code input x Unended l d = absurd d.cannot
+stop_gives_none code input x BehindEnd l d = d
+
 pub gives_none : (code : Code) (input : List ℕ) (x : Schedule) (a : Activities) (r : ReplayRefusal) → AreOf code x.processors x.slots a → point_in a ≡ beginning code input x.slots
     → Explains r (StopsAt x.version (code_in a) x.slots (point_in a) x.entries) → Explains r (GivesNone code input x)
-gives_none code input x a r h p s = explained r (HasStop code input x) (GivesNone code input x) (λ n l d. inl d) (has_stop code input x a r h p s)
+gives_none code input x a r h p s = explained r (HasStop code input x) (GivesNone code input x) (stop_gives_none code input x) (has_stop code input x a r h p s)
 
 pub leads_nowhere : (code : Code) (input : List ℕ) (x : Schedule) (a : Activities) (r : ReplayRefusal) → AreOf code x.processors x.slots a → point_in a ≡ beginning code input x.slots
-    → Explains r (λ n l. NoneLeads x.version (code_in a) x.slots (point_in a) x.entries) → Explains r (λ n l. LeadsNowhere code input x)
+    → Explains r (λ w l. NoneLeads x.version (code_in a) x.slots (point_in a) x.entries) → Explains r (λ w l. LeadsNowhere code input x)
 leads_nowhere code input x a r h p s =
-    explained r (λ n l. NoneLeads x.version code x.slots (beginning code input x.slots) x.entries) (λ n l. LeadsNowhere code input x) (λ n l d b q. d b q.leads)
-    (begins code input x.processors x.slots a (λ k c. Explains r (λ n l. NoneLeads x.version k x.slots c x.entries)) h p s)
+    explained r (λ w l. NoneLeads x.version code x.slots (beginning code input x.slots) x.entries) (λ w l. LeadsNowhere code input x) (λ w l d b q. d b q.leads)
+    (begins code input x.processors x.slots a (λ k c. Explains r (λ w l. NoneLeads x.version k x.slots c x.entries)) h p s)
 
 pub nowhere_ends : (code : Code) (input : List ℕ) (x : Schedule) (a : Activities) (r : ReplayRefusal) → AreOf code x.processors x.slots a → point_in a ≡ beginning code input x.slots
-    → Explains r (λ n l. NoneLeads x.version (code_in a) x.slots (point_in a) x.entries) → Explains r (λ n l. NeverEnds code input x)
+    → Explains r (λ w l. NoneLeads x.version (code_in a) x.slots (point_in a) x.entries) → Explains r (λ w l. NeverEnds code input x)
 nowhere_ends code input x a r h p s =
-    explained r (λ n l. LeadsNowhere code input x) (λ n l. NeverEnds code input x) (λ n l d b e q f. d b q) (leads_nowhere code input x a r h p s)
+    explained r (λ w l. LeadsNowhere code input x) (λ w l. NeverEnds code input x) (λ w l d b e q f. d b q) (leads_nowhere code input x a r h p s)
 
 pub is_upgrade : (code : Code) (input : List ℕ) (x y : Schedule) (a : Activities) → AreOf code x.processors x.slots a → point_in a ≡ beginning code input x.slots
     → NamesPicks (code_in a) (point_in a) x y → NamesPicks code (beginning code input x.slots) x y
@@ -96,6 +107,6 @@ refused_upgrade code input x a r h p n =
     if_err r (λ f. Explains f (StopsAt x.version (code_in a) x.slots (point_in a) x.entries)) (λ f. Explains f (HasStop code input x)) (λ f s. has_stop code input x a f h p s) n
 
 pub no_upgrade : (code : Code) (input : List ℕ) (x : Schedule) (a : Activities) (r : Upgraded) → AreOf code x.processors x.slots a → point_in a ≡ beginning code input x.slots
-    → IfErr r (λ f. Explains f (λ n l. NoneLeads x.version (code_in a) x.slots (point_in a) x.entries)) → IfErr r (λ f. Explains f (λ n l. LeadsNowhere code input x))
+    → IfErr r (λ f. Explains f (λ w l. NoneLeads x.version (code_in a) x.slots (point_in a) x.entries)) → IfErr r (λ f. Explains f (λ w l. LeadsNowhere code input x))
 no_upgrade code input x a r h p n =
-    if_err r (λ f. Explains f (λ i l. NoneLeads x.version (code_in a) x.slots (point_in a) x.entries)) (λ f. Explains f (λ i l. LeadsNowhere code input x)) (λ f s. leads_nowhere code input x a f h p s) n
+    if_err r (λ f. Explains f (λ w l. NoneLeads x.version (code_in a) x.slots (point_in a) x.entries)) (λ f. Explains f (λ i l. LeadsNowhere code input x)) (λ f s. leads_nowhere code input x a f h p s) n

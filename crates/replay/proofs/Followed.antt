@@ -7,6 +7,8 @@ use Rattle.schedules.specs.Refusals.{Explains}
 use Rattle.schedules.specs.Schedules.{Act, works, shares, picks_main, picks, takes_ticket, AreEntries, Entry, IsAct, Schedule, with_entry}
 use Rattle.schedules.specs.declared.entry.Version.{Version}
 use Rattle.schedules.specs.declared.entry.Version.TheVariants.{First, Second}
+use Rattle.schedules.specs.declared.flaw.Flaw.{Flaw}
+use Rattle.schedules.specs.declared.flaw.Flaw.TheVariants.{Header, Entry as NoEntry, Processor as NoProcessor, Impossible, Unended, BehindEnd}
 use Rattle.schedules.specs.declared.refusal.ReplayRefusal.{ReplayRefusal}
 use Rattle.schedules.specs.declared.refusal.ReplayRefusal.TheVariants.{Memory, Refused}
 use Rattle.activities.specs.Activities.{AreActivities, Stays, code_in, point_in}
@@ -39,9 +41,9 @@ goes_on v code s start all rest e line a b y f m = record {
   only = λ c l. (let n = f.only c l in subst (λ (x : Point). Leads v code s x rest c) (m.only n.0 n.1) n.2);
 }
 
-pub stops : (v : Version) (code : Code) (s : ℕ) (start : Point) (all rest : List Entry) (e : Entry) (line number : ℕ) (a : Point) → Follows v code s start all (e ∷ rest) line a → CannotBeMade v code s e.act a e.processor number
-    → StopsAt v code s start all number line
-stops v code s start all rest e line number a f d = record {
+pub stops : (v : Version) (code : Code) (s : ℕ) (start : Point) (all rest : List Entry) (e : Entry) (line : ℕ) (flaw : Flaw) (a : Point) → Follows v code s start all (e ∷ rest) line a → CannotBeMade v code s e.act a e.processor flaw
+    → StopsAt v code s start all flaw line
+stops v code s start all rest e line flaw a f d = record {
   before = f.front;
   entry = e;
   behind = rest;
@@ -66,9 +68,9 @@ pub made_here : (v : Version) (a b : Activities) (s : ℕ) (x : Act) (q : ℕ) (
 made_here v a b s x q y c h e m =
     subst (λ (k : Code). MadeAs v k s x (point_in b) q y c) h.code_is (subst (λ (n : ℕ). MadeAs v (code_in b) n x (point_in b) q y c) (h.slots ∙ e) m)
 
-pub cannot_here : (v : Version) (a b : Activities) (s : ℕ) (x : Act) (q number : ℕ) → Stays a b → a.slots ≡ s → CannotBeMade v (code_in b) b.slots x (point_in b) q number → CannotBeMade v (code_in a) s x (point_in b) q number
-cannot_here v a b s x q number h e m =
-    subst (λ (k : Code). CannotBeMade v k s x (point_in b) q number) h.code_is (subst (λ (n : ℕ). CannotBeMade v (code_in b) n x (point_in b) q number) (h.slots ∙ e) m)
+pub cannot_here : (v : Version) (a b : Activities) (s : ℕ) (x : Act) (q : ℕ) (flaw : Flaw) → Stays a b → a.slots ≡ s → CannotBeMade v (code_in b) b.slots x (point_in b) q flaw → CannotBeMade v (code_in a) s x (point_in b) q flaw
+cannot_here v a b s x q flaw h e m =
+    subst (λ (k : Code). CannotBeMade v k s x (point_in b) q flaw) h.code_is (subst (λ (n : ℕ). CannotBeMade v (code_in b) n x (point_in b) q flaw) (h.slots ∙ e) m)
 
 -- what always holds while entries are followed
 abbrev pub Following : Version → ℕ → ℕ → List Entry → Activities → List Entry → ℕ → Activities → Type 0
@@ -81,11 +83,11 @@ follows_on v p s all a b d rest more e line y h f r m i t =
     let g = subst (λ (es : List Entry). Following v p s all a es line b) r f in
     (goes_on v (code_in a) s (point_in a) all more e line (point_in b) (point_in d) y g.0 (made_here v a b s e.act e.processor y (point_in d) g.3 h m), g.1.1, i, stays_on a b d g.3 t)
 
-pub follows_stop : (v : Version) (p s : ℕ) (all : List Entry) (a b : Activities) (rest more : List Entry) (e : Entry) (line number : ℕ) → a.slots ≡ s → Following v p s all a rest line b → rest ≡ e ∷ more
-    → CannotBeMade v (code_in b) b.slots e.act (point_in b) e.processor number → StopsAt v (code_in a) s (point_in a) all number line
-follows_stop v p s all a b rest more e line number h f r d =
+pub follows_stop : (v : Version) (p s : ℕ) (all : List Entry) (a b : Activities) (rest more : List Entry) (e : Entry) (line : ℕ) (flaw : Flaw) → a.slots ≡ s → Following v p s all a rest line b → rest ≡ e ∷ more
+    → CannotBeMade v (code_in b) b.slots e.act (point_in b) e.processor flaw → StopsAt v (code_in a) s (point_in a) all flaw line
+follows_stop v p s all a b rest more e line flaw h f r d =
     let g = subst (λ (es : List Entry). Following v p s all a es line b) r f in
-    stops v (code_in a) s (point_in a) all more e line number (point_in b) g.0 (cannot_here v a b s e.act e.processor number g.3 h d)
+    stops v (code_in a) s (point_in a) all more e line flaw (point_in b) g.0 (cannot_here v a b s e.act e.processor flaw g.3 h d)
 
 -- behind the end nothing is done
 ended_is : (o : Option End) (e : End) → o ≡ None → o ≡ Some e → ⊥
@@ -104,33 +106,37 @@ none_behind_end v code s picks_main a q b e h i d = ended_is a.machine.ended e d
 none_behind_end v code s (picks k) a q b e h i d = ended_is a.machine.ended e d.going h
 none_behind_end v code s takes_ticket a q b e h i d = ended_is a.machine.ended e d.going h
 
-cannot_be : (v : Version) (code : Code) (s : ℕ) (x : Act) (a : Point) (q number : ℕ) → IsAct v x → CannotBeMade v code s x a q number → (b : Point) → Does v code s x a q b → ⊥
-cannot_be v code s x a q number i (inl h) b d = h.2 b d
-cannot_be v code s x a q number i (inr h) b d = none_behind_end v code s x a q b h.1 h.2 i d
+cannot_be : (v : Version) (code : Code) (s : ℕ) (x : Act) (a : Point) (q : ℕ) (flaw : Flaw) → IsAct v x → CannotBeMade v code s x a q flaw → (b : Point) → Does v code s x a q b → ⊥
+cannot_be v code s x a q Impossible i h b d = h.1 b d
+cannot_be v code s x a q BehindEnd i h b d = none_behind_end v code s x a q b h.0 h.1 i d
+cannot_be v code s x a q Header i h b d = h
+cannot_be v code s x a q NoEntry i h b d = h
+cannot_be v code s x a q NoProcessor i h b d = h
+cannot_be v code s x a q Unended i h b d = h
 
-pub follows_nowhere : (v : Version) (p s : ℕ) (all : List Entry) (a b : Activities) (rest more : List Entry) (e : Entry) (line number : ℕ) → a.slots ≡ s → Following v p s all a rest line b → rest ≡ e ∷ more
-    → CannotBeMade v (code_in b) b.slots e.act (point_in b) e.processor number → NoneLeads v (code_in a) s (point_in a) all
-follows_nowhere v p s all a b rest more e line number h f r d c l =
+pub follows_nowhere : (v : Version) (p s : ℕ) (all : List Entry) (a b : Activities) (rest more : List Entry) (e : Entry) (line : ℕ) (flaw : Flaw) → a.slots ≡ s → Following v p s all a rest line b → rest ≡ e ∷ more
+    → CannotBeMade v (code_in b) b.slots e.act (point_in b) e.processor flaw → NoneLeads v (code_in a) s (point_in a) all
+follows_nowhere v p s all a b rest more e line flaw h f r d c l =
     let g = subst (λ (es : List Entry). Following v p s all a es line b) r f in
     let n = g.0.only c l in
-    cannot_be v (code_in a) s e.act (point_in b) e.processor number g.1.0.1 (cannot_here v a b s e.act e.processor number g.3 h d) n.0 n.1
+    cannot_be v (code_in a) s e.act (point_in b) e.processor flaw g.1.0.1 (cannot_here v a b s e.act e.processor flaw g.3 h d) n.0 n.1
 
 -- ---- refusals
 
-pub explained : (r : ReplayRefusal) (P Q : ℕ → ℕ → Type 0) → ((n l : ℕ) → P n l → Q n l) → Explains r P → Explains r Q
+pub explained : (r : ReplayRefusal) (P Q : Flaw → ℕ → Type 0) → ((w : Flaw) (l : ℕ) → P w l → Q w l) → Explains r P → Explains r Q
 explained Memory P Q f h = tt
-explained (Refused n l) P Q f h = f n l h
+explained (Refused w l) P Q f h = f w l h
 
 pub refused_nowhere : (r : ReplayRefusal) (v w : Version) (p s : ℕ) (all : List Entry) (a b : Activities) (rest more : List Entry) (e : Entry) (line : ℕ) → w ≡ v → a.slots ≡ s → Following v p s all a rest line b → rest ≡ e ∷ more
-    → Explains r (λ number at. (at ≡ line) × CannotBeMade w (code_in b) b.slots e.act (point_in b) e.processor number) → Explains r (λ number at. NoneLeads v (code_in a) s (point_in a) all)
+    → Explains r (λ flaw at. (at ≡ line) × CannotBeMade w (code_in b) b.slots e.act (point_in b) e.processor flaw) → Explains r (λ flaw at. NoneLeads v (code_in a) s (point_in a) all)
 refused_nowhere r v w p s all a b rest more e line t h f k x =
-    explained r (λ number at. (at ≡ line) × CannotBeMade w (code_in b) b.slots e.act (point_in b) e.processor number) (λ number at. NoneLeads v (code_in a) s (point_in a) all)
+    explained r (λ flaw at. (at ≡ line) × CannotBeMade w (code_in b) b.slots e.act (point_in b) e.processor flaw) (λ flaw at. NoneLeads v (code_in a) s (point_in a) all)
     (λ n l d. follows_nowhere v p s all a b rest more e line n h f k (subst (λ (u : Version). CannotBeMade u (code_in b) b.slots e.act (point_in b) e.processor n) t d.1)) x
 
 pub refused_stop : (r : ReplayRefusal) (v w : Version) (p s : ℕ) (all : List Entry) (a b : Activities) (rest more : List Entry) (e : Entry) (line : ℕ) → w ≡ v → a.slots ≡ s → Following v p s all a rest line b → rest ≡ e ∷ more
-    → Explains r (λ number at. (at ≡ line) × CannotBeMade w (code_in b) b.slots e.act (point_in b) e.processor number) → Explains r (StopsAt v (code_in a) s (point_in a) all)
+    → Explains r (λ flaw at. (at ≡ line) × CannotBeMade w (code_in b) b.slots e.act (point_in b) e.processor flaw) → Explains r (StopsAt v (code_in a) s (point_in a) all)
 refused_stop r v w p s all a b rest more e line t h f k x =
-    explained r (λ number at. (at ≡ line) × CannotBeMade w (code_in b) b.slots e.act (point_in b) e.processor number) (StopsAt v (code_in a) s (point_in a) all)
+    explained r (λ flaw at. (at ≡ line) × CannotBeMade w (code_in b) b.slots e.act (point_in b) e.processor flaw) (StopsAt v (code_in a) s (point_in a) all)
     (λ n l d. subst (λ (m : ℕ). StopsAt v (code_in a) s (point_in a) all n m) (sym d.0)
     (follows_stop v p s all a b rest more e line n h f k (subst (λ (u : Version). CannotBeMade u (code_in b) b.slots e.act (point_in b) e.processor n) t d.1))) x
 

@@ -18,4 +18,4 @@ SaysStop x a refusal = Explains refusal (StopsAt x.version (code_in a) x.slots (
 -- where it isn't for want of memory, the schedule's entries lead nowhere
 abbrev pub SaysNoneLead : Schedule → Activities → ReplayRefusal → Type 0
 SaysNoneLead x a refusal =
-    Explains refusal (λ number line. NoneLeads x.version (code_in a) x.slots (point_in a) x.entries)
+    Explains refusal (λ flaw line. NoneLeads x.version (code_in a) x.slots (point_in a) x.entries)

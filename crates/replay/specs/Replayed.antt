@@ -1,5 +1,5 @@
 -- What the replay of a schedule answers, and why it is refused.
-use Rattle.std.specs.Prelude.{◌≡◌, ℕ, ℤ, ◌+◌, ◌⊎◌, List, ◌∷◌, ◌++◌, length, map, Some, None}
+use Rattle.std.specs.Prelude.{◌≡◌, ℕ, ℤ, ◌+◌, List, ◌∷◌, ◌++◌, length, map, Some, None}
 use Rattle.ast.specs.Store.{StoreOf, values_from}
 use Rattle.ast.specs.View.{cells}
 use Rattle.ast.specs.declared.answer.Answer.{Answer}
@@ -10,6 +10,8 @@ use Rattle.machine.specs.declared.code.Variable.{Variable}
 use Rattle.schedules.specs.Schedules.{Act, Entry, Schedule}
 use Rattle.schedules.specs.declared.entry.Version.{Version}
 use Rattle.schedules.specs.declared.entry.Version.TheVariants.{Second}
+use Rattle.schedules.specs.declared.flaw.Flaw.{Flaw}
+use Rattle.schedules.specs.declared.flaw.Flaw.TheVariants.{Impossible, Unended, BehindEnd}
 use Rattle.replay.specs.Making.{AreNamed}
 use Rattle.activities.specs.Points.{Point, beginning}
 use Rattle.replay.specs.Replays.{Does, Leads, Replays}
@@ -37,14 +39,14 @@ pub record IsReplay (code : Code) (input : List ℕ) (x : Schedule) (answer : An
 -- ---- why entries can't be made
 
 -- What processor q is to do isn't possible, or stands behind the end of the run.
-abbrev pub CannotBeMade : Version → Code → ℕ → Act → Point → ℕ → ℕ → Type 0
-CannotBeMade v code s x a q number =
-    ((number ≡ 54) × (a.machine.ended ≡ None) × ((b : Point) → Does v code s x a q b → ⊥))
-    ⊎ ((number ≡ 56) × (e : End) × (a.machine.ended ≡ Some e))
+abbrev pub CannotBeMade : Version → Code → ℕ → Act → Point → ℕ → Flaw → Type 0
+CannotBeMade v code s x a q Impossible = (a.machine.ended ≡ None) × ((b : Point) → Does v code s x a q b → ⊥)
+CannotBeMade v code s x a q BehindEnd = (e : End) × (a.machine.ended ≡ Some e)
+CannotBeMade v code s x a q _ = ⊥
 
 -- From a point the entries before the one at this line lead to another, where it can't be made. The
 -- first entry stands at line 3.
-pub record StopsAt (v : Version) (code : Code) (s : ℕ) (a : Point) (es : List Entry) (number line : ℕ) : Type 0 where
+pub record StopsAt (v : Version) (code : Code) (s : ℕ) (a : Point) (es : List Entry) (flaw : Flaw) (line : ℕ) : Type 0 where
   pub before : List Entry
   pub entry : Entry
   pub behind : List Entry
@@ -52,7 +54,7 @@ pub record StopsAt (v : Version) (code : Code) (s : ℕ) (a : Point) (es : List 
   pub at : line ≡ 3 + length before
   pub point : Point
   pub leads : Leads v code s a before point
-  pub cannot : CannotBeMade v code s entry.act point entry.processor number
+  pub cannot : CannotBeMade v code s entry.act point entry.processor flaw
 
 -- they lead nowhere
 abbrev pub NoneLeads : Version → Code → ℕ → Point → List Entry → Type 0
@@ -61,8 +63,8 @@ NoneLeads v code s a es = (b : Point) → Leads v code s a es b → ⊥
 -- ---- why a schedule can't be replayed or upgraded
 
 -- an entry can't be made
-abbrev pub HasStop : Code → List ℕ → Schedule → ℕ → ℕ → Type 0
-HasStop code input x number line = StopsAt x.version code x.slots (beginning code input x.slots) x.entries number line
+abbrev pub HasStop : Code → List ℕ → Schedule → Flaw → ℕ → Type 0
+HasStop code input x flaw line = StopsAt x.version code x.slots (beginning code input x.slots) x.entries flaw line
 
 -- all entries are possible, and the run hasn't ended; the line is the last one
 pub record NotEnded (code : Code) (input : List ℕ) (x : Schedule) (line : ℕ) : Type 0 where
@@ -71,9 +73,10 @@ pub record NotEnded (code : Code) (input : List ℕ) (x : Schedule) (line : ℕ)
   pub going : point.machine.ended ≡ None
   pub at : line ≡ 2 + length x.entries
 
--- Why `replay` refuses a schedule: an entry can't be made, or the run hasn't ended behind the last.
-abbrev pub GivesNone : Code → List ℕ → Schedule → ℕ → ℕ → Type 0
-GivesNone code input x number line = HasStop code input x number line ⊎ ((number ≡ 55) × NotEnded code input x line)
+-- Why `replay` refuses a schedule: the run hasn't ended behind the last entry, or one can't be made.
+abbrev pub GivesNone : Code → List ℕ → Schedule → Flaw → ℕ → Type 0
+GivesNone code input x Unended line = NotEnded code input x line
+GivesNone code input x flaw line = HasStop code input x flaw line
 
 -- the schedule leads to no state that has ended
 abbrev pub NeverEnds : Code → List ℕ → Schedule → Type 0

@@ -135,4 +135,4 @@ CannotHandIn x q code from hand_ins.Memory = IsGoing x × IsFrom x q code from
 -- no core has so many processors and slots
 abbrev pub NoCore : ℕ → ℕ → CoreRefusal → Type 0
 NoCore p s refusals.Memory = AreSizes p s
-NoCore p s (refusals.Refused number) = (number ≡ 57) × (AreSizes p s → ⊥)
+NoCore p s refusals.OutOfRange = AreSizes p s → ⊥

@@ -14,14 +14,15 @@ ghost use Rattle.activities.specs.Points.{beginning};
 use crate::making::make;
 use activities::Activities;
 use machine::Code;
-use schedules::{Act, Entry, FIRST_ENTRY_LINE, ReplayRefusal, Schedule, Version};
+use schedules::{Act, Entry, FIRST_ENTRY_LINE, Flaw, ReplayRefusal, Schedule, Version};
 use std::alloc::Global;
 
 /// Makes the entry at a line, and gives what it did, each pick named.
 ///
 /// # Errors
 ///
-/// 56 where the run has ended, 54 where the entry isn't possible; and want of memory.
+/// `BehindEnd` where the run has ended, `Impossible` where the entry isn't possible; and want of
+/// memory.
 pub fn make_at(
     activities: &mut Activities<'_>,
     version: Version,
@@ -35,18 +36,24 @@ pub fn make_at(
         MadeAs version (code_in activities.old) activities.old.slots (act_view entry.act)
         (point_in activities.old) entry.processor (act_view named) (point_in activities.new)) }
     ensures refused { IfErr result (λ fault.
-        Explains fault (λ number at. (at ≡ line)
+        Explains fault (λ flaw at. (at ≡ line)
         × CannotBeMade version (code_in activities.old) activities.old.slots (act_view entry.act)
-        (point_in activities.old) entry.processor number)) }
+        (point_in activities.old) entry.processor flaw)) }
     ensures stand { AreActivities activities.new }
     ensures stays { Stays activities.old activities.new }
 {
     if activities.shared.ended.is_some() {
-        return Err(ReplayRefusal::Refused { number: 56, line });
+        return Err(ReplayRefusal::Refused {
+            number: Flaw::BehindEnd,
+            line,
+        });
     }
     match make(activities, version, entry)? {
         Some(act) => Ok(act),
-        None => Err(ReplayRefusal::Refused { number: 54, line }),
+        None => Err(ReplayRefusal::Refused {
+            number: Flaw::Impossible,
+            line,
+        }),
     }
 }
 
@@ -62,7 +69,7 @@ pub fn begun<'c>(
     ensures are { IfOk result (λ a.
         AreOf (code_of code.now) schedule.now.processors schedule.now.slots a) }
     ensures stand { IfOk result AreActivities }
-    ensures memory { IfErr result (λ fault. Explains fault (λ number line. ⊥)) }
+    ensures memory { IfErr result (λ fault. Explains fault (λ flaw line. ⊥)) }
 {
     let processors = usize::from(schedule.processors());
     let slots = usize::from(schedule.slots());
@@ -73,8 +80,8 @@ pub fn begun<'c>(
 ///
 /// # Errors
 ///
-/// 56 at the first entry behind the end of the run, 54 at the first that isn't possible before
-/// that; and want of memory.
+/// `BehindEnd` at the first entry behind the end of the run, `Impossible` at the first that isn't
+/// possible before that; and want of memory.
 pub fn follow(activities: &mut Activities<'_>, schedule: &Schedule) -> Result<(), ReplayRefusal>
     requires stand { AreActivities activities.old }
     requires of { AreOf (code_in activities.old) schedule.now.processors schedule.now.slots

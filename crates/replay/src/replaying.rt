@@ -9,15 +9,15 @@ use crate::answering::answer_of;
 use crate::following::{begun, follow};
 use ast::Answer;
 use machine::Code;
-use schedules::{ReplayRefusal, Schedule};
+use schedules::{Flaw, ReplayRefusal, Schedule};
 use std::alloc::Global;
 
 /// The answer of the run that a schedule describes, turn by turn.
 ///
 /// # Errors
 ///
-/// 54 at the first entry that isn't possible, 55 at the last line where the run hasn't ended then,
-/// 56 at the first entry behind its end; and want of memory.
+/// `Impossible` at the first entry that isn't possible, `Unended` at the last line where the run
+/// hasn't ended then, `BehindEnd` at the first entry behind its end; and want of memory.
 pub fn replay<'c>(
     alloc: Global,
     code: &'c Code,
@@ -28,7 +28,7 @@ pub fn replay<'c>(
     ensures refused { IfErr result (λ fault.
         Explains fault (GivesNone (code_of code.now) input.now schedule.now)) }
     ensures only { IfErr result (λ fault.
-        Explains fault (λ number line. NeverEnds (code_of code.now) input.now schedule.now)) }
+        Explains fault (λ flaw line. NeverEnds (code_of code.now) input.now schedule.now)) }
 {
     let mut activities = begun(alloc, code, input, schedule)?;
     if let Err(refusal) = follow(&mut activities, schedule) {
@@ -36,7 +36,7 @@ pub fn replay<'c>(
     }
     let Some(end) = activities.shared.ended else {
         return Err(ReplayRefusal::Refused {
-            number: 55,
+            number: Flaw::Unended,
             line: 2 + schedule.len(),
         });
     };

@@ -29,8 +29,8 @@ pub enum HandIn {
 pub enum CoreRefusal {
     /// There was no memory.
     Memory,
-    /// 57: there are not 1 to 64 processors and 1 to 256 slots.
-    Refused { number: u8 },
+    /// There are not 1 to 64 processors and 1 to 256 slots: refusal 57.
+    OutOfRange,
 }
 
 /// How many steps were made, and how many of them parked an activity or took up a parked one.

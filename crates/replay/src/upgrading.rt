@@ -103,8 +103,8 @@ fn as_it_is(activities: &mut Activities<'_>, schedule: &Schedule) -> Result<Sche
 ///
 /// # Errors
 ///
-/// 54 at the first entry that isn't possible, 56 at the first one behind the end of the run; and
-/// want of memory.
+/// `Impossible` at the first entry that isn't possible, `BehindEnd` at the first one behind the end
+/// of the run; and want of memory.
 pub fn upgrade<'c>(
     alloc: Global,
     code: &'c Code,
@@ -116,7 +116,7 @@ pub fn upgrade<'c>(
     ensures refused { IfErr result (λ fault.
         Explains fault (HasStop (code_of code.now) input.now schedule.now)) }
     ensures only { IfErr result (λ fault.
-        Explains fault (λ number line. LeadsNowhere (code_of code.now) input.now schedule.now)) }
+        Explains fault (λ flaw line. LeadsNowhere (code_of code.now) input.now schedule.now)) }
 {
     let mut activities = begun(alloc, code, input, schedule)?;
     match schedule.version() {

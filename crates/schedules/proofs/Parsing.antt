@@ -1,12 +1,14 @@
 -- A schedule that grows by what is read, and what its text is.
-use Rattle.std.proofs.Common.{◌≡◌, ◌≢◌, ℕ, ◌+◌, ◌<◌, ◌≤◌, List, [], ◌∷◌, ◌++◌, length, Some, None, Ok, Err, refl, sym, ap, subst, ◌∙◌, inl, inr, arith}
+use Rattle.std.proofs.Common.{◌≡◌, ◌≢◌, ℕ, ◌+◌, ◌<◌, ◌≤◌, List, [], ◌∷◌, ◌++◌, length, Some, None, Ok, Err, refl, sym, ap, subst, ◌∙◌, inr, arith}
 use Rattle.std.proofs.lemmas.List.{length-append}
 use Rattle.machine.specs.State.{AreSizes, most_processors}
 use Rattle.schedules.specs.Kept.{IsKept, entry_of, seen, taken}
 use Rattle.schedules.specs.Reading.{entry_at, header_at, sizes_at}
-use Rattle.schedules.specs.Refusals.{BeginsEntry, Explains, Refuses, number_of, IsHeaded, WantsMemory}
+use Rattle.schedules.specs.Refusals.{BeginsEntry, Explains, Refuses, flaw_of, IsHeaded, WantsMemory}
 use Rattle.schedules.specs.Schedules.{Act, picks, Entry, IsAct, IsSchedule, SchedText, Schedule, entry_text, header, line_before, text_before, with_entry}
 use Rattle.schedules.specs.declared.entry.Version.{Version}
+use Rattle.schedules.specs.declared.flaw.Flaw.{Flaw}
+use Rattle.schedules.specs.declared.flaw.Flaw.TheVariants.{Header}
 use Rattle.schedules.specs.declared.reading.NoEntry.{NoEntry}
 use Rattle.schedules.specs.declared.reading.NoEntry.TheVariants.{Form, Processor}
 use Rattle.schedules.specs.declared.refusal.ReplayRefusal.{ReplayRefusal}
@@ -69,54 +71,45 @@ module _ (v : Version) (p n : ℕ) (ss : List Short) (ks : List ℕ) (x : Schedu
           ap (λ (y : Schedule). text_before y rest) grown ∙ text_pushed x e rest ∙ ap (text_before x) (sym read.is),
         )
 
-    reads_none : (fault : NoEntry) → t ≢ [] → entry_at v p t ≡ Err fault → Refuses (text_before x t) (number_of fault) (3 + length ss)
+    reads_none : (fault : NoEntry) → t ≢ [] → entry_at v p t ≡ Err fault → Refuses (text_before x t) (flaw_of fault) (3 + length ss)
     reads_none Form some r =
         let at : 3 + length ss ≡ 3 + length x.entries = ap (λ (m : ℕ). 3 + m) (sym (length_entries ss ks)) ∙ ap (λ (y : Schedule). 3 + length y.entries) is in
-        inr (inl (
-          refl,
-          record {
-            before = x;
-            rest = t;
-            goes_on = record { schedule = is_schedule; is = refl; some = some; at = at };
-            none = subst (λ (y : Schedule). (q : ℕ) → BeginsEntry y.version q t → ⊥) is (no_form v p t r);
-          },
-        ))
+        record {
+          before = x;
+          rest = t;
+          goes_on = record { schedule = is_schedule; is = refl; some = some; at = at };
+          none = subst (λ (y : Schedule). (q : ℕ) → BeginsEntry y.version q t → ⊥) is (no_form v p t r);
+        }
     reads_none Processor some r =
         let at : 3 + length ss ≡ 3 + length x.entries = ap (λ (m : ℕ). 3 + m) (sym (length_entries ss ks)) ∙ ap (λ (y : Schedule). 3 + length y.entries) is in
         let no = no_processor v p t few r in
-        inr (inr (
-          refl,
-          record {
-            before = x;
-            rest = t;
-            goes_on = record { schedule = is_schedule; is = refl; some = some; at = at };
-            processor = no.0;
-            entry = subst (λ (y : Schedule). BeginsEntry y.version no.0 t) is no.1;
-            absent = subst (λ (y : Schedule). y.processors ≤ no.0) is no.2;
-          },
-        ))
+        record {
+          before = x;
+          rest = t;
+          goes_on = record { schedule = is_schedule; is = refl; some = some; at = at };
+          processor = no.0;
+          entry = subst (λ (y : Schedule). BeginsEntry y.version no.0 t) is no.1;
+          absent = subst (λ (y : Schedule). y.processors ≤ no.0) is no.2;
+        }
 
-    pub reads_no_entry : (fault : NoEntry) (number count : ℕ) → t ≢ [] → entry_at v p t ≡ Err fault → number ≡ number_of fault → count ≡ length ss
-        → Refuses (text_before x t) number (3 + count)
-    reads_no_entry fault number count some r e f =
-        subst (λ (m : ℕ). Refuses (text_before x t) m (3 + count)) (sym e)
-        (subst (λ (m : ℕ). Refuses (text_before x t) (number_of fault) (3 + m)) (sym f) (reads_none fault some r))
+    pub reads_no_entry : (fault : NoEntry) (flaw : Flaw) (count : ℕ) → t ≢ [] → entry_at v p t ≡ Err fault → flaw ≡ flaw_of fault → count ≡ length ss
+        → Refuses (text_before x t) flaw (3 + count)
+    reads_no_entry fault flaw count some r e f =
+        subst (λ (w : Flaw). Refuses (text_before x t) w (3 + count)) (sym e)
+        (subst (λ (m : ℕ). Refuses (text_before x t) (flaw_of fault) (3 + m)) (sym f) (reads_none fault some r))
 
 -- ---- the first lines
 
-pub no_sizes : (bytes : List ℕ) (v : Version) (rest : List ℕ) → header_at bytes ≡ Some (v, rest) → sizes_at rest ≡ None → Refuses bytes 51 2
+pub no_sizes : (bytes : List ℕ) (v : Version) (rest : List ℕ) → header_at bytes ≡ Some (v, rest) → sizes_at rest ≡ None → Refuses bytes Header 2
 no_sizes bytes v rest e f =
-    inl (
+    inr (
       refl,
-      inr (
-        refl,
-        record {
-          version = v;
-          rest = rest;
-          headed = header_sound bytes (v, rest) e;
-          none = λ p s behind sizes is. let k : sizes_at rest ≡ Some (p, s, behind) = ap sizes_at is ∙ sizes_again p s behind sizes in absurd cc;
-        },
-      ),
+      record {
+        version = v;
+        rest = rest;
+        headed = header_sound bytes (v, rest) e;
+        none = λ p s behind sizes is. let k : sizes_at rest ≡ Some (p, s, behind) = ap sizes_at is ∙ sizes_again p s behind sizes in absurd cc;
+      },
     )
 
 pub opened : (bytes : List ℕ) (v : Version) (rest : List ℕ) (p s : ℕ) (behind : List ℕ) → header_at bytes ≡ Some (v, rest) → sizes_at rest ≡ Some (p, s, behind)
@@ -138,13 +131,13 @@ headed bytes v rest p s behind e f =
 
 pub wants_where : (fault : ReplayRefusal) (P : Type 0) → P → WantsMemory fault P
 wants_where Memory P h = h
-wants_where (Refused number line) P h = tt
+wants_where (Refused flaw line) P h = tt
 
-pub at_bytes : (t bytes : List ℕ) (fault : ReplayRefusal) → bytes ≡ t → Explains fault (λ number line. Refuses t number line) → Explains fault (λ number line. Refuses bytes number line)
+pub at_bytes : (t bytes : List ℕ) (fault : ReplayRefusal) → bytes ≡ t → Explains fault (λ flaw line. Refuses t flaw line) → Explains fault (λ flaw line. Refuses bytes flaw line)
 at_bytes t bytes Memory e h = tt
-at_bytes t bytes (Refused number line) e h = subst (λ (u : List ℕ). Refuses u number line) (sym e) h
+at_bytes t bytes (Refused flaw line) e h = subst (λ (u : List ℕ). Refuses u flaw line) (sym e) h
 
-pub only_refused : (bytes : List ℕ) (fault : ReplayRefusal) → Explains fault (λ number line. Refuses bytes number line)
-    → Explains fault (λ number line. (x : Schedule) → SchedText x bytes → ⊥)
+pub only_refused : (bytes : List ℕ) (fault : ReplayRefusal) → Explains fault (λ flaw line. Refuses bytes flaw line)
+    → Explains fault (λ flaw line. (x : Schedule) → SchedText x bytes → ⊥)
 only_refused bytes Memory h = tt
-only_refused bytes (Refused number line) h = refused_only bytes number line h
+only_refused bytes (Refused flaw line) h = refused_only bytes flaw line h

@@ -5,6 +5,8 @@ use Rattle.schedules.specs.Reading.{entry_at, entry_by, header_at, in_range, siz
 use Rattle.schedules.specs.Refusals.{BeginsEntry, GoesOn, NoHeader, NoSizes, Refuses}
 use Rattle.schedules.specs.Schedules.{AreEntries, Entry, IsAct, SchedText, Schedule, entries_before, entry_text, header, line_before, sizes_text, text_before, text_of, with_entry}
 use Rattle.schedules.specs.declared.entry.Version.{Version}
+use Rattle.schedules.specs.declared.flaw.Flaw.{Flaw}
+use Rattle.schedules.specs.declared.flaw.Flaw.TheVariants as flaws
 use Rattle.schedules.specs.declared.reading.NoEntry.{NoEntry}
 use Rattle.schedules.specs.declared.reading.NoEntry.TheVariants.{Processor}
 use Rattle.schedules.proofs.Lists.{ok_is, some_is}
@@ -132,10 +134,13 @@ no_lines_left bytes line (inl c) y s = c.1 y.version _ s.spelled
 no_lines_left bytes line (inr c) y s = no_sizes_left bytes c.1 y s
 
 -- a text with a cause of refusal is no schedule's
-pub refused_only : (bytes : List ℕ) (number line : ℕ) → Refuses bytes number line → (y : Schedule) → SchedText y bytes → ⊥
-refused_only bytes number line (inl c) y s = no_lines_left bytes line c.1 y s
-refused_only bytes number line (inr (inl c)) y s =
-    no_entry_left c.1.before.version c.1.before.processors c.1.rest c.1.goes_on.schedule.0.0.1 c.1.goes_on.some (goes_on_left bytes c.1.before c.1.rest line c.1.goes_on y s) c.1.none
-refused_only bytes number line (inr (inr c)) y s =
-    all_present c.1.before.version c.1.before.processors c.1.processor c.1.rest c.1.goes_on.schedule.0.0.1 c.1.goes_on.some
-    (goes_on_left bytes c.1.before c.1.rest line c.1.goes_on y s) c.1.entry c.1.absent
+pub refused_only : (bytes : List ℕ) (flaw : Flaw) (line : ℕ) → Refuses bytes flaw line → (y : Schedule) → SchedText y bytes → ⊥
+refused_only bytes flaws.Header line c y s = no_lines_left bytes line c y s
+refused_only bytes flaws.Entry line c y s =
+    no_entry_left c.before.version c.before.processors c.rest c.goes_on.schedule.0.0.1 c.goes_on.some (goes_on_left bytes c.before c.rest line c.goes_on y s) c.none
+refused_only bytes flaws.Processor line c y s =
+    all_present c.before.version c.before.processors c.processor c.rest c.goes_on.schedule.0.0.1 c.goes_on.some
+    (goes_on_left bytes c.before c.rest line c.goes_on y s) c.entry c.absent
+refused_only bytes flaws.Impossible line c y s = c
+refused_only bytes flaws.Unended line c y s = c
+refused_only bytes flaws.BehindEnd line c y s = c

@@ -1,3 +1,4 @@
+pub mod Flaw
 pub mod Kept
 pub mod Reading
 pub mod Refusals

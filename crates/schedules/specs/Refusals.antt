@@ -1,12 +1,14 @@
--- Why bytes are no schedule's text: the number, and the line where it shows, from 1.
+-- Why bytes are no schedule's text: what is wrong, and the line where it shows, from 1.
 use Rattle.std.specs.Prelude.{◌≡◌, ◌≢◌, ◌≤◌, ◌+◌, ◌⊎◌, nat_le, Bool, true, false, not, ◌&&◌, ◌==◌, ℕ, List, [], ◌∷◌, ◌++◌, length, ⊤}
 use Rattle.std.specs.List.{list_all}
 use Rattle.std.specs.Str.Parse.{digits_value}
 use Rattle.machine.specs.State.{AreSizes}
 use Rattle.schedules.specs.Schedules.{Act, IsAct, Schedule, IsSchedule, act_text, header, line_before, sizes_text, text_before}
 use Rattle.schedules.specs.declared.entry.Version.{Version}
+use Rattle.schedules.specs.declared.flaw.Flaw.{Flaw}
+use Rattle.schedules.specs.declared.flaw.Flaw.TheVariants as flaws
 use Rattle.schedules.specs.declared.reading.NoEntry.{NoEntry}
-use Rattle.schedules.specs.declared.reading.NoEntry.TheVariants.{Form, Processor}
+use Rattle.schedules.specs.declared.reading.NoEntry.TheVariants as lacks
 use Rattle.schedules.specs.declared.refusal.ReplayRefusal.{ReplayRefusal}
 use Rattle.schedules.specs.declared.refusal.ReplayRefusal.TheVariants.{Memory, Refused}
 
@@ -70,15 +72,18 @@ pub record NoProcessorAt (bytes : List ℕ) (line : ℕ) : Type 0 where
   pub absent : before.processors ≤ processor
 
 -- the refusal has its cause
-abbrev pub Refuses : List ℕ → ℕ → ℕ → Type 0
-Refuses bytes number line =
-    ((number ≡ 51) × (((line ≡ 1) × NoHeader bytes) ⊎ ((line ≡ 2) × NoSizes bytes)))
-    ⊎ (((number ≡ 52) × NoEntryAt bytes line) ⊎ ((number ≡ 53) × NoProcessorAt bytes line))
+abbrev pub Refuses : List ℕ → Flaw → ℕ → Type 0
+Refuses bytes flaws.Header line = ((line ≡ 1) × NoHeader bytes) ⊎ ((line ≡ 2) × NoSizes bytes)
+Refuses bytes flaws.Entry line = NoEntryAt bytes line
+Refuses bytes flaws.Processor line = NoProcessorAt bytes line
+Refuses bytes flaws.Impossible line = ⊥
+Refuses bytes flaws.Unended line = ⊥
+Refuses bytes flaws.BehindEnd line = ⊥
 
--- a claim about the number and the line of a refusal; want of memory is always allowed
-abbrev pub Explains : ReplayRefusal → (ℕ → ℕ → Type 0) → Type 0
+-- a claim about the flaw and the line of a refusal; want of memory is always allowed
+abbrev pub Explains : ReplayRefusal → (Flaw → ℕ → Type 0) → Type 0
 Explains Memory claim = ⊤
-Explains (Refused number line) claim = claim number line
+Explains (Refused flaw line) claim = claim flaw line
 
 -- The bytes begin with lines 1 and 2 of a schedule.
 pub record IsHeaded (bytes : List ℕ) : Type 0 where
@@ -92,9 +97,9 @@ pub record IsHeaded (bytes : List ℕ) : Type 0 where
 -- memory is wanted only where this holds
 abbrev pub WantsMemory : ReplayRefusal → Type 0 → Type 0
 WantsMemory Memory claim = claim
-WantsMemory (Refused number line) claim = ⊤
+WantsMemory (Refused flaw line) claim = ⊤
 
--- an account of the code: the number of what an entry lacks
-abbrev pub number_of : NoEntry → ℕ
-number_of Form = 52
-number_of Processor = 53
+-- an account of the code: what is wrong where a line is no entry
+abbrev pub flaw_of : NoEntry → Flaw
+flaw_of lacks.Form = flaws.Entry
+flaw_of lacks.Processor = flaws.Processor

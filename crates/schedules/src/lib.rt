@@ -2,6 +2,7 @@
 #![tactic(auto)]
 
 mod entry;
+mod flaw;
 mod number;
 mod reading;
 mod refusal;
@@ -10,6 +11,7 @@ mod short;
 mod writing;
 
 pub use entry::{Act, Entry, Version};
+pub use flaw::Flaw;
 pub use reading::{FIRST_ENTRY_LINE, LONGEST_BURST, MOST_PROCESSORS, MOST_SLOTS};
 pub use refusal::ReplayRefusal;
 pub use schedule::Schedule;

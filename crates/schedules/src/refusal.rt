@@ -3,6 +3,7 @@
 ghost use Rattle.std.specs.Prelude.{◌≡◌};
 ghost use Rattle.schedules.specs.declared.refusal.ReplayRefusal.TheVariants.{Memory};
 
+use crate::flaw::Flaw;
 use std::alloc::{AllocError, AllocFailed};
 
 /// Why a schedule can't be had or replayed.
@@ -10,8 +11,8 @@ use std::alloc::{AllocError, AllocFailed};
 pub enum ReplayRefusal {
     /// There was no memory.
     Memory,
-    /// The number of the refusal, and the line of the schedule's text where it shows, from 1.
-    Refused { number: u8, line: usize },
+    /// What is wrong, and the line of the schedule's text where it shows, from 1.
+    Refused { number: Flaw, line: usize },
 }
 
 impl From<AllocError> for ReplayRefusal {

@@ -4,13 +4,14 @@ ghost use Rattle.std.specs.Prelude.{◌≡◌, ◌≢◌, ◌<◌, ◌≤◌, �
 ghost use Rattle.std.specs.Prelude.{length};
 ghost use Rattle.machine.specs.State.{AreSizes};
 ghost use Rattle.schedules.specs.Kept.{entries_of, entry_of, short_bursts, taken};
-ghost use Rattle.schedules.specs.Refusals.{Explains, IsHeaded, Refuses, WantsMemory, number_of};
+ghost use Rattle.schedules.specs.Refusals.{Explains, IsHeaded, Refuses, WantsMemory, flaw_of};
 ghost use Rattle.schedules.specs.Schedules.{Entry as EntryOf, IsAct, IsSchedule, SchedText};
 ghost use Rattle.schedules.specs.Schedules.{Schedule as ScheduleOf, bursts, text_before, text_of};
 ghost use Rattle.schedules.specs.Schedules.{longest_burst, picks, with_entries, with_entry, works};
 ghost use Rattle.schedules.specs.View.{act as act_view, entry as entry_view};
 
 use crate::entry::{Act, Entry, Version};
+use crate::flaw::Flaw;
 use crate::reading::{LONGEST_BURST, NoEntry, entry, header, sizes};
 use crate::refusal::ReplayRefusal;
 use crate::short::{Entries, Short};
@@ -54,13 +55,13 @@ impl Model for Schedule {
     ghost invariant = { λ a. IsKept a.version a.processors a.slots a.shorts.items a.picked.items };
 }
 
-/// The number that says why a line is no entry.
-fn number_of(fault: NoEntry) -> u8
-    ensures { result ≡ number_of fault }
+/// What is wrong with a schedule where a line is no entry.
+fn flaw_of(fault: NoEntry) -> Flaw
+    ensures { result ≡ flaw_of fault }
 {
     match fault {
-        NoEntry::Form => 52,
-        NoEntry::Processor => 53,
+        NoEntry::Form => Flaw::Entry,
+        NoEntry::Processor => Flaw::Processor,
     }
 }
 
@@ -263,7 +264,7 @@ impl Schedule {
         ensures ok { IfOk result (λ rest. (length rest.now < length text.now)
             × (text_before self.new rest.now ≡ text_before self.old text.now)) }
         ensures err { IfErr result (λ fault.
-            Explains fault (λ number line. Refuses (text_before self.old text.now) number line)) }
+            Explains fault (λ flaw line. Refuses (text_before self.old text.now) flaw line)) }
         ensures kept { IsSchedule self.new }
     {
         match entry(self.version, self.processors, text) {
@@ -272,7 +273,7 @@ impl Schedule {
                 Ok(rest)
             }
             Err(fault) => Err(ReplayRefusal::Refused {
-                number: number_of(fault),
+                number: flaw_of(fault),
                 line: 3 + self.shorts.len(),
             }),
         }
@@ -283,7 +284,7 @@ impl Schedule {
         requires kept { IsSchedule self.old }
         ensures ok { OnOk result (text_of self.new ≡ text_before self.old text.now) }
         ensures err { IfErr result (λ fault.
-            Explains fault (λ number line. Refuses (text_before self.old text.now) number line)) }
+            Explains fault (λ flaw line. Refuses (text_before self.old text.now) flaw line)) }
         ensures kept { IsSchedule self.new }
     {
         let mut rest = text;
@@ -297,26 +298,27 @@ impl Schedule {
     ///
     /// # Errors
     ///
-    /// 51 where line 1 or 2 is absent or not of its form or range, 52 at a line that is no entry,
-    /// 53 at an entry of a processor that isn't there; and want of memory, which only entries take.
+    /// `Header` where line 1 or 2 is absent or not of its form or range, `Entry` at a line that is
+    /// no entry, `Processor` at an entry of a processor that isn't there; and want of memory, which
+    /// only entries take.
     pub fn parse(alloc: Global, bytes: &[u8]) -> Result<Schedule, ReplayRefusal>
         ensures found { IfOk result (λ x. SchedText x bytes.now) }
         ensures refused { IfErr result (λ fault.
-            Explains fault (λ number line. Refuses bytes.now number line)) }
+            Explains fault (λ flaw line. Refuses bytes.now flaw line)) }
         ensures only { IfErr result (λ fault.
-            Explains fault (λ number line. (x : ScheduleOf) → SchedText x bytes.now → ⊥)) }
+            Explains fault (λ flaw line. (x : ScheduleOf) → SchedText x bytes.now → ⊥)) }
         ensures memory { IfErr result (λ fault. WantsMemory fault (IsHeaded bytes.now)) }
         ensures one { (x y : ScheduleOf) → SchedText x bytes.now → SchedText y bytes.now → x ≡ y }
     {
         let Some((version, rest)) = header(bytes) else {
             return Err(ReplayRefusal::Refused {
-                number: 51,
+                number: Flaw::Header,
                 line: 1,
             });
         };
         let Some((processors, slots, rest)) = sizes(rest) else {
             return Err(ReplayRefusal::Refused {
-                number: 51,
+                number: Flaw::Header,
                 line: 2,
             });
         };

@@ -107,9 +107,9 @@ part_shown x a rest line b o n h = record {
 
 -- the next entry isn't made
 pub halted : (r : ReplayRefusal) (x : Schedule) (w : Version) (a b : Activities) (rest more : List Entry) (e : Entry) (line : ℕ) (o n : Option (List ℕ)) → w ≡ x.version → AreOf (code_in a) x.processors x.slots a → Showing x a rest line b o n → rest ≡ e ∷ more
-    → Explains r (λ number at. (at ≡ line) × CannotBeMade w (code_in b) b.slots e.act (point_in b) e.processor number) → Halts [] x a o n (Replay r)
+    → Explains r (λ flaw at. (at ≡ line) × CannotBeMade w (code_in b) b.slots e.act (point_in b) e.processor flaw) → Halts [] x a o n (Replay r)
 halted Memory x w a b rest more e line o n v of h r d = part_shown x a rest line b o n h
-halted (Refused number at) x w a b rest more e line o n v of h r d =
+halted (Refused flaw at) x w a b rest more e line o n v of h r d =
     let g = subst (λ (es : List Entry). Showing x a es line b o n) r h in
     record {
       entry = e;
@@ -118,8 +118,8 @@ halted (Refused number at) x w a b rest more e line o n v of h r d =
       text = g.text;
       shown = record { front = g.front; is = g.is; shows = g.shows };
       at = d.0 ∙ g.at;
-      cannot = cannot_here x.version a b x.slots e.act e.processor number g.stays of.slots
-          (subst (λ (u : Version). CannotBeMade u (code_in b) b.slots e.act (point_in b) e.processor number) v d.1);
+      cannot = cannot_here x.version a b x.slots e.act e.processor flaw g.stays of.slots
+          (subst (λ (u : Version). CannotBeMade u (code_in b) b.slots e.act (point_in b) e.processor flaw) v d.1);
       grown = g.grown;
     }
 
@@ -128,7 +128,7 @@ pub fallen : (f : Halt) (x : Schedule) (a b d : Activities) (rest more : List En
     → MadeAs x.version (code_in b) b.slots e.act (point_in b) e.processor y (point_in d) → Stays b d
     → Falls m n (block (code_in d) (length d.held.items) line e (length b.shared.output.items) (point_in d)) f → Halts [] x a o n f
 fallen (Replay Memory) x a b d rest more e line y o m n of h r made t f = part_shown x a rest line b o n (subst (λ (z : Option (List ℕ)). Showing x a rest line b o z) (sym f) h)
-fallen (Replay (Refused number at)) x a b d rest more e line y o m n of h r made t f = absurd f
+fallen (Replay (Refused flaw at)) x a b d rest more e line y o m n of h r made t f = absurd f
 fallen (Writing error) x a b d rest more e line y o m n of h r made t f =
     let g = subst (λ (es : List Entry). Showing x a es line b o m) r h in
     let same = stays_on a b d g.stays t in
@@ -162,7 +162,7 @@ part_behind first x a o m n g h = record {
 
 pub halts_behind : (first : List ℕ) (f : Halt) (x : Schedule) (a : Activities) (o m n : Option (List ℕ)) → Appends o m first → Halts [] x a m n f → Halts first x a o n f
 halts_behind first (Replay Memory) x a o m n g h = part_behind first x a o m n g h
-halts_behind first (Replay (Refused number line)) x a o m n g h = record {
+halts_behind first (Replay (Refused flaw line)) x a o m n g h = record {
   entry = h.entry;
   behind = h.behind;
   point = h.point;
@@ -188,7 +188,7 @@ falls_first first got rest x a o n is grown = record {
 
 pub halts_first : (first : List ℕ) (f : Halt) (x : Schedule) (a : Activities) (o n : Option (List ℕ)) → Falls o n first f → Halts first x a o n f
 halts_first first (Replay Memory) x a o n h = falls_first first [] first x a o n refl (subst (λ (z : Option (List ℕ)). Appends o z []) (sym h) (Appends-nil o))
-halts_first first (Replay (Refused number line)) x a o n h = absurd h
+halts_first first (Replay (Refused flaw line)) x a o n h = absurd h
 halts_first first (Writing e) x a o n h = falls_first first (take h.0 first) (drop h.0 first) x a o n (sym (take-append-drop h.0 first)) h.2
 
 -- ---- what shows leads

@@ -11,6 +11,8 @@ use Rattle.ast.specs.declared.fault.End.{End}
 use Rattle.machine.specs.Code.{Code}
 use Rattle.machine.specs.CodeView.{code_of}
 use Rattle.schedules.specs.Schedules.{Entry, Schedule}
+use Rattle.schedules.specs.declared.flaw.Flaw.{Flaw}
+use Rattle.schedules.specs.declared.flaw.Flaw.TheVariants.{Unended}
 use Rattle.activities.specs.Activities.{code_in, point_in}
 use Rattle.activities.specs.Points.{Point, beginning}
 use Rattle.activities.specs.declared.holding.Activities.{Activities}
@@ -125,9 +127,9 @@ stated source input schedule run a b behind text outcome e described h shows end
     }
 
 unended : (input : List ℕ) (run : Run) (a : Activities) (b : Point) (behind text : List ℕ) (outcome : Outcome) (line : ℕ) → Begun input run a → ShowsTo run.schedule a run.schedule.entries b behind
-    → b.machine.ended ≡ None → line ≡ 2 + length run.schedule.entries → outcome ≡ NoSchedule 55 line → text ≡ no_schedule 55 line → IsStopped (code_of run.coded.code) input run.schedule outcome (blocks_of run.schedule a behind ++ text)
+    → b.machine.ended ≡ None → line ≡ 2 + length run.schedule.entries → outcome ≡ NoSchedule Unended line → text ≡ no_schedule Unended line → IsStopped (code_of run.coded.code) input run.schedule outcome (blocks_of run.schedule a behind ++ text)
 unended input run a b behind text outcome line h shows going at is last = record {
-  number = 55;
+  flaw = Unended;
   line = line;
   outcome_is = is;
   blocks = blocks_of run.schedule a behind;
@@ -163,21 +165,21 @@ finished source input schedule run a b line page old mid new r described h shown
 
 -- ---- what stops before it
 
-pub stopped : {E : Type 0} (source input schedule : List ℕ) (run : Run) (a : Activities) (number line : ℕ) (page : Result Page E) (old mid new : Option (List ℕ)) (r : Result Outcome EngineFault) → IsDescribedRun source schedule run → Begun input run a
-    → StopsShown (first_block (code_in a) run.schedule.processors (point_in a)) run.schedule a number line old mid → IfOk page (λ p. (p.outcome ≡ NoSchedule number line) × (p.text.items ≡ no_schedule number line))
+pub stopped : {E : Type 0} (source input schedule : List ℕ) (run : Run) (a : Activities) (flaw : Flaw) (line : ℕ) (page : Result Page E) (old mid new : Option (List ℕ)) (r : Result Outcome EngineFault) → IsDescribedRun source schedule run → Begun input run a
+    → StopsShown (first_block (code_in a) run.schedule.processors (point_in a)) run.schedule a flaw line old mid → IfOk page (λ p. (p.outcome ≡ NoSchedule flaw line) × (p.text.items ≡ no_schedule flaw line))
     → IfOk page (λ p. WrotePage p.outcome p.text.items mid new r) → IfErr page (λ e. (r ≡ Err Memory) × (new ≡ mid)) → StatesStream source input schedule old new r
-stopped source input schedule run a number line page old mid new r described h s is ok err =
+stopped source input schedule run a flaw line page old mid new r described h s is ok err =
     let x = run.schedule in
     let blocks = blocks_of x a s.text in
     written (Stating source input schedule) (AreBlocks source input schedule) page blocks old mid new r
     (IfOk-weaker page _ _
     (λ p so. stating source input schedule run p.outcome (blocks ++ p.text.items) described (inr (record {
-      number = number;
+      flaw = flaw;
       line = line;
       outcome_is = so.0;
       blocks = blocks;
       are = blocks_for input run a s.shown.front (s.entry ∷ s.behind) s.point s.text h s.shown.is s.shown.shows;
-      stops = (s.at, subst (λ (k : Code). CannotBeMade x.version k x.slots s.entry.act s.point s.entry.processor number) h.code_is s.cannot);
+      stops = (s.at, subst (λ (k : Code). CannotBeMade x.version k x.slots s.entry.act s.point s.entry.processor flaw) h.code_is s.cannot);
       shown = ap (λ (t : List ℕ). blocks ++ t) so.1;
     }))) is)
     (are_blocks source input schedule run a s.shown.front (s.entry ∷ s.behind) s.point s.text described h s.shown.is s.shown.shows) s.grown ok err

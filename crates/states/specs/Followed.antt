@@ -5,6 +5,7 @@ use Rattle.handing.specs.Handing.{AppendsPart, Begins}
 use Rattle.machine.specs.Code.{Code}
 use Rattle.schedules.specs.Schedules.{Entry, Schedule}
 use Rattle.schedules.specs.declared.entry.Version.{Version}
+use Rattle.schedules.specs.declared.flaw.Flaw.{Flaw}
 use Rattle.schedules.specs.declared.refusal.ReplayRefusal.{ReplayRefusal}
 use Rattle.schedules.specs.declared.refusal.ReplayRefusal.TheVariants.{Memory, Refused}
 use Rattle.activities.specs.Activities.{code_in, point_in}
@@ -37,14 +38,14 @@ pub record AreShown (first : List ℕ) (x : Schedule) (old new : Activities) (be
   pub grown : Appends before after (first ++ text)
 
 -- the next one can't be made, and what was shown before it was written
-pub record StopsShown (first : List ℕ) (x : Schedule) (a : Activities) (number line : ℕ) (before after : Option (List ℕ)) : Type 0 where
+pub record StopsShown (first : List ℕ) (x : Schedule) (a : Activities) (flaw : Flaw) (line : ℕ) (before after : Option (List ℕ)) : Type 0 where
   pub entry : Entry
   pub behind : List Entry
   pub point : Point
   pub text : List ℕ
   pub shown : IsShownTo x a (entry ∷ behind) point text
   pub at : line ≡ 3 + length shown.front
-  pub cannot : CannotBeMade x.version (code_in a) x.slots entry.act point entry.processor number
+  pub cannot : CannotBeMade x.version (code_in a) x.slots entry.act point entry.processor flaw
   pub grown : Appends before after (first ++ text)
 
 -- a beginning of what is shown of some entries was written, or all of it
@@ -60,11 +61,11 @@ pub record IsPartShown (first : List ℕ) (x : Schedule) (a : Activities) (befor
 -- why not all were shown, and what was written
 abbrev pub Halts : (first : List ℕ) → Schedule → Activities → (before after : Option (List ℕ)) → Halt → Type 0
 Halts first x a before after (Replay Memory) = IsPartShown first x a before after
-Halts first x a before after (Replay (Refused number line)) = StopsShown first x a number line before after
+Halts first x a before after (Replay (Refused flaw line)) = StopsShown first x a flaw line before after
 Halts first x a before after (Writing e) = IsPartShown first x a before after
 
 -- a text wasn't written: nothing of it for want of memory, or a beginning
 abbrev pub Falls : (before after : Option (List ℕ)) → List ℕ → Halt → Type 0
 Falls before after text (Replay Memory) = after ≡ before
-Falls before after text (Replay (Refused number line)) = ⊥
+Falls before after text (Replay (Refused flaw line)) = ⊥
 Falls before after text (Writing e) = AppendsPart before after text

@@ -8,6 +8,8 @@ use Rattle.handing.specs.Handing.{AppendsPart, Begins}
 use Rattle.machine.specs.Code.{Code}
 use Rattle.schedules.specs.Schedules.{Entry, Schedule}
 use Rattle.schedules.specs.declared.entry.Version.{Version}
+use Rattle.schedules.specs.declared.flaw.Flaw.{Flaw}
+use Rattle.schedules.specs.declared.flaw.Flaw.TheVariants.{Unended}
 use Rattle.activities.specs.Points.{Point, beginning}
 use Rattle.replay.specs.Replayed.{CannotBeMade}
 use Rattle.pages.specs.Outcomes.{outcome_of}
@@ -48,19 +50,19 @@ pub record IsStated (tree : ProgramTree) (code : Code) (input : List ℕ) (x : S
 
 -- why the schedule is refused behind some of its entries: the next one, at this line, can't be made;
 -- or none is left, and the run hasn't ended
-abbrev pub Stops : Version → Code → ℕ → (front rest : List Entry) → Point → (number line : ℕ) → Type 0
-Stops v code s front [] x number line = (number ≡ 55) × (line ≡ 2 + length front) × (x.machine.ended ≡ None)
-Stops v code s front (e ∷ es) x number line = (line ≡ 3 + length front) × CannotBeMade v code s e.act x e.processor number
+abbrev pub Stops : Version → Code → ℕ → (front rest : List Entry) → Point → Flaw → (line : ℕ) → Type 0
+Stops v code s front [] x flaw line = (flaw ≡ Unended) × (line ≡ 2 + length front) × (x.machine.ended ≡ None)
+Stops v code s front (e ∷ es) x flaw line = (line ≡ 3 + length front) × CannotBeMade v code s e.act x e.processor flaw
 
 -- The states before the refused line are shown, and the line that says why.
 pub record IsStopped (code : Code) (input : List ℕ) (x : Schedule) (outcome : Outcome) (text : List ℕ) : Type 0 where
-  pub number : ℕ
+  pub flaw : Flaw
   pub line : ℕ
-  pub outcome_is : outcome ≡ NoSchedule number line
+  pub outcome_is : outcome ≡ NoSchedule flaw line
   pub blocks : List ℕ
   pub are : Blocks code input x blocks
-  pub stops : Stops x.version code x.slots are.front are.rest are.point number line
-  pub shown : text ≡ blocks ++ no_schedule number line
+  pub stops : Stops x.version code x.slots are.front are.rest are.point flaw line
+  pub shown : text ≡ blocks ++ no_schedule flaw line
 
 -- what is shown of a source, an input and the text of a schedule
 abbrev pub Stating : (source input schedule : List ℕ) → Outcome → List ℕ → Type 0
@@ -112,5 +114,5 @@ WrotePage o text old new (Err _) = ⊥
 
 -- what follows the states of all entries, of which the last stands in this line
 abbrev pub IsLast : Option End → ℕ → Outcome → List ℕ → Type 0
-IsLast None line outcome text = (outcome ≡ NoSchedule 55 line) × (text ≡ no_schedule 55 line)
+IsLast None line outcome text = (outcome ≡ NoSchedule Unended line) × (text ≡ no_schedule Unended line)
 IsLast (Some end) line outcome text = (outcome ≡ outcome_of end) × EndShown false [] end text

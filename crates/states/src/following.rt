@@ -128,7 +128,7 @@ fn show_entries<W: Write>(
 ///
 /// # Errors
 ///
-/// Those of `replay` but for 55, with the states before the refused line written; want of memory,
+/// Those of `replay` but for a run that hasn't ended, with the states before the refused line written; want of memory,
 /// with those of some lines written; and the writer's, with a beginning of such states.
 pub fn show<W: Write>(
     activities: &mut Activities<'_>,

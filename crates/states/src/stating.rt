@@ -13,7 +13,7 @@ use ast::End;
 use engines::{Described, describe, unscheduled};
 use pages::{EngineFault, Outcome, Page, append_end, outcome};
 use replay::begun;
-use schedules::ReplayRefusal;
+use schedules::{Flaw, ReplayRefusal};
 use std::alloc::{AllocError, Global};
 use std::io::Write;
 
@@ -37,7 +37,7 @@ fn last_page(alloc: Global, activities: &Activities<'_>, line: usize) -> Result<
 {
     match activities.shared.ended {
         Some(end) => ended(alloc, end),
-        None => unscheduled(alloc, 55, line),
+        None => unscheduled(alloc, Flaw::Unended, line),
     }
 }
 

@@ -8,8 +8,9 @@ use Rattle.std.proofs.Math.Bool.{or-false, or_assoc}
 use Rattle.std.specs.List.{list_any}
 use Rattle.indexmap.specs.IndexSet.{insert_key, insert_all}
 use Rattle.ast.specs.Tree.{Statement}
+use Rattle.ast.specs.declared.rule.Rule.TheVariants.{OutOfOrder, OpenLoop, WrongTerminal, CrossedBlocks, RepeatedLabel}
 use Rattle.structure.specs.Open.{Open, open_from, open_after, after}
-use Rattle.structure.specs.Rules.{is_empty, is_executable, is_out_of_order, is_some_and, has_label, crosses, ends_wrongly, breaks_blocks, rules, lowest_broken}
+use Rattle.structure.specs.Rules.{is_empty, is_executable, is_out_of_order, is_some_and, has_label, crosses, ends_wrongly, breaks_blocks, checks, lowest_broken}
 use Rattle.std.proofs.Common.{length, map}
 use Rattle.std.proofs.lemmas.List.{length-map}
 use Rattle.structure.specs.View.{opened}
@@ -56,15 +57,15 @@ label-again front None = refl
 label-again front (Some l) = label-set front l
 
 -- a statement breaks the same rule by what is kept and by the statements before it
-pub agrees : (front : List Statement) (s : Statement) → rule_by (standing_after front) s ≡ lowest_broken rules front s
+pub agrees : (front : List Statement) (s : Statement) → rule_by (standing_after front) s ≡ lowest_broken checks front s
 agrees front s =
     let label = label-again front s.label in
     λ i.
-    if is_out_of_order front s then Some 30
-    else if crosses (open_after front) s then Some 34
-    else if ends_wrongly (open_after front) s then Some 35
-    else if breaks_blocks (open_after front) s then Some 36
-    else if label i then Some 41
+    if is_out_of_order front s then Some OutOfOrder
+    else if crosses (open_after front) s then Some OpenLoop
+    else if ends_wrongly (open_after front) s then Some WrongTerminal
+    else if breaks_blocks (open_after front) s then Some CrossedBlocks
+    else if label i then Some RepeatedLabel
     else None
 
 pub open-append : (opened : List Open) (front : List Statement) (s : Statement) → open_from opened (front ++ s ∷ []) ≡ after (open_from opened front) s

@@ -4,8 +4,9 @@ use Rattle.std.specs.Prelude.{◌⊎◌}
 use Rattle.ast.specs.Tree.{Statement}
 use Rattle.ast.specs.View.{statement}
 use Rattle.ast.specs.declared.statement.Stmt.{Stmt}
+use Rattle.ast.specs.declared.rule.Rule.{Rule}
 use Rattle.ast.proofs.Lists.{not_empty}
-use Rattle.structure.specs.Rules.{Keep, BreakFirst, rules, lowest_broken}
+use Rattle.structure.specs.Rules.{Keep, BreakFirst, checks, lowest_broken}
 use Rattle.structure.specs.Standing.{Standing, standing_after, next, rule_by}
 use Rattle.structure.proofs.Agreement.{agrees, one-more}
 
@@ -22,11 +23,11 @@ split (z ∷ xs) x (f ∷ front) y back e =
       | inr h ↦ inr (h.0, (let r : xs ≡ front ++ y ∷ h.0 = h.1 in cc))
     ]
 
-keep-more : (front : List Statement) (s : Statement) → Keep rules front → lowest_broken rules front s ≡ None → Keep rules (front ++ s ∷ [])
+keep-more : (front : List Statement) (s : Statement) → Keep checks front → lowest_broken checks front s ≡ None → Keep checks (front ++ s ∷ [])
 keep-more front s h k = record { each = λ f t b e. by f t b (split front s f t b e) }
   where
-    by : (f : List Statement) (t : Statement) (b : List Statement) → ((f ≡ front) × (t ≡ s)) ⊎ ((b' : List Statement) × (front ≡ f ++ t ∷ b')) → lowest_broken rules f t ≡ None
-    by f t b (inl p) = subst (λ (g : List Statement). lowest_broken rules g t ≡ None) (sym p.0) (subst (λ (u : Statement). lowest_broken rules front u ≡ None) (sym p.1) k)
+    by : (f : List Statement) (t : Statement) (b : List Statement) → ((f ≡ front) × (t ≡ s)) ⊎ ((b' : List Statement) × (front ≡ f ++ t ∷ b')) → lowest_broken checks f t ≡ None
+    by f t b (inl p) = subst (λ (g : List Statement). lowest_broken checks g t ≡ None) (sym p.0) (subst (λ (u : Statement). lowest_broken checks front u ≡ None) (sym p.1) k)
     by f t b (inr p) = h.each f t p.0 p.1
 
 -- the statements before those that are left keep the rules, and the code knows what it needs of
@@ -35,12 +36,12 @@ pub record Reached (t : Standing) (all left : List Statement) : Type 0 where
   pub front : List Statement
   pub cut : all ≡ front ++ left
   pub stands : t ≡ standing_after front
-  pub kept : Keep rules front
+  pub kept : Keep checks front
 
 pub reached-none : (t : Standing) (all : List Statement) → t ≡ standing_after [] → Reached t all all
 reached-none t all e = record { front = []; cut = refl; stands = e; kept = record { each = λ f s b h. absurd (not_empty f s b h) } }
 
-broken-by : (t : Standing) (front : List Statement) (s : Statement) → t ≡ standing_after front → rule_by t s ≡ lowest_broken rules front s
+broken-by : (t : Standing) (front : List Statement) (s : Statement) → t ≡ standing_after front → rule_by t s ≡ lowest_broken checks front s
 broken-by t front s e = ap (λ (u : Standing). rule_by u s) e ∙ agrees front s
 
 pub reached-more : {t t' : Standing} {all left : List Statement} {s : Statement} → Reached t all (s ∷ left) → rule_by t s ≡ None → t' ≡ next t s → Reached t' all left
@@ -51,8 +52,8 @@ reached-more {t = t} {t' = t'} {all = all} {left = left} {s = s} h none e = reco
   kept = keep-more h.front s h.kept (sym (broken-by t h.front s h.stands) ∙ none);
 }
 
-pub reached-broken : {t : Standing} {all left : List Statement} {s : Statement} (n : ℕ) → Reached t all (s ∷ left) → rule_by t s ≡ Some n → BreakFirst rules all n s.line
-reached-broken {t = t} {all = all} {left = left} {s = s} n h e = record {
+pub reached-broken : {t : Standing} {all left : List Statement} {s : Statement} (rule : Rule) → Reached t all (s ∷ left) → rule_by t s ≡ Some rule → BreakFirst checks all rule s.line
+reached-broken {t = t} {all = all} {left = left} {s = s} rule h e = record {
   front = h.front;
   statement = s;
   back = left;

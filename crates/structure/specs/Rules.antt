@@ -3,18 +3,21 @@
 use Rattle.std.specs.Prelude.{◌≡◌, ℕ, Bool, true, false, not, ◌&&◌, ◌||◌, ◌==◌, if◌then◌else◌, List, [], ◌∷◌, ◌++◌, Option, Some, None}
 use Rattle.std.specs.List.{list_any}
 use Rattle.ast.specs.Tree.{Statement, Kind, program, integer, dimension, parameters, assign, do_loop, go_on, block_if, else_if, else_arm, end_if, logical_if, print, read, stop, end}
+use Rattle.ast.specs.declared.rule.Rule.{Rule}
+use Rattle.ast.specs.declared.rule.Rule.TheVariants.{OutOfOrder, OpenLoop, WrongTerminal, CrossedBlocks, RepeatedLabel}
 use Rattle.structure.specs.Open.{Open, do_range, if_block, open_after}
 
--- a rule, by the number of its refusal
-pub record Rule : Type 0 where
-  pub number : ℕ
+-- the check of a rule
+pub record Check : Type 0 where
+  pub rule : Rule
   pub is_broken : List Statement → Statement → Bool
 
 abbrev pub is_empty : {X : Type 0} → List X → Bool
 is_empty [] = true
 is_empty (x ∷ xs) = false
 
--- ---- 30: PROGRAM that isn't the first statement, or a declaration after an executable statement
+-- ---- `OutOfOrder`: PROGRAM that isn't the first statement, or a declaration after an executable
+-- statement
 
 abbrev pub is_program : Kind → Bool
 is_program (program x) = true
@@ -31,7 +34,7 @@ is_declaration _ = false
 abbrev pub is_executable : Kind → Bool
 is_executable k = not (is_program k) && not (is_declaration k)
 
--- Refusal 30: a PROGRAM behind other statements, or a declaration behind an executable one.
+-- `OutOfOrder`: a PROGRAM behind other statements, or a declaration behind an executable one.
 abbrev pub is_out_of_order : List Statement → Statement → Bool
 is_out_of_order front s =
     (is_program s.kind && not (is_empty front))
@@ -69,7 +72,8 @@ is_some_and test (Some label) = test label
 abbrev pub by_label : (ℕ → List Open → Bool) → List Open → Statement → Bool
 by_label test opened s = not (is_end s.kind) && is_some_and (λ label. test label opened) s.label
 
--- ---- 34: a statement ends an outer range while an inner one is open, or END meets an open range
+-- ---- `OpenLoop`: a statement ends an outer range while an inner one is open, or END meets an open
+-- range
 
 abbrev pub begins_with : (Open → Bool) → List Open → Bool
 begins_with test [] = false
@@ -78,14 +82,14 @@ begins_with test (o ∷ opened) = test o
 abbrev pub is_any_range : Open → Bool
 is_any_range o = not (is_block o)
 
--- Refusal 34: the label is that of a range around another range that is open, or END stands where
+-- `OpenLoop`: the label is that of a range around another range that is open, or END stands where
 -- the innermost open structure is a range.
 abbrev pub crosses : List Open → Statement → Bool
 crosses opened s =
     by_label (λ label around. is_around (is_other_range label) label around) opened s
     || (is_end s.kind && begins_with is_any_range opened)
 
--- ---- 35: a terminal statement that is a DO, a part of a block IF or a STOP
+-- ---- `WrongTerminal`: a terminal statement that is a DO, a part of a block IF or a STOP
 
 abbrev pub may_not_end_a_range : Kind → Bool
 may_not_end_a_range (do_loop h) = true
@@ -96,11 +100,12 @@ may_not_end_a_range end_if = true
 may_not_end_a_range stop = true
 may_not_end_a_range _ = false
 
--- Refusal 35: the label is that of an open range, and a statement of this kind may not end one.
+-- `WrongTerminal`: the label is that of an open range, and a statement of this kind may not end
+-- one.
 abbrev pub ends_wrongly : List Open → Statement → Bool
 ends_wrongly opened s = may_not_end_a_range s.kind && by_label (λ label around. list_any (is_range_of label) around) opened s
 
--- ---- 36: parts of IF blocks where they may not stand
+-- ---- `CrossedBlocks`: parts of IF blocks where they may not stand
 
 -- an arm may follow where the innermost open structure is an IF block whose ELSE doesn't stand
 abbrev pub may_go_on : Open → Bool
@@ -128,48 +133,48 @@ abbrev pub holds_wrong_statement : Kind → Bool
 holds_wrong_statement (logical_if c k) = not (may_stand_in_if k)
 holds_wrong_statement _ = false
 
--- Refusal 36: such a part is misplaced, a terminal statement stands in an IF block of its range, or
--- a logical IF holds another statement.
+-- `CrossedBlocks`: such a part is misplaced, a terminal statement stands in an IF block of its
+-- range, or a logical IF holds another statement.
 abbrev pub breaks_blocks : List Open → Statement → Bool
 breaks_blocks opened s =
     is_misplaced_arm s.kind opened
     || (by_label (λ label around. is_around is_block label around) opened s || holds_wrong_statement s.kind)
 
--- ---- 41: a label that stands before
+-- ---- `RepeatedLabel`: a label that stands before
 
 -- a statement has this label
 abbrev pub has_label : ℕ → Statement → Bool
 has_label label s = is_some_and (λ l. label == l) s.label
 
--- Refusal 41: a statement before has this one's label.
+-- `RepeatedLabel`: a statement before has this one's label.
 abbrev pub is_label_again : List Statement → Statement → Bool
 is_label_again front s = is_some_and (λ label. list_any (has_label label) front) s.label
 
--- the rules in the order of their numbers
-abbrev pub rules : List Rule
-rules = record { number = 30; is_broken = is_out_of_order }
-    ∷ record { number = 34; is_broken = λ front s. crosses (open_after front) s }
-    ∷ record { number = 35; is_broken = λ front s. ends_wrongly (open_after front) s }
-    ∷ record { number = 36; is_broken = λ front s. breaks_blocks (open_after front) s }
-    ∷ record { number = 41; is_broken = is_label_again }
+-- the checks in the order of their rules' numbers
+abbrev pub checks : List Check
+checks = record { rule = OutOfOrder; is_broken = is_out_of_order }
+    ∷ record { rule = OpenLoop; is_broken = λ front s. crosses (open_after front) s }
+    ∷ record { rule = WrongTerminal; is_broken = λ front s. ends_wrongly (open_after front) s }
+    ∷ record { rule = CrossedBlocks; is_broken = λ front s. breaks_blocks (open_after front) s }
+    ∷ record { rule = RepeatedLabel; is_broken = is_label_again }
     ∷ []
 
--- the lowest number of the rules that a statement breaks
-abbrev pub lowest_broken : List Rule → List Statement → Statement → Option ℕ
+-- the rule of the lowest number that a statement breaks
+abbrev pub lowest_broken : List Check → List Statement → Statement → Option Rule
 lowest_broken [] front s = None
-lowest_broken (r ∷ rs) front s = if r.is_broken front s then Some r.number else lowest_broken rs front s
+lowest_broken (c ∷ cs) front s = if c.is_broken front s then Some c.rule else lowest_broken cs front s
 
 -- the statements break none of the rules
-pub record Keep (rules : List Rule) (ss : List Statement) : Type 0 where
-  pub each : (front : List Statement) (s : Statement) (back : List Statement) → ss ≡ front ++ s ∷ back → lowest_broken rules front s ≡ None
+pub record Keep (checks : List Check) (ss : List Statement) : Type 0 where
+  pub each : (front : List Statement) (s : Statement) (back : List Statement) → ss ≡ front ++ s ∷ back → lowest_broken checks front s ≡ None
 
--- the first statement that breaks a rule stands at the line, and the lowest rule that it breaks has
--- the number
-pub record BreakFirst (rules : List Rule) (ss : List Statement) (number line : ℕ) : Type 0 where
+-- the first statement that breaks a rule stands at the line, and the lowest rule that it breaks is
+-- the one
+pub record BreakFirst (checks : List Check) (ss : List Statement) (rule : Rule) (line : ℕ) : Type 0 where
   pub front : List Statement
   pub statement : Statement
   pub back : List Statement
   pub cut : ss ≡ front ++ statement ∷ back
-  pub kept : Keep rules front
-  pub broken : lowest_broken rules front statement ≡ Some number
+  pub kept : Keep checks front
+  pub broken : lowest_broken checks front statement ≡ Some rule
   pub place : line ≡ statement.line

@@ -3,6 +3,8 @@ use Rattle.std.specs.Prelude.{ℕ, Bool, true, not, ◌&&◌, ◌||◌, nat_eq, 
 use Rattle.std.specs.List.{list_any}
 use Rattle.indexmap.specs.IndexSet.{insert_all}
 use Rattle.ast.specs.Tree.{Statement}
+use Rattle.ast.specs.declared.rule.Rule.{Rule}
+use Rattle.ast.specs.declared.rule.Rule.TheVariants.{OutOfOrder, OpenLoop, WrongTerminal, CrossedBlocks, RepeatedLabel}
 use Rattle.structure.specs.Open.{Open, open_after, after}
 use Rattle.structure.specs.Rules.{is_empty, is_program, is_declaration, is_executable, is_some_and, crosses, ends_wrongly, breaks_blocks}
 use Rattle.structure.specs.View.{opened}
@@ -48,15 +50,15 @@ next t s = record {
   labels = insert_all nat_eq t.labels (option_to_list s.label);
 }
 
-abbrev pub rule_of_label : Standing → Statement → Option ℕ
-rule_of_label t s = if is_some_and (λ label. list_any (nat_eq label) t.labels) s.label then Some 41 else None
+abbrev pub rule_of_label : Standing → Statement → Option Rule
+rule_of_label t s = if is_some_and (λ label. list_any (nat_eq label) t.labels) s.label then Some RepeatedLabel else None
 
 -- the lowest rule on order, labels, ranges and blocks that a statement breaks, by what is kept
-abbrev pub rule_by : Standing → Statement → Option ℕ
+abbrev pub rule_by : Standing → Statement → Option Rule
 rule_by t s =
-    if (is_program s.kind && t.begun) || (is_declaration s.kind && t.executable) then Some 30
-    else if crosses t.opened s then Some 34
-    else if ends_wrongly t.opened s then Some 35
-    else if breaks_blocks t.opened s then Some 36
-    else if is_some_and (λ label. list_any (nat_eq label) t.labels) s.label then Some 41
+    if (is_program s.kind && t.begun) || (is_declaration s.kind && t.executable) then Some OutOfOrder
+    else if crosses t.opened s then Some OpenLoop
+    else if ends_wrongly t.opened s then Some WrongTerminal
+    else if breaks_blocks t.opened s then Some CrossedBlocks
+    else if is_some_and (λ label. list_any (nat_eq label) t.labels) s.label then Some RepeatedLabel
     else None

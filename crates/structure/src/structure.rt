@@ -17,7 +17,7 @@ use crate::opened::{
     Open, begin, begins_with_range, end_ranges, has_range_of, has_variable, is_around_block,
     is_around_range, is_misplaced_arm,
 };
-use ast::{Label, Name, Stmt};
+use ast::{Label, Name, Rule, Stmt};
 use indexmap::IndexSet;
 use std::alloc::{AllocError, Global};
 
@@ -150,15 +150,15 @@ impl Structure {
         is_program(&stmt.kind) && self.begun || is_declaration(&stmt.kind) && self.executable
     }
 
-    /// Takes in a statement, unless it breaks rule 41: its label was there.
-    fn take_in(&mut self, stmt: &Stmt) -> Result<Option<u8>, AllocError>
+    /// Takes in a statement, unless it breaks `RepeatedLabel`: its label was there.
+    fn take_in(&mut self, stmt: &Stmt) -> Result<Option<Rule>, AllocError>
         ensures rule { IfOk result (λ rule. rule
             ≡ rule_of_label (standing self.old) (statement stmt.now)) }
         ensures kept { IfOk result (λ rule. rule ≡ None → standing self.new
             ≡ next (standing self.old) (statement stmt.now)) }
     {
         if add_label(&mut self.labels, stmt.label)? {
-            return Ok(Some(41));
+            return Ok(Some(Rule::RepeatedLabel));
         }
         go_on(&mut self.opened, stmt)?;
         self.begun = true;
@@ -166,25 +166,26 @@ impl Structure {
         Ok(None)
     }
 
-    /// The lowest rule of 30, 34 to 36 and 41 that the next statement breaks. Where it breaks none
-    /// it is one of those before from now on.
-    pub fn rule_broken(&mut self, stmt: &Stmt) -> Result<Option<u8>, AllocError>
+    /// The rule of the lowest number that the next statement breaks: `OutOfOrder` (30), `OpenLoop`
+    /// (34), `WrongTerminal` (35), `CrossedBlocks` (36) or `RepeatedLabel` (41). Where it breaks
+    /// none it is one of those before from now on.
+    pub fn rule_broken(&mut self, stmt: &Stmt) -> Result<Option<Rule>, AllocError>
         ensures rule { IfOk result (λ rule. rule
             ≡ rule_by (standing self.old) (statement stmt.now)) }
         ensures kept { IfOk result (λ rule. rule ≡ None → standing self.new
             ≡ next (standing self.old) (statement stmt.now)) }
     {
         if self.is_out_of_order(stmt) {
-            return Ok(Some(30));
+            return Ok(Some(Rule::OutOfOrder));
         }
         if crosses(&self.opened, stmt) {
-            return Ok(Some(34));
+            return Ok(Some(Rule::OpenLoop));
         }
         if ends_wrongly(&self.opened, stmt) {
-            return Ok(Some(35));
+            return Ok(Some(Rule::WrongTerminal));
         }
         if breaks_blocks(&self.opened, stmt) {
-            return Ok(Some(36));
+            return Ok(Some(Rule::CrossedBlocks));
         }
         self.take_in(stmt)
     }

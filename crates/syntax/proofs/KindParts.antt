@@ -10,6 +10,8 @@ use Rattle.ast.specs.Tree.{DoHead, Kind, Term}
 use Rattle.ast.specs.Tree as tree
 use Rattle.ast.specs.declared.refusal.Refusal.{Refusal}
 use Rattle.ast.specs.declared.refusal.Refusal.TheVariants.{Refused}
+use Rattle.ast.specs.declared.rule.Rule.{Rule}
+use Rattle.ast.specs.declared.rule.Rule.TheVariants.{Malformed}
 use Rattle.expressions.specs.Answers.{refuse}
 use Rattle.expressions.specs.Characters.{is_digit, value}
 use Rattle.expressions.specs.Reading.{whole_at}
@@ -18,8 +20,8 @@ use Rattle.syntax.specs.Classes.{Class, class_of, logical_if, without_comma}
 use Rattle.syntax.specs.ReadingStatements.{class_at, counted_by, do_at, kind_at}
 use Rattle.syntax.specs.Statements.{most_digits}
 
-pub refused : {Y : Type 0} (e : Refusal) (number line : ℕ) (meant : Result Y Break) → e ≡ Refused number line → meant ≡ refuse line number → Fails e meant
-refused e number line meant is whole = subst (λ (x : Refusal). Fails x meant) (sym is) whole
+pub refused : {Y : Type 0} (e : Refusal) (rule : Rule) (line : ℕ) (meant : Result Y Break) → e ≡ Refused rule line → meant ≡ refuse line rule → Fails e meant
+refused e rule line meant is whole = subst (λ (x : Refusal). Fails x meant) (sym is) whole
 
 module _ (line room : ℕ) (some : room ≡ 0 → ⊥) (t : List ℕ) (cs : List (List ℕ)) where
   less : room ≡ suc (room - 1)
@@ -38,14 +40,14 @@ module _ (line room : ℕ) (some : room ≡ 0 → ⊥) (t : List ℕ) (cs : List
 
 module _ (line : ℕ) (t : List ℕ) (n : ℕ) (is : n ≡ prefix_len is_digit t) where
   abbrev by_number : Bool → Result DoHead Break
-  by_number few = if few then counted_by line (value (take n t)) (without_comma (drop n t)) else refuse line 25
+  by_number few = if few then counted_by line (value (take n t)) (without_comma (drop n t)) else refuse line Malformed
 
   numbered : (few : Bool) → leb n most_digits ≡ few → do_at line t ≡ by_number few
   numbered few h =
-      ap (λ (m : ℕ). if leb m most_digits then counted_by line (value (take m t)) (without_comma (drop m t)) else refuse line 25) (sym is)
+      ap (λ (m : ℕ). if leb m most_digits then counted_by line (value (take m t)) (without_comma (drop m t)) else refuse line Malformed) (sym is)
       ∙ ap by_number h
 
-  pub overlong : most_digits < n → do_at line t ≡ refuse line 25
+  pub overlong : most_digits < n → do_at line t ≡ refuse line Malformed
   overlong h = numbered false (lt-leb n most_digits h)
 
   pub labelled : (label : ℕ) (rest : List ℕ) → n ≤ most_digits → label ≡ value (take n t) → rest ≡ without_comma (take (length t - n) (drop n t)) → do_at line t ≡ counted_by line label rest

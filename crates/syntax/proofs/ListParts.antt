@@ -15,12 +15,12 @@ use Rattle.syntax.specs.ReadingStatements.{parts_at, items_from, item_at}
 pub read_with : {X Y Z : Type 0} (view : X → Y) (r : Result X Refusal) (part : Result Y Break) (ys : Z) → Gives view r part → Gives {Y = Z × Y} (λ x. (ys, view x)) r (part >>= λ u. Ok (ys, u))
 read_with {Y = Y} view (Ok x) part ys h = ap (λ (p : Result Y Break). p >>= λ u. Ok (ys, u)) h
 read_with view (Err Memory) part ys h = tt
-read_with {Y = Y} view (Err (Refused number line)) part ys h = ap (λ (p : Result Y Break). p >>= λ u. Ok (ys, u)) h
+read_with {Y = Y} view (Err (Refused rule line)) part ys h = ap (λ (p : Result Y Break). p >>= λ u. Ok (ys, u)) h
 
 pub read_all : {X Y Z : Type 0} (view : X → Y) (r : Result X Refusal) (part : Result Y Break) (ys : Z) → Gives view r part → Gives (λ x. ys) r (part >>= λ u. Ok ys)
 read_all {Y = Y} view (Ok x) part ys h = ap (λ (p : Result Y Break). p >>= λ u. Ok ys) h
 read_all view (Err Memory) part ys h = tt
-read_all {Y = Y} view (Err (Refused number line)) part ys h = ap (λ (p : Result Y Break). p >>= λ u. Ok ys) h
+read_all {Y = Y} view (Err (Refused rule line)) part ys h = ap (λ (p : Result Y Break). p >>= λ u. Ok ys) h
 
 module _ {X : Type 0} (line : ℕ) (part : List ℕ → Result (X × List ℕ) Break) (ending : List ℕ → Result (List ℕ) Break) (room : ℕ) (some : room ≡ 0 → ⊥) where
   less : room ≡ suc (room - 1)

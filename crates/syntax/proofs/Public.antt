@@ -8,7 +8,9 @@ use Rattle.ast.specs.View.{statement}
 use Rattle.ast.specs.declared.refusal.Refusal.{Refusal}
 use Rattle.ast.specs.declared.refusal.Refusal.TheVariants.{Memory, Refused}
 use Rattle.ast.specs.declared.statement.Stmt.{Stmt}
-use Rattle.expressions.specs.Answers.{refuse, IsNumber}
+use Rattle.ast.specs.Rule.{number_of}
+use Rattle.ast.specs.declared.rule.Rule.TheVariants.{UnendedText}
+use Rattle.expressions.specs.Answers.{refuse, IsOfStatement}
 use Rattle.expressions.proofs.Numbered.{fault}
 use Rattle.expressions.proofs.Tools.{done}
 use Rattle.syntax.specs.Pieces.{Piece, Cut, marks, constants}
@@ -33,7 +35,7 @@ fault_is c d e = cc
 -- a text is cut, or it ends in a character constant
 pub data IsCut (line : ℕ) (label : Option ℕ) (t : List ℕ) : Type 0 where
   cut_so : (ps : List Piece) → Cut ps t → text_at line label t ≡ statement_at line label t (marks ps) (constants ps) → IsCut line label t
-  uncut : ((ps : List Piece) → Cut ps t → ⊥) → text_at line label t ≡ refuse line 21 → IsCut line label t
+  uncut : ((ps : List Piece) → Cut ps t → ⊥) → text_at line label t ≡ refuse line UnendedText → IsCut line label t
 
 pub is_cut : (line : ℕ) (label : Option ℕ) (t : List ℕ) → IsCut line label t
 is_cut line label t = go (squeezed t) refl
@@ -48,7 +50,7 @@ text_sound line label t s e =
       | cut_so ps cut is ↦
           let d = statement_sound line label t (marks ps) (constants ps) s (sym is ∙ e) in
           record { pieces = ps; cut = cut; derived = d.derived; initial = d.initial; shallow = d.shallow; at = d.at; labelled = d.labelled }
-      | uncut none is ↦ let both : refuse line 21 ≡ done s = sym is ∙ e in absurd cc
+      | uncut none is ↦ let both : refuse line UnendedText ≡ done s = sym is ∙ e in absurd cc
     ]
 
 pub text_again : (line : ℕ) (label : Option ℕ) (t : List ℕ) (s : Statement) → IsStatement line label t s → text_at line label t ≡ Ok s
@@ -64,33 +66,33 @@ statement_found line label t (Err f) h = tt
 pub statement_only : (line : ℕ) (label : Option ℕ) (t : List ℕ) (r : Result Stmt Refusal) → Gives statement r (text_at line label t) → (s : Statement) → IsStatement line label t s → Gives statement r (Ok s)
 statement_only line label t r h s is = subst (λ (x : Result Statement Break). Gives statement r x) (text_again line label t s is) h
 
-pub statement_refused : (line : ℕ) (label : Option ℕ) (t : List ℕ) (r : Result Stmt Refusal) → Gives statement r (text_at line label t) → IfErr r (Says (λ number at. (at ≡ line) × IsNumber number × ((s : Statement) → IsStatement line label t s → ⊥)))
+pub statement_refused : (line : ℕ) (label : Option ℕ) (t : List ℕ) (r : Result Stmt Refusal) → Gives statement r (text_at line label t) → IfErr r (Says (λ rule at. (at ≡ line) × IsOfStatement rule × ((s : Statement) → IsStatement line label t s → ⊥)))
 statement_refused line label t (Ok s) h = tt
 statement_refused line label t (Err Memory) h = tt
-statement_refused line label t (Err (Refused number at)) h =
-    let none : (s : Statement) → IsStatement line label t s → ⊥ = λ s is. let both : done s ≡ Err (record { number = number; line = at }) = sym (text_again line label t s is) ∙ h in cc in
+statement_refused line label t (Err (Refused rule at)) h =
+    let none : (s : Statement) → IsStatement line label t s → ⊥ = λ s is. let both : done s ≡ Err (record { rule = rule; line = at }) = sym (text_again line label t s is) ∙ h in cc in
     elim (is_cut line label t) [
       | cut_so ps cut is ↦
-          let f = fault line (statement_at line label t (marks ps) (constants ps)) (record { number = number; line = at }) (statement_numbered line label t (marks ps) (constants ps)) (sym is ∙ h) in
+          let f = fault line (statement_at line label t (marks ps) (constants ps)) (record { rule = rule; line = at }) (statement_numbered line label t (marks ps) (constants ps)) (sym is ∙ h) in
           (f.at, (f.low, f.high), none)
       | uncut _ is ↦
-          let same = fault_is (record { number = 21; line = line }) (record { number = number; line = at }) (sym is ∙ h) in
-          let n : 21 ≡ number = ap (λ (d : Break). d.number) same in
+          let same = fault_is (record { rule = UnendedText; line = line }) (record { rule = rule; line = at }) (sym is ∙ h) in
+          let n : number_of UnendedText ≡ number_of rule = ap (λ (d : Break). number_of d.rule) same in
           (ap (λ (d : Break). d.line) (sym same), (omega (arith, n), omega (arith, n)), none)
     ]
 
-pub statement_unfinished : (line : ℕ) (label : Option ℕ) (t : List ℕ) (r : Result Stmt Refusal) → Gives statement r (text_at line label t) → ((ps : List Piece) → Cut ps t → ⊥) → Gives statement r (refuse line 21)
+pub statement_unfinished : (line : ℕ) (label : Option ℕ) (t : List ℕ) (r : Result Stmt Refusal) → Gives statement r (text_at line label t) → ((ps : List Piece) → Cut ps t → ⊥) → Gives statement r (refuse line UnendedText)
 statement_unfinished line label t r h none =
     elim (is_cut line label t) [
       | cut_so ps cut is ↦ absurd (none ps cut)
       | uncut _ is ↦ subst (λ (x : Result Statement Break). Gives statement r x) is h
     ]
 
-pub statement_finished : (line : ℕ) (label : Option ℕ) (t : List ℕ) (r : Result Stmt Refusal) → Gives statement r (text_at line label t) → IfErr r (Says (λ number at. number ≡ 21 → (ps : List Piece) → Cut ps t → ⊥))
+pub statement_finished : (line : ℕ) (label : Option ℕ) (t : List ℕ) (r : Result Stmt Refusal) → Gives statement r (text_at line label t) → IfErr r (Says (λ rule at. rule ≡ UnendedText → (ps : List Piece) → Cut ps t → ⊥))
 statement_finished line label t (Ok s) h = tt
 statement_finished line label t (Err Memory) h = tt
-statement_finished line label t (Err (Refused number at)) h = λ unfinished ps cut.
-    let f = fault line (statement_at line label t (marks ps) (constants ps)) (record { number = number; line = at }) (statement_numbered line label t (marks ps) (constants ps)) (sym (text_cut line label t ps cut) ∙ h) in
+statement_finished line label t (Err (Refused rule at)) h = λ unfinished ps cut.
+    let f = fault line (statement_at line label t (marks ps) (constants ps)) (record { rule = rule; line = at }) (statement_numbered line label t (marks ps) (constants ps)) (sym (text_cut line label t ps cut) ∙ h) in
     f.whole unfinished
 
 pub statement_exact : (line : ℕ) (label : Option ℕ) (t : List ℕ) (r : Result Stmt Refusal) → Gives statement r (text_at line label t) → (ps : List Piece) → Cut ps t → Gives statement r (statement_at line label t (marks ps) (constants ps))

@@ -7,6 +7,7 @@ use Rattle.std.proofs.lemmas.List.{append-nil, length-append, take_at, drop_at}
 use Rattle.ast.specs.Answers.{Break}
 use Rattle.ast.specs.Results.{◌>>=◌}
 use Rattle.ast.specs.Tree.{Ref, Term, Access, accessed, PrintItem, value_item, text_item, Bounds, Definition, DoHead, Kind, program, integer, dimension, parameters, assign, do_loop, go_on, block_if, else_if, else_arm, end_if, logical_if, print, read, stop, end, Statement}
+use Rattle.ast.specs.declared.rule.Rule.TheVariants.{Malformed}
 use Rattle.expressions.specs.Answers.{refuse}
 use Rattle.expressions.specs.Characters.{is_digit, is_alphanumeric, begins_letter, after, value}
 use Rattle.expressions.specs.Grammar.{IsName, IsAccess, reference_to, Spells, depth_limit}
@@ -194,7 +195,7 @@ item_again line (value_item e) u v cs left h stops =
 item_again line (text_item s) u v cs left h stops =
     ap (λ (w : List ℕ). item_at line (w ++ v) cs) h.0
     ∙ ap (λ (ds : List (List ℕ)). item_at line (39 ∷ v) ds) h.1
-    ∙ ap (λ (b : Bool). cond {A = Result (PrintItem × List (List ℕ)) Break} b (refuse line 25) (Ok (text_item s, left)) >>= λ x. Ok (x.0, v, x.1)) (ne_eqb (length s) 0 (λ e. omega (arith, h.2)))
+    ∙ ap (λ (b : Bool). cond {A = Result (PrintItem × List (List ℕ)) Break} b (refuse line Malformed) (Ok (text_item s, left)) >>= λ x. Ok (x.0, v, x.1)) (ne_eqb (length s) 0 (λ e. omega (arith, h.2)))
 
 items_follow : (is : List PrintItem) (t : List ℕ) (cs : List (List ℕ)) → AreFurtherItems cs is t → Stops top t
 items_follow [] t cs h = subst (λ (w : List ℕ). Stops top w) (sym h) stops_at_end
@@ -310,7 +311,7 @@ definitions_again line ds u h =
 
 arm_again : (line : ℕ) (e : Term) (u : List ℕ) → Spells top e u → arm_at line (u ++ codes ")THEN") ≡ Ok (else_if e)
 arm_again line e u h =
-    let next : Term × List ℕ → Result Kind Break = λ x. wanted_at line (codes ")") x.1 >>= λ w. cond (is_word (codes "THEN") w) (Ok (else_if x.0)) (refuse line 25) in
+    let next : Term × List ℕ → Result Kind Break = λ x. wanted_at line (codes ")") x.1 >>= λ w. cond (is_word (codes "THEN") w) (Ok (else_if x.0)) (refuse line Malformed) in
     then_reads (front_at line (u ++ codes ")THEN")) next (e, codes ")THEN") (front_again line e u (codes ")THEN") h (stops_at_closing (codes "THEN")))
 
 name_whole : (line : ℕ) (x u : List ℕ) → IsName x u → whole_name_at line u ≡ Ok x

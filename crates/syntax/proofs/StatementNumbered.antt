@@ -1,4 +1,4 @@
--- Each fault that reading a statement gives is at its line and has a refusal's number.
+-- Each fault that reading a statement gives is at its line and of a rule of statements.
 use Rattle.std.proofs.Common.{◌≡◌, ℕ, zero, suc, ◌+◌, ◌<◌, ◌≤◌, cond, eqb, leb, List, [], ◌∷◌, ◌++◌, length, take, drop, Option, Some, None, Result, Ok, refl, ap, arith}
 use Rattle.std.specs.Prelude.{codes}
 use Rattle.std.specs.List.{prefix_len}
@@ -6,11 +6,13 @@ use Rattle.std.proofs.lemmas.List.{length-append}
 use Rattle.ast.specs.Answers.{Break}
 use Rattle.ast.specs.Results.{◌>>=◌}
 use Rattle.ast.specs.Tree.{Term, PrintItem, value_item, text_item, Bounds, Declarator, Definition, DoHead, Kind, program, integer, dimension, parameters, assign, do_loop, go_on, block_if, else_if, else_arm, end_if, logical_if, print, read, stop, end}
+use Rattle.ast.specs.declared.rule.Rule.TheVariants.{UnknownStatement, Malformed, Deep}
+use Rattle.ast.specs.declared.rule.Rule.TheVariants as rules
 use Rattle.expressions.specs.Answers.{refuse}
 use Rattle.expressions.specs.Characters.{is_digit, after, value}
 use Rattle.expressions.specs.Grammar.{reference_to, depth_limit}
 use Rattle.expressions.specs.Reading.{name_at, wanted_at, end_at, front_at, whole_at, ended, element_at}
-use Rattle.expressions.proofs.Numbered.{IsFault, Numbered, bind, either, of_number, wanted_numbered, end_numbered, name_numbered, front_numbered, element_numbered, ended_numbered, whole_numbered}
+use Rattle.expressions.proofs.Numbered.{IsFault, Numbered, bind, either, of_rule, wanted_numbered, end_numbered, name_numbered, front_numbered, element_numbered, ended_numbered, whole_numbered}
 use Rattle.expressions.proofs.Sound.{element_sound}
 use Rattle.expressions.proofs.Tools.{after_law}
 use Rattle.syntax.specs.declared.class.Keyword.{Keyword}
@@ -23,8 +25,8 @@ use Rattle.syntax.specs.ReadingStatements.{parts_at, closed_list, open_list, lis
 use Rattle.syntax.proofs.Rest.{rest_shorter}
 use Rattle.syntax.proofs.StatementSound.{bounds_sound, array_sound, declarator_sound, definition_sound, item_sound}
 
-malformed : (line : ℕ) → IsFault line (record { number = 25; line = line })
-malformed line = of_number line 25 (omega arith) (omega arith) (λ e. omega arith)
+malformed : (line : ℕ) → IsFault line (record { rule = Malformed; line = line })
+malformed line = of_rule line Malformed (omega arith) (omega arith) (λ e. cc)
 
 -- ---- lists
 
@@ -59,9 +61,9 @@ listed_numbered line list numbered None = tt
 listed_numbered line list numbered (Some t) = numbered t
 
 star_numbered : (line : ℕ) (t : List ℕ) → Numbered line (list_behind_star line t)
-star_numbered line t = either line (eqb (length t) 0) (Ok None) (elim (after (codes ",") t) [ Some u ↦ Ok (Some u) | None ↦ refuse line 25 ]) (λ _. tt) (λ _. go (after (codes ",") t))
+star_numbered line t = either line (eqb (length t) 0) (Ok None) (elim (after (codes ",") t) [ Some u ↦ Ok (Some u) | None ↦ refuse line Malformed ]) (λ _. tt) (λ _. go (after (codes ",") t))
   where
-    go : (o : Option (List ℕ)) → Numbered {X = Option (List ℕ)} line (elim o [ Some u ↦ Ok (Some u) | None ↦ refuse line 25 ])
+    go : (o : Option (List ℕ)) → Numbered {X = Option (List ℕ)} line (elim o [ Some u ↦ Ok (Some u) | None ↦ refuse line Malformed ])
     go None = malformed line
     go (Some u) = tt
 
@@ -110,7 +112,7 @@ elements_numbered line t = open_numbered line (element_at line) (element_numbere
 
 constant_numbered : (line : ℕ) (cs : List (List ℕ)) → Numbered line (next_constant line cs)
 constant_numbered line [] = malformed line
-constant_numbered line (s ∷ cs) = either line (eqb (length s) 0) (refuse line 25) (Ok (text_item s, cs)) (λ _. malformed line) (λ _. tt)
+constant_numbered line (s ∷ cs) = either line (eqb (length s) 0) (refuse line Malformed) (Ok (text_item s, cs)) (λ _. malformed line) (λ _. tt)
 
 item_numbered : (line : ℕ) (t : List ℕ) (cs : List (List ℕ)) → Numbered line (item_at line t cs)
 item_numbered line t cs = go (after (codes "'") t)
@@ -156,7 +158,7 @@ do_numbered : (line : ℕ) (t : List ℕ) → Numbered line (do_at line t)
 do_numbered line t =
     let n = prefix_len is_digit t in
     let next : List ℕ × List ℕ → Result DoHead Break = λ x. wanted_at line (codes "=") x.1 >>= λ u. head_of line (value (take n t)) x.0 u in
-    either line (leb n most_digits) (name_at line (without_comma (drop n t)) >>= next) (refuse line 25)
+    either line (leb n most_digits) (name_at line (without_comma (drop n t)) >>= next) (refuse line Malformed)
     (λ _. bind line (name_at line (without_comma (drop n t))) next (name_numbered line (without_comma (drop n t)))
     (λ x e. bind line (wanted_at line (codes "=") x.1) (λ u. head_of line (value (take n t)) x.0 u) (wanted_numbered line (codes "=") x.1) (λ u f. head_numbered line (value (take n t)) x.0 u)))
     (λ _. malformed line)
@@ -172,27 +174,27 @@ assigned_numbered line t =
 definitions_numbered : (line : ℕ) (t : List ℕ) → Numbered line (definitions_at line t)
 definitions_numbered line t = go (after (codes "(") t)
   where
-    go : (o : Option (List ℕ)) → Numbered {X = List Definition} line (elim o [ Some u ↦ closed_list line (definition_at line) u >>= λ x. end_at line x.1 >>= λ v. Ok x.0 | None ↦ refuse line 25 ])
+    go : (o : Option (List ℕ)) → Numbered {X = List Definition} line (elim o [ Some u ↦ closed_list line (definition_at line) u >>= λ x. end_at line x.1 >>= λ v. Ok x.0 | None ↦ refuse line Malformed ])
     go None = malformed line
     go (Some u) = bind line (closed_list line (definition_at line) u) (λ x. end_at line x.1 >>= λ v. Ok x.0) (closed_numbered line (definition_at line) (definition_numbered line) (shortens (definition_at line) IsDefinition (definition_sound line)) u)
         (λ x e. bind line (end_at line x.1) (λ v. Ok x.0) (end_numbered line x.1) (λ v f. tt))
 
 arm_numbered : (line : ℕ) (t : List ℕ) → Numbered line (arm_at line t)
 arm_numbered line t =
-    let last : Term → List ℕ → Result Kind Break = λ e u. cond (is_word (codes "THEN") u) (Ok (else_if e)) (refuse line 25) in
+    let last : Term → List ℕ → Result Kind Break = λ e u. cond (is_word (codes "THEN") u) (Ok (else_if e)) (refuse line Malformed) in
     bind line (front_at line t) (λ x. wanted_at line (codes ")") x.1 >>= λ u. last x.0 u) (front_numbered line t)
     (λ x e. bind line (wanted_at line (codes ")") x.1) (last x.0) (wanted_numbered line (codes ")") x.1)
-    (λ u f. either line (is_word (codes "THEN") u) (Ok (else_if x.0)) (refuse line 25) (λ _. tt) (λ _. malformed line)))
+    (λ u f. either line (is_word (codes "THEN") u) (Ok (else_if x.0)) (refuse line Malformed) (λ _. tt) (λ _. malformed line)))
 
 else_if_numbered : (line : ℕ) (t : List ℕ) → Numbered line (else_if_at line t)
 else_if_numbered line t = go (after (codes "(") t)
   where
-    go : (o : Option (List ℕ)) → Numbered {X = Kind} line (elim o [ Some u ↦ arm_at line u | None ↦ refuse line 25 ])
+    go : (o : Option (List ℕ)) → Numbered {X = Kind} line (elim o [ Some u ↦ arm_at line u | None ↦ refuse line Malformed ])
     go None = malformed line
     go (Some u) = arm_numbered line u
 
 alone_numbered : (line : ℕ) (k : Kind) (t : List ℕ) → Numbered line (alone line k t)
-alone_numbered line k t = either line (eqb (length t) 0) (Ok k) (refuse line 25) (λ _. tt) (λ _. malformed line)
+alone_numbered line k t = either line (eqb (length t) 0) (Ok k) (refuse line Malformed) (λ _. tt) (λ _. malformed line)
 
 worded_numbered : (line : ℕ) (w : Keyword) (t : List ℕ) (cs : List (List ℕ)) → Numbered line (worded_at line w t cs)
 worded_numbered line Program t cs =
@@ -210,9 +212,9 @@ worded_numbered line Continue t cs = alone_numbered line go_on t
 worded_numbered line Else t cs = alone_numbered line else_arm t
 worded_numbered line ElseIf t cs = else_if_numbered line t
 worded_numbered line EndIf t cs = alone_numbered line end_if t
-worded_numbered line Stop t cs = either line (is_stop_text t cs) (Ok stop) (refuse line 25) (λ _. tt) (λ _. malformed line)
+worded_numbered line Stop t cs = either line (is_stop_text t cs) (Ok stop) (refuse line Malformed) (λ _. tt) (λ _. malformed line)
 worded_numbered line End t cs = alone_numbered line end t
-worded_numbered line LeftOut t cs = of_number line 27 (omega arith) (omega arith) (λ e. omega arith)
+worded_numbered line LeftOut t cs = of_rule line rules.LeftOut (omega arith) (omega arith) (λ e. cc)
 
 class_numbered : (line : ℕ) (inner : List ℕ → Result Kind Break) (c : Class) (cs : List (List ℕ)) → ((u v : List ℕ) → c ≡ classes.logical_if u v → Numbered line (inner v)) → Numbered line (class_at line inner c cs)
 class_numbered line inner (classes.block_if u) cs h = bind line (whole_at line u) (λ e. Ok (block_if e)) (whole_numbered line u) (λ x e. tt)
@@ -222,7 +224,7 @@ class_numbered line inner (classes.do_loop u) cs h = bind line (do_at line u) (�
 class_numbered line inner (classes.assignment u) cs h = assigned_numbered line u
 class_numbered line inner (classes.worded w u) cs h = worded_numbered line w u cs
 class_numbered line inner classes.unclosed cs h = malformed line
-class_numbered line inner classes.unknown cs h = of_number line 20 (omega arith) (omega arith) (λ e. omega arith)
+class_numbered line inner classes.unknown cs h = of_rule line UnknownStatement (omega arith) (omega arith) (λ e. cc)
 
 kind_numbered : (line n : ℕ) (t : List ℕ) (cs : List (List ℕ)) → length t < n → Numbered line (kind_at line n t cs)
 kind_numbered line zero t cs room = absurd (omega arith)
@@ -231,8 +233,8 @@ kind_numbered line (suc n) t cs room = class_numbered line (λ v. kind_at line n
 checked_numbered : (line : ℕ) (label : Option ℕ) (text : List ℕ) (k : Kind) → Numbered line (checked_at line label text k)
 checked_numbered line label text k =
     bind line (initial line text k >>= shallow line) (λ x. Ok (record { line = line; label = label; kind = x }))
-    (bind line (initial line text k) (shallow line) (either line (is_initial k text) (Ok k) (refuse line 25) (λ _. tt) (λ _. malformed line))
-    (λ x e. either line (leb (depth_of_kind x) depth_limit) (Ok x) (refuse line 26) (λ _. tt) (λ _. of_number line 26 (omega arith) (omega arith) (λ e. omega arith))))
+    (bind line (initial line text k) (shallow line) (either line (is_initial k text) (Ok k) (refuse line Malformed) (λ _. tt) (λ _. malformed line))
+    (λ x e. either line (leb (depth_of_kind x) depth_limit) (Ok x) (refuse line Deep) (λ _. tt) (λ _. of_rule line Deep (omega arith) (omega arith) (λ e. cc))))
     (λ x e. tt)
 
 pub statement_numbered : (line : ℕ) (label : Option ℕ) (text t : List ℕ) (cs : List (List ℕ)) → Numbered line (statement_at line label text t cs)

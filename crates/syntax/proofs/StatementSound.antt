@@ -7,6 +7,7 @@ use Rattle.std.proofs.lemmas.List.{append-nil, nil_from_length, take-append-drop
 use Rattle.ast.specs.Answers.{Break}
 use Rattle.ast.specs.Results.{◌>>=◌}
 use Rattle.ast.specs.Tree.{Term, Access, PrintItem, value_item, text_item, Bounds, Declarator, Definition, DoHead, Kind, program, integer, dimension, parameters, assign, do_loop, go_on, block_if, else_if, else_arm, end_if, logical_if, print, read, stop, end, Statement}
+use Rattle.ast.specs.declared.rule.Rule.TheVariants.{Malformed, Deep}
 use Rattle.expressions.specs.Answers.{refuse}
 use Rattle.expressions.specs.Characters.{is_digit, begins_digit, after, value}
 use Rattle.expressions.specs.Grammar.{IsName, IsAccess, reference_to, Spells, depth_limit}
@@ -108,7 +109,7 @@ behind_comma_sound : {X : Type 0} (line : ℕ) (list : List ℕ → Result (List
     → (t : List ℕ) (ys : List X) → (list_behind_star line t >>= listed list) ≡ Ok ys → AreBehindComma Are ys t
 behind_comma_sound {X} line list Are sound some t ys e =
     let b = bind_ok (list_behind_star line t) (listed list) ys e in
-    elim (choice (eqb (length t) 0) (Ok None) (elim (after (codes ",") t) [ Some u ↦ Ok (Some u) | None ↦ refuse line 25 ]) (Ok b.0) b.1) [
+    elim (choice (eqb (length t) 0) (Ok None) (elim (after (codes ",") t) [ Some u ↦ Ok (Some u) | None ↦ refuse line Malformed ]) (Ok b.0) b.1) [
       | on_true none f ↦
           let is : listed list None ≡ Ok ys = ap (listed list) (ok_is None b.0 f) ∙ b.2 in
           subst (λ (zs : List X). AreBehindComma Are zs t) (ok_is [] ys is) (nil_from_length t (eqb-true _ _ none))
@@ -119,7 +120,7 @@ behind_comma_sound {X} line list Are sound some t ys e =
     whole u comma [] f = absurd (some u (sound u [] f))
     whole u comma (y ∷ ys) f = (u, comma, sound u (y ∷ ys) f)
 
-    go : (a : Option (List ℕ)) → listed list a ≡ Ok ys → (o : Option (List ℕ)) → after (codes ",") t ≡ o → ◌≡◌ {A = Result (Option (List ℕ)) Break} (elim o [ Some u ↦ Ok (Some u) | None ↦ refuse line 25 ]) (Ok a) → AreBehindComma Are ys t
+    go : (a : Option (List ℕ)) → listed list a ≡ Ok ys → (o : Option (List ℕ)) → after (codes ",") t ≡ o → ◌≡◌ {A = Result (Option (List ℕ)) Break} (elim o [ Some u ↦ Ok (Some u) | None ↦ refuse line Malformed ]) (Ok a) → AreBehindComma Are ys t
     go a got None is f = absurd cc
     go a got (Some u) is f = whole u (after_law (codes ",") t u is) ys (ap (listed list) (ok_is (Some u) a f) ∙ got)
 
@@ -206,7 +207,7 @@ Next cs y = (s : List ℕ) × (y.0 ≡ text_item s) × (cs ≡ s ∷ y.1) × (0 
 next_law : (line : ℕ) (cs : List (List ℕ)) (y : PrintItem × List (List ℕ)) → next_constant line cs ≡ Ok y → Next cs y
 next_law line [] y e = absurd cc
 next_law line (s ∷ cs) y e =
-    elim (choice (eqb (length s) 0) (refuse line 25) (Ok (text_item s, cs)) (Ok y) e) [
+    elim (choice (eqb (length s) 0) (refuse line Malformed) (Ok (text_item s, cs)) (Ok y) e) [
       | on_true none is ↦ absurd cc
       | on_false some is ↦
           let long : 0 < length s = omega (arith, eqb-false (length s) 0 some) in
@@ -307,7 +308,7 @@ do_sound line t h digit e =
     let n = prefix_len is_digit t in
     let rest = drop n t in
     let next : List ℕ × List ℕ → Result DoHead Break = λ x. wanted_at line (codes "=") x.1 >>= λ u. head_of line (value (take n t)) x.0 u in
-    elim (choice (leb n most_digits) (name_at line (without_comma rest) >>= next) (refuse line 25) (Ok h) e) [
+    elim (choice (leb n most_digits) (name_at line (without_comma rest) >>= next) (refuse line Malformed) (Ok h) e) [
       | on_true few f ↦
           let b = bind_ok (name_at line (without_comma rest)) next h f in
           let s = name_sound line (without_comma rest) b.0 b.1 in
@@ -337,7 +338,7 @@ definitions_sound : (line : ℕ) (t : List ℕ) (ds : List Definition) → defin
 definitions_sound line t ds e = go (after (codes "(") t) refl e
   where
     go : (o : Option (List ℕ)) → after (codes "(") t ≡ o
-        → ◌≡◌ {A = Result (List Definition) Break} (elim o [ Some u ↦ closed_list line (definition_at line) u >>= λ x. end_at line x.1 >>= λ v. Ok x.0 | None ↦ refuse line 25 ]) (Ok ds)
+        → ◌≡◌ {A = Result (List Definition) Break} (elim o [ Some u ↦ closed_list line (definition_at line) u >>= λ x. end_at line x.1 >>= λ v. Ok x.0 | None ↦ refuse line Malformed ]) (Ok ds)
         → (u : List ℕ) × (t ≡ codes "(" ++ u) × AreParts IsDefinition closing ds u
     go None is f = absurd cc
     go (Some u) is f =
@@ -358,16 +359,16 @@ word_law word t e = go (after word t) refl e
 else_if_sound : (line : ℕ) (t : List ℕ) (k : Kind) → else_if_at line t ≡ Ok k → (e : Term) × (u : List ℕ) × (k ≡ else_if e) × (t ≡ codes "(" ++ u ++ codes ")THEN") × Spells top e u
 else_if_sound line t k e = go (after (codes "(") t) refl e
   where
-    go : (o : Option (List ℕ)) → after (codes "(") t ≡ o → ◌≡◌ {A = Result Kind Break} (elim o [ Some u ↦ arm_at line u | None ↦ refuse line 25 ]) (Ok k)
+    go : (o : Option (List ℕ)) → after (codes "(") t ≡ o → ◌≡◌ {A = Result Kind Break} (elim o [ Some u ↦ arm_at line u | None ↦ refuse line Malformed ]) (Ok k)
         → (e : Term) × (u : List ℕ) × (k ≡ else_if e) × (t ≡ codes "(" ++ u ++ codes ")THEN") × Spells top e u
     go None is f = absurd cc
     go (Some r) is f =
-        let last : Term → List ℕ → Result Kind Break = λ x u. cond (is_word (codes "THEN") u) (Ok (else_if x)) (refuse line 25) in
+        let last : Term → List ℕ → Result Kind Break = λ x u. cond (is_word (codes "THEN") u) (Ok (else_if x)) (refuse line Malformed) in
         let next : Term × List ℕ → Result Kind Break = λ x. wanted_at line (codes ")") x.1 >>= λ u. last x.0 u in
         let b = bind_ok (front_at line r) next k f in
         let s = front_sound line r b.0 b.1 in
         let c = bind_ok (wanted_at line (codes ")") b.0.1) (last b.0.0) k b.2 in
-        elim (choice (is_word (codes "THEN") c.0) (Ok (else_if b.0.0)) (refuse line 25) (Ok k) c.2) [
+        elim (choice (is_word (codes "THEN") c.0) (Ok (else_if b.0.0)) (refuse line Malformed) (Ok k) c.2) [
           | on_true then_word g ↦
               let behind : b.0.1 ≡ codes ")THEN" = wanted_law line (codes ")") b.0.1 c.0 c.1 ∙ ap (λ (w : List ℕ). 41 ∷ w) (word_law (codes "THEN") c.0 then_word) in
               (b.0.0, s.0, sym (ok_is (else_if b.0.0) k g), after_law (codes "(") t r is ∙ ap (λ (w : List ℕ). 40 ∷ w) (s.1 ∙ ap (λ (w : List ℕ). s.0 ++ w) behind), s.2)
@@ -376,7 +377,7 @@ else_if_sound line t k e = go (after (codes "(") t) refl e
 
 alone_sound : (line : ℕ) (k : Kind) (t : List ℕ) (x : Kind) → alone line k t ≡ Ok x → (x ≡ k) × (t ≡ [])
 alone_sound line k t x e =
-    elim (choice (eqb (length t) 0) (Ok k) (refuse line 25) (Ok x) e) [
+    elim (choice (eqb (length t) 0) (Ok k) (refuse line Malformed) (Ok x) e) [
       | on_true none f ↦ (sym (ok_is k x f), nil_from_length t (eqb-true _ _ none))
       | on_false more f ↦ absurd cc
     ]
@@ -428,7 +429,7 @@ worded_sound line ElseIf u t cs k is e =
     moved (else_if s.0) k t cs (sym s.2) (s.1, is ∙ ap (λ (v : List ℕ). classes.worded ElseIf v) s.3, s.4)
 worded_sound line EndIf u t cs k is e = let a = alone_sound line end_if u k e in moved end_if k t cs (sym a.0) (is ∙ ap (λ (v : List ℕ). classes.worded EndIf v) a.1)
 worded_sound line Stop u t cs k is e =
-    elim (choice (is_stop_text u cs) (Ok stop) (refuse line 25) (Ok k) e) [
+    elim (choice (is_stop_text u cs) (Ok stop) (refuse line Malformed) (Ok k) e) [
       | on_true text f ↦ moved stop k t cs (ok_is stop k f) (u, is, text)
       | on_false other f ↦ absurd cc
     ]
@@ -472,8 +473,8 @@ statement_sound line label text t cs s e =
     let a = bind_ok (kind_at line (length t + 1) t cs) (checked_at line label text) s e in
     let b = bind_ok (initial line text a.0 >>= shallow line) made s a.2 in
     let c = bind_ok (initial line text a.0) (shallow line) b.0 b.1 in
-    elim (choice (is_initial a.0 text) (Ok a.0) (refuse line 25) (Ok c.0) c.1) [
-      | on_true whole f ↦ elim (choice (leb (depth_of_kind c.0) depth_limit) (Ok c.0) (refuse line 26) (Ok b.0) c.2) [
+    elim (choice (is_initial a.0 text) (Ok a.0) (refuse line Malformed) (Ok c.0) c.1) [
+      | on_true whole f ↦ elim (choice (leb (depth_of_kind c.0) depth_limit) (Ok c.0) (refuse line Deep) (Ok b.0) c.2) [
         | on_true low g ↦
             let first : a.0 ≡ c.0 = ok_is a.0 c.0 f in
             let second : c.0 ≡ b.0 = ok_is c.0 b.0 g in

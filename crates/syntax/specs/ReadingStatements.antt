@@ -1,9 +1,11 @@
--- Reading a statement from left to right, with the number of the first fault that is met.
+-- Reading a statement from left to right, with the rule of the first fault that is met.
 use Rattle.std.specs.Prelude.{ℕ, zero, suc, ◌+◌, nat_le, ◌==◌, if◌then◌else◌, Bool, List, [], ◌∷◌, ◌++◌, length, take, drop, Option, Some, None, Result, Ok, codes}
 use Rattle.std.specs.List.{prefix_len}
 use Rattle.ast.specs.Answers.{Break}
 use Rattle.ast.specs.Results.{◌>>=◌}
 use Rattle.ast.specs.Tree.{Term, Access, PrintItem, value_item, text_item, Bounds, Declarator, Definition, DoHead, Kind, program, integer, dimension, parameters, assign, do_loop, go_on, block_if, else_if, else_arm, end_if, logical_if, print, read, stop, end, Statement}
+use Rattle.ast.specs.declared.rule.Rule.TheVariants.{UnknownStatement, Malformed, Deep}
+use Rattle.ast.specs.declared.rule.Rule.TheVariants as rules
 use Rattle.expressions.specs.Answers.{refuse}
 use Rattle.expressions.specs.Characters.{is_digit, after, value}
 use Rattle.expressions.specs.Grammar.{reference_to, depth_limit}
@@ -43,7 +45,7 @@ abbrev pub list_behind_unit : List ℕ → Option (List ℕ)
 list_behind_unit t = if length t == 0 then None else Some t
 
 abbrev pub list_behind_star : ℕ → List ℕ → Result (Option (List ℕ)) Break
-list_behind_star line t = if length t == 0 then Ok None else elim (after (codes ",") t) [ Some u ↦ Ok (Some u) | None ↦ refuse line 25 ]
+list_behind_star line t = if length t == 0 then Ok None else elim (after (codes ",") t) [ Some u ↦ Ok (Some u) | None ↦ refuse line Malformed ]
 
 -- ---- parts
 
@@ -82,8 +84,8 @@ definition_at line t = name_at line t >>= λ x. wanted_at line (codes "=") x.1 >
 
 -- the next character constant, which isn't empty; there are as many as apostrophes
 abbrev pub next_constant : ℕ → List (List ℕ) → Result (PrintItem × List (List ℕ)) Break
-next_constant line [] = refuse line 25
-next_constant line (s ∷ cs) = if length s == 0 then refuse line 25 else Ok (text_item s, cs)
+next_constant line [] = refuse line Malformed
+next_constant line (s ∷ cs) = if length s == 0 then refuse line Malformed else Ok (text_item s, cs)
 
 -- an item, the text after it and the constants that are left
 abbrev pub item_at : ℕ → List ℕ → List (List ℕ) → Result (PrintItem × List ℕ × List (List ℕ)) Break
@@ -126,7 +128,7 @@ abbrev pub do_at : ℕ → List ℕ → Result DoHead Break
 do_at line t =
     let n = prefix_len is_digit t in
     if nat_le n most_digits then (name_at line (without_comma (drop n t)) >>= λ x. wanted_at line (codes "=") x.1 >>= λ u. head_of line (value (take n t)) x.0 u)
-    else refuse line 25
+    else refuse line Malformed
 
 -- ---- statements
 
@@ -140,7 +142,7 @@ assigned_behind line a t = wanted_at line (codes "=") t >>= λ u. whole_at line 
 abbrev pub definitions_at : ℕ → List ℕ → Result (List Definition) Break
 definitions_at line t = elim (after (codes "(") t) [
   | Some u ↦ closed_list line (definition_at line) u >>= λ x. end_at line x.1 >>= λ v. Ok x.0
-  | None ↦ refuse line 25
+  | None ↦ refuse line Malformed
 ]
 
 -- behind the parenthesis of a PARAMETER
@@ -149,10 +151,10 @@ enclosed_definitions_at line t = closed_list line (definition_at line) t >>= λ 
 
 -- behind the parenthesis of an ELSE IF
 abbrev pub arm_at : ℕ → List ℕ → Result Kind Break
-arm_at line t = front_at line t >>= λ x. wanted_at line (codes ")") x.1 >>= λ u. if is_word (codes "THEN") u then Ok (else_if x.0) else refuse line 25
+arm_at line t = front_at line t >>= λ x. wanted_at line (codes ")") x.1 >>= λ u. if is_word (codes "THEN") u then Ok (else_if x.0) else refuse line Malformed
 
 abbrev pub else_if_at : ℕ → List ℕ → Result Kind Break
-else_if_at line t = elim (after (codes "(") t) [ Some u ↦ arm_at line u | None ↦ refuse line 25 ]
+else_if_at line t = elim (after (codes "(") t) [ Some u ↦ arm_at line u | None ↦ refuse line Malformed ]
 
 -- a text that is a name as a whole
 abbrev pub whole_name_at : ℕ → List ℕ → Result (List ℕ) Break
@@ -160,7 +162,7 @@ whole_name_at line t = name_at line t >>= ended line
 
 -- a keyword that stands alone
 abbrev pub alone : ℕ → Kind → List ℕ → Result Kind Break
-alone line k t = if length t == 0 then Ok k else refuse line 25
+alone line k t = if length t == 0 then Ok k else refuse line Malformed
 
 -- what stands behind a keyword
 abbrev pub worded_at : ℕ → Keyword → List ℕ → List (List ℕ) → Result Kind Break
@@ -176,9 +178,9 @@ worded_at line Continue t cs = alone line go_on t
 worded_at line Else t cs = alone line else_arm t
 worded_at line ElseIf t cs = else_if_at line t
 worded_at line EndIf t cs = alone line end_if t
-worded_at line Stop t cs = if is_stop_text t cs then Ok stop else refuse line 25
+worded_at line Stop t cs = if is_stop_text t cs then Ok stop else refuse line Malformed
 worded_at line End t cs = alone line end t
-worded_at line LeftOut t cs = refuse line 27
+worded_at line LeftOut t cs = refuse line rules.LeftOut
 
 abbrev pub block_if_at : ℕ → List ℕ → Result Kind Break
 block_if_at line t = whole_at line t >>= λ e. Ok (block_if e)
@@ -193,8 +195,8 @@ class_at line inner (classes.logical_if u v) cs = whole_at line u >>= λ e. inne
 class_at line inner (classes.do_loop u) cs = do_at line u >>= λ h. Ok (do_loop h)
 class_at line inner (classes.assignment u) cs = assigned_at line u
 class_at line inner (classes.worded k u) cs = worded_at line k u cs
-class_at line inner classes.unclosed cs = refuse line 25
-class_at line inner classes.unknown cs = refuse line 20
+class_at line inner classes.unclosed cs = refuse line Malformed
+class_at line inner classes.unknown cs = refuse line UnknownStatement
 
 -- n bounds how many logical IFs hold one another
 abbrev pub kind_at : ℕ → ℕ → List ℕ → List (List ℕ) → Result Kind Break
@@ -202,10 +204,10 @@ kind_at line zero t cs = refuse line spent
 kind_at line (suc n) t cs = class_at line (λ v. kind_at line n v cs) (class_of t) cs
 
 abbrev pub initial : ℕ → List ℕ → Kind → Result Kind Break
-initial line text k = if is_initial k text then Ok k else refuse line 25
+initial line text k = if is_initial k text then Ok k else refuse line Malformed
 
 abbrev pub shallow : ℕ → Kind → Result Kind Break
-shallow line k = if nat_le (depth_of_kind k) depth_limit then Ok k else refuse line 26
+shallow line k = if nat_le (depth_of_kind k) depth_limit then Ok k else refuse line Deep
 
 abbrev pub accepted : ℕ → List ℕ → Kind → Result Kind Break
 accepted line text k = initial line text k >>= shallow line

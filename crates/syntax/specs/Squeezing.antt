@@ -6,6 +6,7 @@ use Rattle.std.specs.declared.vec.IntoIter.{IntoIter}
 use Rattle.ast.specs.Answers.{Break}
 use Rattle.ast.specs.Results.{◌>>=◌}
 use Rattle.ast.specs.Tree.{Statement}
+use Rattle.ast.specs.declared.rule.Rule.TheVariants.{UnendedText}
 use Rattle.expressions.specs.Answers.{refuse}
 use Rattle.syntax.specs.declared.pieces.Place.{Place}
 use Rattle.syntax.specs.declared.pieces.Place.TheVariants.{Outside, Inside, Closing}
@@ -34,7 +35,7 @@ abbrev pub squeezed : List ℕ → Option (List ℕ × List (List ℕ))
 squeezed t = run Outside [] [] [] t
 
 abbrev pub finished : ℕ → Option (List ℕ × List (List ℕ)) → Result (List ℕ × List (List ℕ)) Break
-finished line None = refuse line 21
+finished line None = refuse line UnendedText
 finished line (Some x) = Ok x
 
 abbrev pub text_at : ℕ → Option ℕ → List ℕ → Result Statement Break

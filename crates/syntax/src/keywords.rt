@@ -4,6 +4,7 @@ ghost use Rattle.std.specs.Prelude.{◌≡◌, [], map, IfErr, option_map};
 ghost use Rattle.ast.specs.Answers.{Gives};
 ghost use Rattle.ast.specs.View.{access, declarator, definition, item, kind, letters};
 ghost use Rattle.ast.specs.declared.refusal.Refusal.TheVariants.{Refused};
+ghost use Rattle.ast.specs.declared.rule.Rule.TheVariants.{Malformed};
 ghost use Rattle.expressions.specs.Answers.{IsRefused};
 ghost use Rattle.expressions.specs.Reading.{element_at, ended};
 ghost use Rattle.syntax.specs.ReadingStatements.{items_at, listed, list_behind_unit};
@@ -15,19 +16,19 @@ ghost use Rattle.syntax.specs.Statements.{is_short_number, has_text, is_stop_tex
 
 use crate::class::{Keyword, is_digits, is_word};
 use crate::lists::{declarators, definitions, elements, items, room};
-use ast::{Access, Declarator, Definition, Item, Kind, Line, Name, Refusal};
-use expressions::{after, end, expression, name, wanted};
+use ast::{Access, Declarator, Definition, Item, Kind, Line, Name, Refusal, Rule};
+use expressions::{after, end, expression, name, refused, wanted};
 use std::alloc::Global;
 use std::vec::IntoIter;
 
 /// The greatest number of digits of a label and of a STOP.
 pub const MOST_DIGITS: usize = 5;
 
-/// Refusal 25: a malformed statement, in this line.
+/// The refusal of a malformed statement, in this line.
 pub fn malformed(line: Line) -> Refusal
-    ensures { result ≡ Refused 25 line }
+    ensures { result ≡ Refused Malformed line }
 {
-    Refusal::Refused { number: 25, line }
+    refused(Rule::Malformed, line)
 }
 
 /// The name behind which the text stands, where it is empty.
@@ -61,7 +62,7 @@ fn declarator_list(
     Ok(list)
 }
 
-/// The definitions of a PARAMETER, behind whose opening parenthesis the text stands. Numbers 22 to
+/// The definitions of a PARAMETER, behind whose opening parenthesis the text stands. Rules 22 to
 /// 25.
 fn enclosed_definitions(alloc: Global, text: &[u8], line: Line) -> Result<Vec<Definition>, Refusal>
     ensures { Gives (λ v. map definition v.items) result (enclosed_definitions_at line text.now) }
@@ -72,7 +73,7 @@ fn enclosed_definitions(alloc: Global, text: &[u8], line: Line) -> Result<Vec<De
     Ok(list)
 }
 
-/// The definitions of a PARAMETER, in parentheses. Numbers 22 to 25.
+/// The definitions of a PARAMETER, in parentheses. Rules 22 to 25.
 fn definition_list(alloc: Global, text: &[u8], line: Line) -> Result<Vec<Definition>, Refusal>
     ensures { Gives (λ v. map definition v.items) result (definitions_at line text.now) }
 {
@@ -82,7 +83,7 @@ fn definition_list(alloc: Global, text: &[u8], line: Line) -> Result<Vec<Definit
     }
 }
 
-/// The text of the list that stands behind `*`, if there is one. Number 25.
+/// The text of the list that stands behind `*`, if there is one. Rule 25.
 fn list_behind_star(text: &[u8], line: Line) -> Result<Option<&[u8]>, Refusal>
     ensures reads { Gives (λ o. option_map (λ u. u.now) o) result (list_behind_star line text.now) }
     ensures sure { IfErr result IsRefused }
@@ -131,7 +132,7 @@ fn element_list(alloc: Global, list: Option<&[u8]>, line: Line) -> Result<Vec<Ac
     Ok(read)
 }
 
-/// An ELSE IF behind whose opening parenthesis the text stands. Numbers 22 to 25.
+/// An ELSE IF behind whose opening parenthesis the text stands. Rules 22 to 25.
 fn arm(alloc: Global, text: &[u8], line: Line) -> Result<Kind, Refusal>
     ensures { Gives kind result (arm_at line text.now) }
 {
@@ -153,7 +154,7 @@ fn else_if(alloc: Global, text: &[u8], line: Line) -> Result<Kind, Refusal>
     }
 }
 
-/// A statement whose keyword stands alone. Number 25.
+/// A statement whose keyword stands alone. Rule 25.
 fn alone(does: Kind, text: &[u8], line: Line) -> Result<Kind, Refusal>
     ensures reads { Gives kind result (alone line (kind does) text.now) }
     ensures sure { IfErr result IsRefused }
@@ -278,7 +279,7 @@ fn read_unit(alloc: Global, text: &[u8], line: Line) -> Result<Kind, Refusal>
     Ok(Kind::Read(elements))
 }
 
-/// A statement behind whose keyword the text stands. Numbers 22 to 25, and 27.
+/// A statement behind whose keyword the text stands. Rules 22 to 25, and 27.
 pub fn worded(
     alloc: Global,
     keyword: Keyword,
@@ -303,6 +304,6 @@ pub fn worded(
         Keyword::EndIf => alone(Kind::EndIf, text, line),
         Keyword::Stop => stop(text, constants, line),
         Keyword::End => alone(Kind::End, text, line),
-        Keyword::LeftOut => Err(Refusal::Refused { number: 27, line }),
+        Keyword::LeftOut => Err(refused(Rule::LeftOut, line)),
     }
 }

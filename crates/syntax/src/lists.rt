@@ -11,22 +11,16 @@ ghost use Rattle.syntax.specs.ReadingStatements.{declared_at, part_at, definitio
 ghost use Rattle.syntax.specs.ReadingStatements.{next_constant, item_at, items_from};
 ghost use Rattle.syntax.specs.Squeezing.{texts_left};
 
-use ast::{Access, Bounds, Declarator, Definition, Expr, Item, Line, Name, Refusal};
-use expressions::{access, after, end, expression, name, wanted};
+use ast::{Access, Bounds, Declarator, Definition, Expr, Item, Line, Name, Refusal, Rule};
+use expressions::{access, after, end, expression, name, refused, wanted};
 use std::alloc::{AllocError, Global};
 use std::vec::IntoIter;
 
-/// The number where the room for the parts of a list ends: that of no refusal.
-const SPENT: u8 = 0;
-
-/// The refusal where the room ends. No text comes there.
+/// The refusal where the room ends: of no rule of statements. No text comes there.
 pub fn spent(line: Line) -> Refusal
     ensures { result ≡ Refused spent line }
 {
-    Refusal::Refused {
-        number: SPENT,
-        line,
-    }
+    refused(Rule::LargeProgram, line)
 }
 
 /// Room for the parts that a text may have.
@@ -58,7 +52,7 @@ fn upper(alloc: Global, first: Expr, text: &[u8], line: Line) -> Result<(Bounds,
     }
 }
 
-/// The bounds of one dimension. Numbers 22 to 25.
+/// The bounds of one dimension. Rules 22 to 25.
 fn bounds(alloc: Global, text: &[u8], line: Line) -> Result<(Bounds, &[u8]), Refusal>
     ensures { Gives (λ x. (bounds x.0, x.1.now)) result (bounds_at line text.now) }
 {
@@ -100,7 +94,7 @@ fn bounds_list<'a>(
 
 // ---- names with bounds
 
-/// An array behind whose name and opening parenthesis the text stands. Numbers 22 to 25.
+/// An array behind whose name and opening parenthesis the text stands. Rules 22 to 25.
 fn array(alloc: Global, name: Name, text: &[u8], line: Line) -> Result<(Declarator, &[u8]), Refusal>
     ensures { Gives (λ x. (declarator x.0, x.1.now)) result (array_of line name.letters text.now) }
 {
@@ -109,7 +103,7 @@ fn array(alloc: Global, name: Name, text: &[u8], line: Line) -> Result<(Declarat
     Ok((Declarator { name, bounds }, rest))
 }
 
-/// A declarator behind whose name the text stands. Numbers 22 to 25.
+/// A declarator behind whose name the text stands. Rules 22 to 25.
 fn declared(
     alloc: Global,
     name: Name,
@@ -128,7 +122,7 @@ fn declared(
     }
 }
 
-/// A name, with bounds if `bounded` asks for them or if it has some. Numbers 22 to 25.
+/// A name, with bounds if `bounded` asks for them or if it has some. Rules 22 to 25.
 fn declarator(
     alloc: Global,
     bounded: bool,
@@ -154,7 +148,7 @@ fn push_declarator(read: &mut Vec<Declarator>, next: Declarator) -> Result<(), A
 }
 
 /// Reads declarators after those that were read, the first right here, to the end of the text,
-/// which is given. `room` bounds their number. Numbers 22 to 25.
+/// which is given. `room` bounds their number. Rules 22 to 25.
 pub fn declarators<'a>(
     alloc: Global,
     bounded: bool,
@@ -180,7 +174,7 @@ pub fn declarators<'a>(
 
 // ---- definitions
 
-/// A name, `=` and an expression. Numbers 22 to 25.
+/// A name, `=` and an expression. Rules 22 to 25.
 fn definition(alloc: Global, text: &[u8], line: Line) -> Result<(Definition, &[u8]), Refusal>
     ensures { Gives (λ x. (definition x.0, x.1.now)) result (definition_at line text.now) }
 {
@@ -199,7 +193,7 @@ fn push_definition(read: &mut Vec<Definition>, next: Definition) -> Result<(), A
 }
 
 /// Reads definitions after those that were read, the first right here, and gives what stands behind
-/// the closing parenthesis. `room` bounds their number. Numbers 22 to 25.
+/// the closing parenthesis. `room` bounds their number. Rules 22 to 25.
 pub fn definitions<'a>(
     alloc: Global,
     read: &mut Vec<Definition>,
@@ -233,7 +227,7 @@ fn push_element(read: &mut Vec<Access>, next: Access) -> Result<(), AllocError>
 }
 
 /// Reads elements after those that were read, the first right here, to the end of the text, which
-/// is given. `room` bounds their number. Numbers 22 to 25.
+/// is given. `room` bounds their number. Rules 22 to 25.
 pub fn elements<'a>(
     alloc: Global,
     read: &mut Vec<Access>,
@@ -258,7 +252,7 @@ pub fn elements<'a>(
 
 // ---- items
 
-/// The next character constant as an item. Number 25.
+/// The next character constant as an item. Rule 25.
 fn constant_text(constants: &mut IntoIter<Vec<u8>>, line: Line) -> Result<Item, Refusal>
     ensures reads { Gives (λ x.
         (item x, texts_left constants.new)) result (next_constant line (texts_left constants.old)) }
@@ -266,11 +260,11 @@ fn constant_text(constants: &mut IntoIter<Vec<u8>>, line: Line) -> Result<Item, 
 {
     match constants.next() {
         Some(text) if !text.is_empty() => Ok(Item::Text(text)),
-        _ => Err(Refusal::Refused { number: 25, line }),
+        _ => Err(refused(Rule::Malformed, line)),
     }
 }
 
-/// The item that the text begins with, and what stands after it. Numbers 22 to 25.
+/// The item that the text begins with, and what stands after it. Rules 22 to 25.
 fn item<'a>(
     alloc: Global,
     text: &'a [u8],
@@ -297,7 +291,7 @@ fn push_item(read: &mut Vec<Item>, next: Item) -> Result<(), AllocError>
 }
 
 /// Reads items after those that were read, the first right here, to the end of the text, which is
-/// given. `room` bounds their number. Numbers 22 to 25.
+/// given. `room` bounds their number. Rules 22 to 25.
 pub fn items<'a>(
     alloc: Global,
     read: &mut Vec<Item>,

@@ -26,7 +26,7 @@ fn number(digits: &[u8]) -> Label
     total
 }
 
-/// The incrementation parameter behind the terminal one, if there is one. Numbers 22 to 25.
+/// The incrementation parameter behind the terminal one, if there is one. Rules 22 to 25.
 fn step(alloc: Global, text: &[u8], line: Line) -> Result<Option<Expr>, Refusal>
     ensures { Gives optional_term result (step_at line text.now) }
 {
@@ -37,7 +37,7 @@ fn step(alloc: Global, text: &[u8], line: Line) -> Result<Option<Expr>, Refusal>
     Ok(Some(whole(alloc, behind, line)?))
 }
 
-/// A DO behind whose `=` the text stands. Numbers 22 to 25.
+/// A DO behind whose `=` the text stands. Rules 22 to 25.
 fn head(
     alloc: Global,
     terminal: Label,
@@ -52,7 +52,7 @@ fn head(
     bounded(alloc, terminal, variable, first, behind, line)
 }
 
-/// A DO behind the comma of whose initial parameter the text stands. Numbers 22 to 25.
+/// A DO behind the comma of whose initial parameter the text stands. Rules 22 to 25.
 fn bounded(
     alloc: Global,
     terminal: Label,
@@ -75,7 +75,7 @@ fn bounded(
     })
 }
 
-/// A DO behind whose label the text stands, at its variable. Numbers 22 to 25.
+/// A DO behind whose label the text stands, at its variable. Rules 22 to 25.
 fn counted(alloc: Global, terminal: Label, text: &[u8], line: Line) -> Result<DoHead, Refusal>
     ensures { Gives head result (counted_by line terminal text.now) }
 {
@@ -84,7 +84,7 @@ fn counted(alloc: Global, terminal: Label, text: &[u8], line: Line) -> Result<Do
     head(alloc, terminal, variable, behind, line)
 }
 
-/// A DO behind whose keyword the text stands. Numbers 22 to 25.
+/// A DO behind whose keyword the text stands. Rules 22 to 25.
 pub fn do_head(alloc: Global, text: &[u8], line: Line) -> Result<DoHead, Refusal>
     ensures { Gives head result (do_at line text.now) }
 {

@@ -5,7 +5,8 @@ ghost use Rattle.syntax.specs.Pieces.{folded};
 ghost use Rattle.ast.specs.Answers.{Gives};
 ghost use Rattle.syntax.specs.Squeezing.{left_of, squeezed, finished};
 
-use ast::{Line, Refusal};
+use ast::{Line, Refusal, Rule};
+use expressions::refused;
 use std::alloc::{AllocError, Global};
 use std::mem;
 
@@ -38,7 +39,7 @@ struct Squeezing {
     place: Place,
 }
 
-/// The marks and the character constants of a text. Number 21.
+/// The marks and the character constants of a text. Rule 21.
 pub fn squeeze(alloc: Global, text: &[u8], line: Line) -> Result<Squeezed, Refusal>
     ensures { Gives (λ s. (s.marks.items, map (λ v. v.items) s.constants.items)) result
         (finished line (squeezed text.now)) }
@@ -160,7 +161,7 @@ fn finish(state: Squeezing, line: Line) -> Result<Squeezed, Refusal>
 {
     match state.place {
         Place::Outside => Ok(finish_outside(state)),
-        Place::Inside => Err(Refusal::Refused { number: 21, line }),
+        Place::Inside => Err(refused(Rule::UnendedText, line)),
         Place::Closing => Ok(finish_closing(state)?),
     }
 }

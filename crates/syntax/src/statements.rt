@@ -2,9 +2,10 @@
 
 ghost use Rattle.std.specs.Prelude.{◌≡◌, List, map, IfOk, IfErr, Ok, take};
 ghost use Rattle.ast.specs.Answers.{Gives, Says};
+ghost use Rattle.ast.specs.declared.rule.Rule.TheVariants.{UnendedText};
 ghost use Rattle.ast.specs.Tree.{Statement, logical_if};
 ghost use Rattle.ast.specs.View.{access, kind, statement, term};
-ghost use Rattle.expressions.specs.Answers.{IsNumber, IsRefused, refuse};
+ghost use Rattle.expressions.specs.Answers.{IsOfStatement, IsRefused, refuse};
 ghost use Rattle.syntax.specs.Pieces.{Piece, Cut, marks, constants};
 ghost use Rattle.syntax.specs.ReadingStatements.{accepted, assigned_at, assigned_behind};
 ghost use Rattle.syntax.specs.ReadingStatements.{block_if_at, do_loop_at, kind_at, checked_at};
@@ -18,8 +19,8 @@ use crate::keywords::{malformed, worded};
 use crate::lists::{room, spent};
 use crate::loops::do_head;
 use crate::pieces::{Squeezed, squeeze};
-use ast::{Access, Expr, Kind, Line, Refusal, Stmt};
-use expressions::{DEPTH_LIMIT, access, wanted, whole};
+use ast::{Access, Expr, Kind, Line, Refusal, Rule, Stmt};
+use expressions::{DEPTH_LIMIT, access, refused, wanted, whole};
 use fixed_form::{Labelled, TEXT_WIDTH, is_end};
 use std::alloc::Global;
 use std::vec::IntoIter;
@@ -31,7 +32,7 @@ fn assignment(alloc: Global, text: &[u8], line: Line) -> Result<Kind, Refusal>
     assigned(alloc, target, rest, line)
 }
 
-/// An assignment behind whose target the text stands. Numbers 22 to 25.
+/// An assignment behind whose target the text stands. Rules 22 to 25.
 fn assigned(alloc: Global, target: Access, text: &[u8], line: Line) -> Result<Kind, Refusal>
     ensures { Gives kind result (assigned_behind line (access target) text.now) }
 {
@@ -61,7 +62,7 @@ fn logical_if(alloc: Global, condition: Expr, inner: Kind) -> Result<Kind, Refus
 }
 
 /// What the statement of these marks and character constants does. `room` bounds how many logical
-/// IFs hold one another. Numbers 20, 22 to 25, and 27.
+/// IFs hold one another. Rules 20, 22 to 25, and 27.
 fn kind(
     alloc: Global,
     text: &[u8],
@@ -85,7 +86,7 @@ fn kind(
         Class::Assignment(text) => assignment(alloc, text, line),
         Class::Worded(keyword, rest) => worded(alloc, keyword, rest, constants, line),
         Class::Unclosed => Err(malformed(line)),
-        Class::Unknown => Err(Refusal::Refused { number: 20, line }),
+        Class::Unknown => Err(refused(Rule::UnknownStatement, line)),
     }
 }
 
@@ -108,7 +109,7 @@ fn is_initial(does: &Kind, text: &[u8]) -> bool
     }
 }
 
-/// Whether a statement that does this may stand there: its text and its depth. Numbers 25 and 26.
+/// Whether a statement that does this may stand there: its text and its depth. Rules 25 and 26.
 fn check(does: &Kind, labelled: &Labelled) -> Result<(), Refusal>
     ensures reads { Gives (λ _.
         kind does.now) result (accepted labelled.now.line labelled.now.text.items (kind does.now)) }
@@ -119,12 +120,12 @@ fn check(does: &Kind, labelled: &Labelled) -> Result<(), Refusal>
         return Err(malformed(line));
     }
     if !is_shallow(does, DEPTH_LIMIT) {
-        return Err(Refusal::Refused { number: 26, line });
+        return Err(refused(Rule::Deep, line));
     }
     Ok(())
 }
 
-/// The statement that does this. Numbers 25 and 26.
+/// The statement that does this. Rules 25 and 26.
 fn checked(does: Kind, labelled: &Labelled) -> Result<Stmt, Refusal>
     ensures reads { Gives statement result
         (checked_at labelled.now.line labelled.now.label labelled.now.text.items (kind does)) }
@@ -159,10 +160,11 @@ fn read(alloc: Global, labelled: &Labelled) -> Result<Stmt, Refusal>
 
 /// The statement of a text, columns 7 to 72 of its lines joined.
 ///
-/// Refused are 21, an unfinished character constant, before all else; 27, a statement that the
-/// language leaves out by name; 20, an unknown one; 22 to 25, the first fault from the left; and
-/// 26, an expression deeper than 128, where the text is a statement otherwise. The line is the
-/// statement's.
+/// Refused are `UnendedText` (21), an unfinished character constant, before all else; `LeftOut`
+/// (27), a statement that the language leaves out by name; `UnknownStatement` (20); `RealConstant`
+/// (22), `LargeConstant` (23), `LongName` (24) and `Malformed` (25), the first fault from the left;
+/// and `Deep` (26), an expression deeper than 128, where the text is a statement otherwise. The
+/// line is the statement's.
 pub fn statement(alloc: Global, labelled: &Labelled) -> Result<Stmt, Refusal>
     ensures found { IfOk result (λ s.
         IsStatement labelled.now.line labelled.now.label labelled.now.text.items (statement s)) }
@@ -170,14 +172,14 @@ pub fn statement(alloc: Global, labelled: &Labelled) -> Result<Stmt, Refusal>
         → IsStatement labelled.now.line labelled.now.label labelled.now.text.items s
         → Gives statement result (Ok s) }
     ensures refused { IfErr result
-        (Says (λ number at. (at ≡ labelled.now.line) × IsNumber number
+        (Says (λ rule at. (at ≡ labelled.now.line) × IsOfStatement rule
         × ((s : Statement)
         → IsStatement labelled.now.line labelled.now.label labelled.now.text.items s → ⊥))) }
     ensures unfinished { ((ps : List Piece) → Cut ps labelled.now.text.items → ⊥)
-        → Gives statement result (refuse labelled.now.line 21) }
+        → Gives statement result (refuse labelled.now.line UnendedText) }
     ensures finished { IfErr result
-        (Says (λ number at. number ≡ 21 → (ps : List Piece) → Cut ps labelled.now.text.items
-        → ⊥)) }
+        (Says (λ rule at. rule ≡ UnendedText → (ps : List Piece)
+        → Cut ps labelled.now.text.items → ⊥)) }
     ensures exact { (ps : List Piece) → Cut ps labelled.now.text.items
         → Gives statement result
         (statement_at labelled.now.line labelled.now.label labelled.now.text.items (marks ps)

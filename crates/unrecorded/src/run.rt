@@ -70,7 +70,7 @@ impl<'c> Run<'c> {
     ///
     /// # Errors
     ///
-    /// 57 where p or s is out of its range; and want of memory.
+    /// `OutOfRange` where p or s is out of its range; and want of memory.
     pub fn new(
         alloc: Global,
         code: &'c Code,
@@ -82,7 +82,7 @@ impl<'c> Run<'c> {
         ensures refused { IfErr result (NoCore p s) }
     {
         if p < 1 || p > u64::from(MOST_PROCESSORS) || s < 1 || s > u64::from(MOST_SLOTS) {
-            return Err(CoreRefusal::Refused { number: 57 });
+            return Err(CoreRefusal::OutOfRange);
         }
         let activities = Activities::new(alloc, code, input, p as usize, s as usize)?;
         Ok(Run { input, activities })

@@ -131,4 +131,4 @@ pub returns-in_err-body-clause-exactly : goal.returns-in_err-body-clause-exactly
 returns-in_err-body-clause-exactly c = exact-refusal c.from_residual-in_err-body.result Memory c.args.text.now c.from_residual-in_err-body.ensures.1 (returns-in_err-body-clause-refused c)
 
 pub returns-clause-exactly : goal.returns-clause-exactly
-returns-clause-exactly c = λ number line cause. absurd (not-refused c.args.text.now _ number line (returns-clause-found c) cause)
+returns-clause-exactly c = λ rule line cause. absurd (not-refused c.args.text.now _ rule line (returns-clause-found c) cause)

@@ -1,4 +1,4 @@
-use Rattle.std.proofs.Common.{inr, refl, ◌+◌}
+use Rattle.std.proofs.Common.{refl, ◌+◌}
 use Rattle.machine.specs.CodeView.{code_of}
 use Rattle.replay.proofs.Ends.{gives_none, is_replay, never_ends, not_ended, nowhere_ends}
 use Rattle.replay.proofs.replaying.replay.Goals as goal
@@ -15,11 +15,8 @@ returns-in-Err-clause-only c =
 
 pub returns-in_default-ended-clause-refused : goal.returns-in_default-ended-clause-refused
 returns-in_default-ended-clause-refused c =
-    inr (
-      refl,
-      not_ended (code_of c.args.code.now) c.args.input.now c.args.schedule.now c.in_ok-activities.activities c.follow.new.activities c.len.result (2 + c.len.result)
-          c.in_ok-activities.ensures.are c.in_ok-activities.ensures.point c.in_default.ensures.leads c.in_default-ended.is c.len.ensures.is refl,
-    )
+    not_ended (code_of c.args.code.now) c.args.input.now c.args.schedule.now c.in_ok-activities.activities c.follow.new.activities c.len.result (2 + c.len.result)
+    c.in_ok-activities.ensures.are c.in_ok-activities.ensures.point c.in_default.ensures.leads c.in_default-ended.is c.len.ensures.is refl
 
 pub returns-in_default-ended-clause-only : goal.returns-in_default-ended-clause-only
 returns-in_default-ended-clause-only c =

@@ -42,4 +42,5 @@ returns-in-Unclosed t c =
     refused _ _ _ _ c.malformed.ensures (of_class c.args.line c.args.room c.if-room-eq0.false c.args.text.now (texts_left c.args.constants.now) _ c.in-Unclosed.ensures)
 
 pub returns-in-Unknown : goal.returns-in-Unknown
-returns-in-Unknown t c = of_class c.args.line c.args.room c.if-room-eq0.false c.args.text.now (texts_left c.args.constants.now) _ c.in-Unknown.ensures
+returns-in-Unknown t c =
+    refused _ _ _ _ c.refused.ensures (of_class c.args.line c.args.room c.if-room-eq0.false c.args.text.now (texts_left c.args.constants.now) _ c.in-Unknown.ensures)

@@ -1,6 +1,7 @@
 use Rattle.std.proofs.Common.{sym, ◌∙◌}
 use Rattle.schedules.proofs.Parsing.{at_bytes, begun_at, headed, no_sizes, only_refused, opened, wants_where}
 use Rattle.schedules.specs.Refusals.{IsHeaded}
+use Rattle.schedules.specs.declared.flaw.Flaw.TheVariants.{Header}
 use Rattle.schedules.proofs.Wholes.{one_schedule, refused_only}
 use Rattle.schedules.proofs.schedule.Schedule.parse.Goals as goal
 
@@ -10,7 +11,7 @@ returns-in_default-sizes-clause-refused c =
 
 pub returns-in_default-sizes-clause-only : goal.returns-in_default-sizes-clause-only
 returns-in_default-sizes-clause-only c =
-    refused_only c.args.bytes.now 51 2 (no_sizes c.args.bytes.now c.in-Some.version c.in-Some.rest.now (sym c.in-Some.ensures) (sym c.in_default-sizes.ensures))
+    refused_only c.args.bytes.now Header 2 (no_sizes c.args.bytes.now c.in-Some.version c.in-Some.rest.now (sym c.in-Some.ensures) (sym c.in_default-sizes.ensures))
 
 pub new-schedule-requires : goal.new-schedule-requires
 new-schedule-requires c = record {

@@ -16,4 +16,4 @@ returns-in_ok-push-in-Ok-clause-ok c =
 pub returns-in-Err-clause-err : goal.returns-in-Err-clause-err
 returns-in-Err-clause-err c =
     reads_no_entry c.self.inside.version c.self.inside.processors c.self.inside.slots c.self.inside.shorts.items c.self.inside.picked.items c.args.self.now c.self.invariant c.self.view_is
-    c.args.text.now c.in-Err.fault c.number_of.result c.len.result c.requires.some (sym c.in-Err.ensures) c.number_of.ensures (c.len.ensures ∙ c.self.inside.shorts.ok.0)
+    c.args.text.now c.in-Err.fault c.flaw_of.result c.len.result c.requires.some (sym c.in-Err.ensures) c.flaw_of.ensures (c.len.ensures ∙ c.self.inside.shorts.ok.0)

@@ -1,10 +1,12 @@
 //! Hints at the commonest causes of a schedule's refusal, by the line that is refused.
 
+use schedules::Flaw;
+
 /// How many digits 2^128 has.
 const LONGEST_NUMBER: usize = 39;
 
-/// What may have caused the refusal of a schedule by this number, at a line with its end.
-pub fn hint_of_schedule(number: u8, line: &[u8]) -> Option<&'static str> {
+/// What may have caused the refusal of a schedule with this flaw, at a line with its end.
+pub fn hint_of_schedule(flaw: Flaw, line: &[u8]) -> Option<&'static str> {
     let [text @ .., b'\n'] = line else {
         return Some("no LF stands behind the line");
     };
@@ -14,9 +16,9 @@ pub fn hint_of_schedule(number: u8, line: &[u8]) -> Option<&'static str> {
     if text.starts_with(b" ") || text.ends_with(b" ") {
         return Some("no blank stands before or behind what a line has");
     }
-    match number {
-        51 => of_head(text),
-        52 => of_entry(text),
+    match flaw {
+        Flaw::Header => of_head(text),
+        Flaw::Entry => of_entry(text),
         _ => None,
     }
 }
