@@ -1,7 +1,7 @@
 //! What lies under the lock.
 
 use crate::call::Call;
-use crate::driven::{Advanced, Driven, Onward, Pace};
+use crate::driven::{Advanced, Driven, Onward, Pace, Trial};
 use crate::lengths::Lengths;
 use crate::report::Effort;
 use crate::telling::Told;
@@ -16,12 +16,7 @@ const MOST_STEPS: u32 = 32;
 /// Iterations are long where they make so many steps each outside the lock. A processor that sleeps
 /// is woken for another iteration only where they are: to wake one takes longer than a shorter
 /// iteration.
-const LONG: u64 = 512;
-
-/// Iterations are short where they make fewer steps each outside the lock. Of several processors one
-/// alone begins them, and makes their steps in place, and the others sleep: to hand the lock from
-/// one to another takes longer.
-const SHORT: u64 = 256;
+const LONG: u64 = 1024;
 
 /// The processor that hands records on: the caller's thread, which has the writer.
 const TELLER: usize = 0;
@@ -195,6 +190,24 @@ impl<C: Call, D: Driven<C> + Drop> Board<C, D> {
         }
     }
 
+    /// Whether iterations of the loop that is open are short, as far as enough have begun to tell.
+    fn are_short(&self) -> bool {
+        match self.lengths.get(self.run.open_loop()) {
+            Some(lengths) => lengths.are_short(),
+            None => false,
+        }
+    }
+
+    /// Which loop is open, and how often it was tried how long its iterations are.
+    fn trial(&self) -> Trial {
+        let open = self.run.open_loop();
+        let trials = match self.lengths.get(open) {
+            Some(lengths) => lengths.trials(),
+            None => 0,
+        };
+        Trial { open, trials }
+    }
+
     /// Whether one who sleeps is worth waking: an activity is ready, or an iteration may begin and
     /// iterations are long.
     pub fn wants_another(&self) -> bool {
@@ -212,7 +225,7 @@ impl<C: Call, D: Driven<C> + Drop> Board<C, D> {
     /// Whether iterations that may begin are left to another processor that is awake, since
     /// iterations are short.
     fn leaves_tickets(&self) -> bool {
-        !self.have_done(SHORT) && !self.is_last_awake()
+        self.are_short() && !self.is_last_awake()
     }
 
     /// Whether a processor that holds nothing takes up nothing: there is nothing, or only an
@@ -308,7 +321,8 @@ impl<C: Call, D: Driven<C> + Drop> Board<C, D> {
     fn pace(&self) -> Pace {
         Pace {
             begins: !self.tells_gate && !self.leaves_tickets(),
-            stretches: self.have_done(SHORT),
+            stretches: !self.are_short(),
+            trial: self.trial(),
         }
     }
 

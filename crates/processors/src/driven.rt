@@ -17,6 +17,13 @@ pub enum Onward {
     Shares,
 }
 
+/// When it was tried how long iterations are: of which loop, and how often before.
+#[derive(Clone, Copy, PartialEq, Eq)]
+pub struct Trial {
+    pub open: usize,
+    pub trials: u32,
+}
+
 /// How a processor goes about its iterations.
 #[derive(Clone, Copy, PartialEq, Eq)]
 pub struct Pace {
@@ -24,6 +31,7 @@ pub struct Pace {
     pub begins: bool,
     /// Whether steps of them are made outside the lock.
     pub stretches: bool,
+    pub trial: Trial,
 }
 
 /// How far a processor came in one go.

@@ -1,7 +1,7 @@
 //! Runs of a call, with a schedule of what is done and without one.
 
 use crate::call::Call;
-use crate::driven::{Advanced, Driven, Onward, Pace};
+use crate::driven::{Advanced, Driven, Onward, Pace, Trial};
 use crate::report::{Effort, Report, RunRefusal};
 use crate::telling::Told;
 use crate::work::{Coded, Loaded, Own};
@@ -573,9 +573,14 @@ impl<'c, C: Call> Unrecorded<'c, C> {
 
     /// Processor `q` loads a stretch, if it holds an iteration, another processor could have the
     /// lock meanwhile, and stretches weren't short of late.
-    fn stretch(&mut self, q: usize, own: &mut Own<'_, C>) -> Result<bool, AllocError> {
+    fn stretch(
+        &mut self,
+        q: usize,
+        own: &mut Own<'_, C>,
+        trial: Trial,
+    ) -> Result<bool, AllocError> {
         let processors = self.run.processors();
-        if q >= processors || processors == 1 || !own.pause.is_over() {
+        if q >= processors || processors == 1 || !own.pause.is_over(trial) {
             return Ok(false);
         }
         self.run.show(&mut self.stale, own.mirror);
@@ -649,14 +654,14 @@ impl<'c, C: Call> Unrecorded<'c, C> {
         pace: Pace,
         made: &mut Made,
     ) -> Result<Option<Onward>, AllocError> {
-        if pace.stretches && self.stretch(q, own)? {
+        if pace.stretches && self.stretch(q, own, pace.trial)? {
             return Ok(Some(Onward::Works));
         }
         if !self.proceed(q, pace, made) {
             return self.move_on(q, pace.begins, made);
         }
         // This iteration is longer than others were.
-        if !pace.stretches && self.stretch(q, own)? {
+        if !pace.stretches && self.stretch(q, own, pace.trial)? {
             return Ok(Some(Onward::Works));
         }
         Ok(None)

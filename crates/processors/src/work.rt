@@ -5,6 +5,7 @@ ghost use Rattle.std.proofs.Props.{props};
 ghost use Rattle.machine.specs.CodeView.{code_of};
 
 use crate::call::Call;
+use crate::driven::Trial;
 use crate::telling::Told;
 use machine::{Code, Work};
 use std::alloc::{AllocError, Global};
@@ -46,6 +47,8 @@ pub enum Loaded {
 /// When a processor loads stretches: not where they have been short.
 #[derive(Clone, Copy)]
 pub struct Pause {
+    /// When stretches were found to be short.
+    trial: Trial,
     /// How often it makes steps in place before it loads another stretch.
     left: u32,
     /// How often it will do so after the next short one.
@@ -53,8 +56,21 @@ pub struct Pause {
 }
 
 impl Pause {
-    /// Whether another stretch is to be loaded. Where none is, steps are made in place.
-    pub fn is_over(&mut self) -> bool {
+    /// There is none yet.
+    fn none(trial: Trial) -> Pause {
+        Pause {
+            trial,
+            left: 0,
+            next: 1,
+        }
+    }
+
+    /// Whether another stretch is to be loaded, in this trial. Where none is, steps are made in
+    /// place.
+    pub fn is_over(&mut self, trial: Trial) -> bool {
+        if self.trial != trial {
+            *self = Pause::none(trial);
+        }
         if self.left == 0 {
             return true;
         }
@@ -132,7 +148,7 @@ impl<'c, C: Call> Coded<'c, C> {
             stretch: Stretch::new(self.alloc, self.code, self.mirror, self.notes)?,
             mirror: self.mirror,
             loaded: Loaded::Nothing,
-            pause: Pause { left: 0, next: 1 },
+            pause: Pause::none(Trial { open: 0, trials: 0 }),
             of: PhantomData,
         })
     }
