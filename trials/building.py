@@ -11,9 +11,8 @@ ROOT = os.path.join(HERE, "..")
 def prepare(folder, name, below):
     """Makes a folder a repository with the program of this name and copies of the crates below it."""
     sys.path.insert(0, os.path.join(ROOT, "bench", "machine"))
-    from build import needed
-    with open(os.path.join(ROOT, "crates.txt")) as file:
-        lines = dict(line.rstrip("\n").split(":") for line in file)
+    from build import listed, needed
+    lines = listed()
     wanted = needed(below, lines)
     for crate in wanted:
         shutil.copytree(os.path.join(ROOT, "crates", crate), os.path.join(folder, "crates", crate),

@@ -18,12 +18,17 @@ def needed(names, lines):
     return found
 
 
+def listed():
+    """What crates.txt says that each crate uses, by its name."""
+    with open(os.path.join(ROOT, 'crates.txt')) as file:
+        return dict(line.rstrip('\n').split(':') for line in file if line[0].isalpha())
+
+
 def build(folder, name, *below):
     """The binary of the program in the folder of this name, built in a repository of its own that is
     made in `folder`."""
     crates = os.path.join(folder, 'crates')
-    with open(os.path.join(ROOT, 'crates.txt')) as file:
-        lines = dict(line.rstrip('\n').split(':') for line in file)
+    lines = listed()
     wanted = needed(below, lines)
     for crate in wanted:
         shutil.copytree(os.path.join(ROOT, 'crates', crate), os.path.join(crates, crate),
