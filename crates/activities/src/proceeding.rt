@@ -8,7 +8,7 @@ use crate::holding::{Activities, Holder};
 use crate::parts::Iteration;
 use crate::picking::begin;
 use crate::sharing::{keep, synchronize};
-use crate::told::Told;
+use crate::told::{Counts, Told};
 use crate::turn::Outcome;
 use machine::Open;
 use stretches::{Stale, stride_noting};
@@ -73,10 +73,10 @@ impl<'c> Activities<'c> {
                 outcome,
             },
             None => {
-                let told = Told {
+                let told = Told::Counts(Counts {
                     kernel: &self.shared.kernel,
                     number: iteration.number,
-                };
+                });
                 let cells = &mut self.shared.cells;
                 Came {
                     made: stride_noting(self.code, &mut iteration.frame, cells, stale, &told, n),

@@ -9,9 +9,9 @@ ghost use Rattle.activities.specs.Sharing.{StrodeAt};
 
 use crate::holding::{Activities, Holder};
 use crate::parts::Iteration;
-use crate::told::Told;
+use crate::told::{Counts, Told};
 use ec_kernel::Kernel;
-use machine::{Code, Frame, Unknown};
+use machine::{Code, Frame};
 use stretches::{Stale, Stretch, stride_noting};
 
 /// Local instructions, loads and stores, one after another, at most `n`, of what stands in a
@@ -33,10 +33,10 @@ fn stride_at(
 {
     match place {
         Some(iteration) => {
-            let told = Told {
+            let told = Told::Counts(Counts {
                 kernel,
                 number: iteration.number,
-            };
+            });
             stride_noting(code, &mut iteration.frame, cells, stale, &told, n)
         }
         None => 0,
@@ -94,7 +94,7 @@ impl<'c> Activities<'c> {
             &mut self.main.frame,
             &mut self.shared.cells,
             stale,
-            &Unknown,
+            &Told::Nothing,
             n,
         )
     }
