@@ -72,7 +72,8 @@ Status:
 At a fault of a subscript or of the input the source is then run once more, as
 by seq, to say which subscript or which record it is.
 
-With --schedule the run keeps its schedule in memory until it has ended.
+With --schedule or --tally the run keeps its schedule in memory until it has
+ended, and shows nothing before.
 
 Example:
   doac run examples/overlap.f -p 4 -s 8 --schedule overlap.schedule";
