@@ -16,6 +16,8 @@ use Rattle.command_line.specs.declared.command.Drawing.{Drawing}
 use Rattle.command_line.specs.declared.command.Modelled.{Modelled}
 use Rattle.command_line.specs.declared.command.TextFiles.{TextFiles}
 use Rattle.command_line.specs.declared.command.Threaded.{Threaded}
+use Rattle.pages.specs.declared.status.Status.{Status}
+use Rattle.pages.specs.declared.status.Status.TheVariants as statuses
 
 -- an argument that can't be done without
 abbrev pub needed : Text → Rule
@@ -361,11 +363,11 @@ NamesNone words NoPortion = (fault_of doac words ≡ []) × HeldInNone (subcomma
 NamesNone words Memory = ⊤
 
 -- the exit status of words that name no command
-abbrev pub line_status : LineFault → ℕ
-line_status (Help e) = 0
-line_status (Mistake e) = 3
-line_status NoCommand = 3
-line_status NoSuchNumber = 3
-line_status NoSize = 3
-line_status NoPortion = 3
-line_status Memory = 5
+abbrev pub line_status : LineFault → Status
+line_status (Help e) = statuses.Done
+line_status (Mistake e) = statuses.WrongCommand
+line_status NoCommand = statuses.WrongCommand
+line_status NoSuchNumber = statuses.WrongCommand
+line_status NoSize = statuses.WrongCommand
+line_status NoPortion = statuses.WrongCommand
+line_status Memory = statuses.NoMemory

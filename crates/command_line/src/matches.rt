@@ -12,6 +12,7 @@ use crate::command::{Command, Drawing, Modelled, TextFiles, Threaded};
 use clap::ArgMatches;
 use clap::error::ErrorKind;
 use explanations::explain::{is_explained, is_reason};
+use pages::Status;
 use std::alloc::AllocError;
 use thiserror::Error;
 
@@ -46,18 +47,18 @@ impl LineFault {
     ghost use Rattle.std.specs.Prelude.{◌≡◌};
     ghost use Rattle.command_line.specs.CommandLine.{line_status};
 
-    /// The exit status: 0 for help, 3 for a mistake, 5 for memory.
-    pub fn status(&self) -> u8
+    /// The exit status.
+    pub fn status(&self) -> Status
         ensures { result ≡ line_status self.now }
     {
         match self {
-            LineFault::Help(_) => 0,
-            LineFault::Mistake(_) => 3,
-            LineFault::NoCommand => 3,
-            LineFault::NoSuchNumber => 3,
-            LineFault::NoSize => 3,
-            LineFault::NoPortion => 3,
-            LineFault::Memory => 5,
+            LineFault::Help(_) => Status::Done,
+            LineFault::Mistake(_) => Status::WrongCommand,
+            LineFault::NoCommand => Status::WrongCommand,
+            LineFault::NoSuchNumber => Status::WrongCommand,
+            LineFault::NoSize => Status::WrongCommand,
+            LineFault::NoPortion => Status::WrongCommand,
+            LineFault::Memory => Status::NoMemory,
         }
     }
 }

@@ -6,6 +6,7 @@ use Rattle.pages.specs.declared.fault.EngineFault.{EngineFault}
 use Rattle.pages.specs.declared.fault.EngineFault.TheVariants.{Source, Input, Schedule, Writing, Memory, OutOfRange, NotStarted, Stuck}
 use Rattle.pages.specs.declared.outcomes.Outcome.{Outcome}
 use Rattle.pages.specs.declared.outcomes.Outcome.TheVariants.{Completed, Refused, Faulted, NoSchedule}
+use Rattle.pages.specs.declared.status.Status.{Status}
 use Rattle.engines.specs.Engines.{Checks, IsRefused, IsVerdict, Tells, Works}
 use Rattle.engines.specs.declared.verdict.Verdict.{Verdict}
 use Rattle.engines.specs.declared.verdict.Verdict.TheVariants as verdict
@@ -39,9 +40,9 @@ of_verdict source v old new (Err NotStarted) judged wrote = wrote
 of_verdict source v old new (Err Stuck) judged wrote = wrote
 
 -- for want of memory nothing is written
-pub of_nothing : (allows : Outcome → List ℕ → Type 0) (old : Option (List ℕ)) (status : ℕ) → status ≡ exit_of (Err Memory) → Ends allows old old status
+pub of_nothing : (allows : Outcome → List ℕ → Type 0) (old : Option (List ℕ)) (status : Status) → status ≡ exit_of (Err Memory) → Ends allows old old status
 of_nothing allows old status is = record { came = Err Memory; works = Keeps-refl old; is = is }
 
-pub list_nothing : (why : Bool) (source : List ℕ) (old : Option (List ℕ)) (status : ℕ) → status ≡ exit_of (Err Memory) → EndsList why source old old status
+pub list_nothing : (why : Bool) (source : List ℕ) (old : Option (List ℕ)) (status : Status) → status ≡ exit_of (Err Memory) → EndsList why source old old status
 list_nothing true source old status is = record { came = Err Memory; writes = inl (Keeps-refl old); is = is }
 list_nothing false source old status is = record { came = Err Memory; writes = Keeps-refl old; is = is }

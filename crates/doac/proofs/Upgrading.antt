@@ -2,6 +2,7 @@
 use Rattle.std.proofs.Common.{refl, ℕ, List, Option, Vec, inr}
 use Rattle.std.specs.Global.{Global}
 use Rattle.pages.specs.declared.page.Page.{Page}
+use Rattle.pages.specs.declared.status.Status.{Status}
 use Rattle.engines.specs.Schedules.{Upgrading}
 use Rattle.engines.specs.declared.replays.Upgraded.TheVariants.{Text, Shown}
 use Rattle.files.specs.Deeds.{Deed}
@@ -9,11 +10,11 @@ use Rattle.doac.specs.Deeds.{GivesFile}
 use Rattle.doac.specs.Statuses.{Ends, EndsUpgrade, IsPage}
 
 -- a schedule's text went to a file
-pub of_text : (out source input schedule : List ℕ) (text : Vec ℕ Global) (before after : Option (List Deed)) (old : Option (List ℕ)) (status : ℕ)
+pub of_text : (out source input schedule : List ℕ) (text : Vec ℕ Global) (before after : Option (List Deed)) (old : Option (List ℕ)) (status : Status)
     → Upgrading source input schedule (Text text) → GivesFile out text.items before after status → EndsUpgrade out source input schedule before after old old status
 of_text out source input schedule text before after old status allowed gives = inr (Text text, allowed, (gives, refl))
 
 -- a page went to standard output
-pub of_page : (out source input schedule : List ℕ) (page : Page) (before : Option (List Deed)) (old new : Option (List ℕ)) (status : ℕ)
+pub of_page : (out source input schedule : List ℕ) (page : Page) (before : Option (List Deed)) (old new : Option (List ℕ)) (status : Status)
     → Upgrading source input schedule (Shown page) → Ends (IsPage page) old new status → EndsUpgrade out source input schedule before before old new status
 of_page out source input schedule page before old new status allowed ends = inr (Shown page, allowed, (refl, ends))

@@ -2,6 +2,7 @@
 -- status.
 use Rattle.std.specs.Prelude.{◌≡◌, ℕ, Bool, List, [], ◌∷◌, Option, option_map}
 use Rattle.pages.specs.declared.outcomes.Outcome.{Outcome}
+use Rattle.pages.specs.declared.status.Status.{Status}
 use Rattle.engines.specs.Coded.{ShowsCode}
 use Rattle.engines.specs.Engines.{Checks}
 use Rattle.files.specs.Deeds.{Deed}
@@ -16,47 +17,47 @@ use Rattle.command_line.specs.declared.command.Modelled.{Modelled}
 use Rattle.command_line.specs.declared.command.Threaded.{Threaded}
 
 -- the source is read, and what is allowed of it is written
-abbrev pub OnSource : (List ℕ → Outcome → List ℕ → Type 0) → (source : List ℕ) → (before after : Option (List Deed)) → (old new : Option (List ℕ)) → ℕ → Type 0
+abbrev pub OnSource : (List ℕ → Outcome → List ℕ → Type 0) → (source : List ℕ) → (before after : Option (List Deed)) → (old new : Option (List ℕ)) → Status → Type 0
 OnSource allows source before after old new status =
     ReadsFile source before after old new status (λ done text. (after ≡ done) × Ends (allows text) old new status)
 
 -- the source is read, and its loops are listed, with what `--why` adds or without
-abbrev pub ListsFile : (why : Bool) → (source : List ℕ) → (before after : Option (List Deed)) → (old new : Option (List ℕ)) → ℕ → Type 0
+abbrev pub ListsFile : (why : Bool) → (source : List ℕ) → (before after : Option (List Deed)) → (old new : Option (List ℕ)) → Status → Type 0
 ListsFile why source before after old new status =
     ReadsFile source before after old new status (λ done text. (after ≡ done) × EndsList why text old new status)
 
 -- the source is read, then the input, and the command ends so on them
-abbrev pub OnInput : (List ℕ → List ℕ → Option (List ℕ) → Option (List ℕ) → ℕ → Type 0) → (source : List ℕ) → (input : Option (List ℕ)) → (before after : Option (List Deed)) → (old new : Option (List ℕ)) → ℕ → Type 0
+abbrev pub OnInput : (List ℕ → List ℕ → Option (List ℕ) → Option (List ℕ) → Status → Type 0) → (source : List ℕ) → (input : Option (List ℕ)) → (before after : Option (List Deed)) → (old new : Option (List ℕ)) → Status → Type 0
 OnInput ends source input before after old new status =
     ReadsGiven source input before after old new status (λ done text given. (after ≡ done) × ends text given old new status)
 
 -- the source is read, then the input, then the schedule, and they are replayed; the states are shown
 -- if they are wanted
-abbrev pub Replays : (states : Bool) → (source input schedule : List ℕ) → (before after : Option (List Deed)) → (old new : Option (List ℕ)) → ℕ → Type 0
+abbrev pub Replays : (states : Bool) → (source input schedule : List ℕ) → (before after : Option (List Deed)) → (old new : Option (List ℕ)) → Status → Type 0
 Replays states source input schedule before after old new status =
     ReadsTexts source input schedule before after old new status (λ done text given picks. (after ≡ done) × EndsReplay states text given picks old new status)
 
 -- the same of an upgrade, where OUT is none of them, as is found out first
-abbrev pub Upgrades : (source input schedule out : List ℕ) → (before after : Option (List Deed)) → (old new : Option (List ℕ)) → ℕ → Type 0
+abbrev pub Upgrades : (source input schedule out : List ℕ) → (before after : Option (List Deed)) → (old new : Option (List ℕ)) → Status → Type 0
 Upgrades source input schedule out before after old new status =
     UnlessRead out (source ∷ input ∷ schedule ∷ []) before after old new status (λ told.
     ReadsTexts source input schedule told after old new status (λ done text given picks. EndsUpgrade out text given picks done after old new status))
 
 -- a program is run in threads, where the file for the schedule, if one is named, is none of those
 -- that are read, as is found out first
-abbrev pub RunsFiles : Threaded → (before after : Option (List Deed)) → (old new : Option (List ℕ)) → ℕ → Type 0
+abbrev pub RunsFiles : Threaded → (before after : Option (List Deed)) → (old new : Option (List ℕ)) → Status → Type 0
 RunsFiles t before after old new status =
     UnlessOnto (option_map (λ o. o.now) t.schedule) t.source.now (option_map (λ i. i.now) t.input) before after old new status (λ told. RunsRead t told after old new status)
 
 -- the same of a run in model time
-abbrev pub ModelsFiles : Modelled → (before after : Option (List Deed)) → (old new : Option (List ℕ)) → ℕ → Type 0
+abbrev pub ModelsFiles : Modelled → (before after : Option (List Deed)) → (old new : Option (List ℕ)) → Status → Type 0
 ModelsFiles m before after old new status =
     UnlessOnto (option_map (λ o. o.now) m.schedule) m.source.now (option_map (λ i. i.now) m.input) before after old new status (λ told. ModelsRead m told after old new status)
 
 -- What a command does. What had been done with files is `before`, and in the end `after`; standard
--- output had `old`, and in the end has `new`; the last number is the exit status. `explain` does
--- nothing with files.
-abbrev pub Obeys : Command → (before after : Option (List Deed)) → (old new : Option (List ℕ)) → ℕ → Type 0
+-- output had `old`, and in the end has `new`; `status` is the exit status. `explain` does nothing
+-- with files.
+abbrev pub Obeys : Command → (before after : Option (List Deed)) → (old new : Option (List ℕ)) → Status → Type 0
 Obeys (Check source) before after old new status = OnSource Checks source.now before after old new status
 Obeys (ListLoops source why) before after old new status = ListsFile why source.now before after old new status
 Obeys (ShowCode source) before after old new status = OnSource ShowsCode source.now before after old new status

@@ -7,6 +7,8 @@ use Rattle.command_line.specs.declared.command.Command.{Command}
 use Rattle.command_line.specs.declared.matches.LineFault.{LineFault}
 use Rattle.command_line.specs.declared.matches.LineFault.TheVariants.{Help}
 use Rattle.files.specs.Deeds.{Deed}
+use Rattle.pages.specs.declared.status.Status.{Status}
+use Rattle.pages.specs.declared.status.Status.TheVariants as statuses
 
 -- it is help, or the version, which is printed
 abbrev pub IsPrinted : LineFault → Type 0
@@ -14,11 +16,11 @@ IsPrinted (Help text) = ⊤
 IsPrinted _ = ⊥
 
 -- the exit status of words that name no command; what is printed may fail to be written
-abbrev pub EndsLine : LineFault → ℕ → Type 0
-EndsLine fault status = (status ≡ line_status fault) ⊎ (IsPrinted fault × (status ≡ 4))
+abbrev pub EndsLine : LineFault → Status → Type 0
+EndsLine fault status = (status ≡ line_status fault) ⊎ (IsPrinted fault × (status ≡ statuses.FileFailed))
 
 -- the command that clap finds in the words is obeyed, or a fault is told that is true of them
-abbrev pub Follows : List Text → (before after : Option (List Deed)) → (old new : Option (List ℕ)) → ℕ → Type 0
+abbrev pub Follows : List Text → (before after : Option (List Deed)) → (old new : Option (List ℕ)) → Status → Type 0
 Follows words before after old new status =
     ((command : Command) × Names words command × Obeys command before after old new status)
     ⊎ ((fault : LineFault) × NamesNone words fault × EndsLine fault status × (after ≡ before))

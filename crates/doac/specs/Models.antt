@@ -1,15 +1,15 @@
 -- What `model` reads and writes.
-use Rattle.std.specs.Prelude.{◌≡◌, ℕ, List, Option, Some, None, Result, Ok, Err, IfErr, IfOk, is_some, option_map}
+use Rattle.std.specs.Prelude.{◌≡◌, ℕ, List, Option, None, Result, Ok, Err, IfErr, IfOk, is_some, option_map}
 use Rattle.files.specs.Deeds.{Deed}
 use Rattle.model_time.specs.declared.pace.Pace.{Pace}
 use Rattle.modelled.specs.Modelling.{IsEarly, Modelling, text_of}
 use Rattle.modelled.specs.declared.modelling.Timing.{Timing}
 use Rattle.pages.specs.declared.fault.EngineFault.{EngineFault}
 use Rattle.pages.specs.declared.outcomes.Outcome.{Outcome}
+use Rattle.pages.specs.declared.status.Status.{Status}
 use Rattle.threaded.specs.Running.{WritesText}
 use Rattle.doac.specs.Deeds.{ReadsGiven}
-use Rattle.doac.specs.Running.{WritesFirst}
-use Rattle.doac.specs.Statuses.{exit_of}
+use Rattle.doac.specs.Running.{WritesRun}
 use Rattle.command_line.specs.declared.command.Modelled.{Modelled}
 
 -- how a run is wanted
@@ -30,26 +30,14 @@ abbrev pub ShowsTiming : Result Timing EngineFault → (old new : Option (List �
 ShowsTiming (Ok t) old new result = WritesText t.page.text.items (Ok t.page.outcome) old new result
 ShowsTiming (Err fault) old new result = (result ≡ Err fault) × (new ≡ old)
 
--- it is shown, and this is the status of that
-pub record Shown (came : Result Timing EngineFault) (old new : Option (List ℕ)) (status : ℕ) : Type 0 where
-  pub result : Result Outcome EngineFault
-  pub shows : ShowsTiming came old new result
-  pub is : status ≡ exit_of result
-
--- The schedule of what came of a run goes to its file, if there are both; only where it went there
--- is what came of the run shown.
-abbrev pub WritesTiming : (onto : Option (List ℕ)) → Result Timing EngineFault → (before after : Option (List Deed)) → (old new : Option (List ℕ)) → ℕ → Type 0
-WritesTiming onto came before after old new status =
-    WritesFirst onto (schedule_of came) before after old new status (Shown came old new status)
-
 -- what may come of a source and an input is written
-pub record EndsModel (m : Modelled) (source input : List ℕ) (before after : Option (List Deed)) (old new : Option (List ℕ)) (status : ℕ) : Type 0 where
+pub record EndsModel (m : Modelled) (source input : List ℕ) (before after : Option (List Deed)) (old new : Option (List ℕ)) (status : Status) : Type 0 where
   pub came : Result Timing EngineFault
   pub allowed : MayCome (pace_of m) source input came
-  pub written : WritesTiming (option_map (λ o. o.now) m.schedule) came before after old new status
+  pub written : WritesRun (option_map (λ o. o.now) m.schedule) (schedule_of came) (ShowsTiming came) before after old new status
 
 -- the source is read, then the input, and then they are run
-abbrev pub ModelsRead : Modelled → (before after : Option (List Deed)) → (old new : Option (List ℕ)) → ℕ → Type 0
+abbrev pub ModelsRead : Modelled → (before after : Option (List Deed)) → (old new : Option (List ℕ)) → Status → Type 0
 ModelsRead m before after old new status =
     ReadsGiven m.source.now (option_map (λ i. i.now) m.input) before after old new status (λ done text given.
     EndsModel m text given done after old new status)

@@ -4,6 +4,8 @@ use Rattle.pages.specs.Outcomes.{fault_status, status_of}
 use Rattle.pages.specs.declared.fault.EngineFault.{EngineFault}
 use Rattle.pages.specs.declared.outcomes.Outcome.{Outcome}
 use Rattle.pages.specs.declared.page.Page.{Page}
+use Rattle.pages.specs.declared.status.Status.{Status}
+use Rattle.pages.specs.declared.status.Status.TheVariants as statuses
 use Rattle.engines.specs.Engines.{Streaming, Works}
 use Rattle.engines.specs.Lists.{WritesList}
 use Rattle.engines.specs.Schedules.{Replaying, Upgrading}
@@ -14,13 +16,13 @@ use Rattle.states.specs.Shown.{StatesStream}
 use Rattle.doac.specs.Deeds.{GivesFile}
 
 -- the exit status of what work on texts comes to
-abbrev pub exit_of : Result Outcome EngineFault → ℕ
+abbrev pub exit_of : Result Outcome EngineFault → Status
 exit_of (Ok outcome) = status_of outcome
 exit_of (Err fault) = fault_status fault
 
 -- Work on texts wrote to standard output what its definition says, a beginning of that where
 -- writing failed, or nothing for want of memory; and the status is that of what it came to.
-pub record Ends (allows : Outcome → List ℕ → Type 0) (old new : Option (List ℕ)) (status : ℕ) : Type 0 where
+pub record Ends (allows : Outcome → List ℕ → Type 0) (old new : Option (List ℕ)) (status : Status) : Type 0 where
   pub came : Result Outcome EngineFault
   pub works : Works allows old new came
   pub is : status ≡ exit_of came
@@ -28,14 +30,14 @@ pub record Ends (allows : Outcome → List ℕ → Type 0) (old new : Option (Li
 -- `seq` wrote its records to standard output while it ran, and then what follows them, or a
 -- beginning of that where writing failed or memory was refused; and the status is that of what it
 -- came to
-pub record EndsSeq (store : Bool) (source input : List ℕ) (old new : Option (List ℕ)) (status : ℕ) : Type 0 where
+pub record EndsSeq (store : Bool) (source input : List ℕ) (old new : Option (List ℕ)) (status : Status) : Type 0 where
   pub came : Result Outcome EngineFault
   pub streams : Streaming store source input old new came
   pub is : status ≡ exit_of came
 
 -- loops were listed on standard output, with what `--why` adds or without, and the status is that of
 -- what it came to
-pub record EndsList (why : Bool) (source : List ℕ) (old new : Option (List ℕ)) (status : ℕ) : Type 0 where
+pub record EndsList (why : Bool) (source : List ℕ) (old new : Option (List ℕ)) (status : Status) : Type 0 where
   pub came : Result Outcome EngineFault
   pub writes : WritesList why source old new came
   pub is : status ≡ exit_of came
@@ -46,7 +48,7 @@ WritesReplay false source input schedule old new came = Works (Replaying source 
 WritesReplay true source input schedule old new came = StatesStream source input schedule old new came
 
 -- it was written, and the status is that of what it came to
-pub record EndsReplay (states : Bool) (source input schedule : List ℕ) (old new : Option (List ℕ)) (status : ℕ) : Type 0 where
+pub record EndsReplay (states : Bool) (source input schedule : List ℕ) (old new : Option (List ℕ)) (status : Status) : Type 0 where
   pub came : Result Outcome EngineFault
   pub writes : WritesReplay states source input schedule old new came
   pub is : status ≡ exit_of came
@@ -57,16 +59,16 @@ IsPage page outcome text = (outcome ≡ page.outcome) × (text ≡ page.text.ite
 
 -- what an upgrade comes to is written: the text of a schedule to OUT alone, and why there is none
 -- to standard output alone
-abbrev pub Delivers : (out : List ℕ) → Upgraded → (before after : Option (List Deed)) → (old new : Option (List ℕ)) → ℕ → Type 0
+abbrev pub Delivers : (out : List ℕ) → Upgraded → (before after : Option (List Deed)) → (old new : Option (List ℕ)) → Status → Type 0
 Delivers out (Text text) before after old new status = GivesFile out text.items before after status × (new ≡ old)
 Delivers out (Shown page) before after old new status = (after ≡ before) × Ends (IsPage page) old new status
 
 -- an upgrade of these texts is written; for want of memory nothing is
-abbrev pub EndsUpgrade : (out source input schedule : List ℕ) → (before after : Option (List Deed)) → (old new : Option (List ℕ)) → ℕ → Type 0
+abbrev pub EndsUpgrade : (out source input schedule : List ℕ) → (before after : Option (List Deed)) → (old new : Option (List ℕ)) → Status → Type 0
 EndsUpgrade out source input schedule before after old new status =
-    ((after ≡ before) × (new ≡ old) × (status ≡ 5))
+    ((after ≡ before) × (new ≡ old) × (status ≡ statuses.NoMemory))
     ⊎ ((came : Upgraded) × Upgrading source input schedule came × Delivers out came before after old new status)
 
 -- the status of a text that was printed: 0, or that of writing
-abbrev pub OfPrint : ℕ → Type 0
-OfPrint status = (status ≡ 0) ⊎ (status ≡ 4)
+abbrev pub OfPrint : Status → Type 0
+OfPrint status = (status ≡ statuses.Done) ⊎ (status ≡ statuses.FileFailed)

@@ -9,6 +9,7 @@ ghost use Rattle.doac.specs.Statuses.{Ends};
 use crate::told::{refuse_file, tell};
 use engines::code_text;
 use files::{FileFault, NamedFiles};
+use pages::Status;
 use std::io::Write;
 
 /// Shows the code of the source of a file.
@@ -17,7 +18,7 @@ pub fn code_file<R: Eprint + AllocGlobal, F: NamedFiles, W: Write>(
     files: &mut F,
     out: &mut W,
     name: &str,
-) -> u8
+) -> Status
     ensures { OnSource ShowsCode name.now
         (F.done files.old) (F.done files.new) (W.contents out.old) (W.contents out.new) result }
 {
@@ -31,7 +32,7 @@ fn code_given<R: Eprint + AllocGlobal, W: Write>(
     out: &mut W,
     name: &str,
     text: Result<Vec<u8>, FileFault>,
-) -> u8
+) -> Status
     ensures { (done : _) → AfterFile (got text) done done
         (W.contents out.old) (W.contents out.new) result
         (λ text. Ends (ShowsCode text) (W.contents out.old) (W.contents out.new) result) }
@@ -48,7 +49,7 @@ fn code_source<R: Eprint + AllocGlobal, W: Write>(
     out: &mut W,
     name: &str,
     text: &[u8],
-) -> u8
+) -> Status
     ensures { Ends (ShowsCode text.now) (W.contents out.old) (W.contents out.new) result }
 {
     let outcome = code_text(rt.alloc(), text, out);

@@ -12,7 +12,7 @@ use crate::told::{give_file, refuse_file, refuse_out, show_page, tell, tell_of};
 use command_line::{Drawing, TextFiles};
 use engines::{Drawn, MOST_ARROWS, Portion, draw_text, timeline_texts};
 use files::{Clash, FileFault, NamedFiles, Unread, read_texts};
-use pages::{EngineFault, Page, Texts};
+use pages::{EngineFault, Page, Status, Texts};
 use remarks::Place;
 use std::io::Write;
 
@@ -22,7 +22,7 @@ pub fn draw_file<R: Eprint + AllocGlobal, F: NamedFiles, W: Write>(
     files: &mut F,
     out: &mut W,
     drawing: Drawing<'_>,
-) -> u8
+) -> Status
     ensures { DrawsFile drawing.entry
         (F.done files.old) (F.done files.new) (W.contents out.old) (W.contents out.new) result }
 {
@@ -43,7 +43,7 @@ fn draw_unless<R: Eprint + AllocGlobal, F: NamedFiles, W: Write>(
     onto: &str,
     portion: Portion,
     clash: Option<Clash>,
-) -> u8
+) -> Status
     ensures { AfterCompare clash (F.done files.old) (F.done files.new) (W.contents out.old)
         (W.contents out.new) result
         (ReadsFile source.now (F.done files.old) (F.done files.new) (W.contents out.old)
@@ -67,7 +67,7 @@ fn draw_given<R: Eprint + AllocGlobal, F: NamedFiles, W: Write>(
     onto: &str,
     portion: Portion,
     text: Result<Vec<u8>, FileFault>,
-) -> u8
+) -> Status
     ensures { AfterFile (got text) (F.done files.old) (F.done files.new) (W.contents out.old)
         (W.contents out.new) result
         (λ text. EndsDrawing (Draws text portion) onto.now
@@ -88,7 +88,7 @@ fn draw_source<R: Eprint + AllocGlobal, F: NamedFiles, W: Write>(
     onto: &str,
     portion: Portion,
     text: &[u8],
-) -> u8
+) -> Status
     ensures { EndsDrawing (Draws text.now portion) onto.now
         (F.done files.old) (F.done files.new) (W.contents out.old) (W.contents out.new) result }
 {
@@ -108,7 +108,7 @@ fn draw_shown<R: Eprint + AllocGlobal, W: Write>(
     source: &str,
     text: &[u8],
     page: &Page,
-) -> u8
+) -> Status
     ensures { Ends (IsPage page.now) (W.contents out.old) (W.contents out.new) result }
 {
     let outcome = page.write(out);
@@ -117,8 +117,8 @@ fn draw_shown<R: Eprint + AllocGlobal, W: Write>(
 
 /// Says on standard error that a source has no loop of a number, but so many, and gives the exit
 /// status.
-fn refuse_loop<R: Eprint>(rt: &R, name: &str, number: usize, count: usize) -> u8
-    ensures { result ≡ 3 }
+fn refuse_loop<R: Eprint>(rt: &R, name: &str, number: usize, count: usize) -> Status
+    ensures { result ≡ Status.WrongCommand }
 {
     let place = Place {
         file: name,
@@ -131,13 +131,13 @@ fn refuse_loop<R: Eprint>(rt: &R, name: &str, number: usize, count: usize) -> u8
             "{place}there is no loop {number}: loops are numbered from 1 to {count}"
         ),
     };
-    3
+    Status::WrongCommand
 }
 
 /// Says on standard error that the picture of a loop would have so many arrows, and gives the exit
 /// status.
-fn refuse_dense<R: Eprint>(rt: &R, name: &str, number: usize, count: u128) -> u8
-    ensures { result ≡ 3 }
+fn refuse_dense<R: Eprint>(rt: &R, name: &str, number: usize, count: u128) -> Status
+    ensures { result ≡ Status.WrongCommand }
 {
     let place = Place {
         file: name,
@@ -147,7 +147,7 @@ fn refuse_dense<R: Eprint>(rt: &R, name: &str, number: usize, count: u128) -> u8
         "{place}the picture of loop {number} would have {count} arrows, and {MOST_ARROWS} at most are drawn"
     );
     let _ = eprintln!(rt; "hint: fewer iterations, by --iterations, have fewer arrows");
-    3
+    Status::WrongCommand
 }
 
 /// Draws the run that the schedule of a file describes to the file `onto`, if that may be written
@@ -158,8 +158,9 @@ pub fn timeline_files<R: Eprint + AllocGlobal, F: NamedFiles, W: Write>(
     out: &mut W,
     names: TextFiles<'_>,
     onto: &str,
-) -> u8
-    ensures { TimesFiles names.entry.source.now names.entry.input.now names.entry.schedule.now onto.now
+) -> Status
+    ensures { TimesFiles
+        names.entry.source.now names.entry.input.now names.entry.schedule.now onto.now
         (F.done files.old) (F.done files.new) (W.contents out.old) (W.contents out.new) result }
 {
     let clash = files.clash(onto, &[names.source, names.input, names.schedule]);
@@ -174,7 +175,7 @@ fn timeline_unless<R: Eprint + AllocGlobal, F: NamedFiles, W: Write>(
     names: TextFiles<'_>,
     onto: &str,
     clash: Option<Clash>,
-) -> u8
+) -> Status
     ensures { AfterCompare clash (F.done files.old) (F.done files.new) (W.contents out.old)
         (W.contents out.new) result
         (ReadsTexts names.entry.source.now names.entry.input.now names.entry.schedule.now
@@ -197,7 +198,7 @@ fn timeline_given<R: Eprint + AllocGlobal, F: NamedFiles, W: Write>(
     names: TextFiles<'_>,
     onto: &str,
     texts: Result<Texts, Unread<'_>>,
-) -> u8
+) -> Status
     ensures { AfterTexts texts.entry (F.done files.old) (F.done files.new) (W.contents out.old)
         (W.contents out.new) result
         (λ text given picks. EndsDrawing (Times text given picks) onto.now
@@ -226,7 +227,7 @@ fn timeline_read<R: Eprint + AllocGlobal, F: NamedFiles, W: Write>(
     names: TextFiles<'_>,
     onto: &str,
     texts: &Texts,
-) -> u8
+) -> Status
     ensures { EndsDrawing
         (Times texts.now.source.items texts.now.input.items texts.now.schedule.items) onto.now
         (F.done files.old) (F.done files.new) (W.contents out.old) (W.contents out.new) result }
@@ -241,8 +242,8 @@ fn timeline_read<R: Eprint + AllocGlobal, F: NamedFiles, W: Write>(
     ) {
         Ok(Drawn::Picture(picture)) => give_file(rt, files, onto, &picture),
         Ok(Drawn::Shown(page)) => show_page(rt, out, names, texts, &page),
-        Ok(Drawn::NoLoop(_)) => 3,
-        Ok(Drawn::TooDense(_)) => 3,
+        Ok(Drawn::NoLoop(_)) => Status::WrongCommand,
+        Ok(Drawn::TooDense(_)) => Status::WrongCommand,
         Err(_) => tell_of(rt, names, texts, Err(EngineFault::Memory)),
     }
 }

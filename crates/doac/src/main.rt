@@ -4,6 +4,7 @@
 
 mod code_file;
 mod drawings;
+mod keeping;
 mod models;
 mod obeying;
 mod program;
@@ -16,5 +17,6 @@ use std::io::IsTerminal;
 use std::process::ExitCode;
 
 fn main(rt: HostRuntime) -> ExitCode {
-    ExitCode::from(program::run(&rt, rt.stdout().is_terminal()))
+    let status = program::run(&rt, rt.stdout().is_terminal());
+    ExitCode::from(status.number())
 }

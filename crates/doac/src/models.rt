@@ -1,20 +1,17 @@
 //! `model`: in which time a source runs.
 
 ghost use Rattle.std.specs.Prelude.{◌≡◌, option_map};
-ghost use Rattle.files.specs.Deeds.{unput};
 ghost use Rattle.doac.specs.Commands.{ModelsFiles};
-ghost use Rattle.doac.specs.Deeds.{AfterCompare, AfterGiven, AfterPut};
-ghost use Rattle.doac.specs.Models.{EndsModel, ModelsRead, ShowsTiming, Shown, WritesTiming};
-ghost use Rattle.doac.specs.Models.{schedule_of};
+ghost use Rattle.doac.specs.Deeds.{AfterGiven};
+ghost use Rattle.doac.specs.Models.{EndsModel, ModelsRead, ShowsTiming, schedule_of};
+ghost use Rattle.doac.specs.Running.{Shown, WritesRun};
 
-use crate::threads::clash_of;
-use crate::told::{refuse_file, refuse_out, refuse_write, tell_known, warn_of_names, warn_of_run};
+use crate::keeping::{check_onto, write_first};
+use crate::told::{refuse_file, tell_ended, warn_of_names};
 use command_line::Modelled;
-use files::{Clash, Given, NamedFiles, Unread, read_given};
+use files::{Given, NamedFiles, Unread, read_given};
 use modelled::{Pace, Timing, model_texts};
-use pages::{EngineFault, Outcome};
-use std::alloc::Global;
-use std::io;
+use pages::{EngineFault, Outcome, Status};
 use std::io::Write;
 
 /// Runs the source of a file in model time, if the file for its schedule may be written. Where the
@@ -25,37 +22,14 @@ pub fn model_files<R: Eprint + AllocGlobal, F: NamedFiles, W: Write>(
     out: &mut W,
     nowhere: &mut W,
     asked: Modelled<'_>,
-) -> u8
+) -> Status
     ensures { ModelsFiles asked.entry
         (F.done files.old) (F.done files.new) (W.contents out.old) (W.contents out.new) result }
 {
-    let Some(onto) = asked.schedule else {
-        return model_read(rt, files, out, nowhere, asked);
-    };
-    let clash = clash_of(files, onto, asked.source, asked.input);
-    model_unless(rt, files, out, nowhere, asked, onto, clash)
-}
-
-/// The same, where it is known whether the file `onto`, which is to have the schedule, may be
-/// written.
-fn model_unless<R: Eprint + AllocGlobal, F: NamedFiles, W: Write>(
-    rt: &R,
-    files: &mut F,
-    out: &mut W,
-    nowhere: &mut W,
-    asked: Modelled<'_>,
-    onto: &str,
-    clash: Option<Clash>,
-) -> u8
-    ensures { AfterCompare clash
-        (F.done files.old) (F.done files.new) (W.contents out.old) (W.contents out.new) result
-        (ModelsRead asked.entry
-        (F.done files.old) (F.done files.new) (W.contents out.old) (W.contents out.new) result) }
-{
-    if let Some(clash) = clash {
-        return refuse_out(rt, onto, clash);
+    match check_onto(rt, files, asked.schedule, asked.source, asked.input) {
+        Ok(()) => model_read(rt, files, out, nowhere, asked),
+        Err(status) => status,
     }
-    model_read(rt, files, out, nowhere, asked)
 }
 
 /// Reads the source of a file and runs it.
@@ -65,7 +39,7 @@ fn model_read<R: Eprint + AllocGlobal, F: NamedFiles, W: Write>(
     out: &mut W,
     nowhere: &mut W,
     asked: Modelled<'_>,
-) -> u8
+) -> Status
     ensures { ModelsRead asked.entry
         (F.done files.old) (F.done files.new) (W.contents out.old) (W.contents out.new) result }
 {
@@ -82,7 +56,7 @@ fn model_given<R: Eprint + AllocGlobal, F: NamedFiles, W: Write>(
     nowhere: &mut W,
     asked: Modelled<'_>,
     given: Result<Given, Unread<'_>>,
-) -> u8
+) -> Status
     ensures { AfterGiven given.entry
         (F.done files.old) (F.done files.new) (W.contents out.old) (W.contents out.new) result
         (λ text given. EndsModel asked.entry text given
@@ -103,7 +77,7 @@ fn model_source<R: Eprint + AllocGlobal, F: NamedFiles, W: Write>(
     asked: Modelled<'_>,
     text: &[u8],
     input: &[u8],
-) -> u8
+) -> Status
     ensures { EndsModel asked.entry text.now input.now
         (F.done files.old) (F.done files.new) (W.contents out.old) (W.contents out.new) result }
 {
@@ -142,37 +116,14 @@ fn write_timing<R: Eprint + AllocGlobal, F: NamedFiles, W: Write>(
     text: &[u8],
     input: &[u8],
     came: Result<Timing, EngineFault>,
-) -> u8
-    ensures { WritesTiming (option_map (λ o. o.now) asked.entry.schedule) came
+) -> Status
+    ensures { WritesRun (option_map (λ o. o.now) asked.entry.schedule) (schedule_of came)
+        (ShowsTiming came)
         (F.done files.old) (F.done files.new) (W.contents out.old) (W.contents out.new) result }
 {
-    match (asked.schedule, schedule_text(&came)) {
-        (Some(onto), Some(schedule)) => {
-            let put = files.replace(onto, schedule);
-            write_behind(rt, out, nowhere, asked, text, input, came, onto, put)
-        }
-        _ => write_shown(rt, out, nowhere, asked, text, input, came),
-    }
-}
-
-/// Writes what is shown where the file `onto` was given the schedule.
-fn write_behind<R: Eprint + AllocGlobal, W: Write>(
-    rt: &R,
-    out: &mut W,
-    nowhere: &mut W,
-    asked: Modelled<'_>,
-    text: &[u8],
-    input: &[u8],
-    came: Result<Timing, EngineFault>,
-    onto: &str,
-    put: io::Result<()>,
-) -> u8
-    ensures { AfterPut (unput put) (W.contents out.old) (W.contents out.new) result
-        (Shown came (W.contents out.old) (W.contents out.new) result) }
-{
-    match put {
+    match write_first(rt, files, asked.schedule, schedule_text(&came)) {
         Ok(()) => write_shown(rt, out, nowhere, asked, text, input, came),
-        Err(error) => refuse_write(rt, onto, &error),
+        Err(status) => status,
     }
 }
 
@@ -195,13 +146,12 @@ fn write_shown<R: Eprint + AllocGlobal, W: Write>(
     text: &[u8],
     input: &[u8],
     came: Result<Timing, EngineFault>,
-) -> u8
-    ensures { Shown came (W.contents out.old) (W.contents out.new) result }
+) -> Status
+    ensures { Shown (ShowsTiming came) (W.contents out.old) (W.contents out.new) result }
 {
     let no_memory = matches!(&came, Err(EngineFault::Memory));
     let outcome = show(came, out);
-    warn_of_run(rt, asked.source, text, &outcome);
-    let status = tell_known(rt, nowhere, asked.source, text, asked.input, input, outcome);
+    let status = tell_ended(rt, nowhere, asked.source, text, asked.input, input, outcome);
     if no_memory {
         say_kept(rt, asked);
     }

@@ -12,6 +12,7 @@ use crate::told::status_of_print;
 use command_line::Command;
 use explanations::explain;
 use files::NamedFiles;
+use pages::Status;
 use std::io::Write;
 use std::sync::Wait;
 use std::thread::Threads;
@@ -24,7 +25,7 @@ pub fn obey<
     R: Print + Eprint + AllocGlobal + Threads + Wait + Sync,
     F: NamedFiles,
     W: Write + Nowhere + Drop,
->(rt: &R, files: &mut F, out: &mut W, nowhere: &mut W, command: Command<'_>, most: usize) -> u8
+>(rt: &R, files: &mut F, out: &mut W, nowhere: &mut W, command: Command<'_>, most: usize) -> Status
     ensures { Obeys command.entry
         (F.done files.old) (F.done files.new) (W.contents out.old) (W.contents out.new) result }
 {

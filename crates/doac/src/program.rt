@@ -9,6 +9,7 @@ use crate::told::status_of_print;
 use command_line::{LineFault, hint};
 use either::Either::{Left, Right};
 use files::{HostFiles, NamedFiles};
+use pages::Status;
 use remarks::VisibleLines;
 use std::convert::AsStr;
 use std::io::Write;
@@ -28,7 +29,7 @@ const MOST_WAITING: usize = 4_096;
 pub fn run<R: Env + Files + Input + Print + Eprint + AllocGlobal + Threads + Wait + Sync>(
     rt: &R,
     is_terminal: bool,
-) -> u8 {
+) -> Status {
     let most = if is_terminal { 0 } else { MOST_WAITING };
     match words(rt) {
         Ok(words) => follow(
@@ -49,7 +50,7 @@ fn follow<
     R: Print + Eprint + AllocGlobal + Threads + Wait + Sync,
     F: NamedFiles,
     W: Write + Nowhere + Drop,
->(rt: &R, files: &mut F, out: &mut W, nowhere: &mut W, words: &[S], most: usize) -> u8
+>(rt: &R, files: &mut F, out: &mut W, nowhere: &mut W, words: &[S], most: usize) -> Status
     ensures { Follows (map S.text words.now)
         (F.done files.old) (F.done files.new) (W.contents out.old) (W.contents out.new) result }
 {
@@ -67,23 +68,22 @@ fn words<R: Env + AllocGlobal>(rt: &R) -> io::Result<Vec<String>> {
     Ok(words)
 }
 
-/// Says on standard error that the words can't be had, and gives the exit status: 3, or 5 for
-/// memory.
-fn refuse_words<R: Eprint>(rt: &R, error: &io::Error) -> u8
-    ensures { OfError error.now 3 result }
+/// Says on standard error that the words can't be had, and gives the exit status.
+fn refuse_words<R: Eprint>(rt: &R, error: &io::Error) -> Status
+    ensures { OfError error.now Status.WrongCommand result }
 {
     match error.kind() {
         io::ErrorKind::OutOfMemory => {
             let _ = eprintln!(rt; "doac: out of memory");
-            5
+            Status::NoMemory
         }
         io::ErrorKind::InvalidData => {
             let _ = eprintln!(rt; "doac: a word of the command line is not UTF-8");
-            3
+            Status::WrongCommand
         }
         _ => {
             let _ = eprintln!(rt; "doac: reading the command line failed: {error}");
-            3
+            Status::WrongCommand
         }
     }
 }
@@ -94,7 +94,7 @@ fn refuse_line<S: AsStr, R: Print + Eprint + AllocGlobal>(
     rt: &R,
     words: &[S],
     fault: &LineFault,
-) -> u8
+) -> Status
     ensures { EndsLine fault.now result }
 {
     match fault {

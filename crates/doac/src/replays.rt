@@ -10,7 +10,7 @@ use crate::told::{
 use command_line::TextFiles;
 use engines::{Upgraded, replay_texts, upgrade_texts};
 use files::{Clash, NamedFiles, Unread, read_texts};
-use pages::{EngineFault, Outcome, Texts};
+use pages::{EngineFault, Outcome, Status, Texts};
 use states::state_texts;
 use std::alloc::Global;
 use std::io::Write;
@@ -24,7 +24,7 @@ pub fn replay_files<R: Eprint + AllocGlobal, F: NamedFiles, W: Write>(
     nowhere: &mut W,
     names: TextFiles<'_>,
     states: bool,
-) -> u8
+) -> Status
     ensures { Replays states
         names.entry.source.now names.entry.input.now names.entry.schedule.now
         (F.done files.old) (F.done files.new) (W.contents out.old) (W.contents out.new) result }
@@ -42,7 +42,7 @@ fn replay_given<R: Eprint + AllocGlobal, W: Write>(
     names: TextFiles<'_>,
     states: bool,
     texts: Result<Texts, Unread<'_>>,
-) -> u8
+) -> Status
     ensures { (done : _) → AfterTexts texts.entry done done
         (W.contents out.old) (W.contents out.new) result
         (λ text given picks. EndsReplay states text given picks
@@ -62,7 +62,7 @@ fn replay_read<R: Eprint + AllocGlobal, W: Write>(
     names: TextFiles<'_>,
     states: bool,
     texts: &Texts,
-) -> u8
+) -> Status
     ensures { EndsReplay states
         texts.now.source.items texts.now.input.items texts.now.schedule.items
         (W.contents out.old) (W.contents out.new) result }
@@ -103,7 +103,7 @@ pub fn upgrade_files<R: Eprint + AllocGlobal, F: NamedFiles, W: Write>(
     out: &mut W,
     names: TextFiles<'_>,
     onto: &str,
-) -> u8
+) -> Status
     ensures { Upgrades
         names.entry.source.now names.entry.input.now names.entry.schedule.now onto.now
         (F.done files.old) (F.done files.new) (W.contents out.old) (W.contents out.new) result }
@@ -120,7 +120,7 @@ fn upgrade_unless<R: Eprint + AllocGlobal, F: NamedFiles, W: Write>(
     names: TextFiles<'_>,
     onto: &str,
     clash: Option<Clash>,
-) -> u8
+) -> Status
     ensures { AfterCompare clash
         (F.done files.old) (F.done files.new) (W.contents out.old) (W.contents out.new) result
         (ReadsTexts names.entry.source.now names.entry.input.now names.entry.schedule.now
@@ -143,7 +143,7 @@ fn upgrade_given<R: Eprint + AllocGlobal, F: NamedFiles, W: Write>(
     names: TextFiles<'_>,
     onto: &str,
     texts: Result<Texts, Unread<'_>>,
-) -> u8
+) -> Status
     ensures { AfterTexts texts.entry
         (F.done files.old) (F.done files.new) (W.contents out.old) (W.contents out.new) result
         (λ text given picks. EndsUpgrade onto.now text given picks
@@ -164,7 +164,7 @@ fn upgrade_read<R: Eprint + AllocGlobal, F: NamedFiles, W: Write>(
     names: TextFiles<'_>,
     onto: &str,
     texts: &Texts,
-) -> u8
+) -> Status
     ensures { EndsUpgrade onto.now
         texts.now.source.items texts.now.input.items texts.now.schedule.items
         (F.done files.old) (F.done files.new) (W.contents out.old) (W.contents out.new) result }

@@ -1,6 +1,6 @@
 //! `check`, `list` and `seq`: what is made of a source.
 
-ghost use Rattle.std.specs.Prelude.{◌≡◌, option_map};
+ghost use Rattle.std.specs.Prelude.{option_map};
 ghost use Rattle.engines.specs.Engines.{Checks};
 ghost use Rattle.files.specs.Deeds.{got};
 ghost use Rattle.doac.specs.Commands.{ListsFile, OnInput, OnSource};
@@ -8,10 +8,10 @@ ghost use Rattle.doac.specs.Deeds.{AfterFile, AfterGiven};
 ghost use Rattle.doac.specs.Statuses.{Ends, EndsList, EndsSeq};
 
 use crate::told::{refuse_file, tell, tell_run, warn_of_names, warn_of_run};
-use engines::{Survey, Verdict, judged, seq_noted, surveyed, tell_loops, tell_verdict};
+use engines::{Prepared, Verdict, judged, prepare, seq_noted, tell_loops, tell_verdict};
 use files::{FileFault, Given, NamedFiles, Unread, read_given};
 use messages::tell_further;
-use pages::EngineFault;
+use pages::{EngineFault, Status};
 use reasons::say_why_serial;
 use remarks::warn;
 use std::io::Write;
@@ -22,7 +22,7 @@ pub fn check_file<R: Eprint + AllocGlobal, F: NamedFiles, W: Write>(
     files: &mut F,
     out: &mut W,
     name: &str,
-) -> u8
+) -> Status
     ensures { OnSource Checks name.now
         (F.done files.old) (F.done files.new) (W.contents out.old) (W.contents out.new) result }
 {
@@ -36,7 +36,7 @@ fn check_given<R: Eprint + AllocGlobal, W: Write>(
     out: &mut W,
     name: &str,
     text: Result<Vec<u8>, FileFault>,
-) -> u8
+) -> Status
     ensures { (done : _) → AfterFile (got text) done done
         (W.contents out.old) (W.contents out.new) result
         (λ text. Ends (Checks text) (W.contents out.old) (W.contents out.new) result) }
@@ -53,7 +53,7 @@ fn check_source<R: Eprint + AllocGlobal, W: Write>(
     out: &mut W,
     name: &str,
     text: &[u8],
-) -> u8
+) -> Status
     ensures { Ends (Checks text.now) (W.contents out.old) (W.contents out.new) result }
 {
     match judged(rt.alloc(), text) {
@@ -81,9 +81,9 @@ fn warn_of_accepted<R: Eprint + AllocGlobal>(rt: &R, name: &str, text: &[u8], ve
 }
 
 /// Says on standard error what keeps loops serial.
-fn say_of_loops<R: Eprint + AllocGlobal>(rt: &R, name: &str, survey: &Survey) {
-    if let Survey::Loops { program, reports } = survey {
-        say_why_serial(rt, name, program, reports);
+fn say_of_loops<R: Eprint + AllocGlobal>(rt: &R, name: &str, prepared: &Prepared) {
+    if let Prepared::Coded(coded) = prepared {
+        say_why_serial(rt, name, &coded.program, &coded.reports);
     }
 }
 
@@ -94,7 +94,7 @@ pub fn list_file<R: Eprint + AllocGlobal, F: NamedFiles, W: Write>(
     out: &mut W,
     name: &str,
     why: bool,
-) -> u8
+) -> Status
     ensures { ListsFile why name.now
         (F.done files.old) (F.done files.new) (W.contents out.old) (W.contents out.new) result }
 {
@@ -109,7 +109,7 @@ fn list_given<R: Eprint + AllocGlobal, W: Write>(
     name: &str,
     text: Result<Vec<u8>, FileFault>,
     why: bool,
-) -> u8
+) -> Status
     ensures { (done : _) → AfterFile (got text) done done
         (W.contents out.old) (W.contents out.new) result
         (λ text. EndsList why text (W.contents out.old) (W.contents out.new) result) }
@@ -128,14 +128,14 @@ fn list_source<R: Eprint + AllocGlobal, W: Write>(
     name: &str,
     text: &[u8],
     why: bool,
-) -> u8
+) -> Status
     ensures { EndsList why text.now (W.contents out.old) (W.contents out.new) result }
 {
-    match surveyed(rt.alloc(), text) {
-        Ok(survey) => {
-            let outcome = tell_loops(rt.alloc(), &survey, why, out);
+    match prepare(rt.alloc(), text) {
+        Ok(prepared) => {
+            let outcome = tell_loops(rt.alloc(), &prepared, why, out);
             if outcome.is_ok() && !why {
-                say_of_loops(rt, name, &survey);
+                say_of_loops(rt, name, &prepared);
             }
             tell(rt, name, text, outcome)
         }
@@ -153,7 +153,7 @@ pub fn seq_files<R: Eprint + AllocGlobal, F: NamedFiles, W: Write>(
     input: Option<&str>,
     store: bool,
     most: usize,
-) -> u8
+) -> Status
     ensures { OnInput (EndsSeq store) name.now (option_map (λ i. i.now) input.entry)
         (F.done files.old) (F.done files.new) (W.contents out.old) (W.contents out.new) result }
 {
@@ -171,7 +171,7 @@ fn seq_given<R: Eprint + AllocGlobal, W: Write>(
     store: bool,
     most: usize,
     given: Result<Given, Unread<'_>>,
-) -> u8
+) -> Status
     ensures { (done : _) → AfterGiven given.entry done done
         (W.contents out.old) (W.contents out.new) result
         (λ text given. EndsSeq store text given (W.contents out.old) (W.contents out.new) result) }
@@ -202,7 +202,7 @@ fn seq_source<R: Eprint + AllocGlobal, W: Write>(
     input: &[u8],
     store: bool,
     most: usize,
-) -> u8
+) -> Status
     ensures { EndsSeq store text.now input.now
         (W.contents out.old) (W.contents out.new) result }
 {

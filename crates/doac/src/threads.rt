@@ -1,18 +1,18 @@
 //! `run`: programs in threads, their files, and what is said of them on standard error.
 
-ghost use Rattle.std.specs.Prelude.{◌≡◌, ◌∷◌, option_map};
-ghost use Rattle.files.specs.Deeds.{Compares, noted, unput};
+ghost use Rattle.std.specs.Prelude.{◌≡◌, option_map};
 ghost use Rattle.doac.specs.Commands.{RunsFiles};
-ghost use Rattle.doac.specs.Deeds.{AfterCompare, AfterGiven, AfterPut, named};
+ghost use Rattle.doac.specs.Deeds.{AfterGiven};
 ghost use Rattle.doac.specs.Running.{EndsRecord, EndsRun, EndsStream, RunsRead, ShowsRan, Shown};
 ghost use Rattle.doac.specs.Running.{WritesRun, schedule_of, wants_of};
 
-use crate::told::{refuse_file, refuse_out, refuse_write, tell_known, warn_of_names, warn_of_run};
+use crate::keeping::{check_onto, write_first};
+use crate::told::{refuse_file, tell_ended, warn_of_names};
 use command_line::Threaded;
 use engines::Wants;
-use files::{Clash, Given, NamedFiles, Unread, read_given};
+use files::{Given, NamedFiles, Unread, read_given};
 use messages::say_figures;
-use pages::{EngineFault, Outcome};
+use pages::{EngineFault, Outcome, Status};
 use std::io;
 use std::io::Write;
 use std::sync::Wait;
@@ -32,58 +32,14 @@ pub fn run_files<
     nowhere: &mut W,
     asked: Threaded<'_>,
     most_waiting: usize,
-) -> u8
+) -> Status
     ensures { RunsFiles asked.entry
         (F.done files.old) (F.done files.new) (W.contents out.old) (W.contents out.new) result }
 {
-    let Some(onto) = asked.schedule else {
-        return run_read(rt, files, out, nowhere, asked, most_waiting);
-    };
-    let clash = clash_of(files, onto, asked.source, asked.input);
-    run_unless(rt, files, out, nowhere, asked, most_waiting, onto, clash)
-}
-
-/// Why a file may not be written where the source's and the input's are read.
-pub fn clash_of<F: NamedFiles>(
-    files: &mut F,
-    onto: &str,
-    source: &str,
-    input: Option<&str>,
-) -> Option<Clash>
-    ensures { F.done files.new ≡ noted (F.done files.old)
-        (Compares onto.now (source.now ∷ named (option_map (λ i. i.now) input.entry)) result) }
-{
-    match input {
-        Some(input) => files.clash(onto, &[source, input]),
-        None => files.clash(onto, &[source]),
+    match check_onto(rt, files, asked.schedule, asked.source, asked.input) {
+        Ok(()) => run_read(rt, files, out, nowhere, asked, most_waiting),
+        Err(status) => status,
     }
-}
-
-/// The same, where it is known whether the file `onto`, which is to have the schedule, may be
-/// written.
-fn run_unless<
-    R: Eprint + AllocGlobal + Threads + Wait + Sync,
-    F: NamedFiles,
-    W: Write + Nowhere + Drop,
->(
-    rt: &R,
-    files: &mut F,
-    out: &mut W,
-    nowhere: &mut W,
-    asked: Threaded<'_>,
-    most_waiting: usize,
-    onto: &str,
-    clash: Option<Clash>,
-) -> u8
-    ensures { AfterCompare clash
-        (F.done files.old) (F.done files.new) (W.contents out.old) (W.contents out.new) result
-        (RunsRead asked.entry
-        (F.done files.old) (F.done files.new) (W.contents out.old) (W.contents out.new) result) }
-{
-    if let Some(clash) = clash {
-        return refuse_out(rt, onto, clash);
-    }
-    run_read(rt, files, out, nowhere, asked, most_waiting)
 }
 
 /// Reads the source of a file and runs it.
@@ -98,7 +54,7 @@ fn run_read<
     nowhere: &mut W,
     asked: Threaded<'_>,
     most_waiting: usize,
-) -> u8
+) -> Status
     ensures { RunsRead asked.entry
         (F.done files.old) (F.done files.new) (W.contents out.old) (W.contents out.new) result }
 {
@@ -120,7 +76,7 @@ fn run_given<
     asked: Threaded<'_>,
     most_waiting: usize,
     given: Result<Given, Unread<'_>>,
-) -> u8
+) -> Status
     ensures { AfterGiven given.entry
         (F.done files.old) (F.done files.new) (W.contents out.old) (W.contents out.new) result
         (λ text given. EndsRun asked.entry text given
@@ -157,7 +113,7 @@ fn run_source<
     most_waiting: usize,
     text: &[u8],
     input: &[u8],
-) -> u8
+) -> Status
     ensures { EndsRun asked.entry text.now input.now
         (F.done files.old) (F.done files.new) (W.contents out.old) (W.contents out.new) result }
 {
@@ -190,7 +146,7 @@ fn stream_source<R: Eprint + AllocGlobal + Threads + Wait + Sync, W: Write + Now
     text: &[u8],
     input: &[u8],
     most_waiting: usize,
-) -> u8
+) -> Status
     ensures { EndsStream asked.entry text.now input.now
         (W.contents out.old) (W.contents out.new) result }
 {
@@ -203,8 +159,7 @@ fn stream_source<R: Eprint + AllocGlobal + Threads + Wait + Sync, W: Write + Now
         most_waiting,
         out,
     );
-    warn_of_run(rt, asked.source, text, &outcome);
-    tell_known(rt, nowhere, asked.source, text, asked.input, input, outcome)
+    tell_ended(rt, nowhere, asked.source, text, asked.input, input, outcome)
 }
 
 /// Runs the text of a file on an input, keeps the schedule, and writes it and what is shown.
@@ -216,7 +171,7 @@ fn record_source<R: Eprint + AllocGlobal + Threads + Wait + Sync, F: NamedFiles,
     asked: Threaded<'_>,
     text: &[u8],
     input: &[u8],
-) -> u8
+) -> Status
     ensures { EndsRecord asked.entry text.now input.now
         (F.done files.old) (F.done files.new) (W.contents out.old) (W.contents out.new) result }
 {
@@ -249,37 +204,14 @@ fn write_run<R: Eprint + AllocGlobal, F: NamedFiles, W: Write>(
     text: &[u8],
     input: &[u8],
     ran: &Ran,
-) -> u8
-    ensures { WritesRun (option_map (λ o. o.now) asked.entry.schedule) ran.now
+) -> Status
+    ensures { WritesRun (option_map (λ o. o.now) asked.entry.schedule) (schedule_of ran.now)
+        (ShowsRan ran.now)
         (F.done files.old) (F.done files.new) (W.contents out.old) (W.contents out.new) result }
 {
-    match (asked.schedule, schedule_text(ran)) {
-        (Some(onto), Some(schedule)) => {
-            let put = files.replace(onto, schedule);
-            write_behind(rt, out, nowhere, asked, text, input, ran, onto, put)
-        }
-        _ => write_shown(rt, out, nowhere, asked, text, input, ran),
-    }
-}
-
-/// Writes what is shown where the file `onto` was given the schedule.
-fn write_behind<R: Eprint + AllocGlobal, W: Write>(
-    rt: &R,
-    out: &mut W,
-    nowhere: &mut W,
-    asked: Threaded<'_>,
-    text: &[u8],
-    input: &[u8],
-    ran: &Ran,
-    onto: &str,
-    put: io::Result<()>,
-) -> u8
-    ensures { AfterPut (unput put) (W.contents out.old) (W.contents out.new) result
-        (Shown ran.now (W.contents out.old) (W.contents out.new) result) }
-{
-    match put {
+    match write_first(rt, files, asked.schedule, schedule_text(ran)) {
         Ok(()) => write_shown(rt, out, nowhere, asked, text, input, ran),
-        Err(error) => refuse_write(rt, onto, &error),
+        Err(status) => status,
     }
 }
 
@@ -302,8 +234,8 @@ fn write_shown<R: Eprint + AllocGlobal, W: Write>(
     text: &[u8],
     input: &[u8],
     ran: &Ran,
-) -> u8
-    ensures { Shown ran.now (W.contents out.old) (W.contents out.new) result }
+) -> Status
+    ensures { Shown (ShowsRan ran.now) (W.contents out.old) (W.contents out.new) result }
 {
     let outcome = show(ran, out);
     if let Ran::Whole(
@@ -315,8 +247,7 @@ fn write_shown<R: Eprint + AllocGlobal, W: Write>(
     {
         say_figures(rt, figures);
     }
-    warn_of_run(rt, asked.source, text, &outcome);
-    let status = tell_known(rt, nowhere, asked.source, text, asked.input, input, outcome);
+    let status = tell_ended(rt, nowhere, asked.source, text, asked.input, input, outcome);
     say_kept(rt, asked, ran);
     status
 }

@@ -9,7 +9,7 @@ use command_line::TextFiles;
 use engines::{Note, Sequential, known_of};
 use files::{Clash, FileFault, NamedFiles, STANDARD_INPUT};
 use messages::{LastRecord, Message};
-use pages::{EngineFault, Outcome, Page, Texts};
+use pages::{EngineFault, Outcome, Page, Status, Texts};
 use reasons::Met;
 use remarks::{Place, warn_of_columns};
 use schedules::Flaw;
@@ -25,46 +25,45 @@ fn say_unwritten<R: Eprint>(rt: &R, error: &io::Error) {
     }
 }
 
-/// The exit status of what was printed: 0, or 4 where that failed.
-pub fn status_of_print<R: Eprint>(rt: &R, printed: io::Result<()>) -> u8
+/// The exit status of what was printed.
+pub fn status_of_print<R: Eprint>(rt: &R, printed: io::Result<()>) -> Status
     ensures either { OfPrint result }
-    ensures ok { OnOk printed (result ≡ 0) }
-    ensures err { OnErr printed (result ≡ 4) }
+    ensures ok { OnOk printed (result ≡ Status.Done) }
+    ensures err { OnErr printed (result ≡ Status.FileFailed) }
 {
     match printed {
-        Ok(()) => 0,
+        Ok(()) => Status::Done,
         Err(error) => {
             say_unwritten(rt, &error);
-            4
+            Status::FileFailed
         }
     }
 }
 
-/// Says on standard error that a file couldn't be given its text, and gives the exit status: 4, or
-/// 5 where there was no memory for that.
-pub fn refuse_write<R: Eprint>(rt: &R, name: &str, error: &io::Error) -> u8
-    ensures { OfError error.now 4 result }
+/// Says on standard error that a file couldn't be given its text, and gives the exit status.
+pub fn refuse_write<R: Eprint>(rt: &R, name: &str, error: &io::Error) -> Status
+    ensures { OfError error.now Status.FileFailed result }
 {
     let file = name;
     let _ = eprintln!(rt; "{}writing failed: {error}", Place { file, line: 0 });
     match error.kind() {
-        io::ErrorKind::OutOfMemory => 5,
-        _ => 4,
+        io::ErrorKind::OutOfMemory => Status::NoMemory,
+        _ => Status::FileFailed,
     }
 }
 
-/// The exit status of giving a file its text: 0, or that of the error.
-pub fn status_of_write<R: Eprint>(rt: &R, name: &str, written: io::Result<()>) -> u8
+/// The exit status of giving a file its text.
+pub fn status_of_write<R: Eprint>(rt: &R, name: &str, written: io::Result<()>) -> Status
     ensures { OfWrite (unput written) result }
 {
     match written {
-        Ok(()) => 0,
+        Ok(()) => Status::Done,
         Err(error) => refuse_write(rt, name, &error),
     }
 }
 
 /// Gives a file its text, a schedule or a picture, and gives the exit status.
-pub fn give_file<R: Eprint, F: NamedFiles>(rt: &R, files: &mut F, onto: &str, text: &[u8]) -> u8
+pub fn give_file<R: Eprint, F: NamedFiles>(rt: &R, files: &mut F, onto: &str, text: &[u8]) -> Status
     ensures { GivesFile onto.now text.now (F.done files.old) (F.done files.new) result }
 {
     let written = files.replace(onto, text);
@@ -103,9 +102,8 @@ fn say_fault<R: Eprint>(rt: &R, fault: &EngineFault) {
     }
 }
 
-/// Says on standard error why a file may not be written, and gives the exit status: 4 where it is
-/// read too, 3 where standard output goes to it.
-pub fn refuse_out<R: Eprint>(rt: &R, name: &str, clash: Clash) -> u8
+/// Says on standard error why a file may not be written, and gives the exit status.
+pub fn refuse_out<R: Eprint>(rt: &R, name: &str, clash: Clash) -> Status
     ensures { result ≡ clash_status clash }
 {
     let file = name;
@@ -113,19 +111,19 @@ pub fn refuse_out<R: Eprint>(rt: &R, name: &str, clash: Clash) -> u8
     match clash {
         Clash::Read => {
             let _ = eprintln!(rt; "{place}this file is read too, so it isn't written");
-            4
+            Status::FileFailed
         }
         Clash::Output => {
             let _ = eprintln!(rt;
                 "{place}standard output goes to this file, so nothing else is written to it"
             );
-            3
+            Status::WrongCommand
         }
     }
 }
 
 /// Says on standard error why a file's bytes can't be had, and gives the exit status.
-pub fn refuse_file<R: Eprint>(rt: &R, name: &str, fault: &FileFault) -> u8
+pub fn refuse_file<R: Eprint>(rt: &R, name: &str, fault: &FileFault) -> Status
     ensures { result ≡ file_status fault.now }
 {
     let file = name;
@@ -140,7 +138,7 @@ pub fn tell<R: Eprint + AllocGlobal>(
     name: &str,
     text: &[u8],
     outcome: Result<Outcome, EngineFault>,
-) -> u8
+) -> Status
     ensures { result ≡ exit_of outcome }
 {
     tell_noted(rt, name, text, outcome, None)
@@ -154,7 +152,7 @@ pub fn tell_noted<R: Eprint + AllocGlobal>(
     text: &[u8],
     outcome: Result<Outcome, EngineFault>,
     note: Option<Note>,
-) -> u8
+) -> Status
     ensures { result ≡ exit_of outcome }
 {
     match outcome {
@@ -181,7 +179,7 @@ pub fn tell_run<R: Eprint + AllocGlobal>(
     given: Option<&str>,
     input: &[u8],
     run: Sequential,
-) -> u8
+) -> Status
     ensures { result ≡ exit_of run.came }
 {
     let Sequential { came, note, left } = run;
@@ -204,11 +202,28 @@ pub fn tell_known<R: Eprint + AllocGlobal, W: Write>(
     given: Option<&str>,
     input: &[u8],
     came: Result<Outcome, EngineFault>,
-) -> u8
+) -> Status
     ensures { result ≡ exit_of came }
 {
     let run = known_of(rt.alloc(), text, input, came, nowhere);
     tell_run(rt, name, text, given, input, run)
+}
+
+/// Says on standard error of a run in threads or in model time, whose answer is written, which
+/// lines of its source weren't all read, and then what [`tell_known`] says.
+pub fn tell_ended<R: Eprint + AllocGlobal, W: Write>(
+    rt: &R,
+    nowhere: &mut W,
+    name: &str,
+    text: &[u8],
+    given: Option<&str>,
+    input: &[u8],
+    came: Result<Outcome, EngineFault>,
+) -> Status
+    ensures { result ≡ exit_of came }
+{
+    warn_of_run(rt, name, text, &came);
+    tell_known(rt, nowhere, name, text, given, input, came)
 }
 
 /// Why the entry in a line of a schedule can't be made, or where the run stands behind the last
@@ -233,7 +248,7 @@ pub fn tell_of<R: Eprint + AllocGlobal>(
     names: TextFiles<'_>,
     texts: &Texts,
     outcome: Result<Outcome, EngineFault>,
-) -> u8
+) -> Status
     ensures { result ≡ exit_of outcome }
 {
     match outcome {
@@ -254,7 +269,7 @@ pub fn tell_replay<R: Eprint + AllocGlobal, W: Write>(
     names: TextFiles<'_>,
     texts: &Texts,
     outcome: Result<Outcome, EngineFault>,
-) -> u8
+) -> Status
     ensures { result ≡ exit_of outcome }
 {
     match outcome {
@@ -279,7 +294,7 @@ pub fn show_page<R: Eprint + AllocGlobal, W: Write>(
     names: TextFiles<'_>,
     texts: &Texts,
     page: &Page,
-) -> u8
+) -> Status
     ensures { Ends (IsPage page.now) (W.contents out.old) (W.contents out.new) result }
 {
     let outcome = page.write(out);

@@ -3,19 +3,17 @@ use Rattle.std.proofs.Common.{◌≡◌, ◌⊎◌, ◌∙◌, inl, inr, ℕ, �
 use Rattle.std.proofs.KnownBytes.{Appends-nil, Appends-trans}
 use Rattle.std.proofs.Math.Seq.{drop-cons}
 use Rattle.std.proofs.lemmas.List.{take-append-drop}
-use Rattle.std.specs.Prelude.{IfErr, OnOk}
+use Rattle.std.specs.Prelude.{IfErr, IsErrAnd, OnOk}
 use Rattle.codegen.specs.declared.reports.LoopReport.{LoopReport}
 use Rattle.handing.specs.Handing.{AppendsPart, Begins, FallsShort}
 use Rattle.pages.specs.declared.fault.EngineFault.{EngineFault}
 use Rattle.pages.specs.declared.fault.EngineFault.TheVariants.{Source, Input, Schedule, Writing, Memory, OutOfRange, NotStarted, Stuck}
+use Rattle.pages.specs.declared.outcomes.Outcome.{Outcome}
 use Rattle.engines.specs.Explained.{BreaksEach, BreaksLoop, BreaksOff, BreaksSome, Broke, Grows, GrowsSome, IsFront, StreamsLoops, TellsEach, TellsLoop}
 use Rattle.engines.specs.Listing.{Lines, LinesWhy, ListingOf}
 use Rattle.engines.proofs.Listings.{listed_more}
 
 -- ---- what is told grows
-
-pub grows_none : (o : Option (List ℕ)) (p : List ℕ) → Grows o p o p []
-grows_none o p = record { got = []; grown = Appends-nil o; is = append-nil p }
 
 pub grows_on : (o m n : Option (List ℕ)) (p r q a b : List ℕ) → Grows o p m r a → Grows m r n q b → Grows o p n q (a ++ b)
 grows_on o m n p r q a b g h = record {
@@ -25,6 +23,11 @@ grows_on o m n p r q a b g h = record {
 }
 
 -- ---- a fault on the way
+
+pub streams_fault : (r : Result Outcome EngineFault) (fault : EngineFault) (reports : List LoopReport) (old new : Option (List ℕ)) → IsErrAnd r (λ e. e ≡ fault)
+    → StreamsLoops reports old new (Err fault) → StreamsLoops reports old new r
+streams_fault (Ok outcome) fault reports old new is holds = absurd is
+streams_fault (Err e) fault reports old new is holds = subst (λ (f : EngineFault). StreamsLoops reports old new (Err f)) (sym is) holds
 
 -- of what waited before and a text, where the first part of the text was told
 whole_on : (p r a b got : List ℕ) (rest : List ℕ) (front : List ℕ) → p ++ a ≡ front ++ r → r ++ b ≡ got ++ rest → p ++ (a ++ b) ≡ (front ++ got) ++ rest
@@ -62,10 +65,6 @@ breaks_more o n p a c (Schedule e) h = absurd h
 breaks_more o n p a c OutOfRange h = absurd h
 breaks_more o n p a c NotStarted h = absurd h
 breaks_more o n p a c Stuck h = absurd h
-
--- memory was refused before anything was told
-pub breaks_here : (o : Option (List ℕ)) (p a : List ℕ) → BreaksOff o p o a Memory
-breaks_here o p a = record { got = []; grown = Appends-nil o; so = (p ++ a, refl) }
 
 -- not all of what waited was written
 pub falls_short : (o n : Option (List ℕ)) (p : List ℕ) → AppendsPart o n p → Broke FallsShort o p n []
@@ -167,7 +166,7 @@ pub none_written : (rs : List LoopReport) (o : Option (List ℕ)) → StreamsLoo
 none_written rs o = record { text = []; front = record { front = []; rest = rs; are = refl; listing = refl }; got = []; so = ([], refl); grown = Appends-nil o }
 
 -- where nothing waited before the first loop
-each_breaks : (rs : List LoopReport) (o n : Option (List ℕ)) (p : List ℕ) (f : EngineFault) → p ≡ [] → BreaksEach rs o p n f → StreamsLoops rs o n (Err f)
+pub each_breaks : (rs : List LoopReport) (o n : Option (List ℕ)) (p : List ℕ) (f : EngineFault) → p ≡ [] → BreaksEach rs o p n f → StreamsLoops rs o n (Err f)
 each_breaks rs o n p (Writing e) none h = record { text = h.0; front = h.1; got = h.2.got; so = subst (λ (x : List ℕ). FallsShort h.2.got (x ++ h.0)) none h.2.so; grown = h.2.grown }
 each_breaks rs o n p Memory none h = record { text = h.0; front = h.1; got = h.2.got; so = subst (λ (x : List ℕ). Begins h.2.got (x ++ h.0)) none h.2.so; grown = h.2.grown }
 each_breaks rs o n p (Source e) none h = absurd h.2

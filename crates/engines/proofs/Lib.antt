@@ -1,8 +1,9 @@
 pub mod Counts
 pub mod Drawings
 pub mod Explaining
+pub mod Faults
 pub mod Listings
+pub mod Lists
 pub mod Pages
 pub mod Replayed
-pub mod Surveys
 pub mod Upgrading

@@ -1,17 +1,19 @@
 -- What is written of an upgrade.
 use Rattle.std.proofs.Common.{◌≡◌, ℕ, List, Option, Result, Ok, Err, IfOk, IfErr, subst, sym}
-use Rattle.pages.specs.Outcomes.{IsWriting}
+use Rattle.pages.specs.Outcomes.{IsWriting, status_of}
 use Rattle.pages.specs.Reading.{AreGiven, Gives, OfTexts}
+use Rattle.pages.specs.Status.{number_of}
 use Rattle.pages.specs.declared.fault.EngineFault.{EngineFault}
 use Rattle.pages.specs.declared.fault.EngineFault.TheVariants.{Source, Input, Schedule, Writing, Memory, OutOfRange, NotStarted, Stuck}
+use Rattle.pages.specs.declared.outcomes.Outcome.{Outcome}
 use Rattle.pages.specs.declared.texts.Texts.{Texts}
-use Rattle.engines.specs.Schedules.{LeavesBoth, UpgradeWorks, Upgrading, WritesPart, WritesUpgraded, WroteUpgraded, WroteUpgradedPart, upgrade_status}
+use Rattle.engines.specs.Schedules.{LeavesBoth, UpgradeWorks, Upgrading, WritesPart, WritesUpgraded, WroteUpgradedAs, WroteUpgradedPart, upgrade_outcome}
 use Rattle.engines.specs.declared.replays.Upgraded.{Upgraded}
 
-pub of_written : (allows : Upgraded → Type 0) (made : Upgraded) (old new before after : Option (List ℕ)) (r : Result ℕ EngineFault) → allows made
-    → IfOk r (λ status. (status ≡ upgrade_status made) × WritesUpgraded made old new before after)
+pub of_written : (allows : Upgraded → Type 0) (made : Upgraded) (old new before after : Option (List ℕ)) (r : Result Outcome EngineFault) → allows made
+    → IfOk r (λ outcome. (outcome ≡ upgrade_outcome made) × WritesUpgraded made old new before after)
     → IfErr r (λ fault. IsWriting fault × WritesPart made old new before after) → UpgradeWorks allows old new before after r
-of_written allows made old new before after (Ok status) allowed ok err = record { upgraded = made; allowed = allowed; is = ok.0; written = ok.1 }
+of_written allows made old new before after (Ok outcome) allowed ok err = record { upgraded = made; allowed = allowed; is = ok.0; written = ok.1 }
 of_written allows made old new before after (Err (Writing e)) allowed ok err = record { upgraded = made; allowed = allowed; written = err.1 }
 of_written allows made old new before after (Err (Source e)) allowed ok err = absurd err.0
 of_written allows made old new before after (Err (Input e)) allowed ok err = absurd err.0
@@ -27,17 +29,16 @@ of_three : (source input schedule : Option (List ℕ)) (texts : Texts) (x y z : 
 of_three source input schedule texts x y z P first second third given holds =
     (x, subst (Gives source) (sym first) given.0, (y, subst (Gives input) (sym second) given.1, (z, subst (Gives schedule) (sym third) given.2, holds)))
 
-pub given_ok : (source input schedule : Option (List ℕ)) (texts : Texts) (x y z : List ℕ) → x ≡ texts.source.items → y ≡ texts.input.items → z ≡ texts.schedule.items
-    → (old new before after : Option (List ℕ)) (r : Result ℕ EngineFault) → AreGiven source input schedule texts → UpgradeWorks (Upgrading x y z) old new before after r
-    → IfOk r (λ status. OfTexts source input schedule (λ text given picks. WroteUpgraded (Upgrading text given picks) old new before after status))
-given_ok source input schedule texts x y z first second third old new before after (Ok status) given works =
-    of_three source input schedule texts x y z (λ text given picks. WroteUpgraded (Upgrading text given picks) old new before after status) first second third given works
-given_ok source input schedule texts x y z first second third old new before after (Err fault) given works = tt
+pub given_as : (source input schedule : Option (List ℕ)) (texts : Texts) (x y z : List ℕ) → x ≡ texts.source.items → y ≡ texts.input.items → z ≡ texts.schedule.items
+    → (old new before after : Option (List ℕ)) (outcome : Outcome) (status : ℕ) → status ≡ number_of (status_of outcome) → AreGiven source input schedule texts
+    → UpgradeWorks (Upgrading x y z) old new before after (Ok outcome) → OfTexts source input schedule (λ text given picks. WroteUpgradedAs (Upgrading text given picks) old new before after status)
+given_as source input schedule texts x y z first second third old new before after outcome status is given works =
+    of_three source input schedule texts x y z (λ text given picks. WroteUpgradedAs (Upgrading text given picks) old new before after status) first second third given (outcome, is, works)
 
 pub given_err : (source input schedule : Option (List ℕ)) (texts : Texts) (x y z : List ℕ) → x ≡ texts.source.items → y ≡ texts.input.items → z ≡ texts.schedule.items
-    → (old new before after : Option (List ℕ)) (r : Result ℕ EngineFault) → AreGiven source input schedule texts → UpgradeWorks (Upgrading x y z) old new before after r
+    → (old new before after : Option (List ℕ)) (r : Result Outcome EngineFault) → AreGiven source input schedule texts → UpgradeWorks (Upgrading x y z) old new before after r
     → IfErr r (λ fault. LeavesBoth fault old new before after (OfTexts source input schedule (λ text given picks. WroteUpgradedPart (Upgrading text given picks) old new before after)))
-given_err source input schedule texts x y z first second third old new before after (Ok status) given works = tt
+given_err source input schedule texts x y z first second third old new before after (Ok outcome) given works = tt
 given_err source input schedule texts x y z first second third old new before after (Err (Writing e)) given works =
     of_three source input schedule texts x y z (λ text given picks. WroteUpgradedPart (Upgrading text given picks) old new before after) first second third given works
 given_err source input schedule texts x y z first second third old new before after (Err Memory) given works = works

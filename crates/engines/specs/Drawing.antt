@@ -7,10 +7,8 @@ use Rattle.dependence.specs.declared.plan.LoopPlan.{LoopPlan}
 use Rattle.dependence.specs.declared.plan.LoopPlan.TheVariants.{Serial, Body}
 use Rattle.pictures.specs.Dependences.{AreArrows}
 use Rattle.pictures.specs.Drawn.{IsDrawn}
-use Rattle.pages.specs.declared.outcomes.Outcome.{Outcome}
-use Rattle.pages.specs.declared.outcomes.Outcome.TheVariants.{Refused}
 use Rattle.engines.specs.Lists.{IsReported}
-use Rattle.engines.specs.Schedules.{IsNoCode}
+use Rattle.engines.specs.Prepared.{IsUncoded}
 use Rattle.engines.specs.declared.drawing.Portion.{Portion}
 use Rattle.engines.specs.declared.drawing.TheConstants.{MOST_ARROWS}
 use Rattle.engines.specs.declared.drawn.Drawn.{Drawn}
@@ -80,10 +78,6 @@ pub record LacksLoop (source : List ℕ) (number count : ℕ) : Type 0 where
 -- one whose picture would have too many arrows
 abbrev pub Draws : (source : List ℕ) → Portion → Drawn → Type 0
 Draws source p (Picture text) = IsDrawing source p (Picture text)
-Draws source p (Shown page) = IsRefusedPage page.outcome
-  where
-    IsRefusedPage : Outcome → Type 0
-    IsRefusedPage (Refused rule line) = IsNoCode source rule line page.text.items
-    IsRefusedPage _ = ⊥
+Draws source p (Shown page) = IsUncoded source page.outcome page.text.items
 Draws source p (NoLoop count) = LacksLoop source p.number count
 Draws source p (TooDense count) = IsDrawing source p (TooDense count)

@@ -18,6 +18,7 @@ use Rattle.interpreter.specs.declared.run_end.RunFault.TheVariants as run_faults
 use Rattle.pages.specs.Outcomes.{outcome_of, status_of}
 use Rattle.pages.specs.Reading.{Gives, OfText}
 use Rattle.pages.specs.Shown.{accepted, refused, EndShown, Shown}
+use Rattle.pages.specs.Status.{number_of}
 use Rattle.pages.specs.View.{rows_from}
 use Rattle.pages.specs.declared.fault.EngineFault.{EngineFault}
 use Rattle.pages.specs.declared.fault.EngineFault.TheVariants.{Source, Input, Schedule, Writing, Memory, OutOfRange, NotStarted, Stuck}
@@ -90,10 +91,10 @@ pub record Wrote (allows : Outcome → List ℕ → Type 0) (old new : Option (L
   pub allowed : allows outcome text
   pub grown : Appends old new text
 
--- the same, of an outcome with this status
+-- the same, of an outcome whose status has this number
 pub record WroteAs (allows : Outcome → List ℕ → Type 0) (old new : Option (List ℕ)) (status : ℕ) : Type 0 where
   pub outcome : Outcome
-  pub is : status ≡ status_of outcome
+  pub is : status ≡ number_of (status_of outcome)
   pub wrote : Wrote allows old new outcome
 
 -- the writer's bytes grew by a beginning of a text that some outcome allows, not by all of it

@@ -2,26 +2,22 @@
 use Rattle.std.specs.Prelude.{◌≡◌, ◌⊎◌, ℕ, Bool, true, false, List, Option, Result, Ok, Err}
 use Rattle.std.specs.Io.KnownBytes.{Keeps}
 use Rattle.ast.specs.Program.{ProgramTree}
-use Rattle.ast.specs.ProgramView.{program as program_of}
-use Rattle.ast.specs.declared.rule.Rule.{Rule}
-use Rattle.ast.specs.declared.rule.Rule.TheVariants.{LongCode}
-use Rattle.codegen.specs.Program.{IsCompiled, HasLongCode as HasNoCode}
+use Rattle.codegen.specs.Program.{IsCompiled}
 use Rattle.codegen.specs.Reports.{Reports}
 use Rattle.codegen.specs.declared.reports.LoopReport.{LoopReport}
 use Rattle.handing.specs.Handing.{Begins, FallsShort}
 use Rattle.machine.specs.Code.{Code}
 use Rattle.profile_check.specs.Reads.{Reads}
-use Rattle.pages.specs.Shown.{refused}
 use Rattle.pages.specs.declared.fault.EngineFault.{EngineFault}
 use Rattle.pages.specs.declared.fault.EngineFault.TheVariants.{Writing, Memory}
 use Rattle.pages.specs.declared.outcomes.Outcome.{Outcome}
 use Rattle.pages.specs.declared.outcomes.Outcome.TheVariants.{Completed, Refused, Faulted, NoSchedule}
-use Rattle.engines.specs.Engines.{IsRefusal, Works, Wrote, WrotePart}
+use Rattle.engines.specs.Engines.{Works, Wrote, WrotePart}
 use Rattle.engines.specs.Explained.{GrewBy, StreamsLoops}
 use Rattle.engines.specs.Listing.{Lines, LinesWhy, ListingOf}
-use Rattle.engines.specs.Schedules.{IsNoCode}
-use Rattle.engines.specs.declared.survey.Survey.{Survey}
-use Rattle.engines.specs.declared.survey.Survey.TheVariants as survey
+use Rattle.engines.specs.Prepared.{IsNoCode}
+use Rattle.engines.specs.declared.prepared.Prepared.{Prepared}
+use Rattle.engines.specs.declared.prepared.Prepared.TheVariants as prepared
 
 -- the source reads as a program that has code, and these are the reports of its loops
 pub record IsReported (source : List ℕ) (tree : ProgramTree) (reports : List LoopReport) : Type 0 where
@@ -30,24 +26,11 @@ pub record IsReported (source : List ℕ) (tree : ProgramTree) (reports : List L
   pub compiled : IsCompiled tree code
   pub are : Reports tree reports
 
--- the source reads as a program whose code would be too long
-pub record HasLongCode (source : List ℕ) (rule : Rule) (line : ℕ) : Type 0 where
-  pub tree : ProgramTree
-  pub reads : Reads source tree
-  pub long : HasNoCode tree
-  pub rule_is : rule ≡ LongCode
-  pub line_is : line ≡ 0
-
--- a source is what a survey of its loops says
-abbrev pub IsSurvey : List ℕ → Survey → Type 0
-IsSurvey source (survey.Loops program reports) = IsReported source (program_of program) reports.items
-IsSurvey source (survey.Refused rule line) = IsRefusal source rule line ⊎ HasLongCode source rule line
-
--- what `list` may write of a survey, of each loop such lines
-abbrev pub TellsBy : (ℕ → LoopReport → List ℕ → Type 0) → Survey → Outcome → List ℕ → Type 0
-TellsBy lines (survey.Loops program reports) Completed text = ListingOf lines 1 reports.items text
-TellsBy lines (survey.Refused rule line) (Refused r l) text = (r ≡ rule) × (l ≡ line) × (text ≡ refused rule line)
-TellsBy lines _ _ text = ⊥
+-- what `list` may write of a prepared source, of each loop such lines
+abbrev pub TellsBy : (ℕ → LoopReport → List ℕ → Type 0) → Prepared → Outcome → List ℕ → Type 0
+TellsBy lines (prepared.Coded x) Completed text = ListingOf lines 1 x.reports.items text
+TellsBy lines (prepared.Coded x) _ text = ⊥
+TellsBy lines (prepared.Refused page) outcome text = (outcome ≡ page.outcome) × (text ≡ page.text.items)
 
 -- the source reads as a program that has code, and this lists its loops
 pub record IsListedBy (lines : ℕ → LoopReport → List ℕ → Type 0) (source text : List ℕ) : Type 0 where
@@ -63,8 +46,8 @@ ListsBy lines source (Refused rule line) text = IsNoCode source rule line text
 ListsBy lines source (Faulted fault line) text = ⊥
 ListsBy lines source (NoSchedule flaw line) text = ⊥
 
--- what `list` may write of a survey without `--why`
-abbrev pub TellsLoops : Survey → Outcome → List ℕ → Type 0
+-- what `list` may write of a prepared source without `--why`
+abbrev pub TellsLoops : Prepared → Outcome → List ℕ → Type 0
 TellsLoops = TellsBy Lines
 
 -- what `list` may write of a source text without `--why`
@@ -73,11 +56,11 @@ Lists = ListsBy Lines
 
 -- ---- with `--why` lines are written while they are made
 
--- what `list --why` writes of a survey: all that it may; or where writing failed or memory was
--- refused a beginning of the lines of some loops, or of a refusal's
-abbrev pub StreamsWhy : Survey → (old new : Option (List ℕ)) → Result Outcome EngineFault → Type 0
-StreamsWhy (survey.Loops program reports) old new result = StreamsLoops reports.items old new result
-StreamsWhy (survey.Refused rule line) old new result = Works (TellsLoops (survey.Refused rule line)) old new result
+-- what `list --why` writes of a prepared source: all that it may; or where writing failed or memory
+-- was refused a beginning of the lines of some loops, or of a refusal's
+abbrev pub StreamsWhy : Prepared → (old new : Option (List ℕ)) → Result Outcome EngineFault → Type 0
+StreamsWhy (prepared.Coded x) old new result = StreamsLoops x.reports.items old new result
+StreamsWhy (prepared.Refused page) old new result = Works (TellsLoops (prepared.Refused page)) old new result
 
 -- the source reads as a program that has code, and a writer's bytes grew by so much of the lines of
 -- some of its loops, from the first on
@@ -96,10 +79,10 @@ StreamsList source old new (Err (Writing e)) = WrotePart (ListsBy LinesWhy sourc
 StreamsList source old new (Err Memory) = Keeps old new ⊎ GrewOf Begins source old new
 StreamsList source old new (Err _) = ⊥
 
--- what `list` writes of a survey, with `--why` or without
-abbrev pub WritesSurvey : (why : Bool) → Survey → (old new : Option (List ℕ)) → Result Outcome EngineFault → Type 0
-WritesSurvey true survey old new result = StreamsWhy survey old new result
-WritesSurvey false survey old new result = Works (TellsLoops survey) old new result
+-- what `list` writes of a prepared source, with `--why` or without
+abbrev pub WritesLoops : (why : Bool) → Prepared → (old new : Option (List ℕ)) → Result Outcome EngineFault → Type 0
+WritesLoops true x old new result = StreamsWhy x old new result
+WritesLoops false x old new result = Works (TellsLoops x) old new result
 
 -- what `list` writes of a source text, with `--why` or without
 abbrev pub WritesList : (why : Bool) → List ℕ → (old new : Option (List ℕ)) → Result Outcome EngineFault → Type 0

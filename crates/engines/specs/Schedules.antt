@@ -11,11 +11,13 @@ use Rattle.schedules.specs.Schedules.{SchedText, Schedule}
 use Rattle.handing.specs.Handing.{AppendsPart}
 use Rattle.pages.specs.Outcomes.{status_of}
 use Rattle.pages.specs.Reading.{OfTexts}
+use Rattle.pages.specs.Status.{number_of}
 use Rattle.pages.specs.declared.fault.EngineFault.{EngineFault}
 use Rattle.pages.specs.declared.fault.EngineFault.TheVariants.{Memory, Writing}
 use Rattle.pages.specs.declared.outcomes.Outcome.{Outcome}
+use Rattle.pages.specs.declared.outcomes.Outcome.TheVariants.{Completed}
 use Rattle.engines.specs.Engines.{Leaves, ShowsRun, WroteAs, WrotePart}
-pub use Rattle.engines.specs.Prepared.{IsLine, IsNoCode, WithCode, WithRun}
+pub use Rattle.engines.specs.Prepared.{IsLine, WithCode, WithRun}
 use Rattle.engines.specs.declared.replays.Upgraded.{Upgraded}
 use Rattle.engines.specs.declared.replays.Upgraded.TheVariants.{Text, Shown}
 
@@ -47,10 +49,10 @@ Upgrading source input schedule (Text text) =
 Upgrading source input schedule (Shown page) =
     IsLine HasStop source input schedule page.outcome page.text.items
 
--- the exit status of what `upgrade` comes to
-abbrev pub upgrade_status : Upgraded → ℕ
-upgrade_status (Text text) = 0
-upgrade_status (Shown page) = status_of page.outcome
+-- the outcome of what `upgrade` comes to
+abbrev pub upgrade_outcome : Upgraded → Outcome
+upgrade_outcome (Text text) = Completed
+upgrade_outcome (Shown page) = page.outcome
 
 -- Two writers grew by what `upgrade` comes to, the first one's bytes from `old` to `new`, the
 -- other's from `before` to `after`: this one by a schedule's text, or the first by a page, and the
@@ -64,12 +66,17 @@ abbrev pub WritesPart : Upgraded → (old new before after : Option (List ℕ)) 
 WritesPart (Text text) old new before after = (new ≡ old) × AppendsPart before after text.items
 WritesPart (Shown page) old new before after = AppendsPart old new page.text.items × (after ≡ before)
 
--- the writers grew by what `upgrade` may come to, and this is its status
-pub record WroteUpgraded (allows : Upgraded → Type 0) (old new before after : Option (List ℕ)) (status : ℕ) : Type 0 where
+-- the writers grew by what `upgrade` may come to, and this is its outcome
+pub record WroteUpgraded (allows : Upgraded → Type 0) (old new before after : Option (List ℕ)) (outcome : Outcome) : Type 0 where
   pub upgraded : Upgraded
   pub allowed : allows upgraded
-  pub is : status ≡ upgrade_status upgraded
+  pub is : outcome ≡ upgrade_outcome upgraded
   pub written : WritesUpgraded upgraded old new before after
+
+-- the same, with the number of an outcome's status
+abbrev pub WroteUpgradedAs : (Upgraded → Type 0) → (old new before after : Option (List ℕ)) → ℕ → Type 0
+WroteUpgradedAs allows old new before after status =
+    (outcome : Outcome) × (status ≡ number_of (status_of outcome)) × WroteUpgraded allows old new before after outcome
 
 -- the writers grew by a beginning of what `upgrade` may come to
 pub record WroteUpgradedPart (allows : Upgraded → Type 0) (old new before after : Option (List ℕ)) : Type 0 where
@@ -77,10 +84,10 @@ pub record WroteUpgradedPart (allows : Upgraded → Type 0) (old new before afte
   pub allowed : allows upgraded
   pub written : WritesPart upgraded old new before after
 
--- What upgrading texts that were read comes to: a status with what is allowed written; part of it
+-- What upgrading texts that were read comes to: an outcome with what is allowed written; part of it
 -- where writing failed; nothing where memory was refused. No fault of reading comes of it.
-abbrev pub UpgradeWorks : (Upgraded → Type 0) → (old new before after : Option (List ℕ)) → Result ℕ EngineFault → Type 0
-UpgradeWorks allows old new before after (Ok status) = WroteUpgraded allows old new before after status
+abbrev pub UpgradeWorks : (Upgraded → Type 0) → (old new before after : Option (List ℕ)) → Result Outcome EngineFault → Type 0
+UpgradeWorks allows old new before after (Ok outcome) = WroteUpgraded allows old new before after outcome
 UpgradeWorks allows old new before after (Err (Writing e)) = WroteUpgradedPart allows old new before after
 UpgradeWorks allows old new before after (Err Memory) = (new ≡ old) × (after ≡ before)
 UpgradeWorks allows old new before after (Err _) = ⊥
@@ -108,7 +115,7 @@ ReplayFails source input schedule old new fault =
 abbrev pub UpgradeEnds : (source input schedule old new before after : Option (List ℕ)) → ℕ → Type 0
 UpgradeEnds source input schedule old new before after status =
     OfTexts source input schedule (λ text given picks.
-    WroteUpgraded (Upgrading text given picks) old new before after status)
+    WroteUpgradedAs (Upgrading text given picks) old new before after status)
 
 -- or with this fault
 abbrev pub UpgradeFails : (source input schedule old new before after : Option (List ℕ)) → EngineFault → Type 0

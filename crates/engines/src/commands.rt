@@ -8,15 +8,16 @@ ghost use Rattle.engines.specs.Coded.{ShowsCode};
 ghost use Rattle.engines.specs.Engines.{AfterRead, Checks, EndsOfSource, FailsOfSource, IsJudged};
 ghost use Rattle.engines.specs.Engines.{LeavesReader, LeavesReaders, SeqEnds, SeqFails, Streaming};
 ghost use Rattle.engines.specs.Engines.{StreamingWith, Tells, Works};
-ghost use Rattle.engines.specs.Lists.{Lists, StreamsWhy, TellsLoops, WritesSurvey};
+ghost use Rattle.engines.specs.Lists.{Lists, StreamsWhy, TellsLoops, WritesLoops};
 ghost use Rattle.engines.specs.Schedules.{ReplayEnds, ReplayFails, Replaying, UpgradeEnds};
 ghost use Rattle.engines.specs.Schedules.{UpgradeFails, UpgradeWorks, Upgrading};
 
 use crate::coded::coded;
 use crate::explained::explain_loops;
+use crate::listing::listed;
+use crate::prepared::{Prepared, prepare};
 use crate::replays::{replayed, upgrade_texts};
 use crate::sequential::seq_texts;
-use crate::survey::{Survey, shown_loops, surveyed};
 use crate::told::told;
 use crate::verdict::{Verdict, judged};
 use pages::{EngineFault, Outcome, ReadFault, read_all, read_three};
@@ -48,65 +49,70 @@ fn check_text<W: Write>(alloc: Global, source: &[u8], out: &mut W) -> Result<Out
     tell_verdict(alloc, &verdict, out)
 }
 
-/// Writes the lines of a survey: those of each loop, or that of a refusal.
+/// Writes the lines of each loop of a prepared source, or that of its refusal.
 ///
 /// # Errors
 ///
 /// A fault of the writer, with a beginning of the lines written; or of memory, with nothing
 /// written.
-fn tell_survey<W: Write>(
+fn tell_listing<W: Write>(
     alloc: Global,
-    survey: &Survey,
+    prepared: &Prepared,
     out: &mut W,
 ) -> Result<Outcome, EngineFault>
-    ensures { Works (TellsLoops survey.now) (W.contents out.old) (W.contents out.new) result }
+    ensures { Works (TellsLoops prepared.now) (W.contents out.old) (W.contents out.new) result }
 {
-    let page = shown_loops(alloc, survey)?;
-    page.write(out)
+    match prepared {
+        Prepared::Coded(coded) => {
+            let page = listed(alloc, &coded.reports)?;
+            page.write(out)
+        }
+        Prepared::Refused(page) => page.write(out),
+    }
 }
 
-/// Writes the lines of a survey as [`tell_survey`] does, and where it is wanted behind those of
-/// each loop some that say why; these are written while they are made.
+/// Writes the lines of a prepared source's loops as [`tell_listing`] does, and where it is wanted
+/// behind those of each loop some that say why; these are written while they are made.
 ///
 /// # Errors
 ///
-/// Those of [`tell_survey`]; where reasons are wanted a beginning of the lines may have been
+/// Those of [`tell_listing`]; where reasons are wanted a beginning of the lines may have been
 /// written when memory is refused.
 pub fn tell_loops<W: Write>(
     alloc: Global,
-    survey: &Survey,
+    prepared: &Prepared,
     why: bool,
     out: &mut W,
 ) -> Result<Outcome, EngineFault>
-    ensures { WritesSurvey why survey.now (W.contents out.old) (W.contents out.new) result }
+    ensures { WritesLoops why prepared.now (W.contents out.old) (W.contents out.new) result }
 {
     if why {
-        tell_reasons(alloc, survey, out)
+        tell_reasons(alloc, prepared, out)
     } else {
-        tell_survey(alloc, survey, out)
+        tell_listing(alloc, prepared, out)
     }
 }
 
-/// Writes the lines of a survey, and behind those of each loop some that say why.
+/// Writes the lines of a prepared source's loops, and behind those of each some that say why.
 fn tell_reasons<W: Write>(
     alloc: Global,
-    survey: &Survey,
+    prepared: &Prepared,
     out: &mut W,
 ) -> Result<Outcome, EngineFault>
-    ensures { StreamsWhy survey.now (W.contents out.old) (W.contents out.new) result }
+    ensures { StreamsWhy prepared.now (W.contents out.old) (W.contents out.new) result }
 {
-    match survey {
-        Survey::Loops { program, reports } => explain_loops(alloc, program, reports, out),
-        Survey::Refused { .. } => tell_survey(alloc, survey, out),
+    match prepared {
+        Prepared::Coded(coded) => explain_loops(alloc, &coded.program, &coded.reports, out),
+        Prepared::Refused(page) => page.write(out),
     }
 }
 
-/// Writes the lines of a text's loops. The errors are those of [`tell_survey`].
+/// Writes the lines of a text's loops. The errors are those of [`tell_listing`].
 fn list_text<W: Write>(alloc: Global, source: &[u8], out: &mut W) -> Result<Outcome, EngineFault>
     ensures { Works (Lists source.now) (W.contents out.old) (W.contents out.new) result }
 {
-    let survey = surveyed(alloc, source)?;
-    tell_survey(alloc, &survey, out)
+    let prepared = prepare(alloc, source)?;
+    tell_listing(alloc, &prepared, out)
 }
 
 /// Writes the lines of the code of a text, or that of its refusal.
@@ -155,7 +161,7 @@ fn upgrade_given<W: Write, V: Write>(
     schedule: &[u8],
     out: &mut W,
     upgraded: &mut V,
-) -> Result<u8, EngineFault>
+) -> Result<Outcome, EngineFault>
     ensures { UpgradeWorks (Upgrading source.now input.now schedule.now) (W.contents out.old)
         (W.contents out.new) (V.contents upgraded.old) (V.contents upgraded.new) result }
 {
@@ -247,7 +253,7 @@ pub fn check<R: Read, W: Write>(
 {
     let read = read_all(alloc, source);
     let outcome = check_read(alloc, read, out)?;
-    Ok(outcome.status())
+    Ok(outcome.status().number())
 }
 
 /// Writes the lines of a source's loops and gives the exit status: 0, or 1 for a source that is
@@ -270,7 +276,7 @@ pub fn list<R: Read, W: Write>(
 {
     let read = read_all(alloc, source);
     let outcome = list_read(alloc, read, out)?;
-    Ok(outcome.status())
+    Ok(outcome.status().number())
 }
 
 /// Runs a source on an input, writes its records and what follows them, and gives the exit status:
@@ -301,7 +307,7 @@ pub fn seq<R: Read, I: Read, W: Write>(
 {
     let read = read_all(alloc, source);
     let outcome = seq_read(alloc, read, input, store, most, out)?;
-    Ok(outcome.status())
+    Ok(outcome.status().number())
 }
 
 /// Replays a schedule of a source on an input, writes its records and what follows them, and gives
@@ -329,7 +335,7 @@ pub fn replay<R: Read, I: Read, S: Read, W: Write>(
 {
     let texts = read_three(alloc, source, input, schedule)?;
     let outcome = replay_texts(alloc, &texts.source, &texts.input, &texts.schedule, out)?;
-    Ok(outcome.status())
+    Ok(outcome.status().number())
 }
 
 /// Upgrades a schedule of a source on an input: writes the text of a schedule in which each pick is
@@ -360,12 +366,13 @@ pub fn upgrade<R: Read, I: Read, S: Read, W: Write, V: Write>(
         (I.remaining input.new) (S.remaining schedule.old) (S.remaining schedule.new)) }
 {
     let texts = read_three(alloc, source, input, schedule)?;
-    upgrade_given(
+    let outcome = upgrade_given(
         alloc,
         &texts.source,
         &texts.input,
         &texts.schedule,
         out,
         upgraded,
-    )
+    )?;
+    Ok(outcome.status().number())
 }

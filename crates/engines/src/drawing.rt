@@ -5,15 +5,14 @@ ghost use Rattle.ast.specs.ProgramView.{program as program_of};
 ghost use Rattle.pictures.specs.Dependences.{AreArrows};
 ghost use Rattle.engines.specs.Drawing as spec;
 ghost use Rattle.engines.specs.Drawing.{Draws, DrawsReport, IsLoopPicture, kept_of};
-ghost use Rattle.engines.specs.Lists.{IsReported, IsSurvey};
+ghost use Rattle.engines.specs.Lists.{IsReported};
 
 use crate::drawn::Drawn;
-use crate::survey::{Survey, surveyed};
+use crate::prepared::{Prepared, prepare};
 use ast::{Line, Node, Program};
 use codegen::LoopReport;
 use dependence::{LoopPlan, PlanStmt, SerialReason};
 use loop_tree::{LoopTree, ScalarSet, loops};
-use pages::refused;
 use pictures::{
     Frame, LoopPicture, OpenLoop, SerialLoop, draw as draw_loop, lines_of, open_picture,
     serial_picture, space_of,
@@ -239,33 +238,19 @@ fn drawn_loop(
     }
 }
 
-/// What drawing one of a source's loops comes to, by a survey of them.
-#[tactic(auto, using(crate::proofs::Surveys::no_code))]
-fn drawn_survey(
-    alloc: Global,
-    source: &[u8],
-    survey: &Survey,
-    portion: Portion,
-) -> Result<Drawn, AllocError>
-    requires { IsSurvey source.now survey.now }
-    ensures { IfOk result (Draws source.now portion) }
-{
-    match survey {
-        Survey::Loops { program, reports } => {
-            drawn_loop(alloc, source, program, reports, portion)
-        }
-        Survey::Refused { number, line } => Ok(Drawn::Shown(refused(alloc, *number, *line)?)),
-    }
-}
-
 /// What drawing one of a source's loops comes to.
 ///
 /// # Errors
 ///
 /// `AllocError` where memory is refused.
+#[tactic(auto, using(crate::proofs::Lists::of_coded))]
 pub fn draw_text(alloc: Global, source: &[u8], portion: Portion) -> Result<Drawn, AllocError>
     ensures { IfOk result (Draws source.now portion) }
 {
-    let survey = surveyed(alloc, source)?;
-    drawn_survey(alloc, source, &survey, portion)
+    match prepare(alloc, source)? {
+        Prepared::Coded(coded) => {
+            drawn_loop(alloc, source, &coded.program, &coded.reports, portion)
+        }
+        Prepared::Refused(page) => Ok(Drawn::Shown(page)),
+    }
 }

@@ -79,9 +79,7 @@ fn tell_run<W: Write>(
         (W.contents out.new)) }
 {
     for part in 0..pairs.parts(run, kept) {
-        if let Err(fault) = tell_part(alloc, pairs, run, part, waiting, out) {
-            return Err(fault);
-        }
+        tell_part(alloc, pairs, run, part, waiting, out)?;
     }
     Ok(())
 }
@@ -100,9 +98,7 @@ fn tell_runs<W: Write>(
         (W.contents out.new)) }
 {
     for run in 0..pairs.runs() {
-        if let Err(fault) = tell_run(alloc, pairs, run, kept, waiting, out) {
-            return Err(fault);
-        }
+        tell_run(alloc, pairs, run, kept, waiting, out)?;
     }
     Ok(())
 }
@@ -119,9 +115,7 @@ fn tell_pairs<W: Write>(
     ensures err { IfErr result (BreaksSome (W.contents out.old) waiting.old.items
         (W.contents out.new)) }
 {
-    if let Err(fault) = tell_runs(alloc, pairs, true, waiting, out) {
-        return Err(fault);
-    }
+    tell_runs(alloc, pairs, true, waiting, out)?;
     tell_runs(alloc, pairs, false, waiting, out)
 }
 
@@ -155,9 +149,7 @@ fn tell_rest<W: Write>(
     ensures err { IfErr result (BreaksSome (W.contents out.old) waiting.old.items
         (W.contents out.new)) }
 {
-    if let Err(fault) = tell_if_pairs(alloc, &why.pairs, waiting, out) {
-        return Err(fault);
-    }
+    tell_if_pairs(alloc, &why.pairs, waiting, out)?;
     tell(&why.last, waiting, out)
 }
 
@@ -173,9 +165,7 @@ fn tell_why<W: Write>(
     ensures err { IfErr result (BreaksSome (W.contents out.old) waiting.old.items
         (W.contents out.new)) }
 {
-    if let Err(fault) = tell(&why.first, waiting, out) {
-        return Err(fault);
-    }
+    tell(&why.first, waiting, out)?;
     tell_rest(alloc, why, waiting, out)
 }
 
@@ -205,9 +195,7 @@ fn tell_loop<W: Write>(
 {
     let lines = lines_of(alloc, number, report)?;
     let why = why_of(alloc, tree, number, report, reports)?;
-    if let Err(fault) = tell(&lines, waiting, out) {
-        return Err(fault);
-    }
+    tell(&lines, waiting, out)?;
     tell_why(alloc, &why, waiting, out)
 }
 
@@ -225,9 +213,7 @@ fn tell_each<W: Write>(
         (W.contents out.new)) }
 {
     for (place, report) in reports.iter().enumerate() {
-        if let Err(fault) = tell_loop(alloc, place + 1, report, reports, tree, waiting, out) {
-            return Err(fault);
-        }
+        tell_loop(alloc, place + 1, report, reports, tree, waiting, out)?;
     }
     Ok(())
 }
@@ -246,15 +232,9 @@ pub fn explain_loops<W: Write>(
 ) -> Result<Outcome, EngineFault>
     ensures { StreamsLoops reports.now (W.contents out.old) (W.contents out.new) result }
 {
-    let Ok(tree) = loops(alloc, program) else {
-        return Err(EngineFault::Memory);
-    };
+    let tree = loops(alloc, program)?;
     let mut waiting = Vec::new(alloc);
-    if let Err(fault) = tell_each(alloc, &tree, reports, &mut waiting, out) {
-        return Err(fault);
-    }
-    if let Err(fault) = hand(&mut waiting, out) {
-        return Err(fault);
-    }
+    tell_each(alloc, &tree, reports, &mut waiting, out)?;
+    hand(&mut waiting, out)?;
     Ok(Outcome::Completed)
 }

@@ -14,7 +14,7 @@ use ast::{Line, Name};
 use codegen::LoopReport;
 use dependence::{LoopPlan, PlanStmt, SerialReason};
 use explanations::append_number;
-use pages::append_line;
+use pages::{Outcome, Page, append_line};
 use std::alloc::{AllocError, Global};
 
 /// Appends the beginning of a loop's line.
@@ -287,7 +287,7 @@ pub fn append_report(
 }
 
 /// The lines of a program's loops.
-pub fn listing(alloc: Global, reports: &[LoopReport]) -> Result<Vec<u8>, AllocError>
+fn listing(alloc: Global, reports: &[LoopReport]) -> Result<Vec<u8>, AllocError>
     ensures { IfOk result (λ text. Listing 1 reports.now text.items) }
 {
     let mut text = Vec::new(alloc);
@@ -295,4 +295,15 @@ pub fn listing(alloc: Global, reports: &[LoopReport]) -> Result<Vec<u8>, AllocEr
         append_report(alloc, place + 1, report, &mut text)?;
     }
     Ok(text)
+}
+
+/// The page that lists a program's loops.
+pub fn listed(alloc: Global, reports: &[LoopReport]) -> Result<Page, AllocError>
+    ensures { IfOk result (λ page. (page.outcome ≡ Outcome.Completed)
+        × Listing 1 reports.now page.text.items) }
+{
+    Ok(Page {
+        text: listing(alloc, reports)?,
+        outcome: Outcome::Completed,
+    })
 }

@@ -8,7 +8,7 @@ ghost use Rattle.engines.specs.Schedules.{Replaying, Upgrading};
 use crate::prepared::{Described, describe, unscheduled};
 use ast::Answer;
 use handing::write_all;
-use pages::{EngineFault, Page, append_end, outcome};
+use pages::{EngineFault, Outcome, Page, append_end, outcome};
 use replay::{replay, upgrade};
 use schedules::ReplayRefusal;
 use std::alloc::{AllocError, Global};
@@ -26,9 +26,9 @@ pub enum Upgraded {
 impl Upgraded {
     ghost use Rattle.std.specs.Prelude.{◌≡◌, IfOk, IfErr};
     ghost use Rattle.pages.specs.Outcomes.{IsWriting};
-    ghost use Rattle.engines.specs.Schedules.{WritesPart, WritesUpgraded, upgrade_status};
+    ghost use Rattle.engines.specs.Schedules.{WritesPart, WritesUpgraded, upgrade_outcome};
 
-    /// Writes the schedule's text to `upgraded`, or the page to `out`, and gives the exit status.
+    /// Writes the schedule's text to `upgraded`, or the page to `out`.
     ///
     /// # Errors
     ///
@@ -37,8 +37,8 @@ impl Upgraded {
         &self,
         out: &mut W,
         upgraded: &mut V,
-    ) -> Result<u8, EngineFault>
-        ensures ok { IfOk result (λ status. (status ≡ upgrade_status self.now)
+    ) -> Result<Outcome, EngineFault>
+        ensures ok { IfOk result (λ outcome. (outcome ≡ upgrade_outcome self.now)
             × WritesUpgraded self.now (W.contents out.old) (W.contents out.new)
             (V.contents upgraded.old) (V.contents upgraded.new)) }
         ensures err { IfErr result (λ fault. IsWriting fault
@@ -47,10 +47,10 @@ impl Upgraded {
     {
         match self {
             Upgraded::Text(text) => match write_all(upgraded, text) {
-                Ok(()) => Ok(0),
+                Ok(()) => Ok(Outcome::Completed),
                 Err(error) => Err(EngineFault::Writing(error)),
             },
-            Upgraded::Shown(page) => Ok(page.write(out)?.status()),
+            Upgraded::Shown(page) => page.write(out),
         }
     }
 }

@@ -4,6 +4,8 @@ use Rattle.std.specs.Global.{Global}
 use Rattle.std.specs.declared.io.Error.{Error}
 use Rattle.pages.specs.declared.fault.ReadFault.{ReadFault}
 use Rattle.pages.specs.declared.fault.ReadFault.TheVariants as reading
+use Rattle.pages.specs.declared.status.Status.{Status}
+use Rattle.pages.specs.declared.status.Status.TheVariants as statuses
 use Rattle.pages.specs.declared.texts.Texts.{Texts}
 use Rattle.files.specs.declared.fault.FileFault.{FileFault}
 use Rattle.files.specs.declared.fault.FileFault.TheVariants.{Opening, Reading, Memory}
@@ -48,10 +50,10 @@ of_reads (Ok bytes) = Ok bytes
 of_reads (Err fault) = Err (of_read fault)
 
 -- the exit status of a file whose bytes can't be had
-abbrev pub file_status : FileFault → ℕ
-file_status (Opening e) = 4
-file_status (Reading e) = 4
-file_status Memory = 5
+abbrev pub file_status : FileFault → Status
+file_status (Opening e) = statuses.FileFailed
+file_status (Reading e) = statuses.FileFailed
+file_status Memory = statuses.NoMemory
 
 -- a source's file was read, and then an input's, if one is named, up to the first whose bytes couldn't
 -- be had

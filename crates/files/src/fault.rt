@@ -1,6 +1,6 @@
 //! Why the bytes of a file couldn't be had.
 
-use pages::ReadFault;
+use pages::{ReadFault, Status};
 use std::io;
 use thiserror::Error;
 
@@ -32,14 +32,14 @@ impl FileFault {
         }
     }
 
-    /// The exit status: 4 for the file, 5 for memory.
-    pub fn status(&self) -> u8
+    /// The exit status.
+    pub fn status(&self) -> Status
         ensures { result ≡ file_status self.now }
     {
         match self {
-            FileFault::Opening(_) => 4,
-            FileFault::Reading(_) => 4,
-            FileFault::Memory => 5,
+            FileFault::Opening(_) => Status::FileFailed,
+            FileFault::Reading(_) => Status::FileFailed,
+            FileFault::Memory => Status::NoMemory,
         }
     }
 }

@@ -2,7 +2,7 @@
 
 use crate::rows::{AGAIN, OTHERWISE, Row, rows};
 use engines::{Wants, check, list, replay, seq, upgrade};
-use pages::EngineFault;
+use pages::{EngineFault, Status};
 use std::alloc::{AllocError, Global};
 use std::process::Abort;
 use std::sync::Wait;
@@ -192,7 +192,7 @@ fn run_into<R: Abort + AllocGlobal + Threads + Wait + Sync>(
 
 /// Whether a run gave up: for want of memory, or as a thread couldn't be started.
 fn is_given_up(fault: &EngineFault) -> bool {
-    fault.status() == 5 || fault.status() == 58
+    fault.status() == Status::NoMemory
 }
 
 /// The status that a run in threads gives, at once or when it's made again.

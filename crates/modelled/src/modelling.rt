@@ -7,7 +7,8 @@ ghost use Rattle.codegen.specs.Reports.{Reports};
 ghost use Rattle.machine.specs.CodeView.{code_of};
 ghost use Rattle.pages.specs.Shown.{Extends};
 ghost use Rattle.modelled.specs.Modelling.{AreTexts, EndsSo, IsEarly, IsShown, IsTextOf};
-ghost use Rattle.modelled.specs.Modelling.{Modelling, ShowsModel, heads_from, outcome_with, text_of};
+ghost use Rattle.modelled.specs.Modelling.{Modelling, ShowsModel, heads_from, outcome_with};
+ghost use Rattle.modelled.specs.Modelling.{text_of};
 
 use crate::heads::heads;
 use crate::lines::{append_loops, append_program};

@@ -1,5 +1,5 @@
 -- How an engine's work ended: by an outcome or a fault, and with which status.
-use Rattle.std.specs.Prelude.{ℕ, ⊤}
+use Rattle.std.specs.Prelude.{⊤}
 use Rattle.ast.specs.declared.fault.End.{End}
 use Rattle.ast.specs.declared.fault.End.TheVariants.{Done, Stopped, Fault as FaultedAt}
 use Rattle.pages.specs.declared.fault.EngineFault.{EngineFault}
@@ -8,13 +8,15 @@ use Rattle.pages.specs.declared.fault.ReadFault.{ReadFault}
 use Rattle.pages.specs.declared.fault.ReadFault.TheVariants as reading
 use Rattle.pages.specs.declared.outcomes.Outcome.{Outcome}
 use Rattle.pages.specs.declared.outcomes.Outcome.TheVariants.{Completed, Refused, Faulted, NoSchedule}
+use Rattle.pages.specs.declared.status.Status.{Status}
+use Rattle.pages.specs.declared.status.Status.TheVariants as statuses
 
 -- the exit status of an outcome
-abbrev pub status_of : Outcome → ℕ
-status_of Completed = 0
-status_of (Refused rule line) = 1
-status_of (Faulted fault line) = 2
-status_of (NoSchedule flaw line) = 6
+abbrev pub status_of : Outcome → Status
+status_of Completed = statuses.Done
+status_of (Refused rule line) = statuses.SourceRefused
+status_of (Faulted fault line) = statuses.Faulted
+status_of (NoSchedule flaw line) = statuses.ScheduleRefused
 
 -- the outcome of a run that ended so
 abbrev pub outcome_of : End → Outcome
@@ -23,15 +25,15 @@ outcome_of (Stopped line) = Completed
 outcome_of (FaultedAt fault line) = Faulted fault line
 
 -- the exit status of an engine's fault
-abbrev pub fault_status : EngineFault → ℕ
-fault_status (Source e) = 4
-fault_status (Input e) = 4
-fault_status (Schedule e) = 4
-fault_status (Writing e) = 4
-fault_status Memory = 5
-fault_status OutOfRange = 3
-fault_status NotStarted = 5
-fault_status Stuck = 5
+abbrev pub fault_status : EngineFault → Status
+fault_status (Source e) = statuses.FileFailed
+fault_status (Input e) = statuses.FileFailed
+fault_status (Schedule e) = statuses.FileFailed
+fault_status (Writing e) = statuses.FileFailed
+fault_status Memory = statuses.NoMemory
+fault_status OutOfRange = statuses.WrongCommand
+fault_status NotStarted = statuses.NoMemory
+fault_status Stuck = statuses.NoMemory
 
 -- what a failed read of the source comes to, of the input, and of the schedule
 abbrev pub of_source : ReadFault → EngineFault

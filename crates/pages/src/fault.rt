@@ -1,5 +1,6 @@
 //! Faults of an engine.
 
+use crate::status::Status;
 use std::alloc::AllocError;
 use std::io;
 use thiserror::Error;
@@ -87,20 +88,19 @@ impl EngineFault {
         }
     }
 
-    /// The exit status: 4 for a reader or a writer, 5 for memory and threads, 3 for numbers that
-    /// are out of range.
-    pub fn status(&self) -> u8
+    /// The exit status.
+    pub fn status(&self) -> Status
         ensures { result ≡ fault_status self.now }
     {
         match self {
-            EngineFault::Source(_) => 4,
-            EngineFault::Input(_) => 4,
-            EngineFault::Schedule(_) => 4,
-            EngineFault::Writing(_) => 4,
-            EngineFault::Memory => 5,
-            EngineFault::OutOfRange => 3,
-            EngineFault::NotStarted => 5,
-            EngineFault::Stuck => 5,
+            EngineFault::Source(_) => Status::FileFailed,
+            EngineFault::Input(_) => Status::FileFailed,
+            EngineFault::Schedule(_) => Status::FileFailed,
+            EngineFault::Writing(_) => Status::FileFailed,
+            EngineFault::Memory => Status::NoMemory,
+            EngineFault::OutOfRange => Status::WrongCommand,
+            EngineFault::NotStarted => Status::NoMemory,
+            EngineFault::Stuck => Status::NoMemory,
         }
     }
 }

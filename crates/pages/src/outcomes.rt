@@ -3,6 +3,7 @@
 ghost use Rattle.std.specs.Prelude.{◌≡◌};
 ghost use Rattle.pages.specs.Outcomes.{status_of};
 
+use crate::status::Status;
 use ast::{Fault, Line, Rule};
 use schedules::Flaw;
 
@@ -24,16 +25,15 @@ impl Outcome {
     ghost use Rattle.std.specs.Prelude.{◌≡◌};
     ghost use Rattle.pages.specs.Outcomes.{status_of};
 
-    /// The exit status: 0, 1 for a source that was refused, 2 for a fault, 6 for a
-    /// schedule that was refused.
-    pub fn status(self) -> u8
+    /// The exit status.
+    pub fn status(self) -> Status
         ensures { result ≡ status_of self }
     {
         match self {
-            Outcome::Completed => 0,
-            Outcome::Refused { .. } => 1,
-            Outcome::Faulted { .. } => 2,
-            Outcome::NoSchedule { .. } => 6,
+            Outcome::Completed => Status::Done,
+            Outcome::Refused { .. } => Status::SourceRefused,
+            Outcome::Faulted { .. } => Status::Faulted,
+            Outcome::NoSchedule { .. } => Status::ScheduleRefused,
         }
     }
 }

@@ -1,6 +1,6 @@
 //! What is written of a refusal and of the end of a run.
 
-ghost use Rattle.std.specs.Prelude.{◌≡◌, IfOk, OnOk, map};
+ghost use Rattle.std.specs.Prelude.{◌≡◌, IfOk, OnOk, drop, map};
 ghost use Rattle.pages.specs.Outcomes.{outcome_of};
 ghost use Rattle.pages.specs.Shown.{EndShown, Extends, refused};
 ghost use Rattle.pages.specs.View.{row_view};
@@ -20,6 +20,13 @@ use std::io::Write;
 pub struct Page {
     pub text: Vec<u8>,
     pub outcome: Outcome,
+}
+
+/// What stands behind so many bytes of a text.
+pub fn behind(text: &[u8], shown: usize) -> &[u8]
+    ensures { result.now ≡ drop shown text.now }
+{
+    text.get(shown..).unwrap_or(&[])
 }
 
 /// The page of a source that is refused.
@@ -80,7 +87,7 @@ fn append_wanted(text: &mut Vec<u8>, rows: &mut [Row<'_>], store: bool) -> Resul
 }
 
 impl Page {
-    ghost use Rattle.std.specs.Prelude.{◌≡◌, IfOk, IfErr};
+    ghost use Rattle.std.specs.Prelude.{◌≡◌, IfOk, IfErr, drop};
     ghost use Rattle.std.specs.Io.KnownBytes.{Appends};
     ghost use Rattle.handing.specs.Handing.{AppendsPart};
     ghost use Rattle.pages.specs.Outcomes.{IsWriting};
@@ -96,7 +103,24 @@ impl Page {
         ensures err { IfErr result (λ fault. IsWriting fault
             × AppendsPart (W.contents writer.old) (W.contents writer.new) self.now.text.items) }
     {
-        match write_all(writer, &self.text) {
+        self.write_behind(0, writer)
+    }
+
+    /// Writes the text behind so many bytes of it, which were written before, and gives the
+    /// outcome. The errors are those of [`Page::write`].
+    pub fn write_behind<W: Write>(
+        &self,
+        shown: usize,
+        writer: &mut W,
+    ) -> Result<Outcome, EngineFault>
+        ensures ok { IfOk result (λ outcome. (outcome ≡ self.now.outcome)
+            × Appends (W.contents writer.old) (W.contents writer.new)
+            (drop shown self.now.text.items)) }
+        ensures err { IfErr result (λ fault. IsWriting fault
+            × AppendsPart (W.contents writer.old) (W.contents writer.new)
+            (drop shown self.now.text.items)) }
+    {
+        match write_all(writer, behind(&self.text, shown)) {
             Ok(()) => Ok(self.outcome),
             Err(error) => Err(EngineFault::Writing(error)),
         }

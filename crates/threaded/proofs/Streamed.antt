@@ -1,5 +1,5 @@
 -- What is written of a run whose records are written while it goes on.
-use Rattle.std.proofs.Common.{◌≡◌, ◌∙◌, ◌⊎◌, inl, inr, ℕ, zero, suc, ◌+◌, ◌<◌, false, List, [], ◌∷◌, ◌++◌, length, take, drop, Option, None, Result, Ok, Err, IfOk, append-nil, append_assoc, refl, sym, ap, subst, arith}
+use Rattle.std.proofs.Common.{◌≡◌, ◌∙◌, ◌⊎◌, inl, inr, ℕ, ◌+◌, ◌<◌, false, List, [], ◌∷◌, ◌++◌, length, take, drop, Option, Result, Ok, Err, IfOk, append-nil, append_assoc, sym, ap, subst, arith}
 use Rattle.std.specs.Prelude.{◌≤◌, IfErr}
 use Rattle.std.proofs.KnownBytes.{Appends-trans}
 use Rattle.std.proofs.Math.Seq.{take-add}
@@ -20,7 +20,6 @@ use Rattle.pages.specs.declared.fault.EngineFault.{EngineFault}
 use Rattle.pages.specs.declared.fault.EngineFault.TheVariants as faults
 use Rattle.pages.specs.declared.outcomes.Outcome.{Outcome}
 use Rattle.processors.specs.Reached.{IsAnswerOf, IsUnanswered}
-use Rattle.processors.specs.Refused.{IsStuckAt}
 use Rattle.processors.specs.Telling.{Shows as HandsOn, WritesNone}
 use Rattle.unrecorded.specs.View.{IsReached}
 use Rattle.processors.specs.declared.report.RunRefusal.{RunRefusal}

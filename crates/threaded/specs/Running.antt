@@ -4,11 +4,13 @@ use Rattle.std.specs.Global.{Global}
 use Rattle.std.specs.Io.KnownBytes.{Appends}
 use Rattle.ast.specs.Meaning.{seq}
 use Rattle.ast.specs.Program.{ProgramTree}
+use Rattle.ast.specs.ProgramView.{program as program_of}
 use Rattle.ast.specs.Symbols.{Symbol}
 use Rattle.ast.specs.View.{cells}
 use Rattle.ast.specs.declared.answer.Answer.{Answer}
 use Rattle.codegen.specs.Headline.{IsBeginning}
 use Rattle.machine.specs.Code.{Code}
+use Rattle.machine.specs.CodeView.{code_of}
 use Rattle.machine.specs.State.{AreSizes, Ended}
 use Rattle.activities.specs.Points.{Point}
 use Rattle.replay.specs.Replays.{Replays}
@@ -19,6 +21,7 @@ use Rattle.handing.specs.Handing.{AppendsPart}
 use Rattle.pages.specs.Outcomes.{outcome_of, status_of}
 use Rattle.pages.specs.Reading.{OfText}
 use Rattle.pages.specs.Shown.{EndShown, Extends}
+use Rattle.pages.specs.Status.{number_of}
 use Rattle.pages.specs.View.{rows_from}
 use Rattle.pages.specs.declared.fault.EngineFault.{EngineFault}
 use Rattle.pages.specs.declared.fault.EngineFault.TheVariants as faults
@@ -26,6 +29,8 @@ use Rattle.pages.specs.declared.outcomes.Outcome.{Outcome}
 use Rattle.engines.specs.Engines.{ShowsRun}
 use Rattle.engines.specs.Prepared.{IsUncoded, WithCode}
 use Rattle.engines.specs.declared.given.Wants.{Wants}
+use Rattle.engines.specs.declared.prepared.Coded.{Coded}
+use Rattle.threaded.specs.Joined.{IsGiven}
 use Rattle.threaded.specs.declared.ran.Ran.{Ran}
 use Rattle.threaded.specs.declared.ran.Ran.TheVariants.{Refused, Whole as Came, Memory, OutOfRange, NotStarted, Stuck}
 use Rattle.threaded.specs.declared.ran.Whole.{Whole}
@@ -80,6 +85,14 @@ ComesOf tree code input w (Memory output) = IsBeginning output.items (seq tree i
 ComesOf tree code input w OutOfRange = AreSizes w.processors w.slots → ⊥
 ComesOf tree code input w (NotStarted failure) = AreSizes w.processors w.slots
 ComesOf tree code input w Stuck = ⊥
+
+-- the code is a program's, as `compile` gives it
+abbrev pub IsGivenCode : Coded → Type 0
+IsGivenCode x = IsGiven (program_of x.program) (code_of x.code)
+
+-- what a run of it may come to
+abbrev pub ComesOfCoded : Coded → (input : List ℕ) → Wants → Ran → Type 0
+ComesOfCoded x input w ran = ComesOf (program_of x.program) (code_of x.code) input w ran
 
 -- There is no run: the source is refused, by its text or for its code, or there is no memory to
 -- find that out, and nothing has gone out.
@@ -140,9 +153,9 @@ pub record WroteRan (allows : Ran → Type 0) (before after old new : Option (Li
   pub allowed : allows ran
   pub written : WritesRan ran before after old new result
 
--- the same, with the status of an outcome
+-- the same, with the number of an outcome's status
 abbrev pub WroteStatus : (Ran → Type 0) → (before after old new : Option (List ℕ)) → ℕ → Type 0
-WroteStatus allows before after old new status = (outcome : Outcome) × (status ≡ status_of outcome) × WroteRan allows before after old new (Ok outcome)
+WroteStatus allows before after old new status = (outcome : Outcome) × (status ≡ number_of (status_of outcome)) × WroteRan allows before after old new (Ok outcome)
 
 -- What a fault leaves of the writers: both as they were where reading failed, and otherwise what is
 -- written of what came of a run; or both as they were for want of memory to read.

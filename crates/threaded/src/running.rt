@@ -1,18 +1,14 @@
 //! Runs in threads, and what comes of them.
 
 ghost use Rattle.std.specs.Prelude.{◌≡◌, ◌++◌, IfOk, IfErr, false, length, map};
-ghost use Rattle.ast.specs.ProgramView.{program as program_of};
 ghost use Rattle.ast.specs.View.{cells, symbol as symbol_of};
-ghost use Rattle.codegen.specs.Headline.{Headline};
-ghost use Rattle.codegen.specs.Program.{IsCompiled};
-ghost use Rattle.machine.specs.CodeView.{code_of};
 ghost use Rattle.schedules.specs.Schedules.{SchedText};
 ghost use Rattle.pages.specs.Outcomes.{outcome_of};
 ghost use Rattle.pages.specs.Shown.{EndShown};
 ghost use Rattle.pages.specs.View.{rows_from};
 ghost use Rattle.engines.specs.Engines.{LeavesReaders};
-ghost use Rattle.threaded.specs.Running.{ComesOf, IsRefusal, RunEnds, RunFails, Running, Shows};
-ghost use Rattle.threaded.specs.Running.{WhereWanted};
+ghost use Rattle.threaded.specs.Running.{ComesOfCoded, IsGivenCode, IsRefusal, RunEnds, RunFails};
+ghost use Rattle.threaded.specs.Running.{Running, Shows, WhereWanted};
 
 use crate::figures::Figures;
 use crate::ran::{Ran, Whole};
@@ -145,10 +141,8 @@ fn run_recorded<R: Threads + Wait + Sync>(
     input: &[u8],
     wants: Wants,
 ) -> Ran
-    requires headline { Headline (code_of coded.now.code) (program_of coded.now.program) }
-    requires compiled { IsCompiled (program_of coded.now.program) (code_of coded.now.code) }
-    ensures { ComesOf (program_of coded.now.program) (code_of coded.now.code) input.now wants
-        result }
+    requires given { IsGivenCode coded.now }
+    ensures { ComesOfCoded coded.now input.now wants result }
 {
     let Wants {
         processors,
@@ -186,11 +180,9 @@ fn run_unrecorded<R: Threads + Wait + Sync>(
     input: &[u8],
     wants: Wants,
 ) -> Ran
-    requires headline { Headline (code_of coded.now.code) (program_of coded.now.program) }
-    requires compiled { IsCompiled (program_of coded.now.program) (code_of coded.now.code) }
+    requires given { IsGivenCode coded.now }
     requires unwanted { wants.schedule ≡ false }
-    ensures { ComesOf (program_of coded.now.program) (code_of coded.now.code) input.now wants
-        result }
+    ensures { ComesOfCoded coded.now input.now wants result }
 {
     let Wants {
         processors,
@@ -211,10 +203,8 @@ fn run_code<R: Threads + Wait + Sync>(
     input: &[u8],
     wants: Wants,
 ) -> Ran
-    requires headline { Headline (code_of coded.now.code) (program_of coded.now.program) }
-    requires compiled { IsCompiled (program_of coded.now.program) (code_of coded.now.code) }
-    ensures { ComesOf (program_of coded.now.program) (code_of coded.now.code) input.now wants
-        result }
+    requires given { IsGivenCode coded.now }
+    ensures { ComesOfCoded coded.now input.now wants result }
 {
     if wants.schedule || wants.tally {
         run_recorded(rt, alloc, coded, input, wants)
@@ -274,5 +264,5 @@ pub fn run<T: Threads + Wait + Sync, R: Read, I: Read, S: Write, W: Write>(
     let given = read_given(alloc, source, input)?;
     let ran = run_texts(rt, alloc, &given.source, &given.input, wants);
     let outcome = ran.write(schedule, out)?;
-    Ok(outcome.status())
+    Ok(outcome.status().number())
 }

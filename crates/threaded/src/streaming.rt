@@ -1,13 +1,10 @@
 //! Runs in threads whose records are written while they go on.
 
-ghost use Rattle.std.specs.Prelude.{◌≡◌, IfOk, List, Ok, drop, length, map, ℕ};
+ghost use Rattle.std.specs.Prelude.{◌≡◌, IfOk, List, length, map, ℕ};
 ghost use Rattle.ast.specs.Meaning.{seq};
 ghost use Rattle.ast.specs.ProgramView.{program as program_of};
 ghost use Rattle.ast.specs.View.{cells, symbol as symbol_of};
-ghost use Rattle.codegen.specs.Headline.{Headline};
-ghost use Rattle.codegen.specs.Program.{IsCompiled};
-ghost use Rattle.machine.specs.CodeView.{code_of};
-ghost use Rattle.threaded.specs.Running.{WritesText};
+ghost use Rattle.threaded.specs.Running.{IsGivenCode};
 ghost use Rattle.threaded.specs.Streaming.{ShowsCame, StreamsCode, StreamsRun, WritesRest};
 
 use crate::nowhere::Nowhere;
@@ -15,8 +12,7 @@ use crate::ran::{Ran, write_output};
 use crate::running::{ended, unanswered};
 use ast::{Answer, Program};
 use engines::{Coded, Prepared, Wants, prepare};
-use handing::write_all;
-use pages::{EngineFault, Outcome, Page};
+use pages::{EngineFault, Outcome, behind};
 use processors::{NoGate, RunRefusal, Streamed};
 use std::alloc::Global;
 use std::io::Write;
@@ -24,31 +20,13 @@ use std::mem;
 use std::sync::Wait;
 use std::thread::Threads;
 
-/// What stands behind so many bytes of a text.
-fn behind(text: &[u8], shown: usize) -> &[u8]
-    ensures { result.now ≡ drop shown text.now }
-{
-    text.get(shown..).unwrap_or(&[])
-}
-
-/// Writes a page, but for so many bytes of it, and gives the outcome.
-fn write_page<W: Write>(page: &Page, shown: usize, out: &mut W) -> Result<Outcome, EngineFault>
-    ensures { WritesText (drop shown page.now.text.items) (Ok page.now.outcome)
-        (W.contents out.old) (W.contents out.new) result }
-{
-    match write_all(out, behind(&page.text, shown)) {
-        Ok(()) => Ok(page.outcome),
-        Err(error) => Err(EngineFault::Writing(error)),
-    }
-}
-
 /// Writes what is shown of a run, but for so many bytes that were written while it went on.
 fn write_rest<W: Write>(ran: &Ran, shown: usize, out: &mut W) -> Result<Outcome, EngineFault>
     ensures { WritesRest ran.now shown (W.contents out.old) (W.contents out.new) result }
 {
     match ran {
-        Ran::Refused(page) => write_page(page, 0, out),
-        Ran::Whole(whole) => write_page(&whole.page, shown, out),
+        Ran::Refused(page) => page.write(out),
+        Ran::Whole(whole) => whole.page.write_behind(shown, out),
         Ran::Memory(output) => write_output(out, behind(output, shown)),
         Ran::OutOfRange => Err(EngineFault::OutOfRange),
         Ran::NotStarted(_) => Err(EngineFault::NotStarted),
@@ -78,8 +56,7 @@ fn stream_code<R: Threads + Wait + Sync, W: Write + Nowhere + Drop>(
     out: &mut W,
 ) -> Result<Outcome, EngineFault>
     ghost text: { List ℕ }
-    requires headline { Headline (code_of coded.now.code) (program_of coded.now.program) }
-    requires compiled { IsCompiled (program_of coded.now.program) (code_of coded.now.code) }
+    requires given { IsGivenCode coded.now }
     requires prints { text ≡ (seq (program_of coded.now.program) input.now).output }
     ensures { StreamsCode (program_of coded.now.program) input.now wants
         (W.contents out.old) (W.contents out.new) result }

@@ -1,5 +1,5 @@
-use Rattle.engines.proofs.Surveys.{of_survey}
+use Rattle.engines.proofs.Lists.{of_prepared}
 use Rattle.engines.proofs.commands.list_text.Goals as goal
 
 pub returns : goal.returns
-returns g c = of_survey c.args.source.now c.in_ok-survey.survey _ _ c.tell_survey.result c.in_ok-survey.ensures c.tell_survey.ensures
+returns g c = of_prepared c.args.source.now c.in_ok-prepared.prepared _ _ c.tell_listing.result c.in_ok-prepared.ensures c.tell_listing.ensures
