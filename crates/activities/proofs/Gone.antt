@@ -15,6 +15,9 @@ use Rattle.activities.specs.Parts.{Kept, Shared, Standing, active, counts_of, he
 use Rattle.activities.specs.PartsView.{standing_of}
 use Rattle.activities.specs.Points.{Point, Steps}
 use Rattle.activities.specs.Sharing.{StrodeAt, with_frame}
+use Rattle.activities.specs.Along.{GoesAlong}
+use Rattle.activities.specs.Kinds.{Makes, kinds}
+use Rattle.activities.proofs.Pathways.{along}
 use Rattle.activities.specs.Told.{is_told}
 use Rattle.activities.specs.declared.holding.Activities.{Activities}
 use Rattle.activities.specs.declared.parts.Iteration.{Iteration}
@@ -102,6 +105,18 @@ strode_iteration q k at made p v old a g h e w =
     (strides_made (is_told (kept_in old).shared.order.counts s.number) (code_in old) old.slots (iteration k) (point_in old) q made s.frame b
     (λ e d t. subst (λ (n : ℕ). n < counts_of (kept_in old).shared.order.counts e + d) (a.core.runs q k h).number (ltb-true s.number (counts_of (kept_in old).shared.order.counts e + d) t)) (stood_iteration q k old a g h) w.leads)
 
+-- where the code tells their kinds, they are of those
+pub along_iteration : (q k at made : ℕ) (p : Option Iteration) (v : Vec ℤ Global) (old : Activities) (a : AreActivities old) → old.shared.ended ≡ None → (h : held_of (kept_in old).held q ≡ Some (iteration k)) → at ≡ k % old.slots
+    → StrodeAt (code_in old) (kept_in old).shared.order.counts made (kept_in old).shared.cells (a.core.runs q k h).standing v.items (option_map standing_of p) → GoesAlong old q made (with_both at p v old)
+along_iteration q k at made p v old a g h e w f here path =
+    let s : Standing = (a.core.runs q k h).standing in
+    let b : Held = record { frame = w.frame; store = store_of (code_in old).variables v.items } in
+    let there : point_in (with_both at p v old) ≡ gone_at (iteration k) b (point_in old) =
+    ap (λ (y : Kept). point_of (code_in old).variables old.slots y) (kept_there k at p (with_frame w.frame (a.core.runs q k h).standing) v old e w.standing) ∙ iteration_gone q k v.items w.frame old a h in
+    subst (λ (z : Point). Makes (code_in old) old.slots (kinds (code_in old).instructions made f.place) (point_in old) q z) (sym there)
+    (along (is_told (kept_in old).shared.order.counts s.number) (code_in old) old.slots (iteration k) (point_in old) q made s.frame b
+    (λ n d t. subst (λ (i : ℕ). i < counts_of (kept_in old).shared.order.counts n + d) (a.core.runs q k h).number (ltb-true s.number (counts_of (kept_in old).shared.order.counts n + d) t)) (stood_iteration q k old a g h) w.leads f here path)
+
 pub strode_stands : (q k at made : ℕ) (p : Option Iteration) (v : Vec ℤ Global) (old : Activities) (a : AreActivities old) (h : held_of (kept_in old).held q ≡ Some (iteration k)) → at ≡ k % old.slots → length v.items ≡ length (kept_in old).shared.cells
     → StrodeAt (code_in old) (kept_in old).shared.order.counts made (kept_in old).shared.cells (a.core.runs q k h).standing v.items (option_map standing_of p) → AreActivities (with_both at p v old)
 strode_stands q k at made p v old a h e l w =
@@ -118,6 +133,12 @@ pub strode_main : (q made : ℕ) (f : FrameValue) (v : Vec ℤ Global) (old : Ac
     → Steps (code_in old) old.slots made (point_in old) q (point_in (with_main_both f v old))
 strode_main q made f v old a g h e =
     strides_made (λ _ _. false) (code_in old) old.slots the_main (point_in old) q made (kept_in old).main (record { frame = frames.frame_of f; store = store_of (code_in old).variables v.items }) (λ n d t. let z : false ≡ true = t in cc) (stood_main q old a g h) e
+
+pub along_main : (q made : ℕ) (f : FrameValue) (v : Vec ℤ Global) (old : Activities) → AreActivities old → old.shared.ended ≡ None → held_of (kept_in old).held q ≡ Some the_main
+    → strides_past (λ _ _. false) (code_in old) made (record { frame = frames.frame_of old.main.frame; store = store_of (code_in old).variables (kept_in old).shared.cells }) ≡ Some (record { frame = frames.frame_of f; store = store_of (code_in old).variables v.items })
+    → GoesAlong old q made (with_main_both f v old)
+along_main q made f v old a g h e g2 here path =
+    along (λ _ _. false) (code_in old) old.slots the_main (point_in old) q made (kept_in old).main (record { frame = frames.frame_of f; store = store_of (code_in old).variables v.items }) (λ n d t. let z : false ≡ true = t in cc) (stood_main q old a g h) e g2 here path
 
 pub main_strode_stands : (f : FrameValue) (v : Vec ℤ Global) (old : Activities) → AreActivities old → length v.items ≡ length (kept_in old).shared.cells → AreActivities (with_main_both f v old)
 main_strode_stands f v old a l = record {

@@ -20,6 +20,8 @@ pub mod Labour
 pub mod Beginning
 pub mod Leasts
 pub mod Strode
+pub mod Foreseen
+pub mod Pathways
 pub mod Gone
 pub mod Seats
 pub mod Proceeds

@@ -28,7 +28,7 @@ abbrev pub held_in : Machine → Frame → Held
 held_in m f = record { frame = f; store = m.store }
 
 -- an activity needn't wait at an await; main makes none
-abbrev Told : Who → Machine → ℕ → ℕ → Type 0
+abbrev pub Told : Who → Machine → ℕ → ℕ → Type 0
 Told the_main m e d = ⊥
 Told (iteration k) m e d = k < m.counts e + d
 
@@ -102,11 +102,11 @@ still ok (awaiting n d g) x b p e = refl
 still ok _ x b p e = cc
 
 -- so does an activity after such a step
-told_on : (ok : Passed) (u : Who) (b : Held) (m : Machine) → AllTold ok u m → AllTold ok u (gone_to u b m)
+pub told_on : (ok : Passed) (u : Who) (b : Held) (m : Machine) → AllTold ok u m → AllTold ok u (gone_to u b m)
 told_on ok the_main b m t = t
 told_on ok (iteration k) b m t = t
 
-one_made : (ok : Passed) (code : Code) (s : ℕ) (u : Who) (p : Point) (q : ℕ) (f : Frame) (b : Held) → AllTold ok u p.machine → Stood p q u f → stride_past ok code (held_in p.machine f) ≡ Some b → Moves code s (local_in code (frame_of p.machine u)) p q (gone_at u b p)
+pub one_made : (ok : Passed) (code : Code) (s : ℕ) (u : Who) (p : Point) (q : ℕ) (f : Frame) (b : Held) → AllTold ok u p.machine → Stood p q u f → stride_past ok code (held_in p.machine f) ≡ Some b → Moves code s (local_in code (frame_of p.machine u)) p q (gone_at u b p)
 one_made ok code s u p q f b y t e = record {
   who = u;
   holds = t.holds;
@@ -140,7 +140,7 @@ again_same : (o : Option (Active Frame)) (f : Frame) → frame_in o ≡ Some f �
 again_same None f e = cc
 again_same (Some a) f e = let same : a.frame ≡ f = cc in ap (λ (g : Frame). Some (record { frame = g; out = a.out })) (sym same)
 
-gone_twice : (u : Who) (m : Machine) (b c : Held) → gone_to u c (gone_to u b m) ≡ gone_to u c m
+pub gone_twice : (u : Who) (m : Machine) (b c : Held) → gone_to u c (gone_to u b m) ≡ gone_to u c m
 gone_twice the_main m b c = refl
 gone_twice (iteration k) m b c =
     let o = m.iterations k in
@@ -148,16 +148,16 @@ gone_twice (iteration k) m b c =
     ∙ ap (λ (z : Option (Active Frame)). record m { iterations = put_at (put_at m.iterations k (again o b.frame)) k z; store = c.store }) (again_twice o b.frame c.frame)
     ∙ ap (λ (i : ℕ → Option (Active Frame)). record m { iterations = i; store = c.store }) (put_over m.iterations k (again o b.frame) (again o c.frame))
 
-gone_same : (u : Who) (m : Machine) (f : Frame) → frame_of m u ≡ Some f → m ≡ gone_to u (held_in m f) m
+pub gone_same : (u : Who) (m : Machine) (f : Frame) → frame_of m u ≡ Some f → m ≡ gone_to u (held_in m f) m
 gone_same the_main m f e = let same : m.main ≡ f = cc in ap (λ (g : Frame). record m { main = g }) same
 gone_same (iteration k) m f e =
     ap (λ (i : ℕ → Option (Active Frame)). record m { iterations = i }) (sym (put_same m.iterations k (again (m.iterations k) f) (sym (again_same (m.iterations k) f e))))
 
-gone_store : (u : Who) (m : Machine) (b : Held) → (gone_to u b m).store ≡ b.store
+pub gone_store : (u : Who) (m : Machine) (b : Held) → (gone_to u b m).store ≡ b.store
 gone_store the_main m b = refl
 gone_store (iteration k) m b = refl
 
-abbrev with_store : Frame → StoreOf → Held
+abbrev pub with_store : Frame → StoreOf → Held
 with_store h y = record { frame = h; store = y }
 
 -- So many strides of its frame and the store, past awaits at which it needn't wait, are so many steps.

@@ -1,5 +1,7 @@
 pub mod Activities
+pub mod Along
 pub mod Core
+pub mod Kinds
 pub mod Least
 pub mod MainTurns
 pub mod Parts

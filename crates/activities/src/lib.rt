@@ -4,6 +4,7 @@
 
 mod holding;
 mod input;
+mod kinds;
 mod local_work;
 mod main_turn;
 mod parts;
@@ -18,4 +19,6 @@ mod values_at;
 
 pub use holding::{Activities, Choice, Holder};
 pub use input::Input;
+pub use kinds::{Ahead, ahead_at};
 pub use parts::{Iteration, Main, Shared, Until};
+pub use picking::index_of;

@@ -1,6 +1,6 @@
 //! What processors that hold nothing take up.
 
-ghost use Rattle.std.specs.Prelude.{◌≡◌, ◌+◌, ◌<◌, IfOk, Some, false, length, option_map, true};
+ghost use Rattle.std.specs.Prelude.{◌≡◌, ◌+◌, ◌<◌, IfOk, IfSome, None, Some, false, length, option_map, true};
 ghost use Rattle.ast.specs.Exact.{fits};
 ghost use Rattle.ec_kernel.specs.View.{IsKernel};
 ghost use Rattle.machine.specs.CodeView.{code_of};
@@ -68,15 +68,23 @@ fn take_up(kernel: &mut Kernel, place: &mut Option<Iteration>, slot: usize, k: u
     true
 }
 
+/// The value of an open loop's variable in iteration `k`; `None` where it isn't a 64-bit integer.
+pub fn index_of(code: &Code, opened: Open, k: u128) -> Option<i64>
+    ensures some { IfSome result (λ index. index ≡ index_at (code_of code.now) opened k) }
+    ensures none { result ≡ None → fits (index_at (code_of code.now) opened k) ≡ false }
+{
+    let (_, step) = variable_and_step(code, opened.number);
+    value_after(opened.first, k, step).ok()
+}
+
 /// The value of an open loop's variable in an iteration.
 fn index_in(code: &Code, opened: Open, k: u128) -> i64
     requires { fits (index_at (code_of code.now) opened k) ≡ true }
     ensures { result ≡ index_at (code_of code.now) opened k }
 {
-    let (_, step) = variable_and_step(code, opened.number);
-    match value_after(opened.first, k, step) {
-        Ok(index) => index,
-        Err(_) => unreachable!(),
+    match index_of(code, opened, k) {
+        Some(index) => index,
+        None => unreachable!(),
     }
 }
 

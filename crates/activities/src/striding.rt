@@ -74,6 +74,7 @@ impl<'c> Activities<'c> {
     ghost use Rattle.machine.specs.CodeView.{code_of};
     ghost use Rattle.machine.specs.State.{iteration, the_main};
     ghost use Rattle.activities.specs.Activities.{AreActivities, Stays, code_in, kept_in, point_in};
+    ghost use Rattle.activities.specs.Along.{GoesAlong};
     ghost use Rattle.activities.specs.Parts.{held_of};
     ghost use Rattle.activities.specs.Points.{Steps};
 
@@ -85,6 +86,7 @@ impl<'c> Activities<'c> {
         requires holds { held_of (kept_in self.old).held q ≡ Some the_main }
         ensures made { Steps (code_in self.old) self.old.slots result (point_in self.old) q
             (point_in self.new) }
+        ensures along { GoesAlong self.old q result self.new }
         ensures few { result ≤ n }
         ensures stand { AreActivities self.new }
         ensures stays { Stays self.old self.new }
@@ -113,6 +115,7 @@ impl<'c> Activities<'c> {
         requires holds { held_of (kept_in self.old).held q ≡ Some (iteration k) }
         ensures made { Steps (code_in self.old) self.old.slots result (point_in self.old) q
             (point_in self.new) }
+        ensures along { GoesAlong self.old q result self.new }
         ensures few { result ≤ n }
         ensures stand { AreActivities self.new }
         ensures stays { Stays self.old self.new }
@@ -135,6 +138,7 @@ impl<'c> Activities<'c> {
         requires processor { q < length self.old.held.items }
         ensures made { Steps (code_in self.old) self.old.slots result (point_in self.old) q
             (point_in self.new) }
+        ensures along { GoesAlong self.old q result self.new }
         ensures few { result ≤ n }
         ensures stand { AreActivities self.new }
         ensures stays { Stays self.old self.new }
@@ -217,5 +221,20 @@ impl<'c> Activities<'c> {
                 self.commit_iteration(q, number, place, stretch)
             }
         }
+    }
+
+    /// Local instructions, loads and stores of what processor `q` holds, one after another, at
+    /// most `n`, in its own place; how many. Where the code alone tells the kinds of so many, no
+    /// await is among them.
+    pub fn stride(&mut self, q: usize, n: u32) -> u32
+        requires stand { AreActivities self.old }
+        requires processor { q < length self.old.held.items }
+        ensures along { GoesAlong self.old q result self.new }
+        ensures few { result ≤ n }
+        ensures stand { AreActivities self.new }
+        ensures stays { Stays self.old self.new }
+    {
+        let mut stale = Stale::nothing(*self.shared.cells.allocator());
+        self.stride_alone(q, n, &mut stale)
     }
 }

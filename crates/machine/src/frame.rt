@@ -253,6 +253,14 @@ impl Frame {
         Ok(())
     }
 
+    /// Its place in the code.
+    #[inline(always)]
+    pub fn stands_at(&self) -> usize
+        ensures { result ≡ (frame_of self.now).place }
+    {
+        self.place
+    }
+
     /// The number of the iteration whose frame it is; `None` of main.
     pub fn iteration(&self) -> Option<u128>
         ensures { result ≡ (frame_of self.now).number }

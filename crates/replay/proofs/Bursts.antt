@@ -63,7 +63,7 @@ leads_on : (v : Version) (code : Code) (s : ℕ) (a b c : Point) (es fs : List E
 leads_on v code s a b c [] fs l k = subst (λ (x : Point). Leads v code s x fs c) (sym l) k
 leads_on v code s a b c (e ∷ es) fs l k = (l.0, l.1, leads_on v code s l.0 b c es fs l.2 k)
 
-tallies_on : (v : Version) (code : Code) (s : ℕ) (a b c : Point) (es fs : List Entry) (m n i j : ℕ) → Tallies v code s a es b m i → Tallies v code s b fs c n j → Tallies v code s a (es ++ fs) c (m + n) (i + j)
+pub tallies_on : (v : Version) (code : Code) (s : ℕ) (a b c : Point) (es fs : List Entry) (m n i j : ℕ) → Tallies v code s a es b m i → Tallies v code s b fs c n j → Tallies v code s a (es ++ fs) c (m + n) (i + j)
 tallies_on v code s a b c [] fs m n i j t u =
     let start = subst (λ (x : Point). Tallies v code s x fs c n j) (sym t.0) u in
     subst (λ (k : ℕ). Tallies v code s a fs c k (i + j)) (let z : n ≡ m + n = omega (arith, t.1) in z)

@@ -10,3 +10,6 @@ pub mod Onwards
 pub mod Ongoing
 pub mod Weighing
 pub mod Bursts
+pub mod Noting
+pub mod Pathways
+pub mod Strode

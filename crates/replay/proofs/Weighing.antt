@@ -53,7 +53,7 @@ pick_before code p s q c a b o k made again all twice h d g e f w = before code 
 
 -- ---- an entry before others
 
-still_none : (m n : Machine) (k : ℕ) → Still m n → Again m n k → k ≡ 0
+pub still_none : (m n : Machine) (k : ℕ) → Still m n → Again m n k → k ≡ 0
 still_none m n k s (inl g) = g.0
 still_none m n k s (inr g) = absurd (g.1 s)
 

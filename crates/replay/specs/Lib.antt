@@ -5,5 +5,6 @@ pub mod Making
 pub mod Replayed
 pub mod Replays
 pub mod Stepping
+pub mod Striding
 pub mod Tallies
 pub mod Whole

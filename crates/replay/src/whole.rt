@@ -5,8 +5,9 @@ ghost use Rattle.activities.specs.Activities.{chosen};
 ghost use Rattle.replay.specs.Stepping.{begun_by};
 
 use crate::answering::answer;
-use crate::recording;
+use crate::legs::Legs;
 use crate::stepped::{CoreRefusal, HandIn, Stepped, Tally};
+use crate::{recording, striding};
 use activities::{Activities, Choice, Holder, Shared};
 use ast::Answer;
 use machine::{Code, Done, Frame, Work, stands_local};
@@ -85,6 +86,7 @@ impl<'c> Core<'c> {
     ghost use Rattle.replay.specs.Stepping.{HasEnded, IsDone, KeepsGoing, Labours, MayTry, NoCore};
     ghost use Rattle.replay.specs.Stepping.{PicksUp, Steps};
     ghost use Rattle.replay.specs.Stepping.{WentOrLocal};
+    ghost use Rattle.replay.specs.Striding.{Strides};
     ghost use Rattle.replay.specs.Tallies.{Tallies};
 
     /// A run at its beginning, of `p` processors, 1 to 64, with `s` iterations open at most, 1 to
@@ -293,6 +295,63 @@ impl<'c> Core<'c> {
             Ok(made) => made,
             Err(error) => return Err(error),
         };
+        Ok(made)
+    }
+
+    /// Local instructions, loads and stores of what processor `q` holds, in its own place, at most
+    /// `n`, as far as the code alone tells their kinds; how many. Where memory is refused nothing
+    /// changes.
+    fn stride_on(&mut self, q: usize, n: u32, legs: &Legs<'_>) -> Result<u32, AllocError>
+        requires own { code_of legs.now.code.now ≡ self.old.code }
+        requires processor { q < self.old.schedule.processors }
+        requires few { n ≤ 1024 }
+        ensures made { IfOk result (λ made. Strides self.old q made self.new) }
+        ensures few { IfOk result (λ made. made ≤ n) }
+        ensures err { OnErr result (self.new ≡ self.old) }
+    {
+        let made = match striding::stride(
+            &mut self.activities,
+            &mut self.schedule,
+            &mut self.tally,
+            legs,
+            q,
+            n,
+        ) {
+            Ok(made) => made,
+            Err(error) => return Err(error),
+        };
+        Ok(made)
+    }
+
+    /// Local instructions, loads and stores of what processor `q` holds, in its own place, at most
+    /// `n`, which is from 1 to 1,024; how many. Where memory is refused before the first of them
+    /// nothing changes.
+    #[tactic(auto, using(crate::proofs::Strode::holds_first))]
+    pub fn stride(&mut self, q: usize, n: u32, legs: &Legs<'_>) -> Result<u32, AllocError>
+        requires own { code_of legs.now.code.now ≡ self.old.code }
+        requires some { 1 ≤ n }
+        requires few { n ≤ 1024 }
+        ensures made { IfOk result (λ made. Strides self.old q made self.new) }
+        ensures few { IfOk result (λ made. made ≤ n) }
+        ensures err { OnErr result (self.new ≡ self.old) }
+    {
+        if self.activities.shared.ended.is_some() {
+            return Ok(0);
+        }
+        if q >= self.activities.held.len() {
+            return Ok(0);
+        }
+        let mut made = self.stride_on(q, n, legs)?;
+        let mut goes = made > 0;
+        while goes && made < n {
+            match self.stride_on(q, n - made, legs) {
+                Ok(more) => {
+                    made += more;
+                    goes = more > 0;
+                }
+                Err(_) => goes = false,
+            }
+        }
         Ok(made)
     }
 

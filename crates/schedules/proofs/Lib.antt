@@ -7,3 +7,4 @@ pub mod Parsing
 pub mod Taking
 pub mod Bursts
 pub mod Recounting
+pub mod Lasting

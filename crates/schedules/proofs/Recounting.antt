@@ -23,7 +23,7 @@ parted q n d r e f =
     ap (λ (i : ℕ). replicate i (burst q longest_burst) ++ last_burst q (n % longest_burst)) e
     ∙ ap (λ (i : ℕ). replicate d (burst q longest_burst) ++ last_burst q i) f
 
-one_burst : (q n : ℕ) → 1 ≤ n → n ≤ longest_burst → bursts q n ≡ burst q n ∷ []
+pub one_burst : (q n : ℕ) → 1 ≤ n → n ≤ longest_burst → bursts q n ≡ burst q n ∷ []
 one_burst q n low high = ⊎_elim under over (cases_lt n longest_burst)
   where
     under : n < longest_burst → bursts q n ≡ burst q n ∷ []
@@ -36,11 +36,11 @@ one_burst q n low high = ⊎_elim under over (cases_lt n longest_burst)
 
 -- ---- the last entry
 
-last_is : (v : Version) (p : ℕ) (es : List Entry) (e : Entry) → AreEntries v p (es ++ e ∷ []) → (e.processor < p) × IsAct v e.act
+pub last_is : (v : Version) (p : ℕ) (es : List Entry) (e : Entry) → AreEntries v p (es ++ e ∷ []) → (e.processor < p) × IsAct v e.act
 last_is v p [] e h = h.0
 last_is v p (d ∷ es) e h = last_is v p es e h.1
 
-last_same : (xs ys : List Entry) (a b : Entry) → xs ++ a ∷ [] ≡ ys ++ b ∷ [] → a ≡ b
+pub last_same : (xs ys : List Entry) (a b : Entry) → xs ++ a ∷ [] ≡ ys ++ b ∷ [] → a ≡ b
 last_same [] [] a b e = cc
 last_same [] (y ∷ []) a b e = cc
 last_same [] (y ∷ (z ∷ ys)) a b e = cc
@@ -51,7 +51,7 @@ last_same (x ∷ xs) (y ∷ ys) a b e =
     last_same xs ys a b t
 
 -- what is kept ends in the entry of the last short one, with some numbers
-ending : (ss : List Short) (s : Short) (ks : List ℕ) → (es : List Entry) × (ls : List ℕ) × (entries_of (ss ++ s ∷ []) ks ≡ es ++ entry_of s ls ∷ [])
+pub ending : (ss : List Short) (s : Short) (ks : List ℕ) → (es : List Entry) × (ls : List ℕ) × (entries_of (ss ++ s ∷ []) ks ≡ es ++ entry_of s ls ∷ [])
 ending [] s ks = ([], ks, refl)
 ending (t ∷ ss) s ks =
     let r = ending ss s (drop (taken t) ks) in

@@ -1,6 +1,6 @@
 -- How the entries of a schedule are kept: each in a few bytes, and the numbers of the iterations
 -- that are picked beside them, in order.
-use Rattle.std.specs.Prelude.{◌≡◌, ℕ, zero, suc, ◌+◌, ◌/◌, ◌%◌, List, [], ◌∷◌, ◌++◌, length, drop, get_or, replicate}
+use Rattle.std.specs.Prelude.{◌≡◌, ℕ, zero, suc, ◌+◌, ◌/◌, ◌%◌, List, [], ◌∷◌, ◌++◌, length, drop, get_or, replicate, Option, Some, None}
 use Rattle.schedules.specs.Schedules.{Entry, Schedule, IsSchedule, longest_burst, works, shares, picks_main, picks, takes_ticket}
 use Rattle.schedules.specs.declared.entry.Version.{Version}
 use Rattle.schedules.specs.declared.short.Short.{Short}
@@ -18,6 +18,11 @@ entry_of (TakeTicket q) ks = record { processor = q; act = takes_ticket }
 abbrev pub taken : Short → ℕ
 taken (PickIteration q) = 1
 taken _ = 0
+
+-- its processor, and how many local instructions it is of, if it is of any
+abbrev pub burst_of : Short → Option (ℕ × ℕ)
+burst_of (Work q n) = Some (q, n)
+burst_of _ = None
 
 -- the same of so many local instructions, if it is of any
 abbrev pub counting : ℕ → Short → Short

@@ -1,5 +1,6 @@
 pub mod Flaw
 pub mod Kept
+pub mod Noting
 pub mod Reading
 pub mod Refusals
 pub mod Schedules

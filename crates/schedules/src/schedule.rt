@@ -1,13 +1,15 @@
 //! Schedules.
 
 ghost use Rattle.std.specs.Prelude.{◌≡◌, ◌≢◌, ◌<◌, ◌≤◌, ◌^◌, ◌++◌, [], ℕ, IfOk, IfErr, OnOk, OnErr};
-ghost use Rattle.std.specs.Prelude.{length};
+ghost use Rattle.std.specs.Prelude.{length, suc, Some, IfSome, true, false};
 ghost use Rattle.machine.specs.State.{AreSizes};
 ghost use Rattle.schedules.specs.Kept.{entries_of, entry_of, short_bursts, taken};
 ghost use Rattle.schedules.specs.Refusals.{Explains, IsHeaded, Refuses, WantsMemory, flaw_of};
 ghost use Rattle.schedules.specs.Schedules.{Entry as EntryOf, IsAct, IsSchedule, SchedText};
 ghost use Rattle.schedules.specs.Schedules.{Schedule as ScheduleOf, bursts, text_before, text_of};
-ghost use Rattle.schedules.specs.Schedules.{longest_burst, picks, with_entries, with_entry, works};
+ghost use Rattle.schedules.specs.Schedules.{longest_burst, picks, shares, with_entries, with_entry};
+ghost use Rattle.schedules.specs.Schedules.{works};
+ghost use Rattle.schedules.specs.Noting.{EndsIn, IsLonger};
 ghost use Rattle.schedules.specs.View.{act as act_view, entry as entry_view};
 
 use crate::entry::{Act, Entry, Version};
@@ -193,6 +195,58 @@ impl Schedule {
         }
         if let Some(last) = self.shorts.pop() {
             self.shorts.push_reserved(last.counting(made));
+        }
+    }
+
+    /// The processor of the entry that was added last, and how many local instructions it has, if
+    /// it is of local instructions.
+    fn last_burst(&self) -> Option<(u8, u16)>
+        ensures some { IfSome result (λ r. EndsIn r.0 r.1 self.now) }
+        ensures none { (x : ScheduleOf) (q n : ℕ)
+            → self.now ≡ with_entry x (record { processor = q; act = works n })
+            → result ≡ Some (q, n) }
+    {
+        let len = self.shorts.len();
+        if len == 0 {
+            return None;
+        }
+        self.shorts[len - 1].burst()
+    }
+
+    /// The entry that was added last becomes one of so many local instructions more, if it is of
+    /// this processor's, and not too long then; else nothing changes. It takes no memory.
+    pub fn lengthen(&mut self, processor: u8, more: u16) -> bool
+        requires some { 1 ≤ more }
+        ensures longer { result ≡ true → IsLonger processor more self.old self.new }
+        ensures same { result ≡ false → self.new ≡ self.old }
+        ensures kept { result ≡ true → IsSchedule self.new }
+    {
+        if more > LONGEST_BURST {
+            return false;
+        }
+        let Some((last, count)) = self.last_burst() else {
+            return false;
+        };
+        if last != processor || count > LONGEST_BURST - more {
+            return false;
+        }
+        self.recount(count + more);
+        true
+    }
+
+    /// The entry that was added last has a step less; if it has none then, it is taken back. It
+    /// takes no memory.
+    pub fn shorten(&mut self)
+        ensures burst { (x : ScheduleOf) (q n : ℕ)
+            → self.old ≡ with_entry x (record { processor = q; act = works (suc n) })
+            → self.new ≡ with_entries x (bursts q n) }
+        ensures share { (x : ScheduleOf) (q : ℕ)
+            → self.old ≡ with_entry x (record { processor = q; act = shares }) → self.new ≡ x }
+        ensures kept { IsSchedule self.new }
+    {
+        match self.last_burst() {
+            Some((_, count)) => self.recount(count.saturating_sub(1)),
+            None => self.take_back(),
         }
     }
 

@@ -14,7 +14,7 @@ pub enum Short {
 
 impl Short {
     ghost use Rattle.std.specs.Prelude.{◌≡◌, if◌then◌else◌};
-    ghost use Rattle.schedules.specs.Kept.{counting, taken};
+    ghost use Rattle.schedules.specs.Kept.{burst_of, counting, taken};
 
     /// Whether a number is kept beside it.
     pub fn has_number(self) -> bool
@@ -26,6 +26,19 @@ impl Short {
             | Short::Share { .. }
             | Short::PickMain { .. }
             | Short::TakeTicket { .. } => false,
+        }
+    }
+
+    /// Its processor, and how many local instructions it is of, if it is of any.
+    pub fn burst(self) -> Option<(u8, u16)>
+        ensures { result ≡ burst_of self }
+    {
+        match self {
+            Short::Work { processor, count } => Some((processor, count)),
+            Short::Share { .. }
+            | Short::PickMain { .. }
+            | Short::PickIteration { .. }
+            | Short::TakeTicket { .. } => None,
         }
     }
 
