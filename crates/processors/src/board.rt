@@ -13,11 +13,6 @@ use std::marker::PhantomData;
 /// How often in one turn steps are made in one go and then a shared one, at most.
 const MOST_STEPS: u32 = 32;
 
-/// Iterations are long where they make so many steps each outside the lock. A processor that sleeps
-/// is woken for another iteration only where they are: to wake one takes longer than a shorter
-/// iteration.
-const LONG: u64 = 1024;
-
 /// The processor that hands records on: the caller's thread, which has the writer.
 const TELLER: usize = 0;
 
@@ -181,12 +176,19 @@ impl<C: Call, D: Driven<C> + Drop> Board<C, D> {
         self.standing != Standing::Going || self.run.has_ended()
     }
 
-    /// Whether iterations of the loop that is open have made so many steps each outside the lock,
-    /// or too few have begun to tell.
-    fn have_done(&self, each: u64) -> bool {
+    /// Whether iterations of the loop that is open are long, or too few have begun to tell.
+    fn are_long(&self) -> bool {
         match self.lengths.get(self.run.open_loop()) {
-            Some(lengths) => lengths.have_done(each),
+            Some(lengths) => lengths.are_long(),
             None => true,
+        }
+    }
+
+    /// How many iterations of the loop that is open are made in a chunk; 0 where none are.
+    fn chunk(&self) -> usize {
+        match self.lengths.get(self.run.open_loop()) {
+            Some(lengths) => lengths.chunk(),
+            None => 0,
         }
     }
 
@@ -209,12 +211,12 @@ impl<C: Call, D: Driven<C> + Drop> Board<C, D> {
     }
 
     /// Whether one who sleeps is worth waking: an activity is ready, or an iteration may begin and
-    /// iterations are long.
-    pub fn wants_another(&self) -> bool {
-        if self.asleep == 0 {
+    /// iterations are long. Where they are short, one who comes back at once takes up what is ready.
+    pub fn wants_another(&self, comes_back: bool) -> bool {
+        if self.asleep == 0 || comes_back && self.are_short() {
             return false;
         }
-        self.run.has_ready() || self.have_done(LONG) && self.run.has_ticket()
+        self.run.has_ready() || self.are_long() && self.run.has_ticket()
     }
 
     /// Whether all processors but one sleep.
@@ -247,11 +249,16 @@ impl<C: Call, D: Driven<C> + Drop> Board<C, D> {
 
     /// Processor `q` hands in what it did outside the lock, if anything.
     fn hand_in(&mut self, q: usize, own: &mut Own<'_, C>) -> Result<(), HandIn> {
-        let made = self.run.hand_in(q, own)?;
+        let handed = self.run.hand_in(q, own)?;
+        self.count(q, handed.steps);
+        self.count(q, handed.more);
         if let Some(lengths) = self.lengths.get_mut(self.run.open_loop()) {
-            lengths.add(made);
+            lengths.add(handed.steps);
+            lengths.begin(handed.begun);
+            if !handed.fits {
+                lengths.refuse_chunks();
+            }
         }
-        self.count(q, made);
         Ok(())
     }
 
@@ -322,6 +329,7 @@ impl<C: Call, D: Driven<C> + Drop> Board<C, D> {
         Pace {
             begins: !self.tells_gate && !self.leaves_tickets(),
             stretches: !self.are_short(),
+            chunk: self.chunk(),
             trial: self.trial(),
         }
     }

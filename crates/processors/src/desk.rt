@@ -60,15 +60,17 @@ impl<C: Call, D: Driven<C> + Drop> Desk<C, D> {
             next = board.turn(q, own);
         }
         board.tell(told);
-        self.leave(board);
+        let comes_back = next == Next::Again && told.pending.is_empty();
+        self.leave(board, comes_back);
         next
     }
 
     /// The lock is given back. Who leaves the desk wakes another where that one could do something,
-    /// and all when the run is over, or where the one who hands records on is to be woken.
-    fn leave(&self, mut board: MutexGuard<'_, Board<C, D>>) {
+    /// by whether it comes back at once, and all when the run is over, or where the one who hands
+    /// records on is to be woken.
+    fn leave(&self, mut board: MutexGuard<'_, Board<C, D>>, comes_back: bool) {
         let wakes_all = board.is_over() || board.calls_teller();
-        let wants_another = board.wants_another();
+        let wants_another = board.wants_another(comes_back);
         drop(board);
         if wakes_all {
             self.changed.notify_all();

@@ -31,7 +31,50 @@ pub struct Pace {
     pub begins: bool,
     /// Whether steps of them are made outside the lock.
     pub stretches: bool,
+    /// How many of them are made in a chunk, at most; they aren't where it is less than two.
+    pub chunk: usize,
     pub trial: Trial,
+}
+
+/// What a processor did outside the lock.
+#[derive(Clone, Copy)]
+pub struct Handed {
+    /// How many steps it made there.
+    pub steps: u32,
+    /// How many more it made in place as it handed these in.
+    pub more: u32,
+    /// How many iterations it began, of those steps.
+    pub begun: u32,
+    /// Whether iterations of the loop that is open may be made in chunks, for all that it saw.
+    pub fits: bool,
+}
+
+impl Default for Handed {
+    fn default() -> Handed {
+        Handed {
+            steps: 0,
+            more: 0,
+            begun: 0,
+            fits: true,
+        }
+    }
+}
+
+impl Handed {
+    /// So many steps outside the lock.
+    pub fn of(steps: u32) -> Handed {
+        Handed {
+            steps,
+            ..Handed::default()
+        }
+    }
+
+    /// It began an iteration more, and made so many steps of it outside the lock and in place.
+    pub fn begin(&mut self, steps: u32, more: u32) {
+        self.begun = self.begun.saturating_add(1);
+        self.steps = self.steps.saturating_add(steps);
+        self.more = self.more.saturating_add(more).saturating_add(1);
+    }
 }
 
 /// How far a processor came in one go.
@@ -85,13 +128,13 @@ pub trait Driven<C: Call> {
     /// `AllocError` where memory is refused.
     fn load(&self, q: usize, own: &mut Own<'_, C>) -> Result<bool, AllocError>;
 
-    /// Processor `q` hands in what it did outside the lock, if anything; how many steps. A stretch
-    /// that was made on wrong guesses counts for none.
+    /// Processor `q` hands in what it did outside the lock, if anything. A stretch that was made on
+    /// wrong guesses counts for nothing.
     ///
     /// # Errors
     ///
     /// Those of `replay::Core::hand_in`.
-    fn hand_in(&mut self, q: usize, own: &mut Own<'_, C>) -> Result<u32, HandIn>;
+    fn hand_in(&mut self, q: usize, own: &mut Own<'_, C>) -> Result<Handed, HandIn>;
 
     /// Processor `q` makes steps in one go, or loads what it does outside the lock.
     ///

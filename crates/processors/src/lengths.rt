@@ -19,6 +19,19 @@ const LONGEST_REST: u64 = 1024 * 1024;
 /// one to another takes longer.
 const SHORT: u64 = 768;
 
+/// They are long where they make so many. A processor that sleeps is woken for another iteration
+/// only where they are: to wake one takes longer than a shorter iteration.
+const LONG: u64 = 1024;
+
+/// Iterations that are made in chunks are short where they make fewer steps.
+const SHORT_IN_CHUNKS: u64 = 128;
+
+/// They are long where they make so many.
+const LONG_IN_CHUNKS: u64 = 160;
+
+/// How many steps a chunk has, about.
+const CHUNK: u64 = 8192;
+
 /// How many iterations of a loop have begun of late, and how many steps of them were made outside
 /// the lock.
 #[derive(Clone, Copy)]
@@ -29,6 +42,8 @@ pub struct Lengths {
     rest: u64,
     /// How often they were.
     trials: u32,
+    /// Whether they may be made in chunks, for all that was seen.
+    fits: bool,
 }
 
 impl Default for Lengths {
@@ -38,6 +53,7 @@ impl Default for Lengths {
             worked: 0,
             rest: FIRST_REST,
             trials: 0,
+            fits: true,
         }
     }
 }
@@ -62,6 +78,7 @@ impl Lengths {
         self.worked = 0;
         self.rest = LONGEST_REST.min(self.rest.saturating_mul(2));
         self.trials = self.trials.wrapping_add(1);
+        self.fits = true;
     }
 
     /// So many more steps were made outside the lock.
@@ -76,12 +93,31 @@ impl Lengths {
 
     /// Whether iterations are short, as far as enough have begun to tell.
     pub fn are_short(&self) -> bool {
-        !self.have_done(SHORT)
+        !self.have_done(if self.fits { SHORT_IN_CHUNKS } else { SHORT })
+    }
+
+    /// Whether they are long, or too few have begun to tell.
+    pub fn are_long(&self) -> bool {
+        self.have_done(if self.fits { LONG_IN_CHUNKS } else { LONG })
+    }
+
+    /// They can't be made in chunks.
+    pub fn refuse_chunks(&mut self) {
+        self.fits = false;
+    }
+
+    /// How many iterations a chunk has; 0 where none are made, or too few have begun to tell.
+    pub fn chunk(&self) -> usize {
+        if !self.fits || self.begun < FIRST_FEW {
+            return 0;
+        }
+        let each = (self.worked / self.begun).max(1);
+        (CHUNK / each) as usize
     }
 
     /// Whether iterations have made so many steps each outside the lock, or too few have begun to
     /// tell.
-    pub fn have_done(&self, each: u64) -> bool {
+    fn have_done(&self, each: u64) -> bool {
         self.begun < FIRST_FEW || self.begun.saturating_mul(each) <= self.worked
     }
 }

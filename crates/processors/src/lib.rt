@@ -14,7 +14,9 @@
 
 mod board;
 mod call;
+mod chunk;
 mod desk;
+mod dispatcher;
 mod driven;
 mod gate;
 mod lengths;
@@ -22,6 +24,7 @@ mod report;
 mod running;
 mod runs;
 mod telling;
+mod turnstile;
 mod work;
 
 pub use gate::{Gate, NoGate};

@@ -18,10 +18,11 @@ use crate::gate::Gate;
 use crate::report::{Broken, Report, RunRefusal, StartFailure, Streamed};
 use crate::runs::{Recorded, Unrecorded};
 use crate::telling::Told;
+use crate::turnstile::Turnstile;
 use crate::work::{Coded, Own};
 use ast::Answer;
 use machine::Code;
-use replay::{Core, CoreRefusal};
+use replay::{Core, CoreRefusal, Legs};
 use std::alloc::{AllocError, Global};
 use std::io::{Sink, Write};
 use std::marker::Brand;
@@ -257,8 +258,12 @@ fn run_call<'c, C: Call + Send + Sync, G: Gate + Sync, R: Threads + Wait + Sync>
     let Ok(mirror) = Mirror::new(alloc, 0) else {
         return Err(nothing(alloc));
     };
-    let coded = Coded::<C>::new(alloc, code, &mirror, 0);
-    let run = Recorded::new(core);
+    let turnstile = Turnstile::new();
+    let coded = Coded::<C>::new(alloc, code, &mirror, &turnstile, 0);
+    let Ok(legs) = Legs::new(alloc, code) else {
+        return Err(nothing(alloc));
+    };
+    let run = Recorded::new(core, legs);
     let Ok(board) = Board::new(alloc, run, coded.loops(), gate.wants_calls(), None) else {
         return Err(nothing(alloc));
     };
@@ -385,7 +390,8 @@ fn answer_call<
     let Ok(stale) = Stale::new(alloc, cells) else {
         return (out, Ok(unshown(nothing(alloc))));
     };
-    let coded = Coded::<C>::new(alloc, code, &mirror, notes);
+    let turnstile = Turnstile::new();
+    let coded = Coded::<C>::new(alloc, code, &mirror, &turnstile, notes);
     let run = Unrecorded::new(run, stale);
     let wants_calls = gate.wants_calls();
     let Ok(board) = Board::new(alloc, run, coded.loops(), wants_calls, most_waiting) else {

@@ -1,12 +1,15 @@
 //! Runs of a call, with a schedule of what is done and without one.
 
+mod chunks;
+
 use crate::call::Call;
-use crate::driven::{Advanced, Driven, Onward, Pace, Trial};
+use crate::dispatcher::Dispatcher;
+use crate::driven::{Advanced, Driven, Handed, Onward, Pace, Trial};
 use crate::report::{Effort, Report, RunRefusal};
 use crate::telling::Told;
 use crate::work::{Coded, Loaded, Own};
 use ast::Answer;
-use replay::{Choice, Core, HandIn, Stepped};
+use replay::{Choice, Core, HandIn, Legs, Stepped};
 use std::alloc::AllocError;
 use std::marker::{Model, PhantomData};
 use std::sync::Wait;
@@ -16,6 +19,10 @@ use unrecorded::Run;
 /// How many steps are made in place in a row, at most, before it is asked again whether more are
 /// made outside the lock.
 const MOST_IN_PLACE: u32 = 1_024;
+
+/// So many entries of a schedule, at most, hold the steps that are made in place in a row where they
+/// are local.
+const FEW_ENTRIES: usize = 2;
 
 /// How many steps the only processor makes in place in a row, at most.
 const MOST_ALONE: u32 = 4096;
@@ -59,12 +66,16 @@ impl Made {
 #[derive(Drop)]
 pub struct Recorded<'c, C: Call> {
     core: Core<'c>,
+    /// Where the code alone tells the kinds of steps.
+    legs: Legs<'c>,
     /// How many iterations were open at once, at most, as one began in one go.
     overlap: u128,
     of: PhantomData<C>,
 }
 
 impl<'c, C: Call> Model for Recorded<'c, C> {
+    ghost use Rattle.std.specs.Prelude.{◌≡◌};
+    ghost use Rattle.machine.specs.CodeView.{code_of};
     ghost use Rattle.replay.specs.CoreView.{CoreView};
     ghost use Rattle.processors.specs.Calls.{IsCoreOf};
 
@@ -72,11 +83,13 @@ impl<'c, C: Call> Model for Recorded<'c, C> {
 
     ghost view = { λ r. r.core };
 
-    ghost invariant = { λ r. IsCoreOf C.code C.input C.processors C.slots r.core };
+    ghost invariant = { λ r. IsCoreOf C.code C.input C.processors C.slots r.core
+        × (code_of r.legs.code.now ≡ C.code) };
 }
 
 impl<'c, C: Call> Recorded<'c, C> {
     ghost use Rattle.std.specs.Prelude.{◌≡◌, IfOk, IfErr, OnOk, false};
+    ghost use Rattle.machine.specs.CodeView.{code_of};
     ghost use Rattle.processors.specs.Calls.{HasTally, IsCoreOf, IsRunOf};
     ghost use Rattle.processors.specs.Left.{HasNoLocal, HasNoStep, NoneSteps};
     ghost use Rattle.processors.specs.Refused.{IsGivenUp};
@@ -84,12 +97,14 @@ impl<'c, C: Call> Recorded<'c, C> {
     ghost use Rattle.replay.specs.Replayed.{IsAnswer};
     ghost use Rattle.replay.specs.Stepping.{IsGoing};
 
-    /// The run of a core of the call.
-    pub fn new(core: Core<'c>) -> Recorded<'c, C>
-        requires { IsCoreOf C.code C.input C.processors C.slots core }
+    /// The run of a core of the call, with the legs of its code.
+    pub fn new(core: Core<'c>, legs: Legs<'c>) -> Recorded<'c, C>
+        requires of { IsCoreOf C.code C.input C.processors C.slots core }
+        requires legs { code_of legs.code.now ≡ C.code }
     {
         Recorded {
             core,
+            legs,
             overlap: 0,
             of: PhantomData,
         }
@@ -226,11 +241,27 @@ impl<'c, C: Call> Recorded<'c, C> {
         }
     }
 
-    /// Processor `q` makes local instructions in place; whether as many as are made in a row.
-    fn labour(&mut self, q: usize, made: &mut Made) -> Result<bool, AllocError> {
+    /// Processor `q` makes local instructions, loads and stores in place; how many.
+    fn stride(&mut self, q: usize, made: &mut Made) -> Result<u32, AllocError> {
+        let steps = self.core.stride(q, MOST_IN_PLACE, &self.legs)?;
+        made.add(steps);
+        Ok(steps)
+    }
+
+    /// Processor `q` makes local instructions in place; what it does next, where there are none.
+    fn labour(&mut self, q: usize, made: &mut Made) -> Result<Option<Onward>, AllocError> {
         let steps = self.core.labour(q, MOST_IN_PLACE)?;
         made.add(steps);
-        Ok(steps == MOST_IN_PLACE)
+        Ok(if steps == 0 {
+            Some(Onward::Shares)
+        } else {
+            None
+        })
+    }
+
+    /// Whether the schedule has hardly more entries than so many.
+    fn has_few_behind(&self, entries: usize) -> bool {
+        self.core.schedule().len().saturating_sub(entries) <= FEW_ENTRIES
     }
 
     /// Processor `q`, which holds nothing, takes something up: an iteration that begins only where
@@ -276,13 +307,15 @@ impl<'c, C: Call> Recorded<'c, C> {
                 made.add(1);
                 Ok(None)
             }
-            Stepped::Idle | Stepped::Ended => Ok(Some(Onward::Shares)),
+            // No clause says that strides are made wherever one stands next; local work always is.
+            Stepped::Idle => self.labour(q, made),
+            Stepped::Ended => Ok(Some(Onward::Shares)),
         }
     }
 
-    /// Processor `q` makes local instructions in place, and then a step of another kind; where many
-    /// local ones stand next and another processor could have the lock meanwhile, it loads them.
-    /// What it does next, where it is not to make more in place.
+    /// Processor `q` makes local instructions, loads and stores in place, and then a step of another
+    /// kind; where many local ones stand next and another processor could have the lock meanwhile,
+    /// it loads them. What it does next, where it is not to make more in place.
     fn round(
         &mut self,
         q: usize,
@@ -290,10 +323,11 @@ impl<'c, C: Call> Recorded<'c, C> {
         begins: bool,
         made: &mut Made,
     ) -> Result<Option<Onward>, AllocError> {
-        if !self.labour(q, made)? {
+        let entries = self.core.schedule().len();
+        if self.stride(q, made)? < MOST_IN_PLACE {
             return self.move_on(q, begins, made);
         }
-        if self.load(q, own)? {
+        if self.has_few_behind(entries) && self.load(q, own)? {
             return Ok(Some(Onward::Works));
         }
         Ok(None)
@@ -368,14 +402,13 @@ impl<'c, C: Call> Driven<C> for Recorded<'c, C> {
         Ok(loads)
     }
 
-    fn hand_in(&mut self, q: usize, own: &mut Own<'_, C>) -> Result<u32, HandIn> {
+    fn hand_in(&mut self, q: usize, own: &mut Own<'_, C>) -> Result<Handed, HandIn> {
         let made = own.work.made;
         own.loaded = Loaded::Nothing;
-        if made == 0 {
-            return Ok(0);
+        if made > 0 {
+            self.core.hand_in_own(q, &mut own.work)?;
         }
-        self.core.hand_in_own(q, &mut own.work)?;
-        Ok(made)
+        Ok(Handed::of(made))
     }
 
     fn advance(
@@ -412,6 +445,7 @@ pub struct Unrecorded<'c, C: Call> {
     run: Run<'c>,
     /// The cells that the mirror may no longer show as they are.
     stale: Stale,
+    dispatcher: Dispatcher,
     of: PhantomData<C>,
 }
 
@@ -443,6 +477,7 @@ impl<'c, C: Call> Unrecorded<'c, C> {
         Unrecorded {
             run,
             stale,
+            dispatcher: Dispatcher::default(),
             of: PhantomData,
         }
     }
@@ -583,9 +618,9 @@ impl<'c, C: Call> Unrecorded<'c, C> {
         if q >= processors || processors == 1 || !own.pause.is_over(trial) {
             return Ok(false);
         }
-        self.run.show(&mut self.stale, own.mirror);
         let loads = self.run.load_stretch(q, &mut own.stretch)?;
         if loads {
+            self.run.show(&mut self.stale, own.mirror);
             own.loaded = Loaded::Stretch;
         }
         Ok(loads)
@@ -596,18 +631,18 @@ impl<'c, C: Call> Unrecorded<'c, C> {
     fn move_on(
         &mut self,
         q: usize,
-        begins: bool,
+        pace: Pace,
         made: &mut Made,
     ) -> Result<Option<Onward>, AllocError> {
         if q >= self.run.processors() {
             return Ok(Some(Onward::Shares));
         }
         if !self.run.holds(q) {
-            return self.take_up(q, begins, made);
+            return self.take_up(q, pace, made);
         }
         if self.run.share(q)? {
             made.add(1);
-            return self.take_up(q, begins, made);
+            return self.take_up(q, pace, made);
         }
         // No clause says that strides are made wherever one stands next; local work always is.
         let worked = self.run.work(q, MOST_IN_PLACE);
@@ -619,12 +654,33 @@ impl<'c, C: Call> Unrecorded<'c, C> {
         })
     }
 
-    /// Processor `q` takes something up, if it holds nothing: an iteration that begins only where
-    /// there is a ticket for it.
+    /// Processor `q` draws the next ticket, where it may begin iterations and one is left to nobody;
+    /// where they are made in chunks it goes on with these.
+    fn draw(
+        &mut self,
+        q: usize,
+        pace: Pace,
+        made: &mut Made,
+    ) -> Result<Option<Onward>, AllocError> {
+        if q >= self.run.processors() || !pace.begins || !self.leaves_ticket() {
+            return Ok(Some(Onward::Shares));
+        }
+        if self.makes_chunks(pace) {
+            return Ok(None);
+        }
+        if !self.run.pick(q, Choice::Ticket)? {
+            return Ok(Some(Onward::Shares));
+        }
+        made.add(1);
+        made.begin(1);
+        Ok(None)
+    }
+
+    /// Processor `q` takes something up, if it holds nothing.
     fn take_up(
         &mut self,
         q: usize,
-        begins: bool,
+        pace: Pace,
         made: &mut Made,
     ) -> Result<Option<Onward>, AllocError> {
         if q >= self.run.processors() {
@@ -634,19 +690,18 @@ impl<'c, C: Call> Unrecorded<'c, C> {
             return Ok(None);
         }
         let choice = self.run.least();
-        let is_ticket = choice == Choice::Ticket;
-        if is_ticket && !begins || !self.run.pick(q, choice)? {
+        if choice == Choice::Ticket {
+            return self.draw(q, pace, made);
+        }
+        if !self.run.pick(q, choice)? {
             return Ok(Some(Onward::Shares));
         }
         made.add(1);
-        if is_ticket {
-            made.begin(1);
-        }
         Ok(None)
     }
 
-    /// Processor `q` loads a stretch, or makes steps in place, and then one of another kind; what it
-    /// does next, where it is not to make more.
+    /// Processor `q` loads a chunk or a stretch, or makes steps in place, and then one of another
+    /// kind; what it does next, where it is not to make more.
     fn round(
         &mut self,
         q: usize,
@@ -654,11 +709,14 @@ impl<'c, C: Call> Unrecorded<'c, C> {
         pace: Pace,
         made: &mut Made,
     ) -> Result<Option<Onward>, AllocError> {
+        if self.load_chunk(q, own, pace) {
+            return Ok(Some(Onward::Works));
+        }
         if pace.stretches && self.stretch(q, own, pace.trial)? {
             return Ok(Some(Onward::Works));
         }
         if !self.proceed(q, pace, made) {
-            return self.move_on(q, pace.begins, made);
+            return self.move_on(q, pace, made);
         }
         // This iteration is longer than others were.
         if !pace.stretches && self.stretch(q, own, pace.trial)? {
@@ -744,7 +802,7 @@ impl<'c, C: Call> Driven<C> for Unrecorded<'c, C> {
     }
 
     fn has_ticket(&self) -> bool {
-        self.run.has_ticket()
+        self.leaves_ticket()
     }
 
     fn overlap(&self) -> u128 {
@@ -777,13 +835,14 @@ impl<'c, C: Call> Driven<C> for Unrecorded<'c, C> {
         Ok(loads)
     }
 
-    fn hand_in(&mut self, q: usize, own: &mut Own<'_, C>) -> Result<u32, HandIn> {
+    fn hand_in(&mut self, q: usize, own: &mut Own<'_, C>) -> Result<Handed, HandIn> {
         let loaded = own.loaded;
         own.loaded = Loaded::Nothing;
         match loaded {
-            Loaded::Nothing => Ok(0),
-            Loaded::Work => self.put(q, own),
-            Loaded::Stretch => self.commit(q, own),
+            Loaded::Nothing => Ok(Handed::default()),
+            Loaded::Work => Ok(Handed::of(self.put(q, own)?)),
+            Loaded::Stretch => Ok(Handed::of(self.commit(q, own)?)),
+            Loaded::Chunk => self.commit_chunk(q, own),
         }
     }
 

@@ -5,8 +5,10 @@ ghost use Rattle.std.proofs.Props.{props};
 ghost use Rattle.machine.specs.CodeView.{code_of};
 
 use crate::call::Call;
+use crate::chunk::{Chunk, MOST_DRAFTS};
 use crate::driven::Trial;
 use crate::telling::Told;
+use crate::turnstile::Turnstile;
 use machine::{Code, Work};
 use std::alloc::{AllocError, Global};
 use std::marker::PhantomData;
@@ -24,12 +26,13 @@ const FEW: u32 = 128;
 /// another stretch is tried.
 const LONGEST_PAUSE: u32 = 64;
 
-/// The code of a call, and the mirror of its store.
+/// The code of a call, the mirror of its store, and what shows which ticket is next.
 #[derive(Drop)]
 pub struct Coded<'c, C: Call> {
     alloc: Global,
     code: &'c Code,
     mirror: &'c Mirror,
+    turnstile: &'c Turnstile,
     /// How many loads and stores a stretch has, at most.
     notes: usize,
     of: PhantomData<C>,
@@ -42,6 +45,7 @@ pub enum Loaded {
     Nothing,
     Work,
     Stretch,
+    Chunk,
 }
 
 /// When a processor loads stretches: not where they have been short.
@@ -98,6 +102,7 @@ impl Pause {
 pub struct Own<'c, C: Call> {
     pub work: Work<'c>,
     pub stretch: Stretch<'c>,
+    pub chunk: Chunk<'c, C>,
     pub mirror: &'c Mirror,
     pub loaded: Loaded,
     pub pause: Pause,
@@ -111,14 +116,21 @@ impl<'c, C: Call> Coded<'c, C> {
     ghost use Rattle.machine.specs.CodeView.{code_of};
 
     /// The code of a call, with what its processors' room is taken from, the mirror of its store,
-    /// and how many loads and stores a stretch has, at most.
-    pub fn new(alloc: Global, code: &'c Code, mirror: &'c Mirror, notes: usize) -> Coded<'c, C>
+    /// what shows which ticket is next, and how many loads and stores a stretch has, at most.
+    pub fn new(
+        alloc: Global,
+        code: &'c Code,
+        mirror: &'c Mirror,
+        turnstile: &'c Turnstile,
+        notes: usize,
+    ) -> Coded<'c, C>
         requires { code_of code.now ≡ C.code }
     {
         Coded {
             alloc,
             code,
             mirror,
+            turnstile,
             notes,
             of: PhantomData,
         }
@@ -137,6 +149,11 @@ impl<'c, C: Call> Coded<'c, C> {
         Told::new(self.alloc, streams)
     }
 
+    /// How many drafts a chunk has, at most: none where no stretches are made.
+    fn drafts(&self) -> usize {
+        if self.notes == 0 { 0 } else { MOST_DRAFTS }
+    }
+
     /// Room for a processor's work, of which none has been done.
     ///
     /// # Errors
@@ -146,6 +163,13 @@ impl<'c, C: Call> Coded<'c, C> {
         Ok(Own {
             work: Work::new(self.alloc, self.code)?,
             stretch: Stretch::new(self.alloc, self.code, self.mirror, self.notes)?,
+            chunk: Chunk::new(
+                self.alloc,
+                self.code,
+                self.mirror,
+                self.turnstile,
+                self.drafts(),
+            )?,
             mirror: self.mirror,
             loaded: Loaded::Nothing,
             pause: Pause::none(Trial { open: 0, trials: 0 }),
@@ -165,6 +189,7 @@ impl<'c, C: Call> Own<'c, C> {
             Loaded::Nothing => {}
             Loaded::Work => self.work.run(MOST_WORK)?,
             Loaded::Stretch => self.stretch.run(MOST_WORK),
+            Loaded::Chunk => self.chunk.run()?,
         }
         Ok(())
     }

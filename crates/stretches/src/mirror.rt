@@ -41,14 +41,19 @@ impl Mirror {
         }
     }
 
-    /// The cells of a block are shown as they are: so many from that number of them on. What is
-    /// shown already isn't shown again, since showing takes longer than looking.
+    /// A cell is to show a value. What is shown already isn't shown again, since showing takes
+    /// longer than looking, and keeps other processors from looking.
+    pub fn correct(&self, cell: usize, value: i64) {
+        if self.get(cell) != Some(value) {
+            self.show(cell, value);
+        }
+    }
+
+    /// The cells of a block are shown as they are: so many from that number of them on.
     pub fn refresh(&self, cells: &[i64], block: usize, size: usize) {
         let first = block.saturating_mul(size);
         for (cell, value) in cells.iter().enumerate().skip(first).take(size) {
-            if self.get(cell) != Some(*value) {
-                self.show(cell, *value);
-            }
+            self.correct(cell, *value);
         }
     }
 

@@ -10,7 +10,7 @@ ghost use Rattle.stretches.specs.Stretches.{LeadsBy};
 use crate::comparing::make_all;
 use crate::guesses::Guesses;
 use crate::mirror::Mirror;
-use machine::{Code, Frame, stride};
+use machine::{Code, Frame, Open, stride};
 use std::alloc::{AllocError, Global};
 use std::mem::swap;
 
@@ -39,6 +39,7 @@ impl<'c> Stretch<'c> {
     ghost use Rattle.std.specs.Prelude.{true, false};
     ghost use Rattle.machine.specs.CodeView.{code_of};
     ghost use Rattle.machine.specs.FrameView.{frame_of};
+    ghost use Rattle.machine.specs.View.{begin, index_at};
     ghost use Rattle.stretches.specs.Guesses.{notes_of};
     ghost use Rattle.stretches.specs.Notes.{all_hold};
     ghost use Rattle.stretches.specs.Stretches.{Leads};
@@ -91,6 +92,33 @@ impl<'c> Stretch<'c> {
         Ok(())
     }
 
+    /// The stretch is to lead from the frame of iteration `k` of an open loop as it begins, and no
+    /// step has been made; `index` is the value that the loop's variable has in it. Where memory is
+    /// refused it leads nowhere until it is loaded again.
+    ///
+    /// # Errors
+    ///
+    /// `AllocError` where memory is refused.
+    pub fn begin(&mut self, opened: Open, k: u128, index: i64) -> Result<(), AllocError>
+        requires { index ≡ index_at (code_of self.old.code.now) opened k }
+        ensures code { code_of self.new.code.now ≡ code_of self.old.code.now }
+        ensures none { self.new.made ≡ 0 }
+        ensures notes { notes_of self.new.guesses ≡ [] }
+        ensures from { OnOk result (frame_of self.new.from
+            ≡ begin (code_of self.old.code.now) opened k) }
+        ensures to { OnOk result (frame_of self.new.to ≡ frame_of self.new.from) }
+        ensures loaded { OnOk result (self.new.loaded ≡ true) }
+        ensures err { OnErr result (self.new.loaded ≡ false) }
+    {
+        self.loaded = false;
+        self.made = 0;
+        self.guesses.made = 0;
+        self.from.restart(self.code, opened, k, index)?;
+        self.to.copy_from(&self.from)?;
+        self.loaded = true;
+        Ok(())
+    }
+
     /// Makes steps on guesses, at most `n`, behind those that were made since it was loaded.
     pub fn run(&mut self, n: u32)
         ensures code { code_of self.new.code.now ≡ code_of self.old.code.now }
@@ -136,7 +164,7 @@ impl<'c> Stretch<'c> {
     pub fn mend(&self, cells: &[i64]) {
         for note in self.guesses.noted() {
             if let Some(value) = cells.get(note.cell) {
-                self.guesses.mirror.show(note.cell, *value);
+                self.guesses.mirror.correct(note.cell, *value);
             }
         }
     }

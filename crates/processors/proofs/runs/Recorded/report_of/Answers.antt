@@ -7,10 +7,10 @@ use Rattle.processors.proofs.runs.Recorded.report_of.Goals as goal
 
 pub returns-clause-run : goal.returns-clause-run
 returns-clause-run g c =
-    run_of g.C.Call.code g.C.Call.input g.C.Call.processors g.C.Call.slots c.self.inside.core c.args.answer c.into_parts-schedule.result.1 c.self.invariant c.schedule.ensures.replays
+    run_of g.C.Call.code g.C.Call.input g.C.Call.processors g.C.Call.slots c.self.inside.core c.args.answer c.into_parts-schedule.result.1 c.self.invariant.0 c.schedule.ensures.replays
     (subst (λ (x : CoreView). IsAnswer x.code (point_at x).machine c.args.answer) (sym c.self.view_is) c.requires)
     (subst IsSchedule c.schedule.ensures.schedule c.entries.ensures.kept) c.into_parts-schedule.ensures.schedule
 
 pub returns-clause-tally : goal.returns-clause-tally
 returns-clause-tally g c =
-    tally_of g.C.Call.code g.C.Call.input g.C.Call.processors g.C.Call.slots c.self.inside.core c.into_parts-schedule.result.1 c.tally-tally.result.made c.tally-tally.result.again c.self.invariant c.tally-tally.ensures c.into_parts-schedule.ensures.schedule
+    tally_of g.C.Call.code g.C.Call.input g.C.Call.processors g.C.Call.slots c.self.inside.core c.into_parts-schedule.result.1 c.tally-tally.result.made c.tally-tally.result.again c.self.invariant.0 c.tally-tally.ensures c.into_parts-schedule.ensures.schedule

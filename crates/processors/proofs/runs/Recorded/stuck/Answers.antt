@@ -10,7 +10,7 @@ use Rattle.processors.proofs.runs.Recorded.stuck.Goals as goal
 pub returns : goal.returns
 returns g c =
     let x = c.self.inside.core in
-    let o = c.self.invariant in
+    let o = c.self.invariant.0 in
     state_of g.C.Call.code g.C.Call.input g.C.Call.processors g.C.Call.slots x (IsStuckAt g.C.Call.code g.C.Call.processors g.C.Call.slots) o c.schedule.ensures.replays
     (subst IsSchedule c.schedule.ensures.schedule c.entries.ensures.kept)
     (stuck_at g.C.Call.code g.C.Call.processors g.C.Call.slots x o.code_is o.processors o.slots (subst IsGoing (sym c.self.view_is) c.requires.going) (subst NoneSteps (sym c.self.view_is) c.requires.none))

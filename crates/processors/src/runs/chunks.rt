@@ -1,0 +1,174 @@
+//! Chunks of a run without a schedule.
+
+use crate::call::Call;
+use crate::chunk::MOST_DRAFTS;
+use crate::driven::{Handed, Pace};
+use crate::runs::{MOST_IN_PLACE, Unrecorded};
+use crate::work::{Loaded, Own};
+use machine::Open;
+use replay::{Choice, HandIn};
+use stretches::Stretch;
+
+impl<'c, C: Call> Unrecorded<'c, C> {
+    ghost use Rattle.std.specs.Prelude.{◌≡◌};
+    ghost use Rattle.machine.specs.CodeView.{code_of};
+
+    /// Whether the next iteration of an open loop may begin, and one is left to nobody.
+    pub(super) fn leaves_ticket(&self) -> bool {
+        match self.run.open_loop() {
+            Some(opened) => {
+                let ticket = self.run.next_ticket();
+                self.run.has_ticket() && self.dispatcher.first(ticket) < opened.trips
+            }
+            None => false,
+        }
+    }
+
+    /// Whether processor `q` holds nothing.
+    fn is_free(&self, q: usize) -> bool {
+        q < self.run.processors() && !self.run.holds(q)
+    }
+
+    /// Whether iterations are made in chunks.
+    pub(super) fn makes_chunks(&self, pace: Pace) -> bool {
+        self.run.processors() > 1 && pace.begins && pace.stretches && pace.chunk > 1
+    }
+
+    /// The loop of whose iterations processor `q` may make a chunk: it holds nothing, and there is
+    /// nothing else to take up.
+    fn chunked_loop(&self, q: usize, pace: Pace) -> Option<Open> {
+        if !self.is_free(q) || !self.makes_chunks(pace) {
+            return None;
+        }
+        if self.run.least() != Choice::Ticket || !self.run.has_ticket() {
+            return None;
+        }
+        self.run.open_loop()
+    }
+
+    /// What is left to a processor is left to all.
+    fn give_back(&mut self, own: &mut Own<'_, C>) {
+        if !own.chunk.is_empty() {
+            self.dispatcher.give_back(own.chunk.first());
+            own.chunk.clear();
+        }
+    }
+
+    /// Iterations before the next ticket are no longer left to a processor.
+    fn pass(&mut self, own: &mut Own<'_, C>) {
+        let had_some = !own.chunk.is_empty();
+        own.chunk.pass(self.run.next_ticket());
+        if had_some && own.chunk.is_empty() {
+            self.dispatcher.settle();
+        }
+    }
+
+    /// Iterations of an open loop that are left to nobody are left to a processor, so many at most.
+    fn dispatch(&mut self, own: &mut Own<'_, C>, opened: Open, most: usize) {
+        let first = self.dispatcher.first(self.run.next_ticket());
+        let end = opened.trips.min(first.saturating_add(most as u128));
+        if first < end {
+            self.dispatcher.dispatch(end);
+            own.chunk.take(opened, first, end);
+        }
+    }
+
+    /// Processor `q` loads a chunk, where it may make one: what is left to it, or else iterations
+    /// that are left to nobody.
+    pub(super) fn load_chunk(&mut self, q: usize, own: &mut Own<'_, C>, pace: Pace) -> bool {
+        let Some(opened) = self.chunked_loop(q, pace) else {
+            self.give_back(own);
+            return false;
+        };
+        self.pass(own);
+        if own.chunk.is_empty() {
+            self.dispatch(own, opened, pace.chunk.min(MOST_DRAFTS));
+        }
+        if own.chunk.is_empty() {
+            return false;
+        }
+        self.run.show(&mut self.stale, own.mirror);
+        own.loaded = Loaded::Chunk;
+        true
+    }
+
+    /// Processor `q` draws the next ticket, and makes the steps of the iteration's draft, and others
+    /// in place.
+    ///
+    /// # Errors
+    ///
+    /// Want of memory.
+    fn commit_draft(
+        &mut self,
+        q: usize,
+        stretch: &mut Stretch<'_>,
+        handed: &mut Handed,
+    ) -> Result<(), HandIn>
+        requires own { code_of stretch.old.code.now ≡ C.code }
+        ensures code { code_of stretch.new.code.now ≡ code_of stretch.old.code.now }
+    {
+        if q >= self.run.processors() || !self.run.pick(q, Choice::Ticket)? {
+            return Ok(());
+        }
+        let made = self.run.commit(q, stretch);
+        if made == 0 {
+            self.run.mend(stretch);
+        }
+        let more = self.run.proceed(q, MOST_IN_PLACE, false, &mut self.stale);
+        handed.begin(made, more);
+        Ok(())
+    }
+
+    /// Processor `q` commits its drafts, one behind the other, as long as it is their turn. Where a
+    /// draft isn't wanted the mirror is mended.
+    ///
+    /// # Errors
+    ///
+    /// Want of memory.
+    fn commit_drafts(&mut self, q: usize, own: &mut Own<'_, C>) -> Result<Handed, HandIn> {
+        let mut handed = Handed::default();
+        let mut k = own.chunk.first();
+        for draft in own.chunk.take_drafts() {
+            if k == self.run.next_ticket() && self.is_free(q) {
+                self.commit_draft(q, &mut draft.stretch, &mut handed)?;
+            } else {
+                self.run.mend(&draft.stretch);
+            }
+            k = k.saturating_add(1);
+        }
+        Ok(handed)
+    }
+
+    /// A processor's drafts are forgotten, since those before it are late. The mirror is mended, and
+    /// what was left to anybody is left to all.
+    fn forget(&mut self, own: &mut Own<'_, C>) {
+        for draft in own.chunk.take_drafts() {
+            self.run.mend(&draft.stretch);
+        }
+        own.chunk.clear();
+        self.dispatcher.give_back(self.run.next_ticket());
+    }
+
+    /// Processor `q` hands in a chunk.
+    ///
+    /// # Errors
+    ///
+    /// `Ended` where the run has ended; and want of memory.
+    pub(super) fn commit_chunk(
+        &mut self,
+        q: usize,
+        own: &mut Own<'_, C>,
+    ) -> Result<Handed, HandIn> {
+        if self.run.has_ended() {
+            return Err(HandIn::Ended);
+        }
+        if own.chunk.first() > self.run.next_ticket() {
+            self.forget(own);
+            return Ok(Handed::default());
+        }
+        let mut handed = self.commit_drafts(q, own)?;
+        handed.fits = own.chunk.fits();
+        self.pass(own);
+        Ok(handed)
+    }
+}
