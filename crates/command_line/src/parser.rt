@@ -3,13 +3,11 @@
 ghost use Rattle.std.specs.Prelude.{◌≡◌, ◌∷◌, [], IfErr, IfOk, false, map};
 ghost use Rattle.clap.specs.Words.{App, Rule, new_app, rule_of, with_rule, with_subcommand};
 ghost use Rattle.command_line.specs.CommandLine.{IsLine, Names, NamesNone, Reads, check, code};
-ghost use Rattle.command_line.specs.CommandLine.{doac, draw, explain, flag, input, iterations};
-ghost use Rattle.command_line.specs.CommandLine.{letter, list, loop_number, model, most};
-ghost use Rattle.command_line.specs.CommandLine.{named_option, needed, number, optional, out};
-ghost use Rattle.command_line.specs.CommandLine.{processors, reason, replay};
-ghost use Rattle.command_line.specs.CommandLine.{run, schedule, schedule_out, seq, slots, source};
-ghost use Rattle.command_line.specs.CommandLine.{states, store, tally, timeline, upgrade};
-ghost use Rattle.command_line.specs.CommandLine.{whole_input, why, with_subcommands};
+ghost use Rattle.command_line.specs.CommandLine.{doac, draw, explain, flag, input, letter, list};
+ghost use Rattle.command_line.specs.CommandLine.{model, named_option, needed, optional, out};
+ghost use Rattle.command_line.specs.CommandLine.{processors, replay, run, schedule, schedule_out};
+ghost use Rattle.command_line.specs.CommandLine.{seq, slots, source, store, timeline, upgrade};
+ghost use Rattle.command_line.specs.CommandLine.{whole_input, with_subcommands};
 
 use crate::command::Command;
 use crate::help;
@@ -116,57 +114,11 @@ fn schedule<'a>(alloc: Global) -> Arg<'a>
     )
 }
 
-fn out<'a>(alloc: Global) -> Arg<'a>
-    ensures rule { rule_of result ≡ out }
-    ensures local { result.global ≡ false }
-{
-    needed(
-        alloc,
-        "OUT",
-        "The file that gets the schedule with its picks named",
-    )
-}
-
 fn picture<'a>(alloc: Global) -> Arg<'a>
     ensures rule { rule_of result ≡ out }
     ensures local { result.global ≡ false }
 {
     needed(alloc, "OUT", "The file that gets the picture, an SVG file")
-}
-
-fn loop_number<'a>(alloc: Global) -> Arg<'a>
-    ensures rule { rule_of result ≡ loop_number }
-    ensures local { result.global ≡ false }
-{
-    option(
-        alloc,
-        "loop",
-        "N",
-        "The number of the loop, as list has it; without it 1",
-    )
-}
-
-fn iterations<'a>(alloc: Global) -> Arg<'a>
-    ensures rule { rule_of result ≡ iterations }
-    ensures local { result.global ≡ false }
-{
-    option(
-        alloc,
-        "iterations",
-        "K",
-        "How many iterations are drawn, 1 to 64; without it 8",
-    )
-}
-
-fn why<'a>(alloc: Global) -> Arg<'a>
-    ensures rule { rule_of result ≡ why }
-    ensures local { result.global ≡ false }
-{
-    flag(
-        alloc,
-        "why",
-        "Says of each loop by which references its iterations wait, and which test says so",
-    )
 }
 
 fn store<'a>(alloc: Global) -> Arg<'a>
@@ -216,62 +168,6 @@ fn schedule_out<'a>(alloc: Global) -> Arg<'a>
     )
 }
 
-fn tally<'a>(alloc: Global) -> Arg<'a>
-    ensures rule { rule_of result ≡ tally }
-    ensures local { result.global ≡ false }
-{
-    flag(
-        alloc,
-        "tally",
-        "Says on standard error how the run went, processor by processor",
-    )
-}
-
-fn states<'a>(alloc: Global) -> Arg<'a>
-    ensures rule { rule_of result ≡ states }
-    ensures local { result.global ≡ false }
-{
-    flag(
-        alloc,
-        "states",
-        "Shows the state behind each line of the schedule: who holds what, and who waits for what",
-    )
-}
-
-fn most<'a>(alloc: Global) -> Arg<'a>
-    ensures rule { rule_of result ≡ most }
-    ensures local { result.global ≡ false }
-{
-    option(
-        alloc,
-        "most",
-        "STEPS",
-        "After how many steps a run is left that hasn't ended; without it 100000000",
-    )
-}
-
-fn number<'a>(alloc: Global) -> Arg<'a>
-    ensures rule { rule_of result ≡ number }
-    ensures local { result.global ≡ false }
-{
-    optional(
-        alloc,
-        "N",
-        "The number behind REFUSED, SCHEDULE or FAULT, or the word serial; without it all are listed",
-    )
-}
-
-fn reason<'a>(alloc: Global) -> Arg<'a>
-    ensures rule { rule_of result ≡ reason }
-    ensures local { result.global ≡ false }
-{
-    optional(
-        alloc,
-        "REASON",
-        "Behind the word serial, the number behind SERIAL",
-    )
-}
-
 /// A command of this name, with what stands at the beginning and at the end of its help.
 fn named<'a>(alloc: Global, name: &'a str, about: &'a str, ending: &'a str) -> clap::Command<'a>
     ensures { IsLine (new_app name.entry.now) result }
@@ -317,7 +213,12 @@ fn listing<'a>(alloc: Global) -> Result<clap::Command<'a>, AllocError>
         help::LIST,
     ));
     let line = with(line, source(alloc));
-    with(line, why(alloc))
+    let why = flag(
+        alloc,
+        "why",
+        "Says of each loop by which references its iterations wait, and which test says so",
+    );
+    with(line, why)
 }
 
 /// The command line of `code`.
@@ -364,7 +265,12 @@ fn threading<'a>(alloc: Global) -> Result<clap::Command<'a>, AllocError>
     let line = with(line, slots(alloc));
     let line = with(line, schedule_out(alloc));
     let line = with(line, store(alloc));
-    with(line, tally(alloc))
+    let tally = flag(
+        alloc,
+        "tally",
+        "Says on standard error how the run went, processor by processor",
+    );
+    with(line, tally)
 }
 
 /// The command line of `model`.
@@ -381,7 +287,13 @@ fn modelling<'a>(alloc: Global) -> Result<clap::Command<'a>, AllocError>
     let line = with(line, input(alloc));
     let line = with(line, processors(alloc));
     let line = with(line, slots(alloc));
-    let line = with(line, most(alloc));
+    let most = option(
+        alloc,
+        "most",
+        "STEPS",
+        "After how many steps a run is left that hasn't ended; without it 100000000",
+    );
+    let line = with(line, most);
     with(line, schedule_out(alloc))
 }
 
@@ -398,7 +310,12 @@ fn replaying<'a>(alloc: Global) -> Result<clap::Command<'a>, AllocError>
     let line = with(line, source(alloc));
     let line = with(line, whole_input(alloc));
     let line = with(line, schedule(alloc));
-    with(line, states(alloc))
+    let states = flag(
+        alloc,
+        "states",
+        "Shows the state behind each line of the schedule: who holds what, and who waits for what",
+    );
+    with(line, states)
 }
 
 /// The command line of `upgrade`.
@@ -414,7 +331,12 @@ fn upgrading<'a>(alloc: Global) -> Result<clap::Command<'a>, AllocError>
     let line = with(line, source(alloc));
     let line = with(line, whole_input(alloc));
     let line = with(line, schedule(alloc));
-    with(line, out(alloc))
+    let out = needed(
+        alloc,
+        "OUT",
+        "The file that gets the schedule with its picks named",
+    );
+    with(line, out)
 }
 
 /// The command line of `draw`.
@@ -429,8 +351,20 @@ fn drawing<'a>(alloc: Global) -> Result<clap::Command<'a>, AllocError>
     ));
     let line = with(line, source(alloc));
     let line = with(line, picture(alloc));
-    let line = with(line, loop_number(alloc));
-    with(line, iterations(alloc))
+    let loop_number = option(
+        alloc,
+        "loop",
+        "N",
+        "The number of the loop, as list has it; without it 1",
+    );
+    let line = with(line, loop_number);
+    let iterations = option(
+        alloc,
+        "iterations",
+        "K",
+        "How many iterations are drawn, 1 to 64; without it 8",
+    );
+    with(line, iterations)
 }
 
 /// The command line of `timeline`.
@@ -459,8 +393,18 @@ fn explaining<'a>(alloc: Global) -> Result<clap::Command<'a>, AllocError>
         "Explains a refusal, a fault or a serial loop by its number",
         help::EXPLAIN,
     ));
-    let line = with(line, number(alloc));
-    with(line, reason(alloc))
+    let number = optional(
+        alloc,
+        "N",
+        "The number behind REFUSED, SCHEDULE or FAULT, or the word serial; without it all are listed",
+    );
+    let line = with(line, number);
+    let reason = optional(
+        alloc,
+        "REASON",
+        "Behind the word serial, the number behind SERIAL",
+    );
+    with(line, reason)
 }
 
 /// A command with one subcommand more, if there was memory for both.

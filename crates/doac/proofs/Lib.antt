@@ -1,5 +1,5 @@
 pub mod Delivered
+pub mod Made
 pub mod Onto
 pub mod Reading
 pub mod Statuses
-pub mod Upgrading

@@ -1,16 +1,18 @@
 -- What each command does: which files it reads, in which order, what it writes where, and its exit
 -- status.
-use Rattle.std.specs.Prelude.{◌≡◌, ℕ, Bool, List, [], ◌∷◌, Option, option_map}
+use Rattle.std.specs.Prelude.{◌≡◌, ℕ, Bool, List, Option, option_map}
 use Rattle.pages.specs.declared.outcomes.Outcome.{Outcome}
 use Rattle.pages.specs.declared.status.Status.{Status}
 use Rattle.engines.specs.Coded.{ShowsCode}
 use Rattle.engines.specs.Engines.{Checks}
 use Rattle.files.specs.Deeds.{Deed}
-use Rattle.doac.specs.Deeds.{ReadsFile, ReadsGiven, ReadsTexts, UnlessOnto, UnlessRead}
+use Rattle.doac.specs.Deeds.{ReadsFile, ReadsGiven, ReadsTexts, UnlessOnto}
+use Rattle.doac.specs.Making.{MakesFiles}
 use Rattle.doac.specs.Models.{ModelsRead}
-use Rattle.doac.specs.Pictures.{DrawsFile, TimesFiles}
+use Rattle.doac.specs.Pictures.{DrawsFile}
 use Rattle.doac.specs.Running.{RunsRead}
-use Rattle.doac.specs.Statuses.{Ends, EndsList, EndsReplay, EndsSeq, EndsUpgrade, OfPrint}
+use Rattle.doac.specs.Statuses.{Ends, EndsList, EndsReplay, EndsSeq, OfPrint}
+use Rattle.doac.specs.declared.making.Making.TheVariants.{Schedule, Picture}
 use Rattle.command_line.specs.declared.command.Command.{Command}
 use Rattle.command_line.specs.declared.command.Command.TheVariants.{Check, ListLoops, ShowCode, Seq, Run, Model, Replay, Upgrade, Draw, Timeline, Explain, ExplainSerial}
 use Rattle.command_line.specs.declared.command.Modelled.{Modelled}
@@ -37,12 +39,6 @@ abbrev pub Replays : (states : Bool) → (source input schedule : List ℕ) → 
 Replays states source input schedule before after old new status =
     ReadsTexts source input schedule before after old new status (λ done text given picks. (after ≡ done) × EndsReplay states text given picks old new status)
 
--- the same of an upgrade, where OUT is none of them, as is found out first
-abbrev pub Upgrades : (source input schedule out : List ℕ) → (before after : Option (List Deed)) → (old new : Option (List ℕ)) → Status → Type 0
-Upgrades source input schedule out before after old new status =
-    UnlessRead out (source ∷ input ∷ schedule ∷ []) before after old new status (λ told.
-    ReadsTexts source input schedule told after old new status (λ done text given picks. EndsUpgrade out text given picks done after old new status))
-
 -- a program is run in threads, where the file for the schedule, if one is named, is none of those
 -- that are read, as is found out first
 abbrev pub RunsFiles : Threaded → (before after : Option (List Deed)) → (old new : Option (List ℕ)) → Status → Type 0
@@ -68,9 +64,9 @@ Obeys (Model m) before after old new status = ModelsFiles m before after old new
 Obeys (Replay files states) before after old new status =
     Replays states files.source.now files.input.now files.schedule.now before after old new status
 Obeys (Upgrade files out) before after old new status =
-    Upgrades files.source.now files.input.now files.schedule.now out.now before after old new status
+    MakesFiles Schedule files.source.now files.input.now files.schedule.now out.now before after old new status
 Obeys (Draw drawing) before after old new status = DrawsFile drawing before after old new status
 Obeys (Timeline files out) before after old new status =
-    TimesFiles files.source.now files.input.now files.schedule.now out.now before after old new status
+    MakesFiles Picture files.source.now files.input.now files.schedule.now out.now before after old new status
 Obeys (Explain number) before after old new status = (after ≡ before) × OfPrint status
 Obeys (ExplainSerial reason) before after old new status = (after ≡ before) × OfPrint status

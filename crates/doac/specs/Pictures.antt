@@ -1,15 +1,14 @@
--- What the commands that make a picture do.
+-- What `draw` does.
 use Rattle.std.specs.Prelude.{◌≡◌, ◌⊎◌, ℕ, List, [], ◌∷◌, Option}
 use Rattle.command_line.specs.declared.command.Drawing.{Drawing}
 use Rattle.engines.specs.Drawing.{Draws}
-use Rattle.engines.specs.Timeline.{Times}
 use Rattle.engines.specs.declared.drawing.Portion.{Portion}
 use Rattle.engines.specs.declared.drawn.Drawn.{Drawn}
 use Rattle.engines.specs.declared.drawn.Drawn.TheVariants.{Picture, Shown, NoLoop, TooDense}
 use Rattle.files.specs.Deeds.{Deed}
 use Rattle.pages.specs.declared.status.Status.{Status}
 use Rattle.pages.specs.declared.status.Status.TheVariants as statuses
-use Rattle.doac.specs.Deeds.{GivesFile, ReadsFile, ReadsTexts, UnlessRead}
+use Rattle.doac.specs.Deeds.{GivesFile, ReadsFile, UnlessRead}
 use Rattle.doac.specs.Statuses.{Ends, IsPage}
 
 -- what drawing comes to is written: a picture to OUT alone, why there is none to standard output
@@ -36,10 +35,3 @@ DrawsFile d before after old new status =
     UnlessRead d.out.now (d.source.now ∷ []) before after old new status (λ told.
     ReadsFile d.source.now told after old new status (λ done text.
     EndsDrawing (Draws text (portion d)) d.out.now done after old new status))
-
--- a source, an input and a schedule are read, and their run is drawn, where OUT is none of them
-abbrev pub TimesFiles : (source input schedule out : List ℕ) → (before after : Option (List Deed)) → (old new : Option (List ℕ)) → Status → Type 0
-TimesFiles source input schedule out before after old new status =
-    UnlessRead out (source ∷ input ∷ schedule ∷ []) before after old new status (λ told.
-    ReadsTexts source input schedule told after old new status (λ done text given picks.
-    EndsDrawing (Times text given picks) out done after old new status))

@@ -8,12 +8,8 @@ use Rattle.pages.specs.declared.status.Status.{Status}
 use Rattle.pages.specs.declared.status.Status.TheVariants as statuses
 use Rattle.engines.specs.Engines.{Streaming, Works}
 use Rattle.engines.specs.Lists.{WritesList}
-use Rattle.engines.specs.Schedules.{Replaying, Upgrading}
-use Rattle.engines.specs.declared.replays.Upgraded.{Upgraded}
-use Rattle.engines.specs.declared.replays.Upgraded.TheVariants.{Text, Shown}
-use Rattle.files.specs.Deeds.{Deed}
+use Rattle.engines.specs.Schedules.{Replaying}
 use Rattle.states.specs.Shown.{StatesStream}
-use Rattle.doac.specs.Deeds.{GivesFile}
 
 -- the exit status of what work on texts comes to
 abbrev pub exit_of : Result Outcome EngineFault → Status
@@ -56,18 +52,6 @@ pub record EndsReplay (states : Bool) (source input schedule : List ℕ) (old ne
 -- the text and the outcome are a page's
 abbrev pub IsPage : Page → Outcome → List ℕ → Type 0
 IsPage page outcome text = (outcome ≡ page.outcome) × (text ≡ page.text.items)
-
--- what an upgrade comes to is written: the text of a schedule to OUT alone, and why there is none
--- to standard output alone
-abbrev pub Delivers : (out : List ℕ) → Upgraded → (before after : Option (List Deed)) → (old new : Option (List ℕ)) → Status → Type 0
-Delivers out (Text text) before after old new status = GivesFile out text.items before after status × (new ≡ old)
-Delivers out (Shown page) before after old new status = (after ≡ before) × Ends (IsPage page) old new status
-
--- an upgrade of these texts is written; for want of memory nothing is
-abbrev pub EndsUpgrade : (out source input schedule : List ℕ) → (before after : Option (List Deed)) → (old new : Option (List ℕ)) → Status → Type 0
-EndsUpgrade out source input schedule before after old new status =
-    ((after ≡ before) × (new ≡ old) × (status ≡ statuses.NoMemory))
-    ⊎ ((came : Upgraded) × Upgrading source input schedule came × Delivers out came before after old new status)
 
 -- the status of a text that was printed: 0, or that of writing
 abbrev pub OfPrint : Status → Type 0

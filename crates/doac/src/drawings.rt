@@ -1,18 +1,17 @@
-//! `draw` and `timeline`: the pictures that are made of files.
+//! `draw`: the picture of a loop of the source of a file.
 
 ghost use Rattle.std.specs.Prelude.{◌≡◌};
 ghost use Rattle.engines.specs.Drawing.{Draws};
-ghost use Rattle.engines.specs.Timeline.{Times};
 ghost use Rattle.files.specs.Deeds.{got};
-ghost use Rattle.doac.specs.Deeds.{AfterCompare, AfterFile, AfterTexts, ReadsFile, ReadsTexts};
-ghost use Rattle.doac.specs.Pictures.{DrawsFile, EndsDrawing, TimesFiles};
+ghost use Rattle.doac.specs.Deeds.{AfterCompare, AfterFile, ReadsFile};
+ghost use Rattle.doac.specs.Pictures.{DrawsFile, EndsDrawing};
 ghost use Rattle.doac.specs.Statuses.{Ends, IsPage};
 
-use crate::told::{give_file, refuse_file, refuse_out, show_page, tell, tell_of};
-use command_line::{Drawing, TextFiles};
-use engines::{Drawn, MOST_ARROWS, Portion, draw_text, timeline_texts};
-use files::{Clash, FileFault, NamedFiles, Unread, read_texts};
-use pages::{EngineFault, Page, Status, Texts};
+use crate::told::{give_file, refuse_file, refuse_out, tell};
+use command_line::Drawing;
+use engines::{Drawn, MOST_ARROWS, Portion, draw_text};
+use files::{Clash, FileFault, NamedFiles};
+use pages::{EngineFault, Page, Status};
 use remarks::Place;
 use std::io::Write;
 
@@ -148,102 +147,4 @@ fn refuse_dense<R: Eprint>(rt: &R, name: &str, number: usize, count: u128) -> St
     );
     let _ = eprintln!(rt; "hint: fewer iterations, by --iterations, have fewer arrows");
     Status::WrongCommand
-}
-
-/// Draws the run that the schedule of a file describes to the file `onto`, if that may be written
-/// beside those that are read.
-pub fn timeline_files<R: Eprint + AllocGlobal, F: NamedFiles, W: Write>(
-    rt: &R,
-    files: &mut F,
-    out: &mut W,
-    names: TextFiles<'_>,
-    onto: &str,
-) -> Status
-    ensures { TimesFiles
-        names.entry.source.now names.entry.input.now names.entry.schedule.now onto.now
-        (F.done files.old) (F.done files.new) (W.contents out.old) (W.contents out.new) result }
-{
-    let clash = files.clash(onto, &[names.source, names.input, names.schedule]);
-    timeline_unless(rt, files, out, names, onto, clash)
-}
-
-/// The same, where it is known whether the file `onto` may be written.
-fn timeline_unless<R: Eprint + AllocGlobal, F: NamedFiles, W: Write>(
-    rt: &R,
-    files: &mut F,
-    out: &mut W,
-    names: TextFiles<'_>,
-    onto: &str,
-    clash: Option<Clash>,
-) -> Status
-    ensures { AfterCompare clash (F.done files.old) (F.done files.new) (W.contents out.old)
-        (W.contents out.new) result
-        (ReadsTexts names.entry.source.now names.entry.input.now names.entry.schedule.now
-        (F.done files.old) (F.done files.new) (W.contents out.old) (W.contents out.new) result
-        (λ done text given picks. EndsDrawing (Times text given picks) onto.now
-        done (F.done files.new) (W.contents out.old) (W.contents out.new) result)) }
-{
-    if let Some(clash) = clash {
-        return refuse_out(rt, onto, clash);
-    }
-    let texts = read_texts(files, names.source, names.input, names.schedule);
-    timeline_given(rt, files, out, names, onto, texts)
-}
-
-/// What `timeline` makes of the bytes of its files.
-fn timeline_given<R: Eprint + AllocGlobal, F: NamedFiles, W: Write>(
-    rt: &R,
-    files: &mut F,
-    out: &mut W,
-    names: TextFiles<'_>,
-    onto: &str,
-    texts: Result<Texts, Unread<'_>>,
-) -> Status
-    ensures { AfterTexts texts.entry (F.done files.old) (F.done files.new) (W.contents out.old)
-        (W.contents out.new) result
-        (λ text given picks. EndsDrawing (Times text given picks) onto.now
-        (F.done files.old) (F.done files.new) (W.contents out.old) (W.contents out.new) result) }
-{
-    match texts {
-        Ok(texts) => timeline_read(rt, files, out, names, onto, &texts),
-        Err(Unread { name, fault }) => refuse_file(rt, name, &fault),
-    }
-}
-
-/// A file's name without the folders that it is in.
-fn own_name(name: &str) -> &[u8] {
-    let bytes = name.as_bytes();
-    match bytes.iter().rposition(|byte| *byte == b'/') {
-        Some(place) => bytes.get(place.saturating_add(1)..).unwrap_or(bytes),
-        None => bytes,
-    }
-}
-
-/// Draws the run that a schedule describes to a file; standard error has its message.
-fn timeline_read<R: Eprint + AllocGlobal, F: NamedFiles, W: Write>(
-    rt: &R,
-    files: &mut F,
-    out: &mut W,
-    names: TextFiles<'_>,
-    onto: &str,
-    texts: &Texts,
-) -> Status
-    ensures { EndsDrawing
-        (Times texts.now.source.items texts.now.input.items texts.now.schedule.items) onto.now
-        (F.done files.old) (F.done files.new) (W.contents out.old) (W.contents out.new) result }
-{
-    let name = own_name(names.source);
-    match timeline_texts(
-        rt.alloc(),
-        name,
-        &texts.source,
-        &texts.input,
-        &texts.schedule,
-    ) {
-        Ok(Drawn::Picture(picture)) => give_file(rt, files, onto, &picture),
-        Ok(Drawn::Shown(page)) => show_page(rt, out, names, texts, &page),
-        Ok(Drawn::NoLoop(_)) => Status::WrongCommand,
-        Ok(Drawn::TooDense(_)) => Status::WrongCommand,
-        Err(_) => tell_of(rt, names, texts, Err(EngineFault::Memory)),
-    }
 }

@@ -5,6 +5,7 @@
 mod code_file;
 mod drawings;
 mod keeping;
+mod making;
 mod models;
 mod obeying;
 mod program;

@@ -3,9 +3,10 @@
 ghost use Rattle.doac.specs.Commands.{Obeys};
 
 use crate::code_file::code_file;
-use crate::drawings::{draw_file, timeline_files};
+use crate::drawings::draw_file;
+use crate::making::{Making, make_files};
 use crate::models::model_files;
-use crate::replays::{replay_files, upgrade_files};
+use crate::replays::replay_files;
 use crate::sources::{check_file, list_file, seq_files};
 use crate::threads::run_files;
 use crate::told::status_of_print;
@@ -41,9 +42,13 @@ pub fn obey<
         Command::Run(asked) => run_files(rt, files, out, nowhere, asked, most),
         Command::Model(asked) => model_files(rt, files, out, nowhere, asked),
         Command::Replay { names, states } => replay_files(rt, files, out, nowhere, names, states),
-        Command::Upgrade(names, onto) => upgrade_files(rt, files, out, names, onto),
+        Command::Upgrade(names, onto) => {
+            make_files(rt, files, out, Making::Schedule, names, onto)
+        }
         Command::Draw(drawing) => draw_file(rt, files, out, drawing),
-        Command::Timeline(names, onto) => timeline_files(rt, files, out, names, onto),
+        Command::Timeline(names, onto) => {
+            make_files(rt, files, out, Making::Picture, names, onto)
+        }
         Command::Explain(Some(number)) => status_of_print(rt, explain::explain(rt, number)),
         Command::Explain(None) => status_of_print(rt, explain::list(rt)),
         Command::ExplainSerial(reason) => status_of_print(rt, explain::explain_serial(rt, reason)),

@@ -1,15 +1,13 @@
-//! `replay` and `upgrade`: what is made of a source, an input and a schedule.
+//! `replay`: what is made of a source, an input and a schedule.
 
-ghost use Rattle.doac.specs.Commands.{Replays, Upgrades};
-ghost use Rattle.doac.specs.Deeds.{AfterCompare, AfterTexts, ReadsTexts};
-ghost use Rattle.doac.specs.Statuses.{EndsReplay, EndsUpgrade, WritesReplay};
+ghost use Rattle.doac.specs.Commands.{Replays};
+ghost use Rattle.doac.specs.Deeds.{AfterTexts};
+ghost use Rattle.doac.specs.Statuses.{EndsReplay, WritesReplay};
 
-use crate::told::{
-    give_file, refuse_file, refuse_out, show_page, tell_of, tell_replay, warn_of_names, warn_of_run,
-};
+use crate::told::{refuse_file, tell_replay, warn_of_names, warn_of_run};
 use command_line::TextFiles;
-use engines::{Upgraded, replay_texts, upgrade_texts};
-use files::{Clash, NamedFiles, Unread, read_texts};
+use engines::replay_texts;
+use files::{NamedFiles, Unread, read_texts};
 use pages::{EngineFault, Outcome, Status, Texts};
 use states::state_texts;
 use std::alloc::Global;
@@ -92,86 +90,5 @@ fn write_replay<W: Write>(
         state_texts(alloc, source, input, schedule, out)
     } else {
         replay_texts(alloc, source, input, schedule, out)
-    }
-}
-
-/// Writes the schedule of a file with its picks named to the file `onto`, if that may be written
-/// beside those that are read.
-pub fn upgrade_files<R: Eprint + AllocGlobal, F: NamedFiles, W: Write>(
-    rt: &R,
-    files: &mut F,
-    out: &mut W,
-    names: TextFiles<'_>,
-    onto: &str,
-) -> Status
-    ensures { Upgrades
-        names.entry.source.now names.entry.input.now names.entry.schedule.now onto.now
-        (F.done files.old) (F.done files.new) (W.contents out.old) (W.contents out.new) result }
-{
-    let clash = files.clash(onto, &[names.source, names.input, names.schedule]);
-    upgrade_unless(rt, files, out, names, onto, clash)
-}
-
-/// The same, where it is known whether the file `onto` may be written.
-fn upgrade_unless<R: Eprint + AllocGlobal, F: NamedFiles, W: Write>(
-    rt: &R,
-    files: &mut F,
-    out: &mut W,
-    names: TextFiles<'_>,
-    onto: &str,
-    clash: Option<Clash>,
-) -> Status
-    ensures { AfterCompare clash
-        (F.done files.old) (F.done files.new) (W.contents out.old) (W.contents out.new) result
-        (ReadsTexts names.entry.source.now names.entry.input.now names.entry.schedule.now
-        (F.done files.old) (F.done files.new) (W.contents out.old) (W.contents out.new) result
-        (λ done text given picks. EndsUpgrade onto.now text given picks
-        done (F.done files.new) (W.contents out.old) (W.contents out.new) result)) }
-{
-    if let Some(clash) = clash {
-        return refuse_out(rt, onto, clash);
-    }
-    let texts = read_texts(files, names.source, names.input, names.schedule);
-    upgrade_given(rt, files, out, names, onto, texts)
-}
-
-/// What `upgrade` makes of the bytes of its files.
-fn upgrade_given<R: Eprint + AllocGlobal, F: NamedFiles, W: Write>(
-    rt: &R,
-    files: &mut F,
-    out: &mut W,
-    names: TextFiles<'_>,
-    onto: &str,
-    texts: Result<Texts, Unread<'_>>,
-) -> Status
-    ensures { AfterTexts texts.entry
-        (F.done files.old) (F.done files.new) (W.contents out.old) (W.contents out.new) result
-        (λ text given picks. EndsUpgrade onto.now text given picks
-        (F.done files.old) (F.done files.new) (W.contents out.old) (W.contents out.new) result) }
-{
-    match texts {
-        Ok(texts) => upgrade_read(rt, files, out, names, onto, &texts),
-        Err(Unread { name, fault }) => refuse_file(rt, name, &fault),
-    }
-}
-
-/// Writes the schedule of a file with its picks named to another one, which is made where there is
-/// something to write; standard error has its message.
-fn upgrade_read<R: Eprint + AllocGlobal, F: NamedFiles, W: Write>(
-    rt: &R,
-    files: &mut F,
-    out: &mut W,
-    names: TextFiles<'_>,
-    onto: &str,
-    texts: &Texts,
-) -> Status
-    ensures { EndsUpgrade onto.now
-        texts.now.source.items texts.now.input.items texts.now.schedule.items
-        (F.done files.old) (F.done files.new) (W.contents out.old) (W.contents out.new) result }
-{
-    match upgrade_texts(rt.alloc(), &texts.source, &texts.input, &texts.schedule) {
-        Ok(Upgraded::Text(text)) => give_file(rt, files, onto, &text),
-        Ok(Upgraded::Shown(page)) => show_page(rt, out, names, texts, &page),
-        Err(_) => tell_of(rt, names, texts, Err(EngineFault::Memory)),
     }
 }

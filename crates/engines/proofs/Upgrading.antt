@@ -8,9 +8,9 @@ use Rattle.pages.specs.declared.fault.EngineFault.TheVariants.{Source, Input, Sc
 use Rattle.pages.specs.declared.outcomes.Outcome.{Outcome}
 use Rattle.pages.specs.declared.texts.Texts.{Texts}
 use Rattle.engines.specs.Schedules.{LeavesBoth, UpgradeWorks, Upgrading, WritesPart, WritesUpgraded, WroteUpgradedAs, WroteUpgradedPart, upgrade_outcome}
-use Rattle.engines.specs.declared.replays.Upgraded.{Upgraded}
+use Rattle.engines.specs.declared.made.Made.{Made}
 
-pub of_written : (allows : Upgraded → Type 0) (made : Upgraded) (old new before after : Option (List ℕ)) (r : Result Outcome EngineFault) → allows made
+pub of_written : (allows : Made → Type 0) (made : Made) (old new before after : Option (List ℕ)) (r : Result Outcome EngineFault) → allows made
     → IfOk r (λ outcome. (outcome ≡ upgrade_outcome made) × WritesUpgraded made old new before after)
     → IfErr r (λ fault. IsWriting fault × WritesPart made old new before after) → UpgradeWorks allows old new before after r
 of_written allows made old new before after (Ok outcome) allowed ok err = record { upgraded = made; allowed = allowed; is = ok.0; written = ok.1 }

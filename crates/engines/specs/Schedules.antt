@@ -18,8 +18,8 @@ use Rattle.pages.specs.declared.outcomes.Outcome.{Outcome}
 use Rattle.pages.specs.declared.outcomes.Outcome.TheVariants.{Completed}
 use Rattle.engines.specs.Engines.{Leaves, ShowsRun, WroteAs, WrotePart}
 pub use Rattle.engines.specs.Prepared.{IsLine, WithCode, WithRun}
-use Rattle.engines.specs.declared.replays.Upgraded.{Upgraded}
-use Rattle.engines.specs.declared.replays.Upgraded.TheVariants.{Text, Shown}
+use Rattle.engines.specs.declared.made.Made.{Made}
+use Rattle.engines.specs.declared.made.Made.TheVariants.{Text, Shown}
 
 -- The run of a schedule leads the code to its end on the input, and what is shown is what the
 -- sequential program prints and how it ends.
@@ -43,50 +43,50 @@ pub record IsUpgraded (code : Code) (input : List ℕ) (old : Schedule) (text : 
   pub written : SchedText new text
 
 -- what `upgrade` may come to: a schedule's text for OUT, or what standard output has
-abbrev pub Upgrading : (source input schedule : List ℕ) → Upgraded → Type 0
+abbrev pub Upgrading : (source input schedule : List ℕ) → Made → Type 0
 Upgrading source input schedule (Text text) =
     WithRun source schedule (λ tree code old. IsUpgraded code input old text.items)
 Upgrading source input schedule (Shown page) =
     IsLine HasStop source input schedule page.outcome page.text.items
 
 -- the outcome of what `upgrade` comes to
-abbrev pub upgrade_outcome : Upgraded → Outcome
+abbrev pub upgrade_outcome : Made → Outcome
 upgrade_outcome (Text text) = Completed
 upgrade_outcome (Shown page) = page.outcome
 
 -- Two writers grew by what `upgrade` comes to, the first one's bytes from `old` to `new`, the
 -- other's from `before` to `after`: this one by a schedule's text, or the first by a page, and the
 -- other not.
-abbrev pub WritesUpgraded : Upgraded → (old new before after : Option (List ℕ)) → Type 0
+abbrev pub WritesUpgraded : Made → (old new before after : Option (List ℕ)) → Type 0
 WritesUpgraded (Text text) old new before after = (new ≡ old) × Appends before after text.items
 WritesUpgraded (Shown page) old new before after = Appends old new page.text.items × (after ≡ before)
 
 -- the same of a beginning, of which something is missing
-abbrev pub WritesPart : Upgraded → (old new before after : Option (List ℕ)) → Type 0
+abbrev pub WritesPart : Made → (old new before after : Option (List ℕ)) → Type 0
 WritesPart (Text text) old new before after = (new ≡ old) × AppendsPart before after text.items
 WritesPart (Shown page) old new before after = AppendsPart old new page.text.items × (after ≡ before)
 
 -- the writers grew by what `upgrade` may come to, and this is its outcome
-pub record WroteUpgraded (allows : Upgraded → Type 0) (old new before after : Option (List ℕ)) (outcome : Outcome) : Type 0 where
-  pub upgraded : Upgraded
+pub record WroteUpgraded (allows : Made → Type 0) (old new before after : Option (List ℕ)) (outcome : Outcome) : Type 0 where
+  pub upgraded : Made
   pub allowed : allows upgraded
   pub is : outcome ≡ upgrade_outcome upgraded
   pub written : WritesUpgraded upgraded old new before after
 
 -- the same, with the number of an outcome's status
-abbrev pub WroteUpgradedAs : (Upgraded → Type 0) → (old new before after : Option (List ℕ)) → ℕ → Type 0
+abbrev pub WroteUpgradedAs : (Made → Type 0) → (old new before after : Option (List ℕ)) → ℕ → Type 0
 WroteUpgradedAs allows old new before after status =
     (outcome : Outcome) × (status ≡ number_of (status_of outcome)) × WroteUpgraded allows old new before after outcome
 
 -- the writers grew by a beginning of what `upgrade` may come to
-pub record WroteUpgradedPart (allows : Upgraded → Type 0) (old new before after : Option (List ℕ)) : Type 0 where
-  pub upgraded : Upgraded
+pub record WroteUpgradedPart (allows : Made → Type 0) (old new before after : Option (List ℕ)) : Type 0 where
+  pub upgraded : Made
   pub allowed : allows upgraded
   pub written : WritesPart upgraded old new before after
 
 -- What upgrading texts that were read comes to: an outcome with what is allowed written; part of it
 -- where writing failed; nothing where memory was refused. No fault of reading comes of it.
-abbrev pub UpgradeWorks : (Upgraded → Type 0) → (old new before after : Option (List ℕ)) → Result Outcome EngineFault → Type 0
+abbrev pub UpgradeWorks : (Made → Type 0) → (old new before after : Option (List ℕ)) → Result Outcome EngineFault → Type 0
 UpgradeWorks allows old new before after (Ok outcome) = WroteUpgraded allows old new before after outcome
 UpgradeWorks allows old new before after (Err (Writing e)) = WroteUpgradedPart allows old new before after
 UpgradeWorks allows old new before after (Err Memory) = (new ≡ old) × (after ≡ before)

@@ -1,8 +1,8 @@
-//! What commands that make a picture come to.
+//! What drawing a loop comes to.
 
 use pages::Page;
 
-/// What a command that makes a picture comes to.
+/// What drawing a loop comes to.
 #[derive(Drop)]
 pub enum Drawn {
     /// The text of a picture, an SVG file.

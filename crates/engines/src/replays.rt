@@ -5,55 +5,13 @@ ghost use Rattle.pages.specs.Outcomes.{outcome_of};
 ghost use Rattle.pages.specs.Shown.{EndShown, Extends};
 ghost use Rattle.engines.specs.Schedules.{Replaying, Upgrading};
 
+use crate::made::Made;
 use crate::prepared::{Described, describe, unscheduled};
 use ast::Answer;
-use handing::write_all;
-use pages::{EngineFault, Outcome, Page, append_end, outcome};
+use pages::{Page, append_end, outcome};
 use replay::{replay, upgrade};
 use schedules::ReplayRefusal;
 use std::alloc::{AllocError, Global};
-use std::io::Write;
-
-/// What `upgrade` comes to.
-#[derive(Drop)]
-pub enum Upgraded {
-    /// The text of a schedule in which each pick is named.
-    Text(Vec<u8>),
-    /// What is shown where there is none.
-    Shown(Page),
-}
-
-impl Upgraded {
-    ghost use Rattle.std.specs.Prelude.{◌≡◌, IfOk, IfErr};
-    ghost use Rattle.pages.specs.Outcomes.{IsWriting};
-    ghost use Rattle.engines.specs.Schedules.{WritesPart, WritesUpgraded, upgrade_outcome};
-
-    /// Writes the schedule's text to `upgraded`, or the page to `out`.
-    ///
-    /// # Errors
-    ///
-    /// A fault of the writer, with a beginning of the text written.
-    pub fn write<W: Write, V: Write>(
-        &self,
-        out: &mut W,
-        upgraded: &mut V,
-    ) -> Result<Outcome, EngineFault>
-        ensures ok { IfOk result (λ outcome. (outcome ≡ upgrade_outcome self.now)
-            × WritesUpgraded self.now (W.contents out.old) (W.contents out.new)
-            (V.contents upgraded.old) (V.contents upgraded.new)) }
-        ensures err { IfErr result (λ fault. IsWriting fault
-            × WritesPart self.now (W.contents out.old) (W.contents out.new)
-            (V.contents upgraded.old) (V.contents upgraded.new)) }
-    {
-        match self {
-            Upgraded::Text(text) => match write_all(upgraded, text) {
-                Ok(()) => Ok(Outcome::Completed),
-                Err(error) => Err(EngineFault::Writing(error)),
-            },
-            Upgraded::Shown(page) => page.write(out),
-        }
-    }
-}
 
 /// The page of an answer, without its store.
 fn answered(answer: Answer) -> Result<Page, AllocError>
@@ -99,17 +57,17 @@ pub fn upgrade_texts(
     source: &[u8],
     input: &[u8],
     schedule: &[u8],
-) -> Result<Upgraded, AllocError>
+) -> Result<Made, AllocError>
     ensures { IfOk result (Upgrading source.now input.now schedule.now) }
 {
     let run = match describe(alloc, source, schedule)? {
         Described::Run(run) => run,
-        Described::Refused(page) => return Ok(Upgraded::Shown(page)),
+        Described::Refused(page) => return Ok(Made::Shown(page)),
     };
     match upgrade(alloc, &run.coded.code, input, &run.schedule) {
-        Ok(named) => Ok(Upgraded::Text(named.text()?)),
+        Ok(named) => Ok(Made::Text(named.text()?)),
         Err(ReplayRefusal::Refused { number, line }) => {
-            Ok(Upgraded::Shown(unscheduled(alloc, number, line)?))
+            Ok(Made::Shown(unscheduled(alloc, number, line)?))
         }
         Err(ReplayRefusal::Memory) => Err(AllocError),
     }

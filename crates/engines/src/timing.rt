@@ -3,8 +3,8 @@
 ghost use Rattle.std.specs.Prelude.{IfOk};
 ghost use Rattle.engines.specs.Timeline.{Times};
 
-use crate::drawn::Drawn;
 use crate::driving::steps_alone;
+use crate::made::Made;
 use crate::prepared::{Described, Run, describe, unscheduled};
 use crate::watching::watched;
 use ast::End;
@@ -88,21 +88,21 @@ pub fn timeline_texts(
     source: &[u8],
     input: &[u8],
     schedule: &[u8],
-) -> Result<Drawn, AllocError>
+) -> Result<Made, AllocError>
     ensures { IfOk result (Times source.now input.now schedule.now) }
 {
     let run = match describe(alloc, source, schedule)? {
         Described::Run(run) => run,
-        Described::Refused(page) => return Ok(Drawn::Shown(page)),
+        Described::Refused(page) => return Ok(Made::Shown(page)),
     };
     match replay(alloc, &run.coded.code, input, &run.schedule) {
         Ok(answer) => {
             let end = Some(answer.end);
-            Ok(Drawn::Picture(text_of(alloc, name, &run, input, end)?))
+            Ok(Made::Text(text_of(alloc, name, &run, input, end)?))
         }
         Err(ReplayRefusal::Refused { number, line }) => match number {
-            Flaw::Unended => Ok(Drawn::Picture(text_of(alloc, name, &run, input, None)?)),
-            _ => Ok(Drawn::Shown(unscheduled(alloc, number, line)?)),
+            Flaw::Unended => Ok(Made::Text(text_of(alloc, name, &run, input, None)?)),
+            _ => Ok(Made::Shown(unscheduled(alloc, number, line)?)),
         },
         Err(ReplayRefusal::Memory) => Err(AllocError),
     }

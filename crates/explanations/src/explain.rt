@@ -12,7 +12,7 @@ mod statements;
 
 use crate::fault::fault_name;
 use ast::Fault;
-pub use reasons::{Reason, is_reason, serial_reason};
+pub use reasons::{is_reason, serial_reason};
 use remarks::Visible;
 use std::fmt::{Display, Formatter, Result as FmtResult, Write};
 use std::io;
@@ -24,42 +24,26 @@ const GREATEST: u8 = 61;
 #[derive(Clone, Copy)]
 pub enum Origin {
     Refusal,
+    /// A run in threads, whatever its source.
+    Run,
     Fault(Fault),
     Schedule,
+    /// A reason for which a loop stays serial.
+    Serial,
 }
 
-/// A source and its input; of a schedule's refusal, the text of a schedule.
-#[derive(Clone, Copy)]
-pub struct Trial {
-    pub source: &'static str,
-    pub input: &'static str,
-}
-
-/// What a number means: in a sentence, which messages say, and at length; with a source that has it
-/// and one that is cured. Either is empty where it would be too long.
+/// What a number means: in a sentence, which messages say, and at length; with a source that has
+/// it and one that is cured, of a schedule's refusal the text of a schedule. Behind a source stands
+/// its input, if it has one. Either is empty where it would be too long.
 #[derive(Clone, Copy)]
 pub struct Explanation {
     pub number: u8,
     pub origin: Origin,
     pub sentence: &'static str,
     pub meaning: &'static str,
-    pub example: Trial,
+    pub example: &'static str,
     pub advice: &'static str,
-    pub cure: Trial,
-}
-
-impl Display for Trial {
-    fn fmt<W: Write>(&self, f: &mut Formatter<W>) -> FmtResult {
-        if !self.source.is_empty() {
-            f.write_str("\n")?;
-            f.write_str(self.source)?;
-        }
-        if !self.input.is_empty() {
-            f.write_str("\nwith the input\n\n")?;
-            f.write_str(self.input)?;
-        }
-        Ok(())
-    }
+    pub cure: &'static str,
 }
 
 /// The line that heads it in a list.
@@ -77,8 +61,10 @@ impl<'a> Display for Heading<'a> {
             ..
         } = self.explanation;
         match origin {
-            Origin::Refusal => write!(f, "{} {number}: {sentence}", word_of(*number)),
+            Origin::Refusal => write!(f, "REFUSED {number}: {sentence}"),
+            Origin::Run => write!(f, "RUN {number}: {sentence}"),
             Origin::Schedule => write!(f, "SCHEDULE {number}: {sentence}"),
+            Origin::Serial => write!(f, "SERIAL {number}: {sentence}"),
             Origin::Fault(fault) => {
                 write!(
                     f,
@@ -90,21 +76,21 @@ impl<'a> Display for Heading<'a> {
     }
 }
 
-/// What stands before the number of a refusal: 57 to 59 are of a run in threads, whatever its
-/// source.
-fn word_of(number: u8) -> &'static str {
-    if is_within(57, 59, number) {
-        "RUN"
-    } else {
-        "REFUSED"
+/// Writes a text behind an empty line, if there is one.
+fn write_behind<W: Write>(f: &mut Formatter<W>, text: &str) -> FmtResult {
+    if text.is_empty() {
+        return Ok(());
     }
+    write!(f, "\n{text}")
 }
 
 impl Display for Explanation {
     fn fmt<W: Write>(&self, f: &mut Formatter<W>) -> FmtResult {
         let heading = Heading { explanation: self };
-        write!(f, "{heading}.\n\n{}{}", self.meaning, self.example)?;
-        write!(f, "\nWhat to do: {}{}", self.advice, self.cure)
+        write!(f, "{heading}.\n\n{}", self.meaning)?;
+        write_behind(f, self.example)?;
+        write!(f, "\nWhat to do: {}", self.advice)?;
+        write_behind(f, self.cure)
     }
 }
 
@@ -171,49 +157,39 @@ pub fn explain<P: Print>(rt: &P, number: u8) -> io::Result<()> {
 
 /// Prints what the number of a reason means for which a loop stays serial.
 pub fn explain_serial<P: Print>(rt: &P, number: u8) -> io::Result<()> {
-    if let Some(reason) = serial_reason(number) {
-        print!(rt; "{reason}")?;
+    if let Some(explanation) = serial_reason(number) {
+        print!(rt; "{explanation}")?;
     }
     Ok(())
 }
 
 /// Prints the numbers of refusals, of faults and of reasons, each with its sentence.
 pub fn list<P: Print>(rt: &P) -> io::Result<()> {
-    list_refusals(rt)?;
+    for number in 0..=GREATEST {
+        list_one(rt, refusal(number))?;
+    }
     list_faults(rt)?;
     list_reasons(rt)
 }
 
-fn list_refusals<P: Print>(rt: &P) -> io::Result<()> {
+fn list_faults<P: Print>(rt: &P) -> io::Result<()> {
     for number in 0..=GREATEST {
-        if let Some(explanation) = &refusal(number) {
-            println!(rt; "{}", Heading { explanation })?;
-        }
+        list_one(rt, fault(number))?;
     }
     Ok(())
 }
 
 fn list_reasons<P: Print>(rt: &P) -> io::Result<()> {
     for number in 0..=GREATEST {
-        if let Some(
-            Reason {
-                number,
-                sentence,
-                ..
-            },
-        ) = serial_reason(number)
-        {
-            println!(rt; "SERIAL {number}: {sentence}")?;
-        }
+        list_one(rt, serial_reason(number))?;
     }
     Ok(())
 }
 
-fn list_faults<P: Print>(rt: &P) -> io::Result<()> {
-    for number in 0..=GREATEST {
-        if let Some(explanation) = &fault(number) {
-            println!(rt; "{}", Heading { explanation })?;
-        }
+/// Prints the heading of a number, if it means something.
+fn list_one<P: Print>(rt: &P, found: Option<Explanation>) -> io::Result<()> {
+    match &found {
+        Some(explanation) => println!(rt; "{}", Heading { explanation }),
+        None => Ok(()),
     }
-    Ok(())
 }

@@ -43,10 +43,8 @@ pub fn tell_further<R: Eprint + AllocGlobal>(rt: &R, file: &str, source: &[u8], 
 
 impl Reduced {
     fn of(alloc: Global, source: &[u8], rule: Rule, line: Line) -> Result<Self, AllocError> {
-        let mut copy = Vec::new(alloc);
-        copy.extend_from_slice(source)?;
         Ok(Reduced {
-            source: copy,
+            source: Vec::from_slice(alloc, source)?,
             rule,
             line,
             is_sure: true,
@@ -90,13 +88,14 @@ impl Reduced {
             return Ok(true);
         }
         let cause = cause_of(alloc, &self.source, self.rule, self.line)?;
-        let Some(name) = cause.and_then(|cause| cause.name()) else {
+        let Some(mention) = cause.and_then(|cause| cause.mention) else {
             return Ok(true);
         };
-        if self.names.contains(&(self.rule, name)) {
+        let known = (self.rule, mention.name);
+        if self.names.contains(&known) {
             return Ok(false);
         }
-        self.names.push((self.rule, name))?;
+        self.names.push(known)?;
         Ok(true)
     }
 

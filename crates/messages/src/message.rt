@@ -3,14 +3,13 @@
 use ast::{Line, Rule};
 use bstr::ByteSlice;
 use engines::Note;
-use explanations::explain::{Explanation, Origin, fault, refusal};
+use explanations::explain::{Explanation, fault, refusal};
 use explanations::fault_number;
 use pages::Outcome;
 use remarks::{
     Caret, Cause, Place, Squeezed, Visible, break_place, cause_of, hint, hint_of_fault,
     hint_of_schedule,
 };
-use schedules::Flaw;
 use std::alloc::Global;
 use std::fmt::{Display, Formatter, Result as FmtResult, Write};
 
@@ -22,6 +21,8 @@ pub struct Message<'a> {
     line: Line,
     text: Option<&'a [u8]>,
     caret: Option<Caret<'a>>,
+    /// What it is that has the explanation.
+    verdict: &'static str,
     explanation: Explanation,
     cause: Option<Cause>,
     note: Option<Note>,
@@ -34,28 +35,71 @@ impl<'a> Message<'a> {
     /// The message of an outcome, if it has one; the file is the source's, or the schedule's where
     /// that is refused. It has no hint where memory is refused.
     pub fn of(alloc: Global, file: &'a str, source: &'a [u8], outcome: Outcome) -> Option<Self> {
-        let (explanation, line) = match outcome {
-            Outcome::Completed => return None,
-            Outcome::Refused { number, line } => (refusal(number.number())?, line),
-            Outcome::Faulted { fault: kind, line } => (fault(fault_number(kind))?, line),
-            Outcome::NoSchedule { number, line } => {
-                let line = Line::try_from(line).unwrap_or(Line::MAX);
-                (refusal(number.number())?, line)
+        match outcome {
+            Outcome::Completed => None,
+            Outcome::Refused { number, line } => {
+                Message::of_refusal(alloc, file, source, number, line)
             }
+            Outcome::Faulted { fault: kind, line } => {
+                let explanation = fault(fault_number(kind))?;
+                let statement = Squeezed::of(alloc, source, line).ok();
+                let hint = statement.and_then(|statement| hint_of_fault(kind, &statement));
+                let message = Message::new(file, source, line, "fault", explanation);
+                Some(Message { hint, ..message })
+            }
+            Outcome::NoSchedule { number, line } => {
+                let explanation = refusal(number.number())?;
+                let line = Line::try_from(line).unwrap_or(Line::MAX);
+                let text = whole_line(source, line);
+                let hint = text.and_then(|text| hint_of_schedule(number, text));
+                let message = Message::new(file, source, line, "schedule refused", explanation);
+                Some(Message { hint, ..message })
+            }
+        }
+    }
+
+    /// The message of a refusal of a source by a rule.
+    fn of_refusal(
+        alloc: Global,
+        file: &'a str,
+        source: &'a [u8],
+        rule: Rule,
+        line: Line,
+    ) -> Option<Self> {
+        let explanation = refusal(rule.number())?;
+        let message = Message::new(file, source, line, "refused", explanation);
+        let Ok(statement) = Squeezed::of(alloc, source, line) else {
+            return Some(message);
         };
-        let rule = rule_of(outcome);
-        let cause = rule.and_then(|rule| cause_of(alloc, source, rule, line).unwrap_or(None));
+        let cause = cause_of(alloc, source, rule, line).unwrap_or(None);
         Some(Message {
+            caret: caret_of(source, rule, line, cause, &statement),
+            cause,
+            hint: message.text.and_then(|text| hint(rule, text, &statement)),
+            ..message
+        })
+    }
+
+    /// A message without what is known beside.
+    fn new(
+        file: &'a str,
+        source: &'a [u8],
+        line: Line,
+        verdict: &'static str,
+        explanation: Explanation,
+    ) -> Self {
+        Message {
             file,
             line,
             text: text_of_line(source, line),
-            caret: rule.and_then(|rule| caret_of(alloc, source, rule, line, cause)),
+            caret: None,
+            verdict,
             explanation,
-            cause,
+            cause: None,
             note: None,
-            hint: hint_in(alloc, source, outcome, line),
+            hint: None,
             is_further: false,
-        })
+        }
     }
 
     /// The message with what is known beside, if anything is.
@@ -94,7 +138,7 @@ impl<'a> Message<'a> {
             sentence,
             ..
         } = &self.explanation;
-        let verdict = verdict_of(self.explanation.origin);
+        let verdict = self.verdict;
         let place = Place {
             file: self.file,
             line: self.line,
@@ -132,46 +176,17 @@ impl<'a> Message<'a> {
     }
 }
 
-fn verdict_of(origin: Origin) -> &'static str {
-    match origin {
-        Origin::Refusal => "refused",
-        Origin::Fault(_) => "fault",
-        Origin::Schedule => "schedule refused",
-    }
-}
-
-/// The rule by which a source is refused, if it is.
-fn rule_of(outcome: Outcome) -> Option<Rule> {
-    match outcome {
-        Outcome::Refused { number, .. } => Some(number),
-        _ => None,
-    }
-}
-
-/// The hint at an outcome, if there is one; the line is that of the file.
-fn hint_in(alloc: Global, source: &[u8], outcome: Outcome, line: Line) -> Option<&'static str> {
-    match outcome {
-        Outcome::Completed => None,
-        Outcome::Refused { number, .. } => hint_of_source(alloc, source, number, line),
-        Outcome::NoSchedule { number, .. } => hint_of_line(source, number, line),
-        Outcome::Faulted { fault, .. } => {
-            let statement = Squeezed::of(alloc, source, line).ok()?;
-            hint_of_fault(fault, &statement)
-        }
-    }
-}
-
 /// Where in a statement that is refused stands what is meant.
 fn caret_of<'a>(
-    alloc: Global,
     source: &'a [u8],
     rule: Rule,
     line: Line,
     cause: Option<Cause>,
+    statement: &Squeezed,
 ) -> Option<Caret<'a>> {
     let place = match cause {
-        Some(cause) => cause.place()?,
-        None => break_place(rule, &Squeezed::of(alloc, source, line).ok()?)?,
+        Some(cause) => cause.mention?.place,
+        None => break_place(rule, statement)?,
     };
     Caret::of(source, line, place)
 }
@@ -185,19 +200,6 @@ fn write_caret<W: Write>(f: &mut Formatter<W>, line: Line, caret: &Caret<'_>) ->
         f.write_char(' ')?;
     }
     writeln!(f, "^")
-}
-
-fn hint_of_source(alloc: Global, source: &[u8], rule: Rule, line: Line) -> Option<&'static str> {
-    let text = text_of_line(source, line)?;
-    let statement = Squeezed::of(alloc, source, line).ok()?;
-    hint(rule, text, &statement)
-}
-
-fn hint_of_line(source: &[u8], flaw: Flaw, line: Line) -> Option<&'static str> {
-    match flaw {
-        Flaw::Header | Flaw::Entry => hint_of_schedule(flaw, whole_line(source, line)?),
-        _ => None,
-    }
 }
 
 /// The text of a line, counted from 1.

@@ -14,7 +14,7 @@ mod texts;
 
 pub use fault::{EngineFault, ReadFault};
 pub use outcomes::Outcome;
-pub use page::{Page, append_end, behind, outcome, refused};
+pub use page::{Page, append_end, outcome, refused, unshown};
 pub use row::Row;
 pub use shown::{append_accepted, append_line, append_no_schedule};
 pub use status::Status;

@@ -1,8 +1,5 @@
 //! How an engine's work on a source ended.
 
-ghost use Rattle.std.specs.Prelude.{◌≡◌};
-ghost use Rattle.pages.specs.Outcomes.{status_of};
-
 use crate::status::Status;
 use ast::{Fault, Line, Rule};
 use schedules::Flaw;

@@ -22,8 +22,8 @@ pub struct Page {
     pub outcome: Outcome,
 }
 
-/// What stands behind so many bytes of a text.
-pub fn behind(text: &[u8], shown: usize) -> &[u8]
+/// What isn't shown yet of a text, of which so many bytes are.
+pub fn unshown(text: &[u8], shown: usize) -> &[u8]
     ensures { result.now ≡ drop shown text.now }
 {
     text.get(shown..).unwrap_or(&[])
@@ -120,7 +120,7 @@ impl Page {
             × AppendsPart (W.contents writer.old) (W.contents writer.new)
             (drop shown self.now.text.items)) }
     {
-        match write_all(writer, behind(&self.text, shown)) {
+        match write_all(writer, unshown(&self.text, shown)) {
             Ok(()) => Ok(self.outcome),
             Err(error) => Err(EngineFault::Writing(error)),
         }

@@ -3,11 +3,11 @@
 /// The status that the program exits with.
 #[derive(Clone, Copy, Debug, PartialEq, Eq)]
 pub enum Status {
-    /// All is done.
+    /// All is done; a run came to END or to a STOP.
     Done,
     /// The source is refused.
     SourceRefused,
-    /// The program that was run came to a fault.
+    /// The run came to a fault.
     Faulted,
     /// The command line is at fault, or asks for what isn't there or may not be.
     WrongCommand,

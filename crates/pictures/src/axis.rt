@@ -1,7 +1,7 @@
 //! The axis of time of a run's picture, and what goes from one time to another.
 
 use crate::gathering::Gathered;
-use crate::layout::{BAR, LEFT, across, corner, foot, wide};
+use crate::layout::{BAR, LEFT, above, across, below, beside, corner, foot, wide};
 use crate::wakes::{Moment, Wake};
 use arrows::{Class, Point, append_class, append_number, append_point, append_words, hue};
 use std::alloc::{AllocError, Global};
@@ -58,21 +58,21 @@ fn append_tick(
     unit: u128,
     y: u128,
 ) -> Result<(), AllocError> {
-    let x = place_of(gathered, unit);
+    let at = Point {
+        x: place_of(gathered, unit),
+        y,
+    };
     append_class(out, b"<path class=\"", Class::plain(b"axis"))?;
     out.extend_from_slice(b" d=\"")?;
-    let low = Point {
-        x,
-        y: y.saturating_add(5),
-    };
-    append_straight(out, Point { x, y }, low)?;
+    append_straight(out, at, below(at, 5))?;
     out.extend_from_slice(b"\"/>\n")?;
     let told = format!(in alloc; "{unit}")?;
-    let below = Point {
-        x,
-        y: y.saturating_add(19),
-    };
-    append_words(out, Class::plain(b"faint middle"), below, told.as_bytes())
+    append_words(
+        out,
+        Class::plain(b"faint middle"),
+        below(at, 19),
+        told.as_bytes(),
+    )
 }
 
 /// Appends the axis of time below the lanes.
@@ -87,12 +87,8 @@ pub fn append_axis(
     let right = LEFT.saturating_add(across(gathered.columns));
     append_straight(out, Point { x: LEFT, y }, Point { x: right, y })?;
     out.extend_from_slice(b"\"/>\n")?;
-    let class = Class::plain(b"faint right");
-    let words = Point {
-        x: 112,
-        y: y.saturating_add(19),
-    };
-    append_words(out, class, words, b"units of time")?;
+    let words = below(Point { x: 112, y }, 19);
+    append_words(out, Class::plain(b"faint right"), words, b"units of time")?;
     let pace = pace(gathered);
     let count = u128::from(gathered.units).checked_div(pace).unwrap_or(0);
     for number in 0..=count {
@@ -107,13 +103,12 @@ const TIP: u128 = 8;
 /// Where a processor's bar is at a moment, so far from it, on the side of another processor.
 fn edge(gathered: &Gathered, moment: Moment, other: usize, away: u128) -> Point {
     let column = gathered.column(moment.unit);
-    let Point { x, y } = corner(moment.processor, column, wide(gathered.columns));
-    let y = if other > moment.processor {
-        y.saturating_add(BAR).saturating_add(away)
+    let at = corner(moment.processor, column, wide(gathered.columns));
+    if other > moment.processor {
+        below(at, BAR.saturating_add(away))
     } else {
-        y.saturating_sub(away)
-    };
-    Point { x, y }
+        above(at, away)
+    }
 }
 
 /// Appends the arrow from an advance to where the iteration is taken up that it wakes.
@@ -132,12 +127,7 @@ fn append_wake(
     let title = format!(in alloc; "><title>event {event} wakes it</title><path d=\"")?;
     out.extend_from_slice(title.as_bytes())?;
     let start = edge(gathered, *from, to.processor, 0);
-    let half = Point {
-        x: start
-            .x
-            .saturating_add(wide(gathered.columns).wrapping_div(2)),
-        ..start
-    };
+    let half = beside(start, wide(gathered.columns).wrapping_div(2));
     append_straight(out, half, edge(gathered, *to, from.processor, TIP))?;
     out.extend_from_slice(b"\"/></g>\n")
 }

@@ -1,7 +1,7 @@
 //! What a processor of a run does, as bars.
 
 use crate::gathering::{Awaited, Deed, Gathered, Held};
-use crate::layout::{BAR, corner, wide};
+use crate::layout::{BAR, below, beside, corner, wide};
 use arrows::{Class, Point, Size, append_tile, append_words};
 use std::alloc::{AllocError, Global};
 
@@ -118,10 +118,7 @@ fn append_label(
     if label.is_empty() || !has_room(&label, size) {
         return Ok(());
     }
-    let middle = Point {
-        x: at.x.saturating_add(size.width.wrapping_div(2)),
-        y: at.y.saturating_add(16),
-    };
+    let middle = below(beside(at, size.width.wrapping_div(2)), 16);
     let class = match deed {
         Deed::Waits(_, _) => Class::plain(b"waiting"),
         _ => Class::plain(b"label"),

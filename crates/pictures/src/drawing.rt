@@ -6,6 +6,7 @@ ghost use Rattle.arrows.specs.Vectors.{vectors};
 ghost use Rattle.arrows.specs.Arrows.{arrows as arrows_in};
 ghost use Rattle.pictures.specs.Drawn.{IsDrawn};
 
+use crate::layout::{above, below, beside};
 use crate::legend::{add_legend, height};
 use crate::marks::{add_advances, add_awaits};
 use crate::points::add_space;
@@ -43,34 +44,23 @@ fn cut(alloc: Global, text: &[u8], room: usize, goes_on: bool) -> Result<Vec<u8>
     Ok(shown)
 }
 
-/// Appends the first private names, one behind another.
-fn append_names(text: &mut Vec<u8>, names: &[Name]) -> Result<(), AllocError> {
-    text.extend_from_slice(b"each iteration has its own")?;
-    for name in names.iter().take(NAMED) {
-        text.extend_from_slice(b" ")?;
-        text.extend_from_slice(name.trimmed())?;
-    }
-    Ok(())
-}
-
-/// Private names, one behind another.
+/// Private names, one behind another: the first ones, and how many more there are.
 fn private(alloc: Global, names: &[Name]) -> Result<Vec<u8>, AllocError> {
     let mut text = Vec::new(alloc);
     if names.is_empty() {
         return Ok(text);
     }
-    append_names(&mut text, names)?;
-    append_more(alloc, &mut text, names.len().saturating_sub(NAMED))?;
-    Ok(text)
-}
-
-/// Appends how many names more there are, if there are more.
-fn append_more(alloc: Global, text: &mut Vec<u8>, more: usize) -> Result<(), AllocError> {
-    if more == 0 {
-        return Ok(());
+    text.extend_from_slice(b"each iteration has its own")?;
+    for name in names.iter().take(NAMED) {
+        text.extend_from_slice(b" ")?;
+        text.extend_from_slice(name.trimmed())?;
     }
-    let told = format!(in alloc; " and {more} more")?;
-    text.extend_from_slice(told.as_bytes())
+    if names.len() > NAMED {
+        let more = names.len().saturating_sub(NAMED);
+        let told = format!(in alloc; " and {more} more")?;
+        text.extend_from_slice(told.as_bytes())?;
+    }
+    Ok(text)
 }
 
 /// How wide so many iterations are, or as far as the narrowest picture has room.
@@ -108,7 +98,7 @@ fn add_statement(
 /// What the box says of itself that shows the whole iteration of a loop around it.
 fn title_around(alloc: Global, line: Line) -> Result<Vec<u8>, AllocError> {
     let title = format!(in alloc; "each iteration of the loop in line {line} has all of these")?;
-    Vec::from_slice(alloc, title.as_bytes())
+    Ok(title.into_bytes())
 }
 
 /// Adds the DO of the loop around it that is in the way, the whole of whose iteration a box shows.
@@ -131,10 +121,7 @@ fn add_around(
     };
     let title = title_around(alloc, around.line)?;
     marks.push(Mark::Tile(Class::plain(b"marked"), corner, size, title))?;
-    let inside = Point {
-        x: at.x.saturating_add(10),
-        y: 52,
-    };
+    let inside = beside(Point { x: at.x, y: 52 }, 10);
     add_words(alloc, marks, b"reason", inside, reason)
 }
 
@@ -241,11 +228,7 @@ fn add_numbers(
     } else {
         format!(in alloc; "{last}")?
     };
-    let Point { x, y } = corner(place);
-    let at = Point {
-        x: x.saturating_add(BOX.width.wrapping_div(2)),
-        y: y.saturating_add(15),
-    };
+    let at = below(beside(corner(place), BOX.width.wrapping_div(2)), 15);
     add_words(alloc, marks, b"count", at, numbers.as_bytes())
 }
 
@@ -261,7 +244,7 @@ fn title_of(alloc: Global, row: &Row<'_>, iteration: u64) -> Result<Vec<u8>, All
         }
         Look::Plain | Look::Marked => format!(in alloc; "iteration {iteration}: line {line}")?,
     };
-    Vec::from_slice(alloc, title.as_bytes())
+    Ok(title.into_bytes())
 }
 
 /// How the box of a row looks in an iteration that the loop has, or has not.
@@ -292,10 +275,9 @@ fn add_boxes(
 
 /// Whether the loop has an iteration behind so many, as far as that is known.
 pub fn has_iteration(picture: &LoopPicture<'_>, column: u64) -> bool {
-    match picture.trips {
-        Some(trips) => u128::from(column) < trips,
-        None => true,
-    }
+    picture
+        .trips
+        .map_or(true, |trips| u128::from(column) < trips)
 }
 
 /// Adds the number of an iteration, which the loop has or has not.
@@ -322,10 +304,7 @@ fn add_column(
     column: u64,
 ) -> Result<(), AllocError> {
     let head = corner(place_in(column, 0));
-    let at = Point {
-        x: head.x.saturating_add(BOX.width.wrapping_div(2)),
-        y: head.y.saturating_sub(14),
-    };
+    let at = above(beside(head, BOX.width.wrapping_div(2)), 14);
     let has = has_iteration(picture, column);
     add_above(alloc, marks, at, column, has)?;
     add_boxes(alloc, marks, &picture.rows, column, has)

@@ -8,7 +8,7 @@ ghost use Rattle.pictures.specs.Runs.{AreFigures, TellsRun};
 use crate::axis::{append_axis, append_wakes};
 use crate::bars::append_lane;
 use crate::gathering::{Cell, Gathered, Lane, Level};
-use crate::layout::{BAR, LEFT, MARK, across, corner, foot, wide};
+use crate::layout::{BAR, LEFT, MARK, above, across, below, beside, corner, foot, wide};
 use arrows::{
     Class, Point, SHEET, Size, append_class, append_number, append_tile, append_words, opening,
 };
@@ -76,24 +76,16 @@ fn append_marks(
     at: Point,
     wide: u128,
 ) -> Result<(), AllocError> {
-    let x = at
-        .x
-        .saturating_add(wide.wrapping_div(2))
-        .saturating_sub(MARK.width.wrapping_div(2));
-    let above = Point {
-        x,
-        y: at.y.saturating_sub(MARK.height).saturating_sub(1),
+    let middle = beside(at, wide.wrapping_div(2));
+    let mark = Point {
+        x: middle.x.saturating_sub(MARK.width.wrapping_div(2)),
+        y: at.y,
     };
-    let below = Point {
-        x,
-        y: at.y.saturating_add(BAR).saturating_add(1),
-    };
-    let lower = Point {
-        x,
-        y: below.y.saturating_add(MARK.height),
-    };
-    append_mark(alloc, out, b"advanced", above, cell.advanced, ADVANCED)?;
-    append_mark(alloc, out, b"parked", below, cell.parked, PARKED)?;
+    let higher = above(mark, MARK.height.saturating_add(1));
+    let low = below(mark, BAR.saturating_add(1));
+    let lower = below(low, MARK.height);
+    append_mark(alloc, out, b"advanced", higher, cell.advanced, ADVANCED)?;
+    append_mark(alloc, out, b"parked", low, cell.parked, PARKED)?;
     append_mark(alloc, out, b"retired", lower, cell.retired, RETIRED)?;
     append_mark(alloc, out, b"ended", lower, cell.ended, ENDED)
 }
@@ -206,7 +198,7 @@ fn words(alloc: Global, class: Class, at: Point, told: &[u8]) -> Result<Vec<u8>,
 }
 
 /// Where the line of a processor stands, below a height.
-fn beside(processor: usize, y: u128) -> Point {
+fn line_at(processor: usize, y: u128) -> Point {
     Point {
         x: 20,
         y: y.saturating_add((processor as u128).saturating_mul(20)),
@@ -221,7 +213,7 @@ fn figures(alloc: Global, lanes: &[Lane], y: u128) -> Result<Vec<u8>, AllocError
     let mut text = Vec::new(alloc);
     for (processor, lane) in lanes.iter().enumerate() {
         let told = figure(alloc, processor, lane)?;
-        let line = words(alloc, class, beside(processor, y), &told)?;
+        let line = words(alloc, class, line_at(processor, y), &told)?;
         text.extend_from_slice(&line)?;
     }
     Ok(text)
@@ -261,16 +253,8 @@ fn append_meaning(
     at: Point,
     says: &str,
 ) -> Result<(), AllocError> {
-    let above = Point {
-        x: at.x,
-        y: at.y.saturating_sub(8),
-    };
-    append_mark(alloc, out, class, above, 1, says)?;
-    let words = Point {
-        x: at.x.saturating_add(18),
-        y: at.y,
-    };
-    append_words(out, Class::plain(b"faint"), words, says.as_bytes())
+    append_mark(alloc, out, class, above(at, 8), 1, says)?;
+    append_words(out, Class::plain(b"faint"), beside(at, 18), says.as_bytes())
 }
 
 /// Appends a bar of a kind, and what it means.
@@ -280,16 +264,8 @@ fn append_bar_meaning(
     at: Point,
     says: &[u8],
 ) -> Result<(), AllocError> {
-    let corner = Point {
-        x: at.x,
-        y: at.y.saturating_sub(10),
-    };
-    append_tile(out, Class::plain(class), corner, SAMPLE, says)?;
-    let words = Point {
-        x: at.x.saturating_add(22),
-        y: at.y,
-    };
-    append_words(out, Class::plain(b"faint"), words, says)
+    append_tile(out, Class::plain(class), above(at, 10), SAMPLE, says)?;
+    append_words(out, Class::plain(b"faint"), beside(at, 22), says)
 }
 
 /// Appends what an arrow means.
@@ -389,13 +365,14 @@ fn append_heading(
 
 /// Appends the name of a processor beside its lane.
 fn append_name(alloc: Global, out: &mut Vec<u8>, processor: usize) -> Result<(), AllocError> {
-    let at = corner(processor, 0, 0);
+    let Point { y, .. } = below(corner(processor, 0, 0), 15);
     let name = format!(in alloc; "processor {processor}")?;
-    let beside = Point {
-        x: 122,
-        y: at.y.saturating_add(15),
-    };
-    append_words(out, Class::plain(b"right"), beside, name.as_bytes())
+    append_words(
+        out,
+        Class::plain(b"right"),
+        Point { x: 122, y },
+        name.as_bytes(),
+    )
 }
 
 /// Appends the lanes of all processors.
@@ -415,7 +392,7 @@ fn meanings(processors: usize) -> u128 {
 }
 
 /// What is below that.
-fn below(processors: usize) -> u128 {
+fn figures_top(processors: usize) -> u128 {
     meanings(processors).saturating_add(48)
 }
 
@@ -425,7 +402,7 @@ fn size(gathered: &Gathered) -> Size {
     let lines = (gathered.lanes.len() as u128).saturating_mul(20);
     Size {
         width: LEFT.saturating_add(all).max(740).saturating_add(20),
-        height: below(gathered.lanes.len())
+        height: figures_top(gathered.lanes.len())
             .saturating_add(lines)
             .saturating_add(84),
     }
@@ -444,7 +421,7 @@ fn front(alloc: Global, gathered: &Gathered, ending: &Ending<'_>) -> Result<Vec<
 /// What stands in the picture of a run behind what is said of its processors.
 fn back(alloc: Global, gathered: &Gathered, ending: &Ending<'_>) -> Result<Vec<u8>, AllocError> {
     let lines = (gathered.lanes.len() as u128).saturating_mul(20);
-    let y = below(gathered.lanes.len())
+    let y = figures_top(gathered.lanes.len())
         .saturating_add(lines)
         .saturating_add(24);
     let mut out = Vec::new(alloc);
@@ -467,7 +444,7 @@ pub fn timeline(
     ensures { IfOk result (λ text. TellsRun gathered.now text.items) }
 {
     let mut text = front(alloc, gathered, ending)?;
-    let y = below(gathered.lanes.len()).saturating_add(24);
+    let y = figures_top(gathered.lanes.len()).saturating_add(24);
     let figures = figures(alloc, &gathered.lanes, y)?;
     text.extend_from_slice(&figures)?;
     let back = back(alloc, gathered, ending)?;

@@ -1,4 +1,4 @@
-//! Where things stand in the picture of a run.
+//! Where things stand in the picture of a run, and beside one another.
 
 use arrows::{Point, Size};
 
@@ -19,6 +19,30 @@ pub const MARK: Size = Size {
     width: 12,
     height: 7,
 };
+
+/// The point so far below another.
+pub fn below(at: Point, down: u128) -> Point {
+    Point {
+        y: at.y.saturating_add(down),
+        ..at
+    }
+}
+
+/// The point so far above another.
+pub fn above(at: Point, up: u128) -> Point {
+    Point {
+        y: at.y.saturating_sub(up),
+        ..at
+    }
+}
+
+/// The point so far to the right of another.
+pub fn beside(at: Point, right: u128) -> Point {
+    Point {
+        x: at.x.saturating_add(right),
+        ..at
+    }
+}
 
 /// How wide a column is.
 pub fn wide(columns: u64) -> u128 {

@@ -1,6 +1,7 @@
 //! What is said below the picture of a loop.
 
 use crate::drawing::add_words;
+use crate::layout::{above, beside};
 use crate::marks::class_of;
 use crate::points::depth;
 use arrows::{Arrow, LoopPicture, Mark, Point, bottom, grid_of};
@@ -36,18 +37,11 @@ fn add_meaning(
     kind: &'static [u8],
     meaning: &[u8],
 ) -> Result<(), AllocError> {
-    let Point { x, y } = pen.next();
-    let disc = Point {
-        x: x.saturating_add(8),
-        y: y.saturating_sub(4),
-    };
-    let words = Point {
-        x: x.saturating_add(24),
-        y,
-    };
+    let at = pen.next();
+    let disc = above(beside(at, 8), 4);
     let title = Vec::from_slice(alloc, meaning)?;
     marks.push(Mark::Disc(class_of(kind, 1), disc, 1, title))?;
-    add_words(alloc, marks, b"faint", words, meaning)
+    add_words(alloc, marks, b"faint", beside(at, 24), meaning)
 }
 
 /// How many iterations later a sink comes.
@@ -80,7 +74,7 @@ fn told_of(alloc: Global, arrow: &Arrow, columns: u64) -> Result<Vec<u8>, AllocE
     let told = format!(in alloc;
         "event {event}: line {source_line} comes before line {sink_line}{later}{unseen}"
     )?;
-    Vec::from_slice(alloc, told.as_bytes())
+    Ok(told.into_bytes())
 }
 
 /// Adds a dependence in words.
@@ -124,10 +118,9 @@ fn add_more(
 
 /// Whether more iterations are drawn than the loop has.
 fn is_short(picture: &LoopPicture<'_>) -> bool {
-    match picture.trips {
-        Some(trips) => trips < u128::from(picture.columns),
-        None => false,
-    }
+    picture
+        .trips
+        .is_some_and(|trips| trips < u128::from(picture.columns))
 }
 
 /// Adds how many iterations the loop has, where more are drawn.

@@ -1,5 +1,6 @@
 //! Where iterations wait, and where they tell that they have come so far.
 
+use crate::layout::{below, beside};
 use arrows::{Advance, Arrow, Class, Mark, Point, entry, exit, hue, place_in};
 use std::alloc::{AllocError, Global};
 
@@ -21,25 +22,6 @@ fn offset(before: u128) -> Point {
     Point {
         x: APART.saturating_mul(place),
         y: BELOW.saturating_mul(line),
-    }
-}
-
-/// Where the mark behind so many others of a box stands whose first one is at a point of its left
-/// edge.
-fn from_left(edge: Point, before: u128) -> Point {
-    let Point { x, y } = offset(before);
-    Point {
-        x: edge.x.saturating_add(x),
-        y: edge.y.saturating_add(y),
-    }
-}
-
-/// The same, of its right edge.
-fn from_right(edge: Point, before: u128) -> Point {
-    let Point { x, y } = offset(before);
-    Point {
-        x: edge.x.saturating_sub(x),
-        y: edge.y.saturating_add(y),
     }
 }
 
@@ -70,20 +52,6 @@ pub fn class_of(name: &'static [u8], event: usize) -> Class {
     }
 }
 
-/// What the mark of what is awaited says of itself.
-fn title_of_await(alloc: Global, arrow: &Arrow) -> Result<Vec<u8>, AllocError> {
-    let Arrow {
-        event,
-        distance,
-        sink_line,
-        ..
-    } = arrow;
-    let title = format!(in alloc;
-        "before line {sink_line} it awaits event {event} of the iteration {distance} before"
-    )?;
-    Vec::from_slice(alloc, title.as_bytes())
-}
-
 /// Adds the mark of what is awaited in a row of an iteration, behind so many others.
 fn add_awaited(
     alloc: Global,
@@ -93,10 +61,18 @@ fn add_awaited(
     before: u128,
     column: u64,
 ) -> Result<(), AllocError> {
-    let at = from_left(entry(place_in(column, row)), before);
-    let event = arrow.event;
-    let title = title_of_await(alloc, arrow)?;
-    let disc = Mark::Disc(class_of(b"await", event), at, event, title);
+    let Arrow {
+        event,
+        distance,
+        sink_line,
+        ..
+    } = *arrow;
+    let title = format!(in alloc;
+        "before line {sink_line} it awaits event {event} of the iteration {distance} before"
+    )?;
+    let Point { x, y } = offset(before);
+    let at = below(beside(entry(place_in(column, row)), x), y);
+    let disc = Mark::Disc(class_of(b"await", event), at, event, title.into_bytes());
     add_disc(alloc, marks, at, disc, before)
 }
 
@@ -128,12 +104,6 @@ pub fn add_awaits(
     Ok(())
 }
 
-/// What the mark of an advance says of itself.
-fn title_of_advance(alloc: Global, event: usize) -> Result<Vec<u8>, AllocError> {
-    let title = format!(in alloc; "it advances event {event}")?;
-    Vec::from_slice(alloc, title.as_bytes())
-}
-
 /// Adds the mark of an advance in an iteration, behind so many others.
 fn add_advanced(
     alloc: Global,
@@ -143,9 +113,14 @@ fn add_advanced(
     column: u64,
 ) -> Result<(), AllocError> {
     let Advance { event, row } = advance;
-    let at = from_right(exit(place_in(column, row)), before);
-    let title = title_of_advance(alloc, event)?;
-    let disc = Mark::Disc(class_of(b"advance", event), at, event, title);
+    let title = format!(in alloc; "it advances event {event}")?;
+    let edge = exit(place_in(column, row));
+    let Point { x, y } = offset(before);
+    let at = Point {
+        x: edge.x.saturating_sub(x),
+        y: edge.y.saturating_add(y),
+    };
+    let disc = Mark::Disc(class_of(b"advance", event), at, event, title.into_bytes());
     add_disc(alloc, marks, at, disc, before)
 }
 

@@ -2,9 +2,9 @@
 
 use crate::offsets::{Offset, are_alike, are_own, inner_offset, is_one_place, outer_offset};
 use arrows::{Space, Vector};
-use ast::{Line, Name};
+use ast::{Line, Name, Reference};
 use dependence::{Relation, forms, relate_forms};
-use loop_tree::{LoopTree, LoopView, Occurrence, ScalarSet};
+use loop_tree::{LoopTree, LoopView, Occurrence};
 use privatise::private_scalars;
 use std::alloc::{AllocError, Global};
 use subscripts::Affine;
@@ -58,11 +58,6 @@ fn inner_of(tree: &LoopTree<'_>, number: usize) -> Option<usize> {
     found
 }
 
-/// Whether a scalar is among these names.
-fn is_among(set: &ScalarSet, name: Name) -> bool {
-    set.names.iter().any(|other| *other == name)
-}
-
 /// A reference of the inner loop.
 fn site_of(
     alloc: Global,
@@ -86,7 +81,7 @@ fn defined(alloc: Global, view: &LoopView<'_, '_>) -> Result<Vec<usize>, AllocEr
     let mut cells = Vec::new(alloc);
     for occurrence in view.references() {
         let cell = occurrence.reference.cell;
-        if occurrence.defines && !cells.iter().any(|other| *other == cell) {
+        if occurrence.defines && !cells.contains(&cell) {
             cells.push(cell)?;
         }
     }
@@ -103,7 +98,7 @@ fn is_alike(one: &Site, two: &Site) -> bool {
 
 /// Adds a name, unless it is there already.
 fn add_name(names: &mut Vec<Name>, name: Name) -> Result<(), AllocError> {
-    if names.iter().any(|other| *other == name) {
+    if names.contains(&name) {
         return Ok(());
     }
     Ok(names.push(name)?)
@@ -130,10 +125,8 @@ fn sites(alloc: Global, nest: &Nest<'_, '_>, lines: &[Line]) -> Result<Reference
         further: Vec::new(alloc),
     };
     for occurrence in nest.inner.references() {
-        let cell = occurrence.reference.cell;
-        if !is_among(&privates, occurrence.reference.name)
-            && defined.iter().any(|other| *other == cell)
-        {
+        let Reference { name, cell, .. } = occurrence.reference;
+        if !privates.names.contains(&name) && defined.contains(&cell) {
             add_site(&mut found, site_of(alloc, nest, lines, occurrence)?)?;
         }
     }

@@ -36,7 +36,7 @@ pub fn depth(space: &Space) -> u128 {
 fn title_of(alloc: Global, spot: Spot) -> Result<Vec<u8>, AllocError> {
     let Spot { outer, inner } = spot;
     let title = format!(in alloc; "outer iteration {outer}, inner iteration {inner}")?;
-    Vec::from_slice(alloc, title.as_bytes())
+    Ok(title.into_bytes())
 }
 
 /// Adds a point, which the outer loop has or has not.

@@ -197,7 +197,7 @@ fn add_plan_node(sketch: &mut Sketch<'_>, node: &PlanStmt, depth: u64) -> Result
             Ok(())
         }
         PlanStmt::Choice(arms, made) => {
-            let line = first_line(arms);
+            let line = arms.first().map_or(0, |arm| arm.line);
             add_plan_arms(sketch, arms, depth)?;
             if let Some(body) = made {
                 sketch.add_made(line, depth)?;
@@ -216,14 +216,6 @@ pub fn add_plan(sketch: &mut Sketch<'_>, nodes: &[PlanStmt], depth: u64) -> Resu
         add_plan_node(sketch, node, depth)?;
     }
     Ok(())
-}
-
-/// The line of an IF, by its arms, of which there is always one.
-fn first_line(arms: &[PlanArm]) -> Line {
-    match arms {
-        [] => 0,
-        [first, ..] => first.line,
-    }
 }
 
 #[cycle(ranges)]

@@ -99,12 +99,13 @@ impl Wakes {
 
     /// Notes that an iteration is taken up, and by what it was woken, if it was parked.
     fn take_up(&mut self, iteration: u128, to: Moment) -> Result<(), AllocError> {
-        let Some(place) = place_of(&self.sleepers, iteration) else {
+        let Some(place) = self
+            .sleepers
+            .iter()
+            .position(|sleeper| sleeper.iteration == iteration)
+        else {
             return Ok(());
         };
-        if place >= self.sleepers.len() {
-            return Ok(());
-        }
         let sleeper = self.sleepers.swap_remove(place);
         match sleeper.woken {
             Some(from) => self.add(Wake {
@@ -124,14 +125,4 @@ impl Wakes {
         self.more = self.more.saturating_add(1);
         Ok(())
     }
-}
-
-/// Where an iteration stands among those that are parked.
-fn place_of(sleepers: &[Sleeper], iteration: u128) -> Option<usize> {
-    for (place, sleeper) in sleepers.iter().enumerate() {
-        if sleeper.iteration == iteration {
-            return Some(place);
-        }
-    }
-    None
 }

@@ -172,14 +172,6 @@ pub fn append_amount(
     }
 }
 
-/// Whether a statement does anything.
-fn is_counted(kind: &Kind) -> bool {
-    match kind {
-        Kind::Continue => false,
-        _ => true,
-    }
-}
-
 #[cycle(counted)]
 fn count_arms(arms: &[Arm]) -> usize {
     let mut count = 0usize;
@@ -192,7 +184,7 @@ fn count_arms(arms: &[Arm]) -> usize {
 #[cycle(counted)]
 fn count_node(node: &Node) -> usize {
     match node {
-        Node::Plain(statement) => usize::from(is_counted(&statement.kind)),
+        Node::Plain(statement) => usize::from(!matches!(statement.kind, Kind::Continue)),
         Node::Loop(_, _, range) => count_nodes(range).saturating_add(1),
         Node::Choice(arms) => count_arms(arms).saturating_add(1),
     }

@@ -101,14 +101,6 @@ struct Course {
     ends: Vec<End>,
 }
 
-/// The line of an IF, by its arms.
-fn first_line(arms: &[PlanArm]) -> Line {
-    match arms {
-        [] => 0,
-        [first, ..] => first.line,
-    }
-}
-
 impl Course {
     /// Comes to a statement of a line, which waits for what is pending.
     fn reach(&mut self, line: Line) -> Result<(), AllocError> {
@@ -178,7 +170,7 @@ impl Course {
                 Ok(Some(*line))
             }
             PlanStmt::Choice(arms, made) => {
-                let line = first_line(arms);
+                let line = arms.first().map_or(0, |arm| arm.line);
                 self.reach(line)?;
                 let before = self.advanced.len();
                 self.follow_arms(arms, before)?;
@@ -209,12 +201,7 @@ impl Course {
 
     /// Where an event is advanced behind its source.
     fn end(&self, event: usize) -> Option<End> {
-        for end in &self.ends {
-            if end.event == event {
-                return Some(*end);
-            }
-        }
-        None
+        self.ends.iter().find(|end| end.event == event).copied()
     }
 
     /// The stretch from a statement that waits, if what it waits for stands behind it.

@@ -13,11 +13,8 @@ fn spelled(alloc: Global, name: &Name, subscripts: &[Expr]) -> Result<Vec<u8>, A
 
 /// Whether two references are written alike.
 pub fn are_alike(alloc: Global, one: &Access, other: &Access) -> Result<bool, AllocError> {
-    if one.reference.name != other.reference.name {
-        return Ok(false);
-    }
-    let name = &one.reference.name;
-    Ok(spelled(alloc, name, &one.subscripts)? == spelled(alloc, name, &other.subscripts)?)
+    let first = spelled(alloc, &one.reference.name, &one.subscripts)?;
+    Ok(first == spelled(alloc, &other.reference.name, &other.subscripts)?)
 }
 
 /// Whether two expressions are written alike.

@@ -86,10 +86,8 @@ fn is_joined(
 /// Whether a variable is among arguments.
 fn is_among(alloc: Global, target: &Access, arguments: &[Expr]) -> Result<bool, AllocError> {
     for argument in arguments {
-        if let Expr::Element(access) = argument {
-            if are_alike(alloc, target, access)? {
-                return Ok(true);
-            }
+        if is_variable(alloc, target, argument)? {
+            return Ok(true);
         }
     }
     Ok(false)
@@ -128,16 +126,26 @@ fn add_statement<'p>(
     let Kind::Assign(target, value) = &statement.kind else {
         return Ok(());
     };
-    let Some(gathering) = form_of(value) else {
-        return Ok(());
-    };
-    if gathers(alloc, target, gathering, value)? {
-        found.push(Gatherer {
-            target,
-            line: statement.line,
-            gathering,
-        })?;
+    match form_of(value) {
+        Some(gathering) if gathers(alloc, target, gathering, value)? => {
+            add(found, statement, target, gathering)
+        }
+        _ => Ok(()),
     }
+}
+
+/// Adds a statement that gathers this in its target.
+fn add<'p>(
+    found: &mut Vec<Gatherer<'p>>,
+    statement: &Stmt,
+    target: &'p Access,
+    gathering: Gathering,
+) -> Result<(), AllocError> {
+    found.push(Gatherer {
+        target,
+        line: statement.line,
+        gathering,
+    })?;
     Ok(())
 }
 
@@ -190,14 +198,10 @@ fn add_chosen<'p>(
     let Kind::Assign(target, value) = &statement.kind else {
         return Ok(());
     };
-    if let Some(gathering) = chosen(alloc, condition, target, value)? {
-        found.push(Gatherer {
-            target,
-            line: statement.line,
-            gathering,
-        })?;
+    match chosen(alloc, condition, target, value)? {
+        Some(gathering) => add(found, statement, target, gathering),
+        None => Ok(()),
     }
-    Ok(())
 }
 
 /// Adds what an IF with one arm and one statement gathers, if it does.
@@ -251,25 +255,19 @@ fn add_nodes<'p>(
 
 /// How many references there are to the variable of a statement that gathers.
 fn references_to(view: &LoopView<'_, '_>, one: &Gatherer<'_>) -> usize {
-    let mut count = 0usize;
-    for occurrence in view.references() {
-        if occurrence.reference.name == one.target.reference.name {
-            count = count.saturating_add(1);
-        }
-    }
-    count
+    let name = one.target.reference.name;
+    view.references()
+        .iter()
+        .filter(|occurrence| occurrence.reference.name == name)
+        .count()
 }
 
 /// How many of the references to its variable are of statements that gather the same.
 fn gathering_references(found: &[Gatherer<'_>], one: &Gatherer<'_>) -> usize {
-    let mut count = 0usize;
-    for other in found {
-        let is_same = other.target.reference.name == one.target.reference.name;
-        if is_same && other.gathering == one.gathering {
-            count = count.saturating_add(2);
-        }
-    }
-    count
+    let name = one.target.reference.name;
+    let same = found.iter().filter(|other| other.target.reference.name == name
+        && other.gathering == one.gathering);
+    same.count().saturating_mul(2)
 }
 
 /// Whether what a statement gathers passes from one iteration to the next, and the range has no

@@ -10,13 +10,10 @@ use std::alloc::{AllocError, Global};
 
 /// Whether the loop of a number is serial only as one around it may be open.
 fn is_held_back(reports: &[LoopReport], number: usize) -> bool {
-    match reports.get(number.wrapping_sub(1)) {
-        Some(report) => match report.plan {
-            LoopPlan::Serial(reason) => reason == SerialReason::Inside,
-            LoopPlan::Body { .. } => false,
-        },
-        None => false,
-    }
+    reports.get(number.wrapping_sub(1)).is_some_and(|report| matches!(
+        report.plan,
+        LoopPlan::Serial(SerialReason::Inside)
+    ))
 }
 
 /// Whether a loop stands in the one of a number, and would be open if that were serial: no loop

@@ -2,7 +2,7 @@
 
 use crate::making::{make, new_core};
 use crate::unfinished::Unfinished;
-use ast::{Name, Program};
+use ast::Name;
 use codegen::compile;
 use machine::{Code, Done, Frame, Next, stands_local, stands_next};
 use profile_check::program;
@@ -46,10 +46,8 @@ pub enum Obstacle {
     Local {
         count: u32,
     },
-    /// The processor holds something already.
-    Holds {
-        iteration: Option<u128>,
-    },
+    /// The processor holds this already.
+    Holds(Choice),
     /// The processor holds nothing, and what it is to pick isn't named.
     PicksNothing,
     /// There is nothing for the processor to pick.
@@ -86,39 +84,11 @@ impl Met {
         schedule: &[u8],
         line: usize,
     ) -> Option<Self> {
-        match program(alloc, source) {
-            Ok(program) => met_in(alloc, &program, input, schedule, line),
-            Err(_) => None,
-        }
-    }
-}
-
-/// What is met in a line of a schedule's text in a run of a program.
-fn met_in(
-    alloc: Global,
-    program: &Program,
-    input: &[u8],
-    schedule: &[u8],
-    line: usize,
-) -> Option<Met> {
-    match compile(alloc, program) {
-        Ok(compiled) => met_by_code(alloc, &compiled.code, input, schedule, line),
-        Err(_) => None,
-    }
-}
-
-/// What is met in a line of a schedule's text in a run of code.
-fn met_by_code(
-    alloc: Global,
-    code: &Code,
-    input: &[u8],
-    schedule: &[u8],
-    line: usize,
-) -> Option<Met> {
-    let place = line.checked_sub(FIRST_ENTRY_LINE)?;
-    match Schedule::parse(alloc, schedule) {
-        Ok(schedule) => met_at(alloc, code, input, &schedule, place).unwrap_or(None),
-        Err(_) => None,
+        let place = line.checked_sub(FIRST_ENTRY_LINE)?;
+        let accepted = program(alloc, source).ok()?;
+        let compiled = compile(alloc, &accepted).ok()?;
+        let schedule = Schedule::parse(alloc, schedule).ok()?;
+        met_at(alloc, &compiled.code, input, &schedule, place).unwrap_or(None)
     }
 }
 
@@ -218,9 +188,7 @@ fn at_share(core: &Core<'_>, version: Version, q: usize) -> Result<Obstacle, All
 /// What stands in the way of a pick.
 fn at_pick(core: &Core<'_>, q: usize, choice: Choice) -> Result<Obstacle, AllocError> {
     match core.frame(q)? {
-        Some(frame) => Ok(Obstacle::Holds {
-            iteration: frame.iteration(),
-        }),
+        Some(frame) => Ok(Obstacle::Holds(held(&frame))),
         None if choice == Choice::Ticket && core.overlap() == core.slots() as u128 => {
             Ok(Obstacle::Full)
         }
@@ -231,15 +199,19 @@ fn at_pick(core: &Core<'_>, q: usize, choice: Choice) -> Result<Obstacle, AllocE
     }
 }
 
+/// What a processor holds that has this frame.
+pub fn held(frame: &Frame) -> Choice {
+    match frame.iteration() {
+        Some(number) => Choice::Iteration(number),
+        None => Choice::Main,
+    }
+}
+
 /// The processor that holds what is to be picked, if one does.
 fn holder_of(core: &Core<'_>, choice: Choice) -> Result<Option<usize>, AllocError> {
     for q in 0..core.processors() {
         if let Some(frame) = core.frame(q)? {
-            let held = match frame.iteration() {
-                Some(number) => Choice::Iteration(number),
-                None => Choice::Main,
-            };
-            if held == choice {
+            if held(&frame) == choice {
                 return Ok(Some(q));
             }
         }
@@ -270,13 +242,10 @@ fn step_of(code: &Code, frame: &Frame) -> Option<SharedStep> {
 
 /// The name of the variable that has a cell.
 fn name_of(code: &Code, cell: usize) -> Option<Name> {
-    for variable in &code.variables {
-        let end = variable.start.saturating_add(variable.size);
-        if variable.start <= cell && cell < end {
-            return Some(variable.name);
-        }
-    }
-    None
+    let found = code.variables.iter().find(|variable| {
+        variable.start <= cell && cell < variable.start.saturating_add(variable.size)
+    });
+    found.map(|variable| variable.name)
 }
 
 impl Display for SharedStep {
@@ -324,20 +293,16 @@ impl Obstacle {
         match self {
             Obstacle::Ended => f.write_str("the run has ended before this entry"),
             Obstacle::HoldsNothing => write!(f, "processor {q} holds nothing"),
-            Obstacle::Few { count: 0, step, .. } => write_none(f, q, step),
             Obstacle::Few {
                 count,
                 wanted,
                 step,
             } => write_few(f, q, count, wanted, step),
             Obstacle::Local { count } => {
-                write_has(f, q, count)?;
-                f.write_str(", before its shared step")
+                let count = LocalsNext(count);
+                write!(f, "processor {q} has {count}, before its shared step")
             }
-            Obstacle::Holds { iteration: None } => write!(f, "processor {q} holds main"),
-            Obstacle::Holds {
-                iteration: Some(number),
-            } => write!(f, "processor {q} holds iteration {number}"),
+            Obstacle::Holds(choice) => write!(f, "processor {q} holds {}", Picked(choice)),
             Obstacle::PicksNothing => {
                 write!(
                     f,
@@ -348,8 +313,8 @@ impl Obstacle {
                 write!(f, "processor {q} holds nothing, and nothing is ready")
             }
             Obstacle::Held { choice, holder } => {
-                write_picked(f, choice)?;
-                write!(f, " isn't ready: processor {holder} holds it")
+                let picked = Picked(choice);
+                write!(f, "{picked} isn't ready: processor {holder} holds it")
             }
             Obstacle::NotReady(choice) => write_unready(f, choice),
             Obstacle::Full => {
@@ -360,23 +325,31 @@ impl Obstacle {
     }
 }
 
-pub fn write_count<W: Write>(f: &mut Formatter<W>, count: u32) -> FmtResult {
-    match count {
-        1 => f.write_str("1 local instruction next"),
-        _ => write!(f, "{count} local instructions next"),
+/// So many local instructions, which stand next.
+#[derive(Clone, Copy)]
+pub struct LocalsNext(pub u32);
+
+impl Display for LocalsNext {
+    fn fmt<W: Write>(&self, f: &mut Formatter<W>) -> FmtResult {
+        match self.0 {
+            0 => f.write_str("no local instruction next"),
+            1 => f.write_str("1 local instruction next"),
+            count => write!(f, "{count} local instructions next"),
+        }
     }
 }
 
-fn write_has<W: Write>(f: &mut Formatter<W>, q: u8, count: u32) -> FmtResult {
-    write!(f, "processor {q} has ")?;
-    write_count(f, count)
-}
+/// What is picked, or held.
+#[derive(Clone, Copy)]
+pub struct Picked(pub Choice);
 
-fn write_none<W: Write>(f: &mut Formatter<W>, q: u8, step: Option<SharedStep>) -> FmtResult {
-    write!(f, "processor {q} has no local instruction next")?;
-    match step {
-        Some(step) => write!(f, "; a shared step stands next: {step}"),
-        None => Ok(()),
+impl Display for Picked {
+    fn fmt<W: Write>(&self, f: &mut Formatter<W>) -> FmtResult {
+        match self.0 {
+            Choice::Main => f.write_str("main"),
+            Choice::Iteration(number) => write!(f, "iteration {number}"),
+            Choice::Ticket => f.write_str("a ticket"),
+        }
     }
 }
 
@@ -387,19 +360,23 @@ fn write_few<W: Write>(
     wanted: u16,
     step: Option<SharedStep>,
 ) -> FmtResult {
-    write_has(f, q, count)?;
-    write!(f, ", not {wanted}")?;
-    match step {
-        Some(step) => write!(f, "; then a shared step stands next: {step}"),
-        None => Ok(()),
+    write!(f, "processor {q} has {}", LocalsNext(count))?;
+    if count > 0 {
+        write!(f, ", not {wanted}")?;
     }
+    write_behind(f, count, step)
 }
 
-pub fn write_picked<W: Write>(f: &mut Formatter<W>, choice: Choice) -> FmtResult {
-    match choice {
-        Choice::Main => f.write_str("main"),
-        Choice::Iteration(number) => write!(f, "iteration {number}"),
-        Choice::Ticket => f.write_str("a ticket"),
+/// Writes which shared step stands behind so many local instructions, if one does.
+pub fn write_behind<W: Write>(
+    f: &mut Formatter<W>,
+    count: u32,
+    step: Option<SharedStep>,
+) -> FmtResult {
+    match step {
+        Some(step) if count > 0 => write!(f, "; then a shared step stands next: {step}"),
+        Some(step) => write!(f, "; a shared step stands next: {step}"),
+        None => Ok(()),
     }
 }
 

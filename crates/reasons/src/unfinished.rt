@@ -1,6 +1,6 @@
 //! Where a run stands that hasn't ended.
 
-use crate::obstacles::{SharedStep, ahead, write_count, write_picked};
+use crate::obstacles::{LocalsNext, Picked, SharedStep, ahead, held, write_behind};
 use replay::{Choice, Core};
 use std::alloc::{AllocError, Global};
 use std::fmt::{Display, Formatter, Result as FmtResult, Write};
@@ -13,7 +13,7 @@ const MOST_TOLD: usize = 8;
 #[derive(Clone, Copy)]
 struct Holding {
     processor: usize,
-    iteration: Option<u128>,
+    held: Choice,
     count: u32,
     step: Option<SharedStep>,
 }
@@ -48,11 +48,11 @@ fn holding_of(core: &Core<'_>, q: usize) -> Result<Option<Holding>, AllocError> 
     let Some(frame) = core.frame(q)? else {
         return Ok(None);
     };
-    let iteration = frame.iteration();
+    let held = held(&frame);
     let (count, step) = ahead(core.code(), frame)?;
     Ok(Some(Holding {
         processor: q,
-        iteration,
+        held,
         count,
         step,
     }))
@@ -60,21 +60,17 @@ fn holding_of(core: &Core<'_>, q: usize) -> Result<Option<Holding>, AllocError> 
 
 impl Display for Holding {
     fn fmt<W: Write>(&self, f: &mut Formatter<W>) -> FmtResult {
-        write!(f, "processor {} holds ", self.processor)?;
-        let held = match self.iteration {
-            Some(number) => Choice::Iteration(number),
-            None => Choice::Main,
-        };
-        write_picked(f, held)?;
-        if self.count > 0 {
-            f.write_str(", with ")?;
-            write_count(f, self.count)?;
+        let Holding {
+            processor,
+            held,
+            count,
+            step,
+        } = *self;
+        write!(f, "processor {processor} holds {}", Picked(held))?;
+        if count > 0 {
+            write!(f, ", with {}", LocalsNext(count))?;
         }
-        match self.step {
-            Some(step) if self.count > 0 => write!(f, "; then a shared step stands next: {step}"),
-            Some(step) => write!(f, "; a shared step stands next: {step}"),
-            None => Ok(()),
-        }
+        write_behind(f, count, step)
     }
 }
 
@@ -102,10 +98,7 @@ impl Display for Unfinished {
     fn fmt<W: Write>(&self, f: &mut Formatter<W>) -> FmtResult {
         self.write_holdings(f)?;
         match self.next {
-            Some(choice) => {
-                f.write_str("\none that holds nothing may pick ")?;
-                write_picked(f, choice)
-            }
+            Some(choice) => write!(f, "\none that holds nothing may pick {}", Picked(choice)),
             None => Ok(()),
         }
     }

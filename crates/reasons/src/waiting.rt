@@ -186,10 +186,7 @@ fn append_pair(out: &mut Vec<u8>, pair: &Pair<'_>) -> Result<(), AllocError> {
 
 /// Whether something is kept of two references.
 fn is_kept(relation: Relation) -> bool {
-    match relation {
-        Relation::Apart(_, _) => false,
-        Relation::Distance(_, _) | Relation::Any => true,
-    }
+    !matches!(relation, Relation::Apart(_, _))
 }
 
 /// So many pairs of a run are told at a time.
@@ -290,22 +287,6 @@ fn append_all_shared(
     Ok(())
 }
 
-/// Appends why a loop stays serial.
-fn append_serial(
-    alloc: Global,
-    out: &mut Vec<u8>,
-    tree: &LoopTree<'_>,
-    number: usize,
-    reason: SerialReason,
-    reports: &[LoopReport],
-) -> Result<(), AllocError> {
-    let Some(hindrance) = hindrance_of(alloc, tree, number, reason, reports)? else {
-        return Ok(());
-    };
-    let told = format!(in alloc; "  it stays serial: {hindrance}\n")?;
-    out.extend_from_slice(told.as_bytes())
-}
-
 /// What says why iterations of a loop wait for one another, or needn't, or why it stays serial.
 #[derive(Drop)]
 pub struct Why<'t, 'p> {
@@ -325,35 +306,15 @@ fn why_serial<'t, 'p>(
     reports: &[LoopReport],
 ) -> Result<Why<'t, 'p>, AllocError> {
     let mut first = Vec::new(alloc);
-    append_serial(alloc, &mut first, tree, number, reason, reports)?;
+    if let Some(hindrance) = hindrance_of(alloc, tree, number, reason, reports)? {
+        let told = format!(in alloc; "  it stays serial: {hindrance}\n")?;
+        first.extend_from_slice(told.as_bytes())?;
+    }
     Ok(Why {
         first,
         pairs: None,
         last: Vec::new(alloc),
     })
-}
-
-/// The lines before those of pairs, of a loop that a view shows.
-fn first_lines(
-    alloc: Global,
-    tree: &LoopTree<'_>,
-    view: &LoopView<'_, '_>,
-    number: usize,
-    report: &LoopReport,
-    reports: &[LoopReport],
-    body: &[PlanStmt],
-    privates: &[Name],
-    relations: &Relations,
-) -> Result<Vec<u8>, AllocError> {
-    let mut out = Vec::new(alloc);
-    let amount = Amount::of(alloc, body)?;
-    append_amount(alloc, &mut out, tree, view, report, relations, &amount)?;
-    append_touching(alloc, &mut out, view, privates)?;
-    append_gathered(alloc, &mut out, view, privates)?;
-    if amount.is_chain() {
-        append_inner(alloc, &mut out, tree, number, view.step(), reports)?;
-    }
-    Ok(out)
 }
 
 /// What says why iterations of a loop wait for one another, or needn't.
@@ -367,18 +328,23 @@ fn why_open<'t, 'p>(
     privates: &[Name],
     relations: &'t Relations,
 ) -> Result<Why<'t, 'p>, AllocError> {
+    let mut first = Vec::new(alloc);
+    let mut last = Vec::new(alloc);
     if number < 1 || number > tree.count() {
         return Ok(Why {
-            first: Vec::new(alloc),
+            first,
             pairs: None,
-            last: Vec::new(alloc),
+            last,
         });
     }
     let view = tree.view(number);
-    let first = first_lines(
-        alloc, tree, &view, number, report, reports, body, privates, relations,
-    )?;
-    let mut last = Vec::new(alloc);
+    let amount = Amount::of(alloc, body)?;
+    append_amount(alloc, &mut first, tree, &view, report, relations, &amount)?;
+    append_touching(alloc, &mut first, &view, privates)?;
+    append_gathered(alloc, &mut first, &view, privates)?;
+    if amount.is_chain() {
+        append_inner(alloc, &mut first, tree, number, view.step(), reports)?;
+    }
     append_all_shared(&mut last, &view, privates)?;
     let pairs = PairLines {
         tree,

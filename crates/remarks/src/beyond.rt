@@ -207,7 +207,7 @@ fn place_of(name: Name, dimensions: &[Dimension], values: &[i64]) -> Result<usiz
     let mut place: usize = 0;
     let mut stride: usize = 1;
     for (number, (bounds, value)) in dimensions.iter().zip(values).enumerate() {
-        if is_outside(*bounds, *value) {
+        if !bounds.holds(*value) {
             return Err(Some(Beyond {
                 name,
                 number: number.saturating_add(1),
@@ -220,11 +220,6 @@ fn place_of(name: Name, dimensions: &[Dimension], values: &[i64]) -> Result<usiz
         stride = stride.saturating_mul(width(*bounds));
     }
     Ok(place)
-}
-
-/// Whether a subscript isn't within its bounds.
-fn is_outside(bounds: Dimension, value: i64) -> bool {
-    value < bounds.lower || value > bounds.upper
 }
 
 /// How many subscripts there are within bounds.

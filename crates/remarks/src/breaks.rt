@@ -1,13 +1,13 @@
 //! Where the text of a statement stops being one, as far as the order of operands and operators
 //! tells.
 
-mod tokens;
-
 use crate::mentions::without_keyword;
-use crate::squeezed::{Squeezed, action, has_outer};
+use crate::squeezed::{Squeezed, action, has_outer, is_if, transfer_length};
+use crate::tokens::{
+    WrongToken, digits_of, open_text, operator_length, past, quoted_length, word_length,
+};
 use ast::Rule;
-pub use tokens::OPERATORS;
-use tokens::{Flaw, digits_at, open_text, operator_length, quoted_length, word_length};
+use bstr::ByteSlice;
 
 /// What may stand next in an expression.
 #[derive(Clone, Copy)]
@@ -45,9 +45,9 @@ pub fn break_place(rule: Rule, statement: &Squeezed) -> Option<usize> {
     match rule {
         Rule::UnknownStatement | Rule::LeftOut => action_place(&statement.text),
         Rule::UnendedText => open_text(&statement.text),
-        Rule::RealConstant => flaw_place(Flaw::RealConstant, statement),
-        Rule::LargeConstant => flaw_place(Flaw::TooLarge, statement),
-        Rule::LongName => flaw_place(Flaw::TooLong, statement),
+        Rule::RealConstant => token_place(WrongToken::RealConstant, statement),
+        Rule::LargeConstant => token_place(WrongToken::TooLarge, statement),
+        Rule::LongName => token_place(WrongToken::TooLong, statement),
         Rule::Malformed => end_of_form(statement),
         _ => None,
     }
@@ -62,44 +62,34 @@ fn action_place(text: &[u8]) -> Option<usize> {
 }
 
 /// Where the first token that no statement has stands behind the keyword of a statement.
-fn flaw_place(flaw: Flaw, statement: &Squeezed) -> Option<usize> {
+fn token_place(wrong: WrongToken, statement: &Squeezed) -> Option<usize> {
     let text = statement.text.as_slice();
     let start = text.len().saturating_sub(without_keyword(statement).len());
-    flaw.place_in(text, start)
+    wrong.place_in(text, start)
 }
 
 /// Where the operands and operators of a statement stop being in the order of one.
 fn end_of_form(statement: &Squeezed) -> Option<usize> {
     let text = statement.text.as_slice();
-    if let Some(start) = start_of_list(text) {
+    if let Some(start) = transfer_length(text) {
         return in_list(text, start);
     }
     if statement.is_loop() {
-        let start = place_of(b'=', text)?.saturating_add(1);
+        let start = text.find_byte(b'=')?.saturating_add(1);
         return Reading::new(text, start, false, true).end();
     }
-    if text.starts_with(b"IF(") || text.starts_with(b"ELSEIF(") {
+    if is_if(text) {
         return in_condition(text);
     }
-    if has_outer(b'=', text) {
-        return Reading::new(text, 0, true, false).end();
-    }
-    None
+    in_assignment(text, 0)
 }
 
-/// Where the list of a PRINT or a READ may begin.
-fn start_of_list(text: &[u8]) -> Option<usize> {
-    for front in [
-        b"PRINT*".as_slice(),
-        b"READ*".as_slice(),
-        b"WRITE(*,*)".as_slice(),
-        b"READ(*,*)".as_slice(),
-    ] {
-        if text.starts_with(front) {
-            return Some(front.len());
-        }
+/// Where an assignment that begins at a place stops being one, if there is an equals sign.
+fn in_assignment(text: &[u8], start: usize) -> Option<usize> {
+    if !has_outer(b'=', past(text, start)) {
+        return None;
     }
-    None
+    Reading::new(text, start, true, false).end()
 }
 
 /// Where a PRINT or a READ stops being one, whose list may begin here.
@@ -118,7 +108,7 @@ fn in_list(text: &[u8], start: usize) -> Option<usize> {
 
 /// Where an IF stops being one: in its condition, or in the statement behind it.
 fn in_condition(text: &[u8]) -> Option<usize> {
-    let start = place_of(b'(', text)?;
+    let start = text.find_byte(b'(')?;
     let mut reading = Reading::new(text, start, false, false);
     for _ in 0..=text.len() {
         match reading.step() {
@@ -128,16 +118,7 @@ fn in_condition(text: &[u8]) -> Option<usize> {
             Step::Ended => return Some(text.len()),
         }
     }
-    let rest = text.get(reading.at..)?;
-    if !has_outer(b'=', rest) {
-        return None;
-    }
-    Reading::new(text, reading.at, true, false).end()
-}
-
-/// The first place of a sign.
-fn place_of(sign: u8, text: &[u8]) -> Option<usize> {
-    text.iter().position(|byte| *byte == sign)
+    in_assignment(text, reading.at)
 }
 
 /// What came of reading on.
@@ -206,7 +187,7 @@ impl<'a> Reading<'a> {
                 Some((1, FIRST))
             }
             b'+' | b'-' if may_sign => Some((1, NEXT)),
-            b'0'..=b'9' => Some((digits_at(self.text, self.at), BEHIND)),
+            b'0'..=b'9' => Some((digits_of(self.rest()), BEHIND)),
             b'A'..=b'Z' => Some((
                 word_length(self.rest()),
                 Wanted::Operator {
@@ -243,7 +224,7 @@ impl<'a> Reading<'a> {
 
     /// What is left to be read.
     fn rest(&self) -> &'a [u8] {
-        self.text.get(self.at..).unwrap_or(&[])
+        past(self.text, self.at)
     }
 
     fn dotted_operand(&self) -> Option<(usize, Wanted)> {

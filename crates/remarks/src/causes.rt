@@ -19,82 +19,28 @@ use std::fmt::{Display, Formatter, Result as FmtResult, Write};
 
 /// What a refusal is of.
 #[derive(Clone, Copy)]
-pub enum Cause {
-    /// A name that isn't an integer, and one that may be meant.
-    Real {
-        mention: Mention,
-        meant: Option<Name>,
-    },
-    /// A line that continues another, and may have been meant to begin with a label.
-    LateLabel(Line),
-    /// The line behind which a declaration or a PROGRAM comes too late.
-    Early(Line),
-    /// A name with subscripts or arguments in another number than it has.
-    Misfit {
-        mention: Mention,
-        rank: usize,
-    },
-    /// The variable of an open DO.
-    Active {
-        mention: Mention,
-        line: Line,
-    },
-    /// A label that stands in a line before.
-    Label {
-        label: Label,
-        line: Line,
-    },
-    /// A DO that is open.
-    Loop {
-        label: Label,
-        line: Line,
-    },
-    /// The DO that a statement ends which can't end one.
-    Terminal(Line),
-    /// An IF that is open.
-    Block(Line),
-    /// An IF that has its ELSE.
-    Closed(Line),
-    /// No IF that is open.
-    NoBlock,
-    /// A name that a statement before declares otherwise.
-    Declared {
-        mention: Mention,
-        line: Line,
-    },
-    /// A name that its own statement declares otherwise.
-    Repeated(Mention),
-    /// A function's name that is used otherwise.
-    Function(Mention),
-    /// The program's name that is used otherwise.
-    Program(Mention),
-    /// A constant that is given a value.
-    Constant {
-        mention: Mention,
-        line: Line,
-    },
-    /// A name that has no value in a constant expression.
-    Unknown(Mention),
-    /// A constant expression that has no value.
-    NoValue,
-    /// A name that stands where a logical value is wanted.
-    Integer(Mention),
-    /// A name that is given a logical value.
-    Logical(Mention),
-    /// A logical value where a number is wanted.
-    Truth,
-    /// A statement that can't stand behind a condition.
-    Misplaced,
-    /// A limit.
-    Limit(&'static str),
+pub struct Cause {
+    /// The name that is meant, if one is.
+    pub mention: Option<Mention>,
+    told: Told,
 }
 
-/// How many arguments an intrinsic function takes.
+/// What is told, behind the name that is meant if one is.
 #[derive(Clone, Copy)]
-enum Arguments {
-    One,
-    Two,
-    TwoOrMore,
+enum Told {
+    Text(&'static str),
+    /// A line, with these words before its number and behind it.
+    Line(&'static str, Line, &'static str),
+    /// A number behind these words.
+    Count(&'static str, usize),
+    /// How many subscripts it has, and how many stand there.
+    Ranks(usize, usize),
+    /// A label that stands in a line before.
+    Label(Label, Line),
+    /// A DO that is open, which ends at a label.
+    Loop(Label, Line),
+    /// That it isn't an integer, and a name that may be meant.
+    Real(Option<Name>),
 }
 
 /// A DO or an IF that is open.
@@ -115,8 +61,7 @@ enum Open {
 #[derive(Drop)]
 struct Before {
     opened: Vec<Open>,
-    /// The names that INTEGER and DIMENSION statements have, with their bounds.
-    declared: Vec<Mention>,
+    declared: Declared,
     labels: Vec<(Label, Line)>,
 }
 
@@ -146,76 +91,46 @@ fn cause_in(
     statement: &Squeezed,
 ) -> Result<Option<Cause>, AllocError> {
     if is_of_text(rule) {
-        return Ok(statement.late_label.map(Cause::LateLabel));
-    }
-    if matches!(
-        rule,
-        Rule::ActiveVariable | Rule::ChangedConstant | Rule::WrongKind
-    ) {
-        return cause_in_action(alloc, rule, statements, statement);
+        return Ok(statement.late_label.map(late_label));
     }
     let names = mentions(alloc, statement)?;
-    match rule {
-        Rule::OutOfOrder => Ok(early(statements, statement.line)),
-        Rule::NotInteger => real(alloc, statements, &names),
-        Rule::DeclaredTwice | Rule::NoValue => {
-            by_declarations(alloc, rule, statements, statement, &names)
-        }
-        _ => by_place(alloc, rule, statements, statement, &names),
-    }
-}
-
-/// The same, where it goes by what the statement does.
-fn cause_in_action(
-    alloc: Global,
-    rule: Rule,
-    statements: &[Squeezed],
-    statement: &Squeezed,
-) -> Result<Option<Cause>, AllocError> {
-    let done = statement.action(alloc)?;
-    let names = mentions(alloc, &done)?;
-    match rule {
-        Rule::ActiveVariable => by_place(alloc, rule, statements, &done, &names),
-        Rule::ChangedConstant => by_declarations(alloc, rule, statements, &done, &names),
-        _ => Ok(wrong_kind(statement, &mentions(alloc, statement)?, &done, &names)),
-    }
-}
-
-/// The same, where it goes by what the statements before declare.
-fn by_declarations(
-    alloc: Global,
-    rule: Rule,
-    statements: &[Squeezed],
-    statement: &Squeezed,
-    names: &[Mention],
-) -> Result<Option<Cause>, AllocError> {
-    let declared = Declared::before(alloc, statements, statement.line)?;
+    let mut before = Before::of(alloc, statements, statement.line)?;
     Ok(match rule {
-        Rule::DeclaredTwice => declared.twice(statement, names),
-        Rule::ChangedConstant => declared.assigned(statement, names),
-        _ => declared.unknown(statement, names),
-    })
-}
-
-/// The same, where it goes by what is open before, or by labels and counts.
-fn by_place(
-    alloc: Global,
-    rule: Rule,
-    statements: &[Squeezed],
-    statement: &Squeezed,
-    names: &[Mention],
-) -> Result<Option<Cause>, AllocError> {
-    let before = Before::of(alloc, statements, statement.line)?;
-    Ok(match rule {
-        Rule::WrongSubscripts => before.misfit(statement, names),
+        Rule::OutOfOrder => early(statements, statement.line),
+        Rule::NotInteger => real(&typed(alloc, statements)?, &names),
+        Rule::DeclaredTwice => before.declared.twice(statement, &names),
+        Rule::NoValue => before.declared.unknown(statement, &names),
+        Rule::WrongSubscripts => before.misfit(statement, &names),
         Rule::WrongTerminal => before.ended(statement).or(before.open()),
-        Rule::CrossedBlocks if statement.is_misplaced() => Some(Cause::Misplaced),
+        Rule::CrossedBlocks if statement.is_misplaced() => {
+            Some(Cause::text("such a statement can't stand behind the condition of an IF"))
+        }
         Rule::CrossedBlocks if is_part_of_block(&statement.text) => before.block(),
-        Rule::ActiveVariable => before.active(statement, names),
-        Rule::LargeProgram => Some(limit(alloc, statements, &before, statement)?),
+        Rule::LargeProgram => Some(Cause::text(limit(
+            alloc,
+            statements,
+            before.opened.len(),
+            statement,
+        )?)),
         Rule::RepeatedLabel => before.labelled(statement),
+        Rule::ActiveVariable | Rule::ChangedConstant | Rule::WrongKind => {
+            let done = statement.action(alloc)?;
+            let names_done = mentions(alloc, &done)?;
+            match rule {
+                Rule::ActiveVariable => before.active(&done, &names_done),
+                Rule::ChangedConstant => before.declared.assigned(&done, &names_done),
+                _ => wrong_kind(statement, &names, &done, &names_done),
+            }
+        }
         _ => before.open(),
     })
+}
+
+/// That a line continues another, and may have been meant to begin with a label.
+fn late_label(line: Line) -> Cause {
+    let told = " has a sign in column 6, so it goes on with the line above; \
+a label is in columns 1 to 5";
+    Cause::line("line ", line, told)
 }
 
 /// The first executable statement before a line, or else the first statement of all.
@@ -224,27 +139,20 @@ fn early(statements: &[Squeezed], line: Line) -> Option<Cause> {
         .iter()
         .find(|statement| statement.line < line && statement.is_executable())
         .or(statements.first())?;
-    Some(Cause::Early(first.line))
+    let told = " it is too late; PROGRAM comes first, then declarations";
+    Some(Cause::line("behind line ", first.line, told))
 }
 
-/// The first name that isn't an integer.
-fn real(
-    alloc: Global,
-    statements: &[Squeezed],
-    names: &[Mention],
-) -> Result<Option<Cause>, AllocError> {
-    let typed = typed(alloc, statements)?;
+/// The first name that isn't an integer, where these have a type.
+fn real(typed: &[Name], names: &[Mention]) -> Option<Cause> {
     for mention in names {
-        let is_call = mention.count > 0 && arguments_of(mention.name).is_some();
+        let is_call = mention.count > 0 && Intrinsic::named(&mention.name).is_some();
         let is_integer = matches!(mention.name.letters[0], b'I'..=b'N');
         if !is_call && !is_integer && !typed.contains(&mention.name) {
-            return Ok(Some(Cause::Real {
-                mention: *mention,
-                meant: meant_by(mention.name, &typed),
-            }));
+            return Some(Cause::of(mention, Told::Real(meant_by(mention.name, typed))));
         }
     }
-    Ok(None)
+    None
 }
 
 /// The names that INTEGER statements give a type.
@@ -272,20 +180,33 @@ fn is_part_of_block(text: &[u8]) -> bool {
     text.starts_with(b"ELSE") || text.starts_with(b"ENDIF")
 }
 
-/// How many arguments a name takes, if it is an intrinsic function's.
-fn arguments_of(name: Name) -> Option<Arguments> {
-    match Intrinsic::named(&name)? {
-        Intrinsic::Mod => Some(Arguments::Two),
-        Intrinsic::Abs | Intrinsic::Iabs => Some(Arguments::One),
-        _ => Some(Arguments::TwoOrMore),
+/// The names among which those are that a statement gives a value: of a READ all, else the first.
+fn targets<'m>(statement: &Squeezed, names: &'m [Mention]) -> &'m [Mention] {
+    if statement.is_read() {
+        return names;
     }
+    names.get(..1).unwrap_or(names)
 }
 
-fn takes(arguments: Arguments, count: usize) -> bool {
-    match arguments {
-        Arguments::One => count == 1,
-        Arguments::Two => count == 2,
-        Arguments::TwoOrMore => count >= 2,
+/// What is told of a name that has subscripts or arguments in another number than it takes, by how
+/// many subscripts are declared.
+fn misfit(mention: &Mention, rank: usize) -> Option<Told> {
+    let count = mention.count;
+    match (Intrinsic::named(&mention.name), rank) {
+        (Some(Intrinsic::Mod), _) if count != 2 => {
+            Some(Told::Count("takes two arguments, not ", count))
+        }
+        (Some(Intrinsic::Abs | Intrinsic::Iabs), _) if count != 1 => {
+            Some(Told::Count("takes one argument, not ", count))
+        }
+        (Some(Intrinsic::Mod | Intrinsic::Abs | Intrinsic::Iabs), _) => None,
+        (Some(_), _) if count < 2 => Some(Told::Count("takes two arguments or more, not ", count)),
+        (Some(_), _) => None,
+        (None, rank) if count == rank => None,
+        (None, 0) => Some(Told::Text("is no array, and no function of the language")),
+        (None, _) if count == 0 => Some(Told::Text("is an array, and stands with its subscripts")),
+        (None, 1) => Some(Told::Count("has one subscript, not ", count)),
+        (None, rank) => Some(Told::Ranks(rank, count)),
     }
 }
 
@@ -293,7 +214,7 @@ impl Before {
     fn of(alloc: Global, statements: &[Squeezed], line: Line) -> Result<Self, AllocError> {
         let mut before = Before {
             opened: Vec::new(alloc),
-            declared: Vec::new(alloc),
+            declared: Declared::new(alloc),
             labels: Vec::new(alloc),
         };
         for statement in statements {
@@ -308,11 +229,10 @@ impl Before {
     /// Takes a statement in.
     fn take(&mut self, statement: &Squeezed, names: &[Mention]) -> Result<(), AllocError> {
         let line = statement.line;
+        let text = statement.text.as_slice();
+        self.declared.take(statement, names)?;
         if let Some(label) = statement.label {
             self.labels.push((label, line))?;
-        }
-        if statement.is_declaration() {
-            self.declare(names)?;
         }
         if statement.is_loop() {
             let label = statement.terminal();
@@ -327,9 +247,9 @@ impl Before {
                 line,
                 has_else: false,
             })?;
-        } else if statement.text.as_slice() == b"ENDIF".as_slice() {
+        } else if text == b"ENDIF".as_slice() {
             let _ = self.opened.pop();
-        } else if statement.text.as_slice() == b"ELSE".as_slice() {
+        } else if text == b"ELSE".as_slice() {
             self.note_else();
         } else if let Some(label) = statement.label {
             self.end_ranges(label);
@@ -344,39 +264,13 @@ impl Before {
         }
     }
 
-    fn declare(&mut self, names: &[Mention]) -> Result<(), AllocError> {
-        for mention in names {
-            if mention.depth == 0 && mention.count > 0 {
-                self.declared.push(*mention)?;
-            }
-        }
-        Ok(())
-    }
-
     /// Ends the innermost ranges of a label.
     fn end_ranges(&mut self, label: Label) {
-        let mut left = self.opened.len();
-        for open in self.opened.iter().rev() {
-            match open {
-                Open::Range {
-                    label: terminal,
-                    ..
-                } if *terminal == label => {
-                    left = left.saturating_sub(1);
-                }
-                _ => break,
-            }
-        }
+        let other = self.opened.iter().rposition(
+            |open| !matches!(open, Open::Range { label: own, .. } if *own == label),
+        );
+        let left = other.map_or(0, |place| place.saturating_add(1));
         self.opened.truncate(left);
-    }
-
-    fn rank(&self, name: Name) -> usize {
-        for mention in &self.declared {
-            if mention.name == name {
-                return mention.count;
-            }
-        }
-        0
     }
 
     /// The first name whose subscripts or arguments don't fit.
@@ -386,16 +280,8 @@ impl Before {
             if is_declaration && mention.depth == 0 {
                 continue;
             }
-            let rank = self.rank(mention.name);
-            let fits = match arguments_of(mention.name) {
-                Some(arguments) => takes(arguments, mention.count),
-                None => mention.count == rank,
-            };
-            if !fits {
-                return Some(Cause::Misfit {
-                    mention: *mention,
-                    rank,
-                });
+            if let Some(told) = misfit(mention, self.declared.rank(mention.name)) {
+                return Some(Cause::of(mention, told));
             }
         }
         None
@@ -404,11 +290,8 @@ impl Before {
     /// The innermost DO or IF that is open.
     fn open(&self) -> Option<Cause> {
         match self.opened.last()? {
-            Open::Range { label, line, .. } => Some(Cause::Loop {
-                label: *label,
-                line: *line,
-            }),
-            Open::Block { line, .. } => Some(Cause::Block(*line)),
+            Open::Range { label, line, .. } => Some(Cause::unnamed(Told::Loop(*label, *line))),
+            Open::Block { line, .. } => Some(Cause::line("the IF in line ", *line, " is open")),
         }
     }
 
@@ -420,8 +303,8 @@ impl Before {
                     line,
                     has_else: true,
                 },
-            ) => Some(Cause::Closed(*line)),
-            None => Some(Cause::NoBlock),
+            ) => Some(Cause::line("the IF in line ", *line, " has its ELSE already")),
+            None => Some(Cause::text("no IF with THEN is open here")),
             Some(_) => self.open(),
         }
     }
@@ -429,30 +312,20 @@ impl Before {
     /// The innermost open DO that a statement ends by its label.
     fn ended(&self, statement: &Squeezed) -> Option<Cause> {
         let own = statement.label?;
-        for open in self.opened.iter().rev() {
-            match open {
-                Open::Range { label, line, .. } if *label == own => {
-                    return Some(Cause::Terminal(*line));
-                }
-                _ => {}
+        self.opened.iter().rev().find_map(|open| match open {
+            Open::Range { label, line, .. } if *label == own => {
+                Some(Cause::line("the DO in line ", *line, " ends with this statement"))
             }
-        }
-        None
+            _ => None,
+        })
     }
 
     /// The variable of an open DO that a statement gives a value.
     fn active(&self, statement: &Squeezed, names: &[Mention]) -> Option<Cause> {
-        for mention in names {
-            if mention.depth == 0 {
-                if let Some(line) = self.line_of(mention.name) {
-                    return Some(Cause::Active {
-                        mention: *mention,
-                        line,
-                    });
-                }
-            }
-            if !statement.is_read() {
-                return None;
+        for mention in targets(statement, names) {
+            if let (0, Some(line)) = (mention.depth, self.line_of(mention.name)) {
+                let before = "is the variable of the DO in line ";
+                return Some(Cause::of(mention, Told::Line(before, line, ", which is open")));
             }
         }
         None
@@ -460,175 +333,77 @@ impl Before {
 
     /// The line of the open DO with this variable.
     fn line_of(&self, name: Name) -> Option<Line> {
-        for open in &self.opened {
-            match open {
-                Open::Range {
-                    variable: Some(variable),
-                    line,
-                    ..
-                } if *variable == name => return Some(*line),
-                _ => {}
-            }
-        }
-        None
+        self.opened.iter().find_map(|open| match open {
+            Open::Range {
+                variable: Some(variable),
+                line,
+                ..
+            } if *variable == name => Some(*line),
+            _ => None,
+        })
     }
 
     /// Where the label of a statement stood before.
     fn labelled(&self, statement: &Squeezed) -> Option<Cause> {
-        let label = statement.label?;
-        for (other, line) in &self.labels {
-            if *other == label {
-                return Some(Cause::Label { label, line: *line });
-            }
+        let own = statement.label?;
+        let (_, line) = self.labels.iter().find(|(label, _)| *label == own)?;
+        Some(Cause::unnamed(Told::Label(own, *line)))
+    }
+}
+
+impl Cause {
+    /// What is told of a name.
+    fn of(mention: &Mention, told: Told) -> Self {
+        Cause {
+            mention: Some(*mention),
+            told,
         }
-        None
+    }
+
+    /// What is told of no name.
+    fn unnamed(told: Told) -> Self {
+        Cause {
+            mention: None,
+            told,
+        }
+    }
+
+    fn text(text: &'static str) -> Self {
+        Cause::unnamed(Told::Text(text))
+    }
+
+    /// A line, with these words before its number and behind it.
+    fn line(before: &'static str, line: Line, behind: &'static str) -> Self {
+        Cause::unnamed(Told::Line(before, line, behind))
     }
 }
 
 impl Display for Cause {
     fn fmt<W: Write>(&self, f: &mut Formatter<W>) -> FmtResult {
-        match self {
-            Cause::Misfit { mention, rank } => write_misfit(f, mention, *rank),
-            Cause::Active { mention, line } => {
-                write_of(f, mention, " is the variable of the DO in line ")?;
-                write!(f, "{line}, which is open")
+        if let Some(mention) = &self.mention {
+            write!(f, "{} ", Visible::new(mention.name.trimmed()))?;
+        }
+        match self.told {
+            Told::Text(text) => f.write_str(text),
+            Told::Line(before, line, behind) => write!(f, "{before}{line}{behind}"),
+            Told::Count(text, count) => write!(f, "{text}{count}"),
+            Told::Ranks(rank, count) => write!(f, "has {rank} subscripts, not {count}"),
+            Told::Label(label, line) => write!(f, "the label {label} stands in line {line} too"),
+            Told::Loop(label, line) => {
+                write!(
+                    f,
+                    "the DO in line {line} is open, which ends at the label {label}"
+                )
             }
-            Cause::Declared { mention, line } => {
-                write_of(f, mention, " is declared in line ")?;
-                write!(f, "{line} too")
-            }
-            Cause::Constant { mention, line } => {
-                write_of(f, mention, " is a constant, by line ")?;
-                write!(f, "{line}")
-            }
-            Cause::Label { label, line } => write_label(f, *label, *line),
-            Cause::Loop { label, line } => write_loop(f, *label, *line),
-            Cause::Terminal(line) => write!(f, "the DO in line {line} ends with this statement"),
-            Cause::Block(line) => write!(f, "the IF in line {line} is open"),
-            Cause::Closed(line) => write!(f, "the IF in line {line} has its ELSE already"),
-            Cause::Limit(limit) => f.write_str(limit),
-            Cause::Real { mention, meant } => write_real(f, mention, *meant),
-            Cause::LateLabel(line) => write_late(f, *line),
-            Cause::Early(line) => write_early(f, *line),
-            _ => match self.named() {
-                Some((mention, text)) => write_of(f, &mention, text),
-                None => f.write_str(self.unnamed()),
-            },
+            Told::Real(meant) => write_real(f, meant),
         }
     }
 }
 
-impl Cause {
-    /// The name that it is of, if it is of one.
-    pub fn name(&self) -> Option<Name> {
-        Some(self.mention()?.name)
-    }
-
-    /// The number of the character, from 0, among those of the statement at which the name that is
-    /// meant begins, if one is.
-    pub fn place(&self) -> Option<usize> {
-        Some(self.mention()?.place)
-    }
-
-    /// Where the name that it is of is mentioned.
-    fn mention(&self) -> Option<Mention> {
-        match self {
-            Cause::Misfit { mention, .. }
-            | Cause::Active { mention, .. }
-            | Cause::Declared { mention, .. }
-            | Cause::Constant { mention, .. }
-            | Cause::Real { mention, .. } => Some(*mention),
-            _ => {
-                let (mention, _) = self.named()?;
-                Some(mention)
-            }
-        }
-    }
-
-    /// The name that it is of, where nothing else is told, and what is told of that.
-    fn named(&self) -> Option<(Mention, &'static str)> {
-        match self {
-            Cause::Repeated(name) => Some((*name, " is declared twice here")),
-            Cause::Function(name) => Some((*name, " is a function of the language")),
-            Cause::Program(name) => Some((*name, " is the program's name")),
-            Cause::Unknown(name) => Some((*name, " is no constant that is given before")),
-            Cause::Integer(name) => Some((*name, " is an integer, and a logical value is wanted")),
-            Cause::Logical(name) => Some((*name, " is an integer, and is given a logical value")),
-            _ => None,
-        }
-    }
-
-    /// What is told where no name, line or limit is.
-    fn unnamed(&self) -> &'static str {
-        match self {
-            Cause::NoBlock => "no IF with THEN is open here",
-            Cause::NoValue => "a value here overflows, or is divided by zero",
-            Cause::Truth => "a logical value stands where a number is wanted",
-            Cause::Misplaced => "such a statement can't stand behind the condition of an IF",
-            _ => "",
-        }
-    }
-}
-
-/// Writes a name, and this behind it.
-fn write_of<W: Write>(f: &mut Formatter<W>, mention: &Mention, text: &str) -> FmtResult {
-    write!(f, "{}", Visible::new(mention.name.trimmed()))?;
-    f.write_str(text)
-}
-
-fn write_real<W: Write>(f: &mut Formatter<W>, mention: &Mention, meant: Option<Name>) -> FmtResult {
-    let text = " doesn't begin with I to N, and no INTEGER statement names it";
-    write_of(f, mention, text)?;
+fn write_real<W: Write>(f: &mut Formatter<W>, meant: Option<Name>) -> FmtResult {
+    f.write_str("doesn't begin with I to N, and no INTEGER statement names it")?;
     match meant {
         Some(name) => write!(f, "; is {} meant?", Visible::new(name.trimmed())),
         None => Ok(()),
     }
-}
-
-fn write_late<W: Write>(f: &mut Formatter<W>, line: Line) -> FmtResult {
-    write!(
-        f,
-        "line {line} has a sign in column 6, so it goes on with the line above; \
-a label is in columns 1 to 5"
-    )
-}
-
-fn write_early<W: Write>(f: &mut Formatter<W>, line: Line) -> FmtResult {
-    write!(
-        f,
-        "behind line {line} it is too late; PROGRAM comes first, then declarations"
-    )
-}
-
-fn write_label<W: Write>(f: &mut Formatter<W>, label: Label, line: Line) -> FmtResult {
-    write!(f, "the label {label} stands in line {line} too")
-}
-
-fn write_loop<W: Write>(f: &mut Formatter<W>, label: Label, line: Line) -> FmtResult {
-    write!(
-        f,
-        "the DO in line {line} is open, which ends at the label {label}"
-    )
-}
-
-fn write_misfit<W: Write>(f: &mut Formatter<W>, mention: &Mention, rank: usize) -> FmtResult {
-    let count = mention.count;
-    let text = match (arguments_of(mention.name), rank, count) {
-        (Some(Arguments::One), _, _) => " takes one argument, not ",
-        (Some(Arguments::Two), _, _) => " takes two arguments, not ",
-        (Some(Arguments::TwoOrMore), _, _) => " takes two arguments or more, not ",
-        (None, 0, _) => {
-            return write_of(f, mention, " is no array, and no function of the language");
-        }
-        (None, _, 0) => {
-            return write_of(f, mention, " is an array, and stands with its subscripts");
-        }
-        (None, 1, _) => " has one subscript, not ",
-        (None, _, _) => {
-            write_of(f, mention, " has ")?;
-            return write!(f, "{rank} subscripts, not {count}");
-        }
-    };
-    write_of(f, mention, text)?;
-    write!(f, "{count}")
 }

@@ -1,5 +1,6 @@
 //! The columns of a line.
 
+use crate::tokens::{digits_of, past};
 use ast::Label;
 use bstr::ByteSlice;
 use fixed_form::{LAST_COLUMN, LAST_LABEL_COLUMN};
@@ -9,7 +10,7 @@ const CARD_WIDTH: usize = 8;
 
 /// What stands past the last column that is read; nothing, where the line ends before it.
 pub fn unread(line: &[u8]) -> &[u8] {
-    line.get(LAST_COLUMN..).unwrap_or(&[])
+    past(line, LAST_COLUMN)
 }
 
 /// Whether past the last column something stands that may be of a statement: neither blanks nor
@@ -34,11 +35,11 @@ fn is_told(text: &[u8]) -> bool {
 pub fn names_card(text: &[u8]) -> bool {
     let text = text.trim();
     let letters = text.iter().position(|byte| !byte.is_ascii_alphabetic());
-    let digits = text.get(letters.unwrap_or(text.len())..).unwrap_or(&[]);
+    let digits = past(text, letters.unwrap_or(text.len()));
     digits.len() < text.len()
         && 2 <= digits.len()
         && text.len() <= CARD_WIDTH
-        && digits.iter().all(|byte| byte.is_ascii_digit())
+        && digits_of(digits) == digits.len()
 }
 
 /// What stands in the columns that are read.
@@ -48,7 +49,7 @@ fn read(line: &[u8]) -> &[u8] {
 
 /// What stands in the columns of a statement's text.
 pub fn text_of(line: &[u8]) -> &[u8] {
-    read(line).get(LAST_LABEL_COLUMN + 1..).unwrap_or(&[])
+    past(read(line), LAST_LABEL_COLUMN + 1)
 }
 
 /// Whether a line is a comment by its first column.
@@ -70,8 +71,7 @@ pub fn is_continuation(line: &[u8]) -> bool {
 /// word behind that, as where a label stands too far to the right.
 pub fn has_late_label(line: &[u8]) -> bool {
     let text = line.trim_start();
-    let digits = text.iter().position(|byte| !byte.is_ascii_digit());
-    let rest = text.get(digits.unwrap_or(text.len())..).unwrap_or(&[]);
+    let rest = past(text, digits_of(text));
     let is_number = line.len().saturating_sub(text.len()) == LAST_LABEL_COLUMN
         && rest.len().saturating_add(2) <= text.len();
     let is_behind_blank = rest.first() == Some(&b' ');
@@ -79,23 +79,22 @@ pub fn has_late_label(line: &[u8]) -> bool {
     is_number && is_behind_blank && word.first().is_some_and(u8::is_ascii_alphabetic)
 }
 
+/// A number with one digit more.
+pub fn with_digit(number: Label, digit: u8) -> Label {
+    number
+        .saturating_mul(10)
+        .saturating_add(Label::from(digit.saturating_sub(b'0')))
+}
+
 /// The label of a line, if it has one.
 pub fn label_of(line: &[u8]) -> Option<Label> {
-    match line.get(LAST_LABEL_COLUMN) {
-        None | Some(b' ' | b'0') => {}
-        Some(_) => return None,
+    if is_continuation(line) {
+        return None;
     }
-    let mut label: Option<Label> = None;
+    let mut label = None;
     for byte in line.iter().take(LAST_LABEL_COLUMN) {
         match *byte {
-            digit @ b'0'..=b'9' => {
-                let front = label.unwrap_or(0);
-                label = Some(
-                    front
-                        .saturating_mul(10)
-                        .saturating_add(Label::from(digit - b'0')),
-                );
-            }
+            digit @ b'0'..=b'9' => label = Some(with_digit(label.unwrap_or(0), digit)),
             b' ' => {}
             _ => return None,
         }

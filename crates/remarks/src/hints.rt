@@ -3,17 +3,20 @@
 mod replays;
 mod signs;
 
-use crate::breaks::OPERATORS;
 use crate::columns::{is_continuation, label_of, text_of};
 use crate::mentions::behind_label;
-use crate::squeezed::{Squeezed, action, assigns, behind_parentheses, has_outer, names_label};
+use crate::squeezed::{
+    Squeezed, action, assigns, begins_with, behind_parentheses, has_outer, is_if, names_label,
+    transfer_length,
+};
+use crate::tokens::{OPERATORS, digits_of, past, word_length};
 use ast::{Fault, Rule};
 use bstr::ByteSlice;
 use fixed_form::LAST_LABEL_COLUMN;
 pub use replays::hint_of_schedule;
 use signs::{
-    BEGINNINGS, CHARACTERS, COMPARISONS, CONTINUED, FOREIGN, FREE_FORM, GREAT, LEFT_OUT, LENGTHS,
-    NEIGHBOURS, SUBPROGRAMS, Sign, TRANSFERS, TYPOGRAPHY, WHILE,
+    BEGINNINGS, CHARACTERS, COMPARISONS, CONTINUED, FOREIGN, FREE_FORM, LEAST, LEFT_OUT, LENGTHS,
+    NEIGHBOURS, SUBPROGRAMS, Sign, TYPOGRAPHY, WHILE,
 };
 use std::cmp::Ordering;
 
@@ -62,7 +65,9 @@ pub fn hint(rule: Rule, line: &[u8], statement: &Squeezed) -> Option<&'static st
             .or(past_columns(statement))
             .or(of_apostrophes(text)),
         Rule::RealConstant => of_real(text).or(of_points(text)),
-        Rule::LargeConstant => first_of(&GREAT, text),
+        Rule::LargeConstant => text
+            .contains_str(LEAST)
+            .then_some("write -9223372036854775807-1"),
         Rule::LeftOut => of_left_out(text),
         Rule::NotInteger => of_name(text).or(Some(DECLARE)),
         Rule::WrongSubscripts => Some(FIT),
@@ -76,31 +81,28 @@ pub fn hint(rule: Rule, line: &[u8], statement: &Squeezed) -> Option<&'static st
 pub fn hint_of_fault(fault: Fault, statement: &Squeezed) -> Option<&'static str> {
     let text = statement.text.as_slice();
     let is_guarded = matches!(fault, Fault::Index | Fault::ZeroDivisor);
-    if is_guarded && is_if(text) && holds_one(&[b".AND.", b".OR."], text) {
-        return Some("both sides of .AND. and .OR. have to have a value; put one IF into another");
-    }
-    None
+    (is_guarded && is_if(text) && holds_one(&[b".AND.", b".OR."], text)).then_some(
+        "both sides of .AND. and .OR. have to have a value; put one IF into another",
+    )
 }
 
 /// What is said of a PARAMETER without its parentheses.
 fn of_constant(text: &[u8]) -> Option<&'static str> {
-    match text.strip_prefix(b"PARAMETER".as_slice()) {
-        Some([first, ..]) if first.is_ascii_alphabetic() => {
-            Some("parentheses stand around what PARAMETER gives, as in PARAMETER (N=5)")
-        }
-        _ => None,
-    }
+    let first = text.strip_prefix(b"PARAMETER".as_slice())?.first()?;
+    first.is_ascii_alphabetic().then_some(
+        "parentheses stand around what PARAMETER gives, as in PARAMETER (N=5)",
+    )
 }
 
 /// What is said of the sign that stands first in a text; of two at one place, of the first row.
 fn earliest_of(signs: &[Sign], text: &[u8]) -> Option<&'static str> {
     let mut found = None;
     let mut before = text.len();
-    for sign in signs {
-        match text.find(sign.holds) {
+    for Sign(_, holds, hint) in signs {
+        match text.find(holds) {
             Some(place) if place < before => {
                 before = place;
-                found = Some(sign.hint);
+                found = Some(*hint);
             }
             _ => {}
         }
@@ -109,37 +111,34 @@ fn earliest_of(signs: &[Sign], text: &[u8]) -> Option<&'static str> {
 }
 
 fn first_of(signs: &[Sign], text: &[u8]) -> Option<&'static str> {
-    for sign in signs {
-        if text.starts_with(sign.begins) && text.contains_str(sign.holds) {
-            return Some(sign.hint);
-        }
-    }
-    None
+    let Sign(_, _, hint) = signs.iter().find(|sign| text.starts_with(sign.0)
+        && text.contains_str(sign.1))?;
+    Some(*hint)
 }
 
 fn of_character(line: &[u8]) -> Option<&'static str> {
     let known = first_of(&CHARACTERS, line);
-    if known.is_none() && matches!(line.first(), Some(0x80..=0xBF | 0xF8..=0xFF)) {
+    if known.is_some() {
+        return known;
+    }
+    if matches!(line.first(), Some(0x80..=0xBF | 0xF8..=0xFF)) {
         return Some("the line begins with a byte that begins no character; this is no text file");
     }
-    if known.is_none() && holds_one(&TYPOGRAPHY, line) {
+    if holds_one(&TYPOGRAPHY, line) {
         return Some("a dash or a quotation mark is not one of the keyboard");
     }
-    if known.is_none() && line.iter().any(|byte| *byte > b'~') {
-        return Some("a character that is not of ASCII stands in the line");
-    }
-    known
+    line.iter()
+        .any(|byte| *byte > b'~')
+        .then_some("a character that is not of ASCII stands in the line")
 }
 
 fn of_columns(line: &[u8]) -> Option<&'static str> {
     let front = line.get(..=LAST_LABEL_COLUMN).unwrap_or(line);
-    if matches!(
+    let is_comment = matches!(
         front,
         [b'!' | b'#' | b'/' | b'%', ..] | [b'D' | b'd', b' ', ..]
-    ) {
-        return Some(COMMENT);
-    }
-    if is_note(line.trim_start()) {
+    );
+    if is_comment || is_note(line.trim_start()) {
         return Some(COMMENT);
     }
     if front.contains(&b':') {
@@ -171,11 +170,7 @@ fn is_free_form(line: &[u8]) -> bool {
 
 /// What is said of letters in columns 1 to 6.
 fn of_letters(front: &[u8]) -> Option<&'static str> {
-    if front
-        .trim_start()
-        .first()
-        .is_some_and(|byte| byte.is_ascii_digit())
-    {
+    if digits_of(front.trim_start()) > 0 {
         return Some("the text behind a label begins in column 7");
     }
     Some("a statement begins in column 7, with six blanks before it")
@@ -192,10 +187,7 @@ fn of_label_columns(line: &[u8]) -> Option<&'static str> {
     if is_continuation(line) && front.iter().any(|byte| byte.is_ascii_digit()) {
         return Some("column 6 is blank in the line that a statement begins in");
     }
-    if label_of(line) == Some(0) {
-        return Some("a label is a number from 1 to 99999");
-    }
-    None
+    (label_of(line) == Some(0)).then_some("a label is a number from 1 to 99999")
 }
 
 /// Whether digits stand before a blank, and not all in the columns of a label.
@@ -208,27 +200,14 @@ fn goes_past_label(line: &[u8]) -> bool {
         && text.get(length) == Some(&b' ')
 }
 
-/// How many digits a text begins with.
-fn digits_of(text: &[u8]) -> usize {
-    let end = text.iter().position(|byte| !byte.is_ascii_digit());
-    end.unwrap_or(text.len())
-}
-
 /// What is said of signs of other languages, up to the first that makes a comment or a text there.
 fn of_signs(text: &[u8]) -> Option<&'static str> {
     let end = place_of_mark(text).unwrap_or(text.len());
     let front = text.get(..end).unwrap_or(text);
-    if divides(front) {
+    if past(front, word_length(front)).starts_with(b"/=") {
         return Some("write it out, as in K=K/2");
     }
     earliest_of(&FOREIGN, front).or(of_mark(text))
-}
-
-/// Whether a text begins with a name, and the '/=' of other languages.
-fn divides(text: &[u8]) -> bool {
-    let end = text.iter().position(|byte| !byte.is_ascii_alphanumeric());
-    text.get(end.unwrap_or(text.len())..)
-        .is_some_and(|rest| rest.starts_with(b"/="))
 }
 
 fn of_mark(text: &[u8]) -> Option<&'static str> {
@@ -243,7 +222,7 @@ fn place_of_mark(text: &[u8]) -> Option<usize> {
     for (place, byte) in text.iter().enumerate() {
         match byte {
             b'"' => return Some(place),
-            b'!' if !is_operator(text.get(place..).unwrap_or(&[])) => return Some(place),
+            b'!' if !is_operator(past(text, place)) => return Some(place),
             _ => {}
         }
     }
@@ -296,10 +275,8 @@ fn of_rest(line: &[u8], text: &[u8]) -> Option<&'static str> {
 
 /// What is said of apostrophes, of which there is an odd number.
 fn of_apostrophes(text: &[u8]) -> Option<&'static str> {
-    if text.iter().filter(|byte| **byte == b'\'').count() >= 3 {
-        return Some("an apostrophe within a text is written twice");
-    }
-    None
+    let count = text.iter().filter(|byte| **byte == b'\'').count();
+    (count >= 3).then_some("an apostrophe within a text is written twice")
 }
 
 fn of_form(line: &[u8], statement: &Squeezed) -> Option<&'static str> {
@@ -337,17 +314,14 @@ fn of_first(line: &[u8], text: &[u8]) -> Option<&'static str> {
 
 /// What is said of the list of a PRINT, a WRITE or a READ.
 fn of_list(text: &[u8]) -> Option<&'static str> {
-    if !TRANSFERS.iter().any(|front| text.starts_with(front)) {
-        return None;
-    }
+    transfer_length(text)?;
     if text.starts_with(b"WRITE(*,*),") || text.starts_with(b"READ(*,*),") {
         return Some("no comma stands behind (*,*)");
     }
     if text.ends_with(b",") {
         return Some("nothing stands behind the last comma");
     }
-    let start = text.iter().position(|byte| *byte == b'=')?;
-    let behind = text.get(start..).unwrap_or(&[]);
+    let behind = past(text, text.find_byte(b'=')?);
     if has_outer(b'=', text) && (!has_outer(b',', behind) || behind.starts_with(b"=,")) {
         return Some("no '=' stands in a list; a text stands between apostrophes");
     }
@@ -361,19 +335,15 @@ fn of_list(text: &[u8]) -> Option<&'static str> {
 fn of_text(text: &[u8]) -> Option<&'static str> {
     let done = action(text);
     let condition = text.get(..text.len().saturating_sub(done.len()));
-    let is_list = TRANSFERS.iter().any(|front| done.starts_with(front));
+    let is_list = transfer_length(done).is_some();
     let is_tested = condition.is_some_and(|condition| condition.contains(&b'\''));
-    if is_tested || done.contains(&b'\'') && !is_list {
-        return Some("a text stands in a PRINT, a WRITE or a STOP alone");
-    }
-    None
+    (is_tested || done.contains(&b'\'') && !is_list).then_some(
+        "a text stands in a PRINT, a WRITE or a STOP alone",
+    )
 }
 
 fn past_columns(statement: &Squeezed) -> Option<&'static str> {
-    if statement.is_cut {
-        return Some("the line goes past column 72, and what stands there is not read");
-    }
-    None
+    statement.is_cut.then_some("the line goes past column 72, and what stands there is not read")
 }
 
 fn of_label(line: &[u8], text: &[u8]) -> Option<&'static str> {
@@ -402,10 +372,7 @@ fn of_condition(text: &[u8]) -> Option<&'static str> {
     if (text.starts_with(b"IF") || text.starts_with(b"ELSEIF")) && !assigns(text) {
         return around_condition(text);
     }
-    if text.starts_with(b"ELSE") && !assigns(text) {
-        return Some("ELSE stands alone in its line");
-    }
-    None
+    (text.starts_with(b"ELSE") && !assigns(text)).then_some("ELSE stands alone in its line")
 }
 
 fn within_condition(text: &[u8]) -> Option<&'static str> {
@@ -430,58 +397,40 @@ fn within_condition(text: &[u8]) -> Option<&'static str> {
 }
 
 fn around_condition(text: &[u8]) -> Option<&'static str> {
-    if text.contains(&b'.') || text.ends_with(b"THEN") {
-        return Some("parentheses stand around the condition of an IF");
-    }
-    None
+    (text.contains(&b'.') || text.ends_with(b"THEN")).then_some(
+        "parentheses stand around the condition of an IF",
+    )
 }
 
 fn of_loop(line: &[u8], text: &[u8]) -> Option<&'static str> {
     if names_label(text) {
         return of_parameters(text);
     }
-    if is_do(line) {
-        return Some("a DO names the label of its last statement, as in DO 10 I=1,3");
-    }
-    None
+    is_do(line).then_some("a DO names the label of its last statement, as in DO 10 I=1,3")
 }
 
 fn of_parameters(text: &[u8]) -> Option<&'static str> {
     if behind_label(text).starts_with(b"WHILE(") {
         return Some(WHILE);
     }
-    if has_parameters(text) {
-        return None;
-    }
-    Some("a DO has an '=' and then commas, as in DO 10 I=1,5")
+    (!has_parameters(text)).then_some("a DO has an '=' and then commas, as in DO 10 I=1,5")
 }
 
 /// Whether commas stand between the parameters of a DO.
 fn has_parameters(text: &[u8]) -> bool {
-    match text.iter().position(|byte| *byte == b'=') {
-        Some(place) => has_outer(b',', text.get(place..).unwrap_or(&[])) && !text.ends_with(b","),
-        None => false,
-    }
+    text.find_byte(b'=').is_some_and(|place| has_outer(b',', past(text, place))
+        && !text.ends_with(b","))
 }
 
 /// Whether a line may be meant as a DO.
 fn is_do(line: &[u8]) -> bool {
-    match line.trim_start() {
-        [d, o, blank, ..] => {
-            d.eq_ignore_ascii_case(&b'D') && o.eq_ignore_ascii_case(&b'O') && *blank == b' '
-        }
-        _ => false,
-    }
+    matches!(line.trim_start(), [b'D' | b'd', b'O' | b'o', b' ', ..])
 }
 
 fn of_star(text: &[u8]) -> Option<&'static str> {
-    if text.starts_with(b"PRINT*,") || text.starts_with(b"READ*,") {
-        return None;
-    }
-    if text.starts_with(b"PRINT*") || text.starts_with(b"READ*") {
-        return Some("a comma stands behind the '*'");
-    }
-    None
+    let has_star = begins_with(text, &[b"PRINT*", b"READ*"]);
+    let has_comma = begins_with(text, &[b"PRINT*,", b"READ*,"]);
+    (has_star && !has_comma).then_some("a comma stands behind the '*'")
 }
 
 fn of_real(text: &[u8]) -> Option<&'static str> {
@@ -501,10 +450,9 @@ fn of_name(text: &[u8]) -> Option<&'static str> {
     if text.starts_with(b"IF(") && text.contains_str(b")THEN") && !text.ends_with(b"THEN") {
         return Some("THEN ends its line; here it begins the name that is assigned to");
     }
-    if text.starts_with(b"ELSE") && assigns(text) {
-        return Some("ELSE stands alone in its line; here it begins the name that is assigned to");
-    }
-    None
+    (text.starts_with(b"ELSE") && assigns(text)).then_some(
+        "ELSE stands alone in its line; here it begins the name that is assigned to",
+    )
 }
 
 fn of_kind(line: &[u8], text: &[u8]) -> Option<&'static str> {
@@ -552,7 +500,7 @@ fn of_points(text: &[u8]) -> Option<&'static str> {
 
 /// The letters behind a place of a text.
 fn letters_behind(text: &[u8], place: usize) -> &[u8] {
-    let rest = text.get(place.saturating_add(1)..).unwrap_or(&[]);
+    let rest = past(text, place.saturating_add(1));
     let end = rest.iter().position(|byte| !byte.is_ascii_alphabetic());
     rest.get(..end.unwrap_or(rest.len())).unwrap_or(&[])
 }
@@ -577,16 +525,11 @@ fn of_neighbours(text: &[u8]) -> Option<&'static str> {
     if text.ends_with(b"++") || text.ends_with(b"--") {
         return Some("write it out, as in K=K+1");
     }
-    if holds_one(&NEIGHBOURS, text) {
-        return Some("a sign behind an operator stands in parentheses, as in 2*(-1)");
-    }
-    None
+    holds_one(&NEIGHBOURS, text).then_some(
+        "a sign behind an operator stands in parentheses, as in 2*(-1)",
+    )
 }
 
 fn holds_one(parts: &[&[u8]], text: &[u8]) -> bool {
     parts.iter().any(|part| text.contains_str(part))
-}
-
-fn is_if(text: &[u8]) -> bool {
-    text.starts_with(b"IF(") || text.starts_with(b"ELSEIF(")
 }

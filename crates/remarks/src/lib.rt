@@ -14,6 +14,7 @@ mod mentions;
 mod place;
 mod rules;
 mod squeezed;
+mod tokens;
 mod usage;
 mod visible;
 mod warnings;

@@ -1,6 +1,7 @@
 //! The names that a statement mentions, in the order of its text.
 
 use crate::squeezed::{PROGRAM, Squeezed};
+use crate::tokens::past;
 use ast::{LONGEST_NAME, Name};
 use std::alloc::{AllocError, Global};
 
@@ -80,24 +81,19 @@ pub fn without_keyword(statement: &Squeezed) -> &[u8] {
     if statement.is_assignment() {
         return text;
     }
-    for keyword in &KEYWORDS {
-        if text.starts_with(keyword) {
-            return text.get(keyword.len()..).unwrap_or(text);
-        }
+    match KEYWORDS.iter().find(|keyword| text.starts_with(keyword)) {
+        Some(keyword) => past(text, keyword.len()),
+        None => text,
     }
-    text
 }
 
 /// The text of a DO behind its label and the comma that may follow it.
 pub fn behind_label(text: &[u8]) -> &[u8] {
-    let mut start: usize = 2;
-    for byte in text.iter().skip(2) {
-        if !byte.is_ascii_digit() && *byte != b',' {
-            break;
-        }
-        start = start.saturating_add(1);
-    }
-    text.get(start..).unwrap_or(text)
+    let rest = past(text, 2);
+    let end = rest
+        .iter()
+        .position(|byte| !byte.is_ascii_digit() && *byte != b',');
+    past(rest, end.unwrap_or(rest.len()))
 }
 
 /// The name that letters and digits are, if they are one.

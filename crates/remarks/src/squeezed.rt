@@ -1,9 +1,10 @@
 //! Statements of a source as hints look at them.
 
 use crate::columns::{
-    has_late_label, is_blank, is_comment, is_continuation, is_cut, label_of, text_of,
+    has_late_label, is_blank, is_comment, is_continuation, is_cut, label_of, text_of, with_digit,
 };
 use crate::place::line_at;
+use crate::tokens::{digits_of, past, word_length};
 use ast::{Label, Line};
 use bstr::ByteSlice;
 use std::alloc::{AllocError, Global};
@@ -17,19 +18,14 @@ pub const PROGRAM: &[u8] = b"PROGRAM";
 /// What begins the statements that others stand on, but for a DO and the parts of an IF.
 const DECLARATIONS: [&[u8]; 4] = [b"INTEGER", b"DIMENSION", b"PARAMETER", PROGRAM];
 
-/// What begins the statements that read and print.
-const TRANSFERS: [&[u8]; 3] = [b"PRINT", b"READ", b"WRITE"];
+/// What begins the statements that read and print, whatever stands behind it.
+pub const TRANSFERS: [&[u8]; 3] = [b"PRINT", b"READ", b"WRITE"];
 
-/// What begins the statements that don't stand behind a condition, but for a DO.
-const UNCONDITIONAL: [&[u8]; 7] = [
-    b"IF(",
-    b"ELSE",
-    b"END",
-    b"INTEGER",
-    b"DIMENSION",
-    b"PARAMETER",
-    PROGRAM,
-];
+/// What begins those of the language, before their lists.
+const LISTS: [&[u8]; 4] = [b"PRINT*", b"WRITE(*,*)", b"READ*", b"READ(*,*)"];
+
+/// What else begins the statements that don't stand behind a condition, but for a DO.
+const UNCONDITIONAL: [&[u8]; 3] = [b"IF(", b"ELSE", b"END"];
 
 /// Whether a sign stands outside all parentheses.
 pub fn has_outer(sign: u8, text: &[u8]) -> bool {
@@ -67,10 +63,25 @@ pub fn action(text: &[u8]) -> &[u8] {
     text
 }
 
+/// Whether a text begins as an IF with a condition.
+pub fn is_if(text: &[u8]) -> bool {
+    text.starts_with(b"IF(") || text.starts_with(b"ELSEIF(")
+}
+
+/// How much of a text stands before the list of a PRINT, a WRITE or a READ, if it is one.
+pub fn transfer_length(text: &[u8]) -> Option<usize> {
+    let front = LISTS.iter().find(|front| text.starts_with(front))?;
+    Some(front.len())
+}
+
+/// Whether a text begins with one of these.
+pub fn begins_with(text: &[u8], fronts: &[&[u8]]) -> bool {
+    fronts.iter().any(|front| text.starts_with(front))
+}
+
 /// Whether a text begins with a name, with subscripts or without, and an equals sign.
 pub fn assigns(text: &[u8]) -> bool {
-    let end = text.iter().position(|byte| !byte.is_ascii_alphanumeric());
-    let rest = text.get(end.unwrap_or(text.len())..).unwrap_or(&[]);
+    let rest = past(text, word_length(text));
     let behind = if rest.starts_with(b"(") {
         behind_parentheses(rest)
     } else {
@@ -105,21 +116,16 @@ impl Squeezed {
     /// The statement that begins in a line, or else the last one before, with its continuation
     /// lines.
     pub fn of(alloc: Global, source: &[u8], line: Line) -> Result<Self, AllocError> {
-        let mut statement = Squeezed::new(alloc, line, None);
-        for (place, text) in source.lines().enumerate() {
-            if is_comment(text) || is_blank(text) {
-                continue;
-            }
-            let number = line_at(place);
-            if !is_continuation(text) {
-                if number > line {
-                    break;
-                }
-                statement = Squeezed::new(alloc, number, label_of(text));
-            }
-            statement.add_line(number, text)?;
+        let mut statements = Squeezed::all(alloc, source)?;
+        let count = statements
+            .iter()
+            .filter(|statement| statement.line <= line)
+            .count();
+        statements.truncate(count);
+        match statements.pop() {
+            Some(statement) => Ok(statement),
+            None => Ok(Squeezed::new(alloc, line, None)),
         }
-        Ok(statement)
     }
 
     /// All statements of a source whose lines are in order.
@@ -163,7 +169,9 @@ impl Squeezed {
     pub fn is_misplaced(&self) -> bool {
         let done = action(&self.text);
         done.len() < self.text.len()
-            && (names_label(done) || UNCONDITIONAL.iter().any(|front| done.starts_with(front)))
+            && (names_label(done)
+                || begins_with(done, &UNCONDITIONAL)
+                || begins_with(done, &DECLARATIONS))
     }
 
     /// Whether it is a DO, if it is a statement.
@@ -180,14 +188,13 @@ impl Squeezed {
     /// a PRINT, also in a logical IF.
     pub fn stands_alone(&self) -> bool {
         let done = action(&self.text);
-        if done.starts_with(b"THEN") || DECLARATIONS.iter().any(|front| done.starts_with(front)) {
+        if done.starts_with(b"THEN") || begins_with(done, &DECLARATIONS) {
             return false;
         }
         if self.is_assignment() {
             return true;
         }
-        TRANSFERS.iter().any(|front| done.starts_with(front))
-            || has_outer(b'=', done) && !has_outer(b',', done)
+        begins_with(done, &TRANSFERS) || has_outer(b'=', done) && !has_outer(b',', done)
     }
 
     /// Whether it is a READ, if it is a statement.
@@ -197,14 +204,10 @@ impl Squeezed {
 
     /// The label that a DO names.
     pub fn terminal(&self) -> Label {
+        let text = past(&self.text, 2);
         let mut label: Label = 0;
-        for byte in self.text.iter().skip(2) {
-            if !byte.is_ascii_digit() {
-                break;
-            }
-            label = label
-                .saturating_mul(10)
-                .saturating_add(Label::from(*byte - b'0'));
+        for digit in text.iter().take(digits_of(text)) {
+            label = with_digit(label, *digit);
         }
         label
     }

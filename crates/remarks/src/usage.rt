@@ -129,8 +129,9 @@ impl Usage {
     #[cycle(kinds)]
     fn see_kind(&mut self, line: Line, kind: &Kind) {
         match kind {
-            Kind::Integer(declarators) => self.see_declarators(line, declarators),
-            Kind::Dimension(declarators) => self.see_declarators(line, declarators),
+            Kind::Integer(declarators) | Kind::Dimension(declarators) => {
+                self.see_declarators(line, declarators)
+            }
             Kind::Parameter(definitions) => {
                 for definition in definitions {
                     self.see(line, &definition.value);
@@ -142,8 +143,7 @@ impl Usage {
                 self.assign(target.reference.cell, line);
             }
             Kind::Do(head) => self.see_head(line, head),
-            Kind::If(condition) => self.see(line, condition),
-            Kind::ElseIf(condition) => self.see(line, condition),
+            Kind::If(condition) | Kind::ElseIf(condition) => self.see(line, condition),
             Kind::LogicalIf(condition, inner) => {
                 self.see(line, condition);
                 self.see_kind(line, inner);
@@ -226,17 +226,13 @@ impl Usage {
 
     fn take(&mut self, symbol: usize, line: Line) {
         if let Some(seen) = self.symbols.get_mut(symbol) {
-            if seen.first_read.is_none() {
-                seen.first_read = Some(line);
-            }
+            seen.first_read = seen.first_read.or(Some(line));
         }
     }
 
     fn assign(&mut self, symbol: usize, line: Line) {
         if let Some(seen) = self.symbols.get_mut(symbol) {
-            if seen.first_assigned.is_none() {
-                seen.first_assigned = Some(line);
-            }
+            seen.first_assigned = seen.first_assigned.or(Some(line));
         }
     }
 

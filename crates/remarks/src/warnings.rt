@@ -3,6 +3,7 @@
 use crate::columns::{is_comment, is_cut, label_of, names_card, unread};
 use crate::place::{Place, line_at};
 use crate::squeezed::behind_parentheses;
+use crate::tokens::past;
 use crate::usage::{Seen, Usage};
 use crate::visible::Visible;
 use ast::{Kind, LONGEST_NAME, Line, Name, Node, Program, Symbol, SymbolKind};
@@ -67,10 +68,8 @@ fn warn_of_cards<R: Eprint>(rt: &R, file: &str, source: &[u8]) {
 
 /// Says what stands in a line past the last column that is read.
 fn say_unread<R: Eprint>(rt: &R, file: &str, index: usize, text: &[u8]) {
-    let place = Place {
-        file,
-        line: line_at(index),
-    };
+    let line = line_at(index);
+    let place = Place { file, line };
     let cut = Visible::new(unread(text).trim());
     let _ = eprintln!(rt; "{place}warning: what stands past column 72 is not read: {cut}");
 }
@@ -82,10 +81,8 @@ fn warn_of_comments<R: Eprint>(rt: &R, file: &str, source: &[u8]) {
     for (index, text) in source.lines().enumerate() {
         if left > 0 && looks_like_statement(text) {
             left -= 1;
-            let place = Place {
-                file,
-                line: line_at(index),
-            };
+            let line = line_at(index);
+            let place = Place { file, line };
             let _ = eprintln!(rt; "{place}warning: with a C in column 1 this is a comment");
         }
     }
@@ -104,8 +101,8 @@ fn looks_like_statement(line: &[u8]) -> bool {
         .get(..CALL.len())
         .is_some_and(|front| front.eq_ignore_ascii_case(CALL))
     {
-        let rest = line.get(CALL.len()..).unwrap_or(&[]);
-        return behind_name(rest).is_some_and(|rest| rest.starts_with(b"(") && is_closed(rest));
+        return behind_name(past(line, CALL.len())).is_some_and(|rest| rest.starts_with(b"(")
+            && is_closed(rest));
     }
     match behind_name(line) {
         Some(rest) if rest.starts_with(b"(") => {
@@ -172,10 +169,8 @@ fn warn_of_labels<R: Eprint>(rt: &R, file: &str, source: &[u8], usage: &Usage) {
     for (index, text) in source.lines().enumerate() {
         if let Some(label) = label_of(text) {
             if usage.terminals.binary_search(&label).is_err() {
-                let place = Place {
-                    file,
-                    line: line_at(index),
-                };
+                let line = line_at(index);
+                let place = Place { file, line };
                 let _ = eprintln!(rt; "{place}warning: no DO names the label {label}");
             }
         }
@@ -184,14 +179,11 @@ fn warn_of_labels<R: Eprint>(rt: &R, file: &str, source: &[u8], usage: &Usage) {
 
 /// The line where a name is declared, 0 where it isn't.
 fn declared_at(body: &[Node], name: Name) -> Line {
-    for node in body {
-        if let Node::Plain(statement) = node {
-            if declares(&statement.kind, name) {
-                return statement.line;
-            }
-        }
-    }
-    0
+    let found = body.iter().find_map(|node| match node {
+        Node::Plain(statement) if declares(&statement.kind, name) => Some(statement.line),
+        _ => None,
+    });
+    found.unwrap_or(0)
 }
 
 fn declares(kind: &Kind, name: Name) -> bool {

@@ -1,5 +1,5 @@
 -- What is shown of the states of a run that a schedule describes: a block for each line of it.
-use Rattle.std.specs.Prelude.{ℕ, zero, suc, ◌-◌, nat_le, ◌==◌, if◌then◌else◌, Bool, true, false, is_some, codes, decimal, List, [], ◌∷◌, ◌++◌, length, drop, Option, Some, None, slice_get}
+use Rattle.std.specs.Prelude.{ℕ, zero, suc, ◌-◌, nat_le, ◌==◌, if◌then◌else◌, Bool, true, false, is_some, codes, decimal, List, [], ◌∷◌, ◌++◌, drop, Option, Some, None, slice_get}
 use Rattle.ast.specs.declared.fault.Fault.{Fault}
 use Rattle.machine.specs.Code.{Code}
 use Rattle.machine.specs.Frame.{Frame}

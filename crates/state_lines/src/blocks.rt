@@ -1,6 +1,6 @@
 //! Blocks of lines, each of a line of a schedule.
 
-ghost use Rattle.std.specs.Prelude.{◌≡◌, ◌++◌, OnOk, length, drop};
+ghost use Rattle.std.specs.Prelude.{◌≡◌, ◌++◌, OnOk, length};
 ghost use Rattle.schedules.specs.Schedules.{act_text};
 ghost use Rattle.schedules.specs.View.{act as act_view, entry as entry_view};
 ghost use Rattle.activities.specs.Activities.{AreActivities, code_in, point_in};

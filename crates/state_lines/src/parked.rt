@@ -1,7 +1,6 @@
 //! Who is parked, and on what.
 
 ghost use Rattle.std.specs.Prelude.{◌≡◌, ◌++◌, ◌-◌, ◌+◌, OnOk, None, Some, get_or, option_map, ◌%◌};
-ghost use Rattle.machine.specs.CodeView.{code_of};
 ghost use Rattle.machine.specs.FrameView.{frame_of};
 ghost use Rattle.activities.specs.Activities.{AreActivities, code_in, kept_in, point_in};
 ghost use Rattle.activities.specs.Parts.{numbered, standing};

@@ -6,7 +6,6 @@ use Rattle.machine.specs.Code.{Code}
 use Rattle.schedules.specs.Schedules.{Entry, Schedule}
 use Rattle.schedules.specs.declared.entry.Version.{Version}
 use Rattle.schedules.specs.declared.flaw.Flaw.{Flaw}
-use Rattle.schedules.specs.declared.refusal.ReplayRefusal.{ReplayRefusal}
 use Rattle.schedules.specs.declared.refusal.ReplayRefusal.TheVariants.{Memory, Refused}
 use Rattle.activities.specs.Activities.{code_in, point_in}
 use Rattle.activities.specs.Points.{Point}

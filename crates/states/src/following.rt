@@ -2,7 +2,6 @@
 
 ghost use Rattle.std.specs.Prelude.{◌≡◌, [], IfErr, OnOk, length};
 ghost use Rattle.std.specs.Io.KnownBytes.{Appends};
-ghost use Rattle.handing.specs.Handing.{AppendsPart};
 ghost use Rattle.schedules.specs.View.{entry as entry_view};
 ghost use Rattle.activities.specs.Activities.{AreActivities, AreOf, Stays, code_in, point_in};
 ghost use Rattle.state_lines.specs.States.{block, first_block};

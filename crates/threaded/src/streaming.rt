@@ -12,7 +12,7 @@ use crate::ran::{Ran, write_output};
 use crate::running::{ended, unanswered};
 use ast::{Answer, Program};
 use engines::{Coded, Prepared, Wants, prepare};
-use pages::{EngineFault, Outcome, behind};
+use pages::{EngineFault, Outcome, unshown};
 use processors::{NoGate, RunRefusal, Streamed};
 use std::alloc::Global;
 use std::io::Write;
@@ -27,7 +27,7 @@ fn write_rest<W: Write>(ran: &Ran, shown: usize, out: &mut W) -> Result<Outcome,
     match ran {
         Ran::Refused(page) => page.write(out),
         Ran::Whole(whole) => whole.page.write_behind(shown, out),
-        Ran::Memory(output) => write_output(out, behind(output, shown)),
+        Ran::Memory(output) => write_output(out, unshown(output, shown)),
         Ran::OutOfRange => Err(EngineFault::OutOfRange),
         Ran::NotStarted(_) => Err(EngineFault::NotStarted),
         Ran::Stuck => Err(EngineFault::Stuck),

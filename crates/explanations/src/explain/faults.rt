@@ -3,7 +3,7 @@
 ghost use Rattle.std.specs.Prelude.{◌≡◌, IfSome, is_some};
 ghost use Rattle.explanations.specs.Explained.{is_within};
 
-use crate::explain::{Explanation, Origin, Trial, page_in};
+use crate::explain::{Explanation, Origin, page_in};
 use ast::Fault;
 
 /// What the fault of a number means, if there is one.
@@ -46,24 +46,18 @@ const OVERFLOW: Explanation = Explanation {
 9223372036854775807. An operation of the line gave a number outside of them, here in
 the second statement:
 ",
-    example: Trial {
-        source: "      K=9223372036854775807
+    example: "      K=9223372036854775807
       K=K+1
       END
 ",
-        input: "",
-    },
     advice: "print the values of the line's names in the line before, and look for the
 operation that leaves the range. A remainder is kept small by taking MOD after each
 step, and a count by stopping in time:
 ",
-    cure: Trial {
-        source: "      K=9223372036854775807
+    cure: "      K=9223372036854775807
       IF (K.LT.9223372036854775807) K=K+1
       END
 ",
-        input: "",
-    },
 };
 
 const INDEX: Explanation = Explanation {
@@ -73,27 +67,21 @@ const INDEX: Explanation = Explanation {
     meaning: "Each subscript of an array's element lies from the lower bound of its dimension, which
 is 1 where none is declared, to the upper one. Here I is 4 in the last trip:
 ",
-    example: Trial {
-        source: "      INTEGER A(3)
+    example: "      INTEGER A(3)
       DO 10 I=1,4
    10 A(I)=I
       END
 ",
-        input: "",
-    },
     advice: "print the subscripts before the line, and look at the limits of the loops
 around it. Of .AND. and .OR. both sides have to have a value, so one side guards
 nothing in the other: put one IF into another. If the subscripts are right, declare
 more elements:
 ",
-    cure: Trial {
-        source: "      INTEGER A(4)
+    cure: "      INTEGER A(4)
       DO 10 I=1,4
    10 A(I)=I
       END
 ",
-        input: "",
-    },
 };
 
 const ZERO_DIVISOR: Explanation = Explanation {
@@ -103,23 +91,17 @@ const ZERO_DIVISOR: Explanation = Explanation {
     meaning: "The divisor of a /, or the second argument of MOD, was 0 when the line ran. A name that
 was never assigned is 0, so this line faults wherever N has no value yet:
 ",
-    example: Trial {
-        source: "      K=10/N
+    example: "      K=10/N
       END
 ",
-        input: "",
-    },
     advice: "assign the divisor before the line, and look for a name that is spelled in
 two ways. Of .AND. and .OR. both sides have to have a value, so one side guards
 nothing in the other: put one IF into another. Here a value was missing:
 ",
-    cure: Trial {
-        source: "      N=5
+    cure: "      N=5
       K=10/N
       END
 ",
-        input: "",
-    },
 };
 
 const ZERO_STEP: Explanation = Explanation {
@@ -129,23 +111,17 @@ const ZERO_STEP: Explanation = Explanation {
     meaning: "The third number of a DO is what its variable grows by after each trip, and it may not
 be 0. A name that was never assigned is 0:
 ",
-    example: Trial {
-        source: "      DO 10 I=1,10,N
+    example: "      DO 10 I=1,10,N
    10 PRINT *,I
       END
 ",
-        input: "",
-    },
     advice: "assign the step before the DO, or leave it out where it is 1. A step below
 zero counts down:
 ",
-    cure: Trial {
-        source: "      DO 10 I=10,1,-1
+    cure: "      DO 10 I=10,1,-1
    10 PRINT *,I
       END
 ",
-        input: "",
-    },
 };
 
 const END_OF_INPUT: Explanation = Explanation {
@@ -155,32 +131,32 @@ const END_OF_INPUT: Explanation = Explanation {
     meaning: "Each READ takes at least one line of the input, and goes on to the next lines until
 all its items have values. With an input of two lines the third trip faults:
 ",
-    example: Trial {
-        source: "      DO 10 I=1,3
+    example: "      DO 10 I=1,3
       READ *,K
    10 PRINT *,K
       END
-",
-        input: "7
+
+with the input
+
+7
 8
 ",
-    },
     advice: "add the lines that are missing, or read the number of lines first and loop
 that often. The input is the file named behind that of the source; without one it is
 empty:
 ",
-    cure: Trial {
-        source: "      READ *,N
+    cure: "      READ *,N
       DO 10 I=1,N
       READ *,K
    10 PRINT *,K
       END
-",
-        input: "2
+
+with the input
+
+2
 7
 8
 ",
-    },
 };
 
 const BAD_INPUT: Explanation = Explanation {
@@ -191,23 +167,23 @@ const BAD_INPUT: Explanation = Explanation {
 characters, a comma with nothing on one side, and numbers outside of the INTEGER's
 range make it malformed, as 3,,4 and 3.5 and 2*1 are:
 ",
-    example: Trial {
-        source: "      READ *,I,J
+    example: "      READ *,I,J
       PRINT *,I+J
       END
+
+with the input
+
+3,,4
 ",
-        input: "3,,4
-",
-    },
     advice: "write every value out as a whole number, with blanks or a comma between
 them:
 ",
-    cure: Trial {
-        source: "      READ *,I,J
+    cure: "      READ *,I,J
       PRINT *,I+J
       END
+
+with the input
+
+3, -4
 ",
-        input: "3, -4
-",
-    },
 };

@@ -3,7 +3,7 @@
 ghost use Rattle.std.specs.Prelude.{◌≡◌, IfSome, is_some};
 ghost use Rattle.explanations.specs.Explained.{is_within};
 
-use crate::explain::{Explanation, Origin, Trial, page_in};
+use crate::explain::{Explanation, Origin, page_in};
 
 /// What the rule of a number means, if it is one for lines.
 pub fn page(number: u8) -> Option<Explanation>
@@ -53,21 +53,15 @@ minus or a quotation mark of a word processor, the mark that some editors put at
 beginning of a file, or the CR of a line that doesn't end in CR LF. A comment line may
 hold anything, and so may the columns from 73 on. Here a tab stands before K:
 ",
-    example: Trial {
-        source: "\tK=1
+    example: "\tK=1
       END
 ",
-        input: "",
-    },
     advice: "put blanks in the place of the tab. A statement begins in column 7, so six
 blanks stand before it:
 ",
-    cure: Trial {
-        source: "      K=1
+    cure: "      K=1
       END
 ",
-        input: "",
-    },
 };
 
 const NO_LABEL: Explanation = Explanation {
@@ -78,22 +72,16 @@ const NO_LABEL: Explanation = Explanation {
 to five digits that are not all zero. Everything else belongs in columns 7 to 72. A
 common cause is a statement that begins too far to the left:
 ",
-    example: Trial {
-        source: "K=1
+    example: "K=1
       END
 ",
-        input: "",
-    },
     advice: "put six blanks before the statement. If the line is meant as a comment,
 put a C or a * into column 1:
 ",
-    cure: Trial {
-        source: "C     SETS K
+    cure: "C     SETS K
       K=1
       END
 ",
-        input: "",
-    },
 };
 
 const LONE_CONTINUATION: Explanation = Explanation {
@@ -104,22 +92,16 @@ const LONE_CONTINUATION: Explanation = Explanation {
 above it, and above this line there is none. A common cause is a statement that begins
 one column too far to the left, here in column 6:
 ",
-    example: Trial {
-        source: "     K=1
+    example: "     K=1
       END
 ",
-        input: "",
-    },
     advice: "write the statement from column 7 on, or put the line below the one that it
 continues:
 ",
-    cure: Trial {
-        source: "      K=1
+    cure: "      K=1
      1+1
       END
 ",
-        input: "",
-    },
 };
 
 const LONG_STATEMENT: Explanation = Explanation {
@@ -129,8 +111,7 @@ const LONG_STATEMENT: Explanation = Explanation {
     meaning: "A statement has its first line and at most 19 continuation lines. The line of the
 refusal is the twentieth:
 ",
-    example: Trial {
-        source: "      K=1
+    example: "      K=1
      1+1
      1+1
      1+1
@@ -153,17 +134,12 @@ refusal is the twentieth:
      1+1
       END
 ",
-        input: "",
-    },
     advice: "compute the first part in a statement of its own, and go on from its value:
 ",
-    cure: Trial {
-        source: "      K=1+1+1+1+1+1+1+1+1+1
+    cure: "      K=1+1+1+1+1+1+1+1+1+1
       K=K+1+1+1+1+1+1+1+1+1+1+1
       END
 ",
-        input: "",
-    },
 };
 
 const LABELLED_CONTINUATION: Explanation = Explanation {
@@ -174,23 +150,17 @@ const LABELLED_CONTINUATION: Explanation = Explanation {
 its columns 1 to 5 are blank. A statement that begins too far to the left often looks
 like one, since one of its letters stands in column 6:
 ",
-    example: Trial {
-        source: "      K=1
+    example: "      K=1
 PRINT*,K
       END
 ",
-        input: "",
-    },
     advice: "begin the statement in column 7. A label belongs to the first line of its
 statement:
 ",
-    cure: Trial {
-        source: "      K=1
+    cure: "      K=1
       PRINT *,K
       END
 ",
-        input: "",
-    },
 };
 
 const LONG_SOURCE: Explanation = Explanation {
@@ -200,16 +170,10 @@ const LONG_SOURCE: Explanation = Explanation {
     meaning: "A source has at most 65,535 lines, comments counted. The line of the refusal is the
 first one too many.
 ",
-    example: Trial {
-        source: "",
-        input: "",
-    },
+    example: "",
     advice: "take out comment lines, or cut the program into two.
 ",
-    cure: Trial {
-        source: "",
-        input: "",
-    },
+    cure: "",
 };
 
 const NO_END: Explanation = Explanation {
@@ -220,21 +184,15 @@ const NO_END: Explanation = Explanation {
 refusal is the number of lines that the source has, 0 for an empty file. The last line
 here has more than END:
 ",
-    example: Trial {
-        source: "      PRINT *,1
+    example: "      PRINT *,1
       END PROGRAM
 ",
-        input: "",
-    },
     advice: "write END as the last line, with six blanks before it and nothing behind it
 up to column 72:
 ",
-    cure: Trial {
-        source: "      PRINT *,1
+    cure: "      PRINT *,1
       END
 ",
-        input: "",
-    },
 };
 
 const BEHIND_END: Explanation = Explanation {
@@ -243,19 +201,13 @@ const BEHIND_END: Explanation = Explanation {
     sentence: "a line after END",
     meaning: "END ends the program, and only comment lines and blank lines may follow it:
 ",
-    example: Trial {
-        source: "      END
+    example: "      END
       PRINT *,1
 ",
-        input: "",
-    },
     advice: "move the line before END, or take it out. A file holds one main program, and no
 subroutines or functions:
 ",
-    cure: Trial {
-        source: "      PRINT *,1
+    cure: "      PRINT *,1
       END
 ",
-        input: "",
-    },
 };

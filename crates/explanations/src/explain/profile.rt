@@ -3,38 +3,18 @@
 ghost use Rattle.std.specs.Prelude.{◌≡◌, IfSome, is_some};
 ghost use Rattle.explanations.specs.Explained.{is_within};
 
-use crate::explain::{Explanation, Origin, Trial, page_in};
+use crate::explain::{Explanation, Origin, page_in};
 
 /// What the rule of a number means, if it is one for whole programs.
 pub fn page(number: u8) -> Option<Explanation>
     ensures number { IfSome result (λ explanation. explanation.number ≡ number) }
     ensures whether { is_some result ≡ is_within 30 43 number }
 {
-    if number <= 36 {
-        first_page(number)
-    } else {
-        further_page(number)
-    }
-}
-
-/// What the rule of a number means, if it is one of the first.
-fn first_page(number: u8) -> Option<Explanation>
-    ensures number { IfSome result (λ explanation. explanation.number ≡ number) }
-    ensures whether { is_some result ≡ is_within 30 36 number }
-{
-    page_in(&FIRST_TABLE, 30, 36, number)
-}
-
-/// What the rule of a number means, if it is one of the others.
-fn further_page(number: u8) -> Option<Explanation>
-    ensures number { IfSome result (λ explanation. explanation.number ≡ number) }
-    ensures whether { is_some result ≡ is_within 37 43 number }
-{
-    page_in(&FURTHER_TABLE, 37, 43, number)
+    page_in(&TABLE, 30, 43, number)
 }
 
 /// The pages in the order of their numbers.
-const FIRST_PAGES: [Explanation; 7] = [
+const PAGES: [Explanation; 14] = [
     WRONG_ORDER,
     NO_INTEGER,
     TWO_MEANINGS,
@@ -42,25 +22,6 @@ const FIRST_PAGES: [Explanation; 7] = [
     OPEN_RANGE,
     WRONG_LAST_STATEMENT,
     WRONG_BLOCK,
-];
-
-const _: () = prove!(FIRST_PAGES[0].number == 30);
-
-const _: () = prove!(FIRST_PAGES[1].number == 31);
-
-const _: () = prove!(FIRST_PAGES[2].number == 32);
-
-const _: () = prove!(FIRST_PAGES[3].number == 33);
-
-const _: () = prove!(FIRST_PAGES[4].number == 34);
-
-const _: () = prove!(FIRST_PAGES[5].number == 35);
-
-const _: () = prove!(FIRST_PAGES[6].number == 36);
-
-static FIRST_TABLE: [Explanation; 7] = FIRST_PAGES;
-
-const FURTHER_PAGES: [Explanation; 7] = [
     VARIABLE_IN_USE,
     ASSIGNED_CONSTANT,
     WRONG_BOUNDS,
@@ -70,21 +31,35 @@ const FURTHER_PAGES: [Explanation; 7] = [
     WRONG_KIND,
 ];
 
-const _: () = prove!(FURTHER_PAGES[0].number == 37);
+const _: () = prove!(PAGES[0].number == 30);
 
-const _: () = prove!(FURTHER_PAGES[1].number == 38);
+const _: () = prove!(PAGES[1].number == 31);
 
-const _: () = prove!(FURTHER_PAGES[2].number == 39);
+const _: () = prove!(PAGES[2].number == 32);
 
-const _: () = prove!(FURTHER_PAGES[3].number == 40);
+const _: () = prove!(PAGES[3].number == 33);
 
-const _: () = prove!(FURTHER_PAGES[4].number == 41);
+const _: () = prove!(PAGES[4].number == 34);
 
-const _: () = prove!(FURTHER_PAGES[5].number == 42);
+const _: () = prove!(PAGES[5].number == 35);
 
-const _: () = prove!(FURTHER_PAGES[6].number == 43);
+const _: () = prove!(PAGES[6].number == 36);
 
-static FURTHER_TABLE: [Explanation; 7] = FURTHER_PAGES;
+const _: () = prove!(PAGES[7].number == 37);
+
+const _: () = prove!(PAGES[8].number == 38);
+
+const _: () = prove!(PAGES[9].number == 39);
+
+const _: () = prove!(PAGES[10].number == 40);
+
+const _: () = prove!(PAGES[11].number == 41);
+
+const _: () = prove!(PAGES[12].number == 42);
+
+const _: () = prove!(PAGES[13].number == 43);
+
+static TABLE: [Explanation; 14] = PAGES;
 
 const WRONG_ORDER: Explanation = Explanation {
     number: 30,
@@ -93,22 +68,16 @@ const WRONG_ORDER: Explanation = Explanation {
     meaning: "PROGRAM comes first, then the declarations (INTEGER, DIMENSION, PARAMETER), then all
 other statements:
 ",
-    example: Trial {
-        source: "      K=1
+    example: "      K=1
       INTEGER L
       END
 ",
-        input: "",
-    },
     advice: "move the declaration to the top of the program, below PROGRAM:
 ",
-    cure: Trial {
-        source: "      INTEGER L
+    cure: "      INTEGER L
       K=1
       END
 ",
-        input: "",
-    },
 };
 
 const NO_INTEGER: Explanation = Explanation {
@@ -118,22 +87,16 @@ const NO_INTEGER: Explanation = Explanation {
     meaning: "A name that begins with one of the letters I to N is an integer. Any other name would
 be a real number, unless an INTEGER statement says otherwise:
 ",
-    example: Trial {
-        source: "      TOTAL=1
+    example: "      TOTAL=1
       END
 ",
-        input: "",
-    },
     advice: "declare the name at the top of the program, or choose one that begins
 with I to N:
 ",
-    cure: Trial {
-        source: "      INTEGER TOTAL
+    cure: "      INTEGER TOTAL
       TOTAL=1
       END
 ",
-        input: "",
-    },
 };
 
 const TWO_MEANINGS: Explanation = Explanation {
@@ -144,20 +107,14 @@ const TWO_MEANINGS: Explanation = Explanation {
 constant has no bounds. The program's name, and ABS, IABS, MAX, MAX0, MIN, MIN0 and
 MOD, which are functions, can't be variables.
 ",
-    example: Trial {
-        source: "      INTEGER I,J,I
+    example: "      INTEGER I,J,I
       END
 ",
-        input: "",
-    },
     advice: "take one of the two declarations out, or choose another name:
 ",
-    cure: Trial {
-        source: "      INTEGER I,J
+    cure: "      INTEGER I,J
       END
 ",
-        input: "",
-    },
 };
 
 const WRONG_SUBSCRIPTS: Explanation = Explanation {
@@ -168,24 +125,18 @@ const WRONG_SUBSCRIPTS: Explanation = Explanation {
 is an array or a function, and an array never stands without subscripts. MOD has two
 arguments, ABS and IABS one, and the others at least two:
 ",
-    example: Trial {
-        source: "      INTEGER A(10)
+    example: "      INTEGER A(10)
       A=0
       END
 ",
-        input: "",
-    },
     advice: "count the subscripts against the declaration, and declare the array if it
 has none. All elements are set by a loop:
 ",
-    cure: Trial {
-        source: "      INTEGER A(10)
+    cure: "      INTEGER A(10)
       DO 10 I=1,10
    10 A(I)=0
       END
 ",
-        input: "",
-    },
 };
 
 const OPEN_RANGE: Explanation = Explanation {
@@ -196,27 +147,21 @@ const OPEN_RANGE: Explanation = Explanation {
 holds the other, so the inner one ends first, or both end at the same statement. A
 loop whose label is missing is refused at the line of END:
 ",
-    example: Trial {
-        source: "      DO 10 I=1,3
+    example: "      DO 10 I=1,3
       DO 20 J=1,3
    10 PRINT *,I
    20 PRINT *,J
       END
 ",
-        input: "",
-    },
     advice: "look for the label behind DO in columns 1 to 5 of the lines below, and
 exchange the ends of loops that cross:
 ",
-    cure: Trial {
-        source: "      DO 10 I=1,3
+    cure: "      DO 10 I=1,3
       DO 20 J=1,3
    20 PRINT *,J
    10 PRINT *,I
       END
 ",
-        input: "",
-    },
 };
 
 const WRONG_LAST_STATEMENT: Explanation = Explanation {
@@ -226,27 +171,21 @@ const WRONG_LAST_STATEMENT: Explanation = Explanation {
     meaning: "The last statement of a loop is none of DO, IF with THEN, ELSE IF, ELSE, END IF, STOP
 and END:
 ",
-    example: Trial {
-        source: "      DO 10 I=1,3
+    example: "      DO 10 I=1,3
       IF (I.EQ.2) THEN
       PRINT *,I
    10 END IF
       END
 ",
-        input: "",
-    },
     advice: "move the label to a CONTINUE behind the statement:
 ",
-    cure: Trial {
-        source: "      DO 10 I=1,3
+    cure: "      DO 10 I=1,3
       IF (I.EQ.2) THEN
       PRINT *,I
       END IF
    10 CONTINUE
       END
 ",
-        input: "",
-    },
 };
 
 const WRONG_BLOCK: Explanation = Explanation {
@@ -257,24 +196,18 @@ const WRONG_BLOCK: Explanation = Explanation {
 most. A loop and an IF block don't cross: what begins inside ends inside. In an IF
 without THEN no DO, no other IF, no declaration and no END may stand.
 ",
-    example: Trial {
-        source: "      IF (K.EQ.0) THEN
+    example: "      IF (K.EQ.0) THEN
       PRINT *,1
       END
 ",
-        input: "",
-    },
     advice: "write END IF where the block ends, and look for a loop that ends inside of
 the block though it began before it:
 ",
-    cure: Trial {
-        source: "      IF (K.EQ.0) THEN
+    cure: "      IF (K.EQ.0) THEN
       PRINT *,1
       END IF
       END
 ",
-        input: "",
-    },
 };
 
 const VARIABLE_IN_USE: Explanation = Explanation {
@@ -284,22 +217,16 @@ const VARIABLE_IN_USE: Explanation = Explanation {
     meaning: "As long as a loop runs, its variable belongs to it: no assignment, no READ and no
 inner DO may use it as a target:
 ",
-    example: Trial {
-        source: "      DO 10 I=1,9
+    example: "      DO 10 I=1,9
    10 I=I+1
       END
 ",
-        input: "",
-    },
     advice: "count with another name, or give the DO a step:
 ",
-    cure: Trial {
-        source: "      DO 10 I=1,9,2
+    cure: "      DO 10 I=1,9,2
    10 PRINT *,I
       END
 ",
-        input: "",
-    },
 };
 
 const ASSIGNED_CONSTANT: Explanation = Explanation {
@@ -309,23 +236,17 @@ const ASSIGNED_CONSTANT: Explanation = Explanation {
     meaning: "A name that PARAMETER gives a value keeps it. It can't be assigned, read, or be the
 variable of a DO:
 ",
-    example: Trial {
-        source: "      PARAMETER (N=10)
+    example: "      PARAMETER (N=10)
       N=N+1
       END
 ",
-        input: "",
-    },
     advice: "copy the constant into a variable and change that:
 ",
-    cure: Trial {
-        source: "      PARAMETER (N=10)
+    cure: "      PARAMETER (N=10)
       M=N
       M=M+1
       END
 ",
-        input: "",
-    },
 };
 
 const WRONG_BOUNDS: Explanation = Explanation {
@@ -335,20 +256,14 @@ const WRONG_BOUNDS: Explanation = Explanation {
     meaning: "An array has one to seven dimensions, and in none of them is the upper bound below the
 lower one. A single bound is the upper one, and the lower one is 1:
 ",
-    example: Trial {
-        source: "      INTEGER A(0)
+    example: "      INTEGER A(0)
       END
 ",
-        input: "",
-    },
     advice: "write the lower bound first. An array of no elements doesn't exist:
 ",
-    cure: Trial {
-        source: "      INTEGER A(0:9)
+    cure: "      INTEGER A(0:9)
       END
 ",
-        input: "",
-    },
 };
 
 const LARGE_PROGRAM: Explanation = Explanation {
@@ -359,21 +274,15 @@ const LARGE_PROGRAM: Explanation = Explanation {
 of arrays in all; DO and IF blocks nest at most 16 deep. The line of the refusal is
 that of the first statement that goes past a limit:
 ",
-    example: Trial {
-        source: "      INTEGER A(1024,1025)
+    example: "      INTEGER A(1024,1025)
       END
 ",
-        input: "",
-    },
     advice: "declare fewer elements, use an array again where its values aren't needed
 any more, and put several items into one PRINT:
 ",
-    cure: Trial {
-        source: "      INTEGER A(1024,1024)
+    cure: "      INTEGER A(1024,1024)
       END
 ",
-        input: "",
-    },
 };
 
 const LABEL_TWICE: Explanation = Explanation {
@@ -383,22 +292,16 @@ const LABEL_TWICE: Explanation = Explanation {
     meaning: "Each label, the number in columns 1 to 5, stands at one statement alone. Blanks and
 leading zeros don't count, so 10 and 010 are one label:
 ",
-    example: Trial {
-        source: "   10 K=1
+    example: "   10 K=1
   010 K=2
       END
 ",
-        input: "",
-    },
     advice: "change one of the two:
 ",
-    cure: Trial {
-        source: "   10 K=1
+    cure: "   10 K=1
    20 K=2
       END
 ",
-        input: "",
-    },
 };
 
 const NO_CONSTANT: Explanation = Explanation {
@@ -410,22 +313,16 @@ of integer constants, of names that a PARAMETER statement above gives a value, a
 operators; variables, elements and functions have no value yet, and the computation may
 not overflow or divide by zero:
 ",
-    example: Trial {
-        source: "      INTEGER A(N)
+    example: "      INTEGER A(N)
       PARAMETER (N=10)
       END
 ",
-        input: "",
-    },
     advice: "write the PARAMETER statement above the declaration, or the number itself:
 ",
-    cure: Trial {
-        source: "      PARAMETER (N=10)
+    cure: "      PARAMETER (N=10)
       INTEGER A(N)
       END
 ",
-        input: "",
-    },
 };
 
 const WRONG_KIND: Explanation = Explanation {
@@ -436,20 +333,14 @@ const WRONG_KIND: Explanation = Explanation {
 truth values, which come from .TRUE., .FALSE. and comparisons such as K.GT.0. All other
 operands, subscripts, and what is assigned and printed are integers:
 ",
-    example: Trial {
-        source: "      IF (K) PRINT *,K
+    example: "      IF (K) PRINT *,K
       END
 ",
-        input: "",
-    },
     advice: "write the comparison out, K.NE.0 in the place of K. To keep a truth value,
 assign 1 or 0 in an IF:
 ",
-    cure: Trial {
-        source: "      L=0
+    cure: "      L=0
       IF (K.NE.0) L=1
       END
 ",
-        input: "",
-    },
 };

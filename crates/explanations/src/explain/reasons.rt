@@ -1,70 +1,27 @@
 //! Reasons for which a loop stays serial.
 
-ghost use Rattle.std.specs.Prelude.{◌≡◌, IfSome, is_some, length};
+ghost use Rattle.std.specs.Prelude.{◌≡◌, IfSome, is_some};
 ghost use Rattle.explanations.specs.Explained.{is_within};
 
-use std::fmt::{Display, Formatter, Result as FmtResult, Write};
-
-/// What the number behind SERIAL means: in a sentence, and at length; with a source that has such a
-/// loop, and one with a loop that may be open in its place. Either is empty where there is no short
-/// one.
-#[derive(Clone, Copy)]
-pub struct Reason {
-    pub number: u8,
-    pub sentence: &'static str,
-    pub meaning: &'static str,
-    pub example: &'static str,
-    pub advice: &'static str,
-    pub cure: &'static str,
-}
-
-impl Display for Reason {
-    fn fmt<W: Write>(&self, f: &mut Formatter<W>) -> FmtResult {
-        let Reason {
-            number,
-            sentence,
-            ..
-        } = self;
-        write!(f, "SERIAL {number}: {sentence}.\n\n{}", self.meaning)?;
-        if !self.example.is_empty() {
-            write!(f, "\n{}", self.example)?;
-        }
-        write!(f, "\nWhat to do: {}", self.advice)?;
-        if !self.cure.is_empty() {
-            write!(f, "\n{}", self.cure)?;
-        }
-        Ok(())
-    }
-}
+use crate::explain::{Explanation, Origin, is_within, page_in};
 
 /// Whether a number is that of a reason.
 pub fn is_reason(number: u8) -> bool
     ensures { result ≡ is_within 1 6 number }
 {
-    1 <= number && number <= 6
+    is_within(1, 6, number)
 }
 
 /// What a reason's number means.
-pub fn serial_reason(number: u8) -> Option<Reason>
+pub fn serial_reason(number: u8) -> Option<Explanation>
     ensures number { IfSome result (λ reason. reason.number ≡ number) }
     ensures whether { is_some result ≡ is_within 1 6 number }
 {
-    reason_in(&TABLE, number)
+    page_in(&TABLE, 1, 6, number)
 }
 
-/// The reason of a number in a table of all.
-fn reason_in(reasons: &[Reason], number: u8) -> Option<Reason>
-    requires { length reasons.now ≡ 6 }
-    ensures number { IfSome result (λ reason. reason.number ≡ number) }
-    ensures whether { is_some result ≡ is_within 1 6 number }
-{
-    let place = number.checked_sub(1)?;
-    let reason = reasons.get(usize::from(place))?;
-    Some(Reason { number, ..*reason })
-}
-
-/// The reasons in the order of their numbers.
-const REASONS: [Reason; 6] = [
+/// The pages in the order of their numbers.
+const PAGES: [Explanation; 6] = [
     NO_STEP,
     HAS_READ,
     SHARED_VARIABLE,
@@ -73,22 +30,23 @@ const REASONS: [Reason; 6] = [
     REFUSED,
 ];
 
-const _: () = prove!(REASONS[0].number == 1);
+const _: () = prove!(PAGES[0].number == 1);
 
-const _: () = prove!(REASONS[1].number == 2);
+const _: () = prove!(PAGES[1].number == 2);
 
-const _: () = prove!(REASONS[2].number == 3);
+const _: () = prove!(PAGES[2].number == 3);
 
-const _: () = prove!(REASONS[3].number == 4);
+const _: () = prove!(PAGES[3].number == 4);
 
-const _: () = prove!(REASONS[4].number == 5);
+const _: () = prove!(PAGES[4].number == 5);
 
-const _: () = prove!(REASONS[5].number == 6);
+const _: () = prove!(PAGES[5].number == 6);
 
-static TABLE: [Reason; 6] = REASONS;
+static TABLE: [Explanation; 6] = PAGES;
 
-const NO_STEP: Reason = Reason {
+const NO_STEP: Explanation = Explanation {
     number: 1,
+    origin: Origin::Serial,
     sentence: "the step is no constant other than 0",
     meaning: "Iterations run at once only where it is known which value of the variable each one has.
 The third parameter of the DO must be a constant, and not 0; without one the step is 1:
@@ -109,8 +67,9 @@ The third parameter of the DO must be a constant, and not 0; without one the ste
 ",
 };
 
-const HAS_READ: Reason = Reason {
+const HAS_READ: Explanation = Explanation {
     number: 2,
+    origin: Origin::Serial,
     sentence: "there is a READ in the loop",
     meaning: "Records are read in the order of the iterations, and a loop with a READ, also in a loop
 inside, runs one iteration after another:
@@ -132,8 +91,9 @@ inside, runs one iteration after another:
 ",
 };
 
-const SHARED_VARIABLE: Reason = Reason {
+const SHARED_VARIABLE: Explanation = Explanation {
     number: 3,
+    origin: Origin::Serial,
     sentence: "the variable of a loop inside is used before it gets a value there",
     meaning: "Each iteration has variables of its own for the loops inside. That can't be where an
 iteration may use such a variable before a statement of the same iteration gives it a value,
@@ -160,8 +120,9 @@ since the value is then one from before:
 ",
 };
 
-const MANY_SOURCES: Reason = Reason {
+const MANY_SOURCES: Explanation = Explanation {
     number: 4,
+    origin: Origin::Serial,
     sentence: "later iterations wait for more than 64 statements",
     meaning: "A statement whose value or place a later iteration uses is a source, and each source has an
 event of its own. A loop has 64 events at most.
@@ -172,8 +133,9 @@ event of its own. A loop has 64 events at most.
     cure: "",
 };
 
-const INSIDE: Reason = Reason {
+const INSIDE: Explanation = Explanation {
     number: 5,
+    origin: Origin::Serial,
     sentence: "a loop around it is open",
     meaning: "Iterations of one loop of a nest run at once, and it is the outermost that may. The loops
 inside run one iteration after another, in each of its iterations:
@@ -190,8 +152,9 @@ the loops, if the answer stays the same.
     cure: "",
 };
 
-const REFUSED: Reason = Reason {
+const REFUSED: Explanation = Explanation {
     number: 6,
+    origin: Origin::Serial,
     sentence: "the check refused the plan",
     meaning: "Each plan is checked by itself before it is used, and one that the check refused isn't used.
 It accepts each plan that doac makes, so this number isn't met.

@@ -4,7 +4,7 @@
 ghost use Rattle.std.specs.Prelude.{◌≡◌, ◌||◌, IfSome, is_some};
 ghost use Rattle.explanations.specs.Explained.{is_within};
 
-use crate::explain::{Explanation, Origin, Trial, page_in};
+use crate::explain::{Explanation, Origin, page_in};
 
 /// What the refusal of a number means, if it is one of a schedule, of a run or of code.
 pub fn page(number: u8) -> Option<Explanation>
@@ -57,14 +57,11 @@ const _: () = prove!(LONG_CODE.number == 61);
 static OF_CODE: [Explanation; 1] = [LONG_CODE];
 
 /// The schedule of the program of END alone, on one processor.
-const WHOLE: Trial = Trial {
-    source: "DOACROSS SCHEDULE 2
+const WHOLE: &str = "DOACROSS SCHEDULE 2
 1 1
 0 M
 0 0
-",
-    input: "",
-};
+";
 
 const NO_HEADER: Explanation = Explanation {
     number: 51,
@@ -74,12 +71,9 @@ const NO_HEADER: Explanation = Explanation {
 the number of processors, 1 to 64, and how many iterations may be open, 1 to 256, with one
 blank between them. Each line ends in LF:
 ",
-    example: Trial {
-        source: "DOACROSS SCHEDULE 2
+    example: "DOACROSS SCHEDULE 2
 0 1
 ",
-        input: "",
-    },
     advice: "give the file that a run wrote, unchanged:
 ",
     cure: WHOLE,
@@ -94,14 +88,11 @@ so many local instructions, 0 for one shared step, and in the second form M, T o
 iteration's number for what it takes up. Numbers are written without a zero before them,
 and each line ends in LF:
 ",
-    example: Trial {
-        source: "DOACROSS SCHEDULE 2
+    example: "DOACROSS SCHEDULE 2
 1 1
 0 M
 0  0
 ",
-        input: "",
-    },
     advice: "write the line in this form:
 ",
     cure: WHOLE,
@@ -113,14 +104,11 @@ const NO_PROCESSOR: Explanation = Explanation {
     sentence: "there is no such processor",
     meaning: "Processors are numbered from 0 on, below the first number of the second line:
 ",
-    example: Trial {
-        source: "DOACROSS SCHEDULE 2
+    example: "DOACROSS SCHEDULE 2
 1 1
 0 M
 1 0
 ",
-        input: "",
-    },
     advice: "give the entry to a processor that is there, or let there be more of them:
 ",
     cure: WHOLE,
@@ -135,14 +123,11 @@ nothing, or fewer local instructions stand next than the entry has, or one stand
 where the entry is a shared step, or what it takes up isn't ready. Here main has no local
 instruction:
 ",
-    example: Trial {
-        source: "DOACROSS SCHEDULE 2
+    example: "DOACROSS SCHEDULE 2
 1 1
 0 M
 0 1
 ",
-        input: "",
-    },
     advice: "give the source and the input with which the schedule was made:
 ",
     cure: WHOLE,
@@ -154,13 +139,10 @@ const NOT_ENDED: Explanation = Explanation {
     sentence: "the run has not ended with the schedule",
     meaning: "All entries can be followed, and then the run has not ended:
 ",
-    example: Trial {
-        source: "DOACROSS SCHEDULE 2
+    example: "DOACROSS SCHEDULE 2
 1 1
 0 M
 ",
-        input: "",
-    },
     advice: "see whether the end of the file is missing:
 ",
     cure: WHOLE,
@@ -172,62 +154,53 @@ const BEHIND_THE_END: Explanation = Explanation {
     sentence: "an entry stands behind the end of the run",
     meaning: "With the entries before the line the run has ended:
 ",
-    example: Trial {
-        source: "DOACROSS SCHEDULE 2
+    example: "DOACROSS SCHEDULE 2
 1 1
 0 M
 0 0
 0 0
 ",
-        input: "",
-    },
     advice: "take the line and those behind it away:
 ",
     cure: WHOLE,
 };
 
-/// No text.
-const NO_TEXT: Trial = Trial {
-    source: "",
-    input: "",
-};
-
 const NO_SIZE: Explanation = Explanation {
     number: 57,
-    origin: Origin::Refusal,
+    origin: Origin::Run,
     sentence: "a run has 1 to 64 processors and 1 to 256 open iterations",
     meaning: "The number behind -p or -s is out of its range. Nothing is shown, and the status is 3.
 ",
-    example: NO_TEXT,
+    example: "",
     advice: "give -p a number from 1 to 64, and -s one from 1 to 256.
 ",
-    cure: NO_TEXT,
+    cure: "",
 };
 
 const NO_THREAD: Explanation = Explanation {
     number: 58,
-    origin: Origin::Refusal,
+    origin: Origin::Run,
     sentence: "a thread could not be started",
     meaning: "A run wants one thread less than it has processors, and the system refused one. Nothing is
 shown, and the status is 5.
 ",
-    example: NO_TEXT,
+    example: "",
     advice: "give -p a smaller number, or let the system have more threads ('ulimit -u').
 ",
-    cure: NO_TEXT,
+    cure: "",
 };
 
 const STUCK: Explanation = Explanation {
     number: 59,
-    origin: Origin::Refusal,
+    origin: Origin::Run,
     sentence: "the run can't go on, and has not ended",
     meaning: "No processor has anything to do, and the run hasn't ended. The code that doac makes of a source
 never comes to that, which is proved. Nothing is shown, and the status is 5.
 ",
-    example: NO_TEXT,
+    example: "",
     advice: "report it, with the source, the input, and the numbers behind -p and -s.
 ",
-    cure: NO_TEXT,
+    cure: "",
 };
 
 const LONG_CODE: Explanation = Explanation {
@@ -237,8 +210,8 @@ const LONG_CODE: Explanation = Explanation {
     meaning: "The code of a program has at most 1,048,576 instructions. Only commands that compile it
 refuse a program for this; 'doac seq' runs it all the same. The refusal is of no line: LINE 0.
 ",
-    example: NO_TEXT,
+    example: "",
     advice: "put what is written many times into a loop.
 ",
-    cure: NO_TEXT,
+    cure: "",
 };

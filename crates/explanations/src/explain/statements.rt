@@ -3,7 +3,7 @@
 ghost use Rattle.std.specs.Prelude.{◌≡◌, IfSome, is_some};
 ghost use Rattle.explanations.specs.Explained.{is_within};
 
-use crate::explain::{Explanation, Origin, Trial, page_in};
+use crate::explain::{Explanation, Origin, page_in};
 
 /// What the rule of a number means, if it is one for single statements.
 pub fn page(number: u8) -> Option<Explanation>
@@ -50,22 +50,16 @@ const NO_STATEMENT: Explanation = Explanation {
     meaning: "The text in columns 7 to 72 is no assignment, since it has no = outside of
 parentheses, and it begins with no word that names a statement:
 ",
-    example: Trial {
-        source: "      PRNT *,1
+    example: "      PRNT *,1
       END
 ",
-        input: "",
-    },
     advice: "look at the spelling of the first word, and for an = that is missing. A
 line with a label and nothing else is refused so as well; give it a CONTINUE:
 ",
-    cure: Trial {
-        source: "      PRINT *,1
+    cure: "      PRINT *,1
    10 CONTINUE
       END
 ",
-        input: "",
-    },
 };
 
 const OPEN_TEXT: Explanation = Explanation {
@@ -76,21 +70,15 @@ const OPEN_TEXT: Explanation = Explanation {
 apostrophe inside of the text is written twice. Here the text ends behind IT, and
 another one begins behind HERE:
 ",
-    example: Trial {
-        source: "      PRINT *,'IT'S HERE'
+    example: "      PRINT *,'IT'S HERE'
       END
 ",
-        input: "",
-    },
     advice: "write the second apostrophe, double the one inside, or shorten a line that
 goes past column 72:
 ",
-    cure: Trial {
-        source: "      PRINT *,'IT''S HERE'
+    cure: "      PRINT *,'IT''S HERE'
       END
 ",
-        input: "",
-    },
 };
 
 const REAL_CONSTANT: Explanation = Explanation {
@@ -101,20 +89,14 @@ const REAL_CONSTANT: Explanation = Explanation {
 1.5, .5, 2. and 1E3 are. A point in the place of a comma makes one too, as in
 DO 10 I=1.10:
 ",
-    example: Trial {
-        source: "      K=1.5
+    example: "      K=1.5
       END
 ",
-        input: "",
-    },
     advice: "compute in whole numbers, say in hundredths, 150 in the place of 1.5:
 ",
-    cure: Trial {
-        source: "      K=150
+    cure: "      K=150
       END
 ",
-        input: "",
-    },
 };
 
 const LARGE_CONSTANT: Explanation = Explanation {
@@ -124,20 +106,14 @@ const LARGE_CONSTANT: Explanation = Explanation {
     meaning: "The largest constant is 9223372036854775807. A minus before a number is no part of
 it, so the least INTEGER can't be written as one constant:
 ",
-    example: Trial {
-        source: "      K=-9223372036854775808
+    example: "      K=-9223372036854775808
       END
 ",
-        input: "",
-    },
     advice: "write a smaller number, and the least INTEGER as a difference:
 ",
-    cure: Trial {
-        source: "      K=-9223372036854775807-1
+    cure: "      K=-9223372036854775807-1
       END
 ",
-        input: "",
-    },
 };
 
 const LONG_NAME: Explanation = Explanation {
@@ -147,20 +123,14 @@ const LONG_NAME: Explanation = Explanation {
     meaning: "A name has one to six letters and digits, the first of them a letter. Blanks don't
 end a name, so two words side by side are one name too:
 ",
-    example: Trial {
-        source: "      NUMBERS=1
+    example: "      NUMBERS=1
       END
 ",
-        input: "",
-    },
     advice: "shorten the name to six characters:
 ",
-    cure: Trial {
-        source: "      NUMBER=1
+    cure: "      NUMBER=1
       END
 ",
-        input: "",
-    },
 };
 
 const NOT_WELL_FORMED: Explanation = Explanation {
@@ -173,23 +143,17 @@ quotation marks, a name with _, the :: of a later FORTRAN, several statements wi
 between them, a DO without a label, an operand that is missing, a parenthesis that
 isn't closed, a line cut off at column 72, and two operators side by side:
 ",
-    example: Trial {
-        source: "      K=2*-3
+    example: "      K=2*-3
       END
 ",
-        input: "",
-    },
     advice: "write a sign behind an operator in parentheses, and look for what is
 missing or stands twice. A power is a product, and a comment is a line of its own with
 a C in column 1:
 ",
-    cure: Trial {
-        source: "C     TWICE THE LEAST
+    cure: "C     TWICE THE LEAST
       K=2*(-3)*(-3)
       END
 ",
-        input: "",
-    },
 };
 
 const DEEP_EXPRESSION: Explanation = Explanation {
@@ -200,24 +164,18 @@ const DEEP_EXPRESSION: Explanation = Explanation {
 subscripts and function is one level above the deepest thing inside of it, so a sum of
 129 terms is too deep as well:
 ",
-    example: Trial {
-        source: "      K=1+1+1+1+1+1+1+1+1+1+1+1+1+1+1+1+1+1+1+1+1+1+1+1+1+1+1+1+1+1+1+1+
+    example: "      K=1+1+1+1+1+1+1+1+1+1+1+1+1+1+1+1+1+1+1+1+1+1+1+1+1+1+1+1+1+1+1+1+
      11+1+1+1+1+1+1+1+1+1+1+1+1+1+1+1+1+1+1+1+1+1+1+1+1+1+1+1+1+1+1+1+1+
      11+1+1+1+1+1+1+1+1+1+1+1+1+1+1+1+1+1+1+1+1+1+1+1+1+1+1+1+1+1+1+1+1+
      11+1+1+1+1+1+1+1+1+1+1+1+1+1+1+1+1+1+1+1+1+1+1+1+1+1+1+1+1+1+1
       END
 ",
-        input: "",
-    },
     advice: "compute it in two statements:
 ",
-    cure: Trial {
-        source: "      K=1+2+3
+    cure: "      K=1+2+3
       K=K+4+5
       END
 ",
-        input: "",
-    },
 };
 
 const LEFT_OUT: Explanation = Explanation {
@@ -229,22 +187,16 @@ CHARACTER and other types, CALL and FUNCTION, COMMON, DATA, FORMAT and others ar
 out. So is PRINT, WRITE or READ with a unit or a format of its own, and the END DO of a
 later FORTRAN:
 ",
-    example: Trial {
-        source: "      PRINT 10,K
+    example: "      PRINT 10,K
       END
 ",
-        input: "",
-    },
     advice: "write PRINT *,K, or READ *,K. SAVE and FORMAT can simply be deleted, an END DO
 becomes a CONTINUE with the label that its DO names, the text of a subroutine is put in
 the place of its CALL, and what a GO TO skips stands in an IF block:
 ",
-    cure: Trial {
-        source: "      IF (K.GT.0) THEN
+    cure: "      IF (K.GT.0) THEN
       PRINT *,K
       END IF
       END
 ",
-        input: "",
-    },
 };

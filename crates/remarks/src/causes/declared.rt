@@ -1,9 +1,9 @@
 //! What statements declare, and what a declaration may not have.
 
-use super::{Cause, arguments_of};
-use crate::mentions::{Mention, mentions};
+use super::{Cause, Told, targets};
+use crate::mentions::Mention;
 use crate::squeezed::{PROGRAM, Squeezed};
-use ast::{LONGEST_NAME, Line, Name};
+use ast::{Intrinsic, LONGEST_NAME, Line, Name};
 use std::alloc::{AllocError, Global};
 
 /// What a statement declares of a name.
@@ -12,7 +12,8 @@ struct Entry {
     name: Name,
     line: Line,
     has_type: bool,
-    has_bounds: bool,
+    /// How many bounds it gives the name.
+    rank: usize,
     is_constant: bool,
 }
 
@@ -28,7 +29,7 @@ impl Entry {
             name: mention.name,
             line: statement.line,
             has_type: is_variable && statement.text.starts_with(b"INTEGER"),
-            has_bounds: is_variable && mention.count > 0,
+            rank: if is_variable { mention.count } else { 0 },
             is_constant,
         })
     }
@@ -36,10 +37,9 @@ impl Entry {
     /// Whether two declarations can't both stand.
     fn opposes(self, other: Entry) -> bool {
         let both_typed = self.has_type && other.has_type;
-        let both_bounded = self.has_bounds && other.has_bounds;
-        let both_given = self.is_constant && other.is_constant;
-        let is_mixed = self.has_bounds && other.is_constant || self.is_constant && other.has_bounds;
-        self.name == other.name && (both_typed || both_bounded || both_given || is_mixed)
+        let is_fixed = self.rank > 0 || self.is_constant;
+        let is_other_fixed = other.rank > 0 || other.is_constant;
+        self.name == other.name && (both_typed || is_fixed && is_other_fixed)
     }
 }
 
@@ -51,23 +51,16 @@ pub struct Declared {
 }
 
 impl Declared {
-    /// What the statements before a line declare.
-    pub fn before(alloc: Global, statements: &[Squeezed], line: Line) -> Result<Self, AllocError> {
-        let mut declared = Declared {
+    /// What no statement declares.
+    pub fn new(alloc: Global) -> Self {
+        Declared {
             program: None,
             entries: Vec::new(alloc),
-        };
-        for statement in statements {
-            if statement.line >= line {
-                break;
-            }
-            declared.take(statement, &mentions(alloc, statement)?)?;
         }
-        Ok(declared)
     }
 
     /// Takes a statement in.
-    fn take(&mut self, statement: &Squeezed, names: &[Mention]) -> Result<(), AllocError> {
+    pub fn take(&mut self, statement: &Squeezed, names: &[Mention]) -> Result<(), AllocError> {
         if statement.text.starts_with(PROGRAM) {
             self.program = self.program.or(program_of(statement));
         }
@@ -79,54 +72,55 @@ impl Declared {
         Ok(())
     }
 
+    /// How many bounds a name has.
+    pub fn rank(&self, name: Name) -> usize {
+        let found = self
+            .entries
+            .iter()
+            .find(|entry| entry.rank > 0 && entry.name == name);
+        found.map_or(0, |entry| entry.rank)
+    }
+
     /// The line that makes a name a constant.
     fn constant(&self, name: Name) -> Option<Line> {
-        for entry in &self.entries {
-            if entry.is_constant && entry.name == name {
-                return Some(entry.line);
-            }
-        }
-        None
+        let found = self
+            .entries
+            .iter()
+            .find(|entry| entry.is_constant && entry.name == name);
+        found.map(|entry| entry.line)
     }
 
     /// The constant that a statement gives a value, if it gives one to a constant.
     pub fn assigned(&self, statement: &Squeezed, names: &[Mention]) -> Option<Cause> {
-        for mention in names {
-            let name = mention.name;
-            if let (0, Some(line)) = (mention.depth, self.constant(name)) {
-                return Some(Cause::Constant {
-                    mention: *mention,
-                    line,
-                });
-            }
-            if !statement.is_read() {
-                return None;
+        for mention in targets(statement, names) {
+            if let (0, Some(line)) = (mention.depth, self.constant(mention.name)) {
+                let told = Told::Line("is a constant, by line ", line, "");
+                return Some(Cause::of(mention, told));
             }
         }
         None
     }
 
     /// The first name of a statement that means something else already.
-    pub fn twice(mut self, statement: &Squeezed, names: &[Mention]) -> Option<Cause> {
+    pub fn twice(&mut self, statement: &Squeezed, names: &[Mention]) -> Option<Cause> {
         for mention in names {
             let name = mention.name;
             let is_own = mention.depth == 0 && (mention.is_given || statement.is_declaration());
-            if arguments_of(name).is_some() && (is_own || mention.count == 0) {
-                return Some(Cause::Function(*mention));
+            if Intrinsic::named(&name).is_some() && (is_own || mention.count == 0) {
+                let told = Told::Text("is a function of the language");
+                return Some(Cause::of(mention, told));
             }
             if self.program == Some(name) {
-                return Some(Cause::Program(*mention));
+                return Some(Cause::of(mention, Told::Text("is the program's name")));
             }
             let entry = Entry::of(statement, mention);
-            match entry.and_then(|entry| self.opposed(entry)) {
-                Some(line) if line == statement.line => return Some(Cause::Repeated(*mention)),
-                Some(line) => {
-                    return Some(Cause::Declared {
-                        mention: *mention,
-                        line,
-                    });
-                }
-                None => {}
+            if let Some(line) = entry.and_then(|entry| self.opposed(entry)) {
+                let told = if line == statement.line {
+                    Told::Text("is declared twice here")
+                } else {
+                    Told::Line("is declared in line ", line, " too")
+                };
+                return Some(Cause::of(mention, told));
             }
             self.add(entry).ok()?;
         }
@@ -142,16 +136,12 @@ impl Declared {
 
     /// The line of a declaration that can't stand beside another one.
     fn opposed(&self, entry: Entry) -> Option<Line> {
-        for other in &self.entries {
-            if other.opposes(entry) {
-                return Some(other.line);
-            }
-        }
-        None
+        let found = self.entries.iter().find(|other| other.opposes(entry));
+        found.map(|other| other.line)
     }
 
     /// What has no value in the constant expressions of a statement: a name, or else a whole one.
-    pub fn unknown(mut self, statement: &Squeezed, names: &[Mention]) -> Option<Cause> {
+    pub fn unknown(&mut self, statement: &Squeezed, names: &[Mention]) -> Option<Cause> {
         let mut last = None;
         for mention in names {
             match Entry::of(statement, mention) {
@@ -160,12 +150,13 @@ impl Declared {
                     last = Some(entry);
                 }
                 None if self.constant(mention.name).is_none() => {
-                    return Some(Cause::Unknown(*mention));
+                    let told = Told::Text("is no constant that is given before");
+                    return Some(Cause::of(mention, told));
                 }
                 None => {}
             }
         }
-        Some(Cause::NoValue)
+        Some(Cause::text("a value here overflows, or is divided by zero"))
     }
 }
 

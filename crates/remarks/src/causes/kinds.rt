@@ -1,16 +1,14 @@
 //! Which operand of a statement is of the wrong kind: an integer where a logical value is wanted,
 //! or the other way round.
 
-use super::Cause;
+use super::{Cause, Told};
 use crate::mentions::Mention;
-use crate::squeezed::{Squeezed, behind_parentheses, has_outer};
+use crate::squeezed::{Squeezed, TRANSFERS, begins_with, behind_parentheses, has_outer};
+use crate::tokens::past;
 use bstr::ByteSlice;
 
 /// The operators that compare integers.
 const RELATIONS: [&[u8]; 6] = [b"EQ.", b"NE.", b"LT.", b"LE.", b"GT.", b"GE."];
-
-/// How many bytes each of them has.
-const RELATION_LEN: usize = 3;
 
 /// The operators between logical values, and the one before a logical value.
 const CONNECTIVES: [&[u8]; 5] = [b".AND.", b".OR.", b".EQV.", b".NEQV.", b".NOT."];
@@ -29,14 +27,17 @@ pub fn wrong_kind(
         .find_map(|operator| beside(text, operator));
     if let Some(place) = operand.or(condition(text)) {
         let named = names.iter().find(|mention| mention.place == place);
-        return named.map(|mention| Cause::Integer(*mention));
+        let told = Told::Text("is an integer, and a logical value is wanted");
+        return named.map(|mention| Cause::of(mention, told));
     }
     match names_done.first() {
         Some(mention) if mention.is_given && mention.depth == 0 && gives_logical(done) => {
-            Some(Cause::Logical(*mention))
+            let told = Told::Text("is an integer, and is given a logical value");
+            Some(Cause::of(mention, told))
         }
-        _ if wants_numbers(done) && done.text.contains(&b'.') => Some(Cause::Truth),
-        _ if compares_logical(text) => Some(Cause::Truth),
+        _ if wants_numbers(done) && done.text.contains(&b'.') || compares_logical(text) => {
+            Some(Cause::text("a logical value stands where a number is wanted"))
+        }
         _ => None,
     }
 }
@@ -44,31 +45,28 @@ pub fn wrong_kind(
 /// Whether an assignment gives a logical value.
 fn gives_logical(done: &Squeezed) -> bool {
     let text = done.text.as_slice();
-    let start = text.iter().position(|byte| *byte == b'=');
-    let value = text.get(start.unwrap_or(0)..).unwrap_or(&[]);
-    let value = value.strip_prefix(b"=".as_slice()).unwrap_or(value);
+    let value = match text.find_byte(b'=') {
+        Some(place) => past(text, place.saturating_add(1)),
+        None => text,
+    };
     !done.is_loop() && (has_outer(b'.', value) || is_parenthesised(value) && value.contains(&b'.'))
 }
 
 /// Whether one pair of parentheses stands around a whole text.
 fn is_parenthesised(text: &[u8]) -> bool {
-    text.starts_with(b"(") && behind_parentheses(text).is_some_and(|rest| rest.is_empty())
+    text.starts_with(b"(") && behind_parentheses(text) == Some(b"".as_slice())
 }
 
 /// Whether all values of a statement are numbers.
 fn wants_numbers(done: &Squeezed) -> bool {
-    has_outer(b'=', &done.text)
-        || [b"PRINT".as_slice(), b"WRITE".as_slice(), b"READ".as_slice()]
-            .iter()
-            .any(|front| done.text.starts_with(front))
+    has_outer(b'=', &done.text) || begins_with(&done.text, &TRANSFERS)
 }
 
 /// Whether a logical value stands beside an operator that compares integers.
 fn compares_logical(text: &[u8]) -> bool {
     for place in 0..text.len() {
         let front = text.get(..place).unwrap_or(&[]);
-        let rest = text.get(place..).unwrap_or(&[]);
-        if behind_relation(rest).is_some_and(|behind| has_logical(front, behind)) {
+        if behind_relation(past(text, place)).is_some_and(|behind| has_logical(front, behind)) {
             return true;
         }
     }
@@ -78,25 +76,17 @@ fn compares_logical(text: &[u8]) -> bool {
 /// What stands behind the operator that a text begins with, if it compares.
 fn behind_relation(text: &[u8]) -> Option<&[u8]> {
     let text = text.strip_prefix(b".".as_slice())?;
-    if RELATIONS.iter().any(|relation| text.starts_with(relation)) {
-        text.get(RELATION_LEN..)
-    } else {
-        None
-    }
+    let relation = RELATIONS
+        .iter()
+        .find(|relation| text.starts_with(relation))?;
+    text.get(relation.len()..)
 }
 
 /// Whether a logical value ends the text before an operator or begins the one behind.
 fn has_logical(before: &[u8], behind: &[u8]) -> bool {
-    last_operand(before).contains(&b'.') || first_operand(behind).contains(&b'.')
-}
-
-fn last_operand(text: &[u8]) -> &[u8] {
-    text.get(last_start(text)..).unwrap_or(text)
-}
-
-fn first_operand(text: &[u8]) -> &[u8] {
-    let end = first_length(text);
-    text.get(..end).unwrap_or(text)
+    let last = before.get(last_start(before)..).unwrap_or(before);
+    let first = behind.get(..first_length(behind)).unwrap_or(behind);
+    last.contains(&b'.') || first.contains(&b'.')
 }
 
 /// The place of the integer beside the first of these operators, if there is one.

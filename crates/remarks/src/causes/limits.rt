@@ -1,32 +1,32 @@
 //! Which limit a program is past.
 
-use super::{Before, Cause, arguments_of};
 use crate::mentions::{Mention, mentions};
 use crate::squeezed::{PROGRAM, Squeezed};
-use ast::{Line, MOST_NAMES, MOST_NESTED, MOST_STATEMENTS, Name};
+use ast::{Intrinsic, Line, MOST_NAMES, MOST_NESTED, MOST_STATEMENTS, Name};
 use std::alloc::{AllocError, Global};
 
-/// The limit that a program is past at a statement.
+/// The limit that a program is past at a statement, before which so many DO ranges and IF blocks are
+/// open.
 pub fn limit(
     alloc: Global,
     statements: &[Squeezed],
-    before: &Before,
+    opened: usize,
     statement: &Squeezed,
-) -> Result<Cause, AllocError> {
+) -> Result<&'static str, AllocError> {
     let is_opened = statement.is_loop() || statement.is_block();
     let count = statements
         .iter()
         .filter(|other| other.line < statement.line)
         .count();
-    Ok(Cause::Limit(if count >= MOST_STATEMENTS {
+    Ok(if count >= MOST_STATEMENTS {
         "a program has 4,096 statements at most"
-    } else if is_opened && before.opened.len() >= MOST_NESTED {
+    } else if is_opened && opened >= MOST_NESTED {
         "16 DO ranges and IF blocks are open at once at most"
     } else if has_too_many_names(alloc, statements, statement.line)? {
         "a program has 512 names at most"
     } else {
         "arrays have 1,048,576 elements together at most"
-    }))
+    })
 }
 
 /// Whether the statements to the one in a line have more names than a program may have.
@@ -51,7 +51,7 @@ fn has_too_many_names(
 fn add(names: &mut Vec<Name>, mentions: &[Mention]) -> Result<(), AllocError> {
     for mention in mentions {
         match names.binary_search(&mention.name) {
-            Err(place) if arguments_of(mention.name).is_none() => {
+            Err(place) if Intrinsic::named(&mention.name).is_none() => {
                 names.insert(place, mention.name)?;
             }
             _ => {}

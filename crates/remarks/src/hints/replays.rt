@@ -1,5 +1,7 @@
 //! Hints at the commonest causes of a schedule's refusal, by the line that is refused.
 
+use crate::tokens::{digits_of, past};
+use bstr::ByteSlice;
 use schedules::Flaw;
 
 /// How many digits 2^128 has.
@@ -7,6 +9,9 @@ const LONGEST_NUMBER: usize = 39;
 
 /// What may have caused the refusal of a schedule with this flaw, at a line with its end.
 pub fn hint_of_schedule(flaw: Flaw, line: &[u8]) -> Option<&'static str> {
+    if !matches!(flaw, Flaw::Header | Flaw::Entry) {
+        return None;
+    }
     let [text @ .., b'\n'] = line else {
         return Some("no LF stands behind the line");
     };
@@ -18,14 +23,13 @@ pub fn hint_of_schedule(flaw: Flaw, line: &[u8]) -> Option<&'static str> {
     }
     match flaw {
         Flaw::Header => of_head(text),
-        Flaw::Entry => of_entry(text),
-        _ => None,
+        _ => of_entry(text),
     }
 }
 
 /// What is said of one of the first two lines.
 fn of_head(text: &[u8]) -> Option<&'static str> {
-    if text.first().is_some_and(|byte| byte.is_ascii_digit()) {
+    if digits_of(text) > 0 {
         return Some("line 2 has the processors, 1 to 64, and the open iterations, 1 to 256");
     }
     Some("a schedule begins with DOACROSS SCHEDULE 1 or DOACROSS SCHEDULE 2")
@@ -33,19 +37,16 @@ fn of_head(text: &[u8]) -> Option<&'static str> {
 
 /// What is said of an entry.
 fn of_entry(text: &[u8]) -> Option<&'static str> {
-    let blank = text
-        .iter()
-        .position(|byte| *byte == b' ')
-        .unwrap_or(text.len());
-    match text.get(blank.saturating_add(1)..) {
-        None | Some([]) => Some("an entry has a processor and what it does, as in 0 5"),
-        Some([b'M' | b'T']) => Some("M, T and I are of DOACROSS SCHEDULE 2"),
-        Some([b'I', b' ', number @ ..]) if are_digits(number) => of_iteration(number),
-        Some([b'm' | b't' | b'i', ..]) => Some("M, T and I are capitals"),
-        Some([b'1'..=b'9', rest @ ..]) if are_digits(rest) => {
+    let blank = text.find_byte(b' ').unwrap_or(text.len());
+    match past(text, blank.saturating_add(1)) {
+        [] => Some("an entry has a processor and what it does, as in 0 5"),
+        [b'M' | b'T'] => Some("M, T and I are of DOACROSS SCHEDULE 2"),
+        [b'I', b' ', number @ ..] if are_digits(number) => of_iteration(number),
+        [b'm' | b't' | b'i', ..] => Some("M, T and I are capitals"),
+        [b'1'..=b'9', rest @ ..] if are_digits(rest) => {
             Some("an entry has 1,024 local instructions at most; more take more lines")
         }
-        Some(_) => None,
+        _ => None,
     }
 }
 
@@ -58,5 +59,5 @@ fn of_iteration(number: &[u8]) -> Option<&'static str> {
 }
 
 fn are_digits(text: &[u8]) -> bool {
-    text.iter().all(|byte| byte.is_ascii_digit())
+    digits_of(text) == text.len()
 }

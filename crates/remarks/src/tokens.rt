@@ -11,16 +11,16 @@ pub const OPERATORS: [&[u8]; 11] = [
 /// The digits of the largest constant.
 const LARGEST: &[u8] = b"9223372036854775807";
 
-/// What a token may be that no statement has.
+/// A token that no statement has.
 #[derive(Clone, Copy)]
-pub enum Flaw {
+pub enum WrongToken {
     RealConstant,
     TooLarge,
     TooLong,
 }
 
-impl Flaw {
-    /// The place of the first token with it in a text that is looked at from a place on.
+impl WrongToken {
+    /// The place of the first one in a text that is looked at from a place on.
     pub fn place_in(self, text: &[u8], start: usize) -> Option<usize> {
         let mut at = start;
         for _ in start..text.len() {
@@ -33,13 +33,13 @@ impl Flaw {
         None
     }
 
-    /// Whether the token that a text begins with has it.
+    /// Whether a text begins with one.
     fn is_at(self, text: &[u8]) -> bool {
         match (self, text.first()) {
-            (Flaw::RealConstant, Some(b'.')) => digits_at(text, 1) > 0,
-            (Flaw::RealConstant, Some(b'0'..=b'9')) => is_real_behind(text, digits_at(text, 0)),
-            (Flaw::TooLarge, Some(b'0'..=b'9')) => is_too_large(text),
-            (Flaw::TooLong, Some(b'A'..=b'Z')) => word_length(text) > LONGEST_NAME,
+            (WrongToken::RealConstant, Some(b'.')) => digits_of(past(text, 1)) > 0,
+            (WrongToken::RealConstant, Some(b'0'..=b'9')) => is_real(text),
+            (WrongToken::TooLarge, Some(b'0'..=b'9')) => is_too_large(text),
+            (WrongToken::TooLong, Some(b'A'..=b'Z')) => word_length(text) > LONGEST_NAME,
             _ => false,
         }
     }
@@ -68,7 +68,7 @@ pub fn open_text(text: &[u8]) -> Option<usize> {
 fn token_length(text: &[u8]) -> usize {
     match text.first() {
         Some(b'A'..=b'Z') => word_length(text),
-        Some(b'0'..=b'9') => digits_at(text, 0),
+        Some(b'0'..=b'9') => digits_of(text),
         Some(b'.') => operator_length(text).unwrap_or(1),
         Some(b'\'') => quoted_length(text),
         _ => 1,
@@ -81,22 +81,24 @@ pub fn word_length(text: &[u8]) -> usize {
     end.unwrap_or(text.len())
 }
 
-/// How many digits stand in a text from a place on.
-pub fn digits_at(text: &[u8], start: usize) -> usize {
-    let rest = text.get(start..).unwrap_or(&[]);
-    let end = rest.iter().position(|byte| !byte.is_ascii_digit());
-    end.unwrap_or(rest.len())
+/// How many digits a text begins with.
+pub fn digits_of(text: &[u8]) -> usize {
+    let end = text.iter().position(|byte| !byte.is_ascii_digit());
+    end.unwrap_or(text.len())
+}
+
+/// What stands past so many bytes of a text.
+pub fn past(text: &[u8], length: usize) -> &[u8] {
+    text.get(length..).unwrap_or(&[])
 }
 
 /// How long the operator is that a text begins with, with its points, if it begins with one.
 pub fn operator_length(text: &[u8]) -> Option<usize> {
     let rest = text.strip_prefix(b".".as_slice())?;
     let word = rest.get(..rest.iter().position(|byte| *byte == b'.')?)?;
-    if OPERATORS.contains(&word) {
-        Some(word.len().saturating_add(2))
-    } else {
-        None
-    }
+    OPERATORS
+        .contains(&word)
+        .then_some(word.len().saturating_add(2))
 }
 
 /// How long the text between apostrophes is, with them, that a text begins with. Two apostrophes
@@ -113,22 +115,22 @@ pub fn quoted_length(text: &[u8]) -> usize {
     text.len()
 }
 
-/// Whether digits at the beginning of a text, so many, go on as a real constant.
-fn is_real_behind(text: &[u8], digits: usize) -> bool {
-    let rest = text.get(digits..).unwrap_or(&[]);
+/// Whether the digits at the beginning of a text go on as a real constant.
+fn is_real(text: &[u8]) -> bool {
+    let rest = past(text, digits_of(text));
     match rest {
         [b'.', ..] => operator_length(rest).is_none(),
-        [b'E' | b'D', b'+' | b'-', ..] => digits_at(rest, 2) > 0,
-        [b'E' | b'D', ..] => digits_at(rest, 1) > 0,
+        [b'E' | b'D', b'+' | b'-', rest @ ..] => digits_of(rest) > 0,
+        [b'E' | b'D', rest @ ..] => digits_of(rest) > 0,
         _ => false,
     }
 }
 
 /// Whether the digits at the beginning of a text are a constant that is too large.
 fn is_too_large(text: &[u8]) -> bool {
-    let digits = text.get(..digits_at(text, 0)).unwrap_or(&[]);
+    let digits = text.get(..digits_of(text)).unwrap_or(&[]);
     let zeros = digits.iter().position(|byte| *byte != b'0');
-    let figures = digits.get(zeros.unwrap_or(digits.len())..).unwrap_or(&[]);
+    let figures = past(digits, zeros.unwrap_or(digits.len()));
     match figures.len().checked_sub(LARGEST.len()) {
         Some(0) => figures > LARGEST,
         longer => longer.is_some(),

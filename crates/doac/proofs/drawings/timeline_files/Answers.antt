@@ -1,5 +1,0 @@
-use Rattle.doac.proofs.Reading.{compared}
-use Rattle.doac.proofs.drawings.timeline_files.Goals as goal
-
-pub returns : goal.returns
-returns g c = compared _ _ _ _ _ _ _ _ _ _ c.clash-clash.ensures c.timeline_unless.ensures
