@@ -178,15 +178,46 @@ const SHORT: &[u8] = b"      INTEGER A(200)
       END
 ";
 
-/// Sources, and the sizes by which they run: many processors with one iteration at a time, and few
-/// and many of them with short iterations.
-static FURTHER: [(&[u8], &[(u64, u64)]); 2] = [
+/// Iterations of middling length, which several processors make in chunks.
+const MIDDLING: &[u8] = b"      INTEGER A(500),B(400),S
+      DO 10 I=1,500
+   10 A(I)=I
+      DO 30 I=1,400
+      S=0
+      DO 20 K=1,20
+   20 S=S+A(I+K)*K
+   30 B(I)=S
+      PRINT *,B(1),B(400)
+      END
+";
+
+/// The same with a fault in one of them.
+const MIDDLING_WITH_A_FAULT: &[u8] = b"      INTEGER A(500),B(400),S
+      DO 10 I=1,500
+   10 A(I)=I
+      DO 30 I=1,400
+      S=0
+      DO 20 K=1,20
+   20 S=S+A(I+K)*K
+   30 B(I)=S/(300-I)
+      PRINT *,B(1),B(400)
+      END
+";
+
+/// Processors and slots by which chunks are made, and one by which they aren't.
+const IN_CHUNKS: &[(u64, u64)] = &[(1, 64), (2, 1), (2, 64), (4, 64), (8, 256)];
+
+/// Sources, and the sizes by which they run: many processors with one iteration at a time, few and
+/// many of them with short iterations, and with middling ones.
+static FURTHER: [(&[u8], &[(u64, u64)]); 4] = [
     (TWO_APART, &[(64, 1)]),
     (SHORT, &[(1, 4), (2, 4), (4, 4), (64, 4)]),
+    (MIDDLING, IN_CHUNKS),
+    (MIDDLING_WITH_A_FAULT, IN_CHUNKS),
 ];
 
 #[test]
-fn one_iteration_and_short_ones(rt: HostRuntime) {
+fn one_iteration_and_short_and_middling_ones(rt: HostRuntime) {
     for (source, sizes) in &FURTHER {
         source_runs(&rt, source, b"", sizes, &sequential(&rt, source, b""));
     }
