@@ -12,7 +12,7 @@ use command_line::Drawing;
 use engines::{Drawn, MOST_ARROWS, Portion, draw_text};
 use files::{Clash, FileFault, NamedFiles};
 use pages::{EngineFault, Page, Status};
-use remarks::Place;
+use places::Place;
 use std::io::Write;
 
 /// Draws a loop of the source of a file to another file, if that may be written.

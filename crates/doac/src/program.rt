@@ -10,7 +10,7 @@ use command_line::{LineFault, hint};
 use either::Either::{Left, Right};
 use files::{HostFiles, NamedFiles};
 use pages::Status;
-use remarks::VisibleLines;
+use places::VisibleLines;
 use std::convert::AsStr;
 use std::io::Write;
 use std::rt::{Env, Files};

@@ -10,8 +10,9 @@ use engines::{Note, Sequential, known_of};
 use files::{Clash, FileFault, NamedFiles, STANDARD_INPUT};
 use messages::{LastRecord, Message};
 use pages::{EngineFault, Outcome, Page, Status, Texts};
+use places::Place;
 use reasons::Met;
-use remarks::{Place, warn_of_columns};
+use remarks::warn_of_columns;
 use schedules::Flaw;
 use std::io::{self, Write};
 

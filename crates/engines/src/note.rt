@@ -1,7 +1,7 @@
 //! What is known of a fault or of a refused schedule beside its line.
 
+use places::Beyond;
 use reasons::Met;
-use remarks::Beyond;
 use std::fmt::{Display, Formatter, Result as FmtResult, Write};
 
 /// What is known beside the line.

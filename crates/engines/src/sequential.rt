@@ -14,7 +14,7 @@ use crate::verdict::{Verdict, judged};
 use ast::{End, Fault, Line, Program, Rule, Store};
 use interpreter::{RunEnd, RunFault, run_onto};
 use pages::{EngineFault, Outcome, Page, append_end, outcome, refused, rows};
-use remarks::Beyond;
+use places::Beyond;
 use std::alloc::{AllocError, Global};
 use std::io::Write;
 

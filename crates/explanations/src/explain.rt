@@ -12,8 +12,8 @@ mod statements;
 
 use crate::fault::fault_name;
 use ast::Fault;
+use places::Visible;
 pub use reasons::{is_reason, serial_reason};
-use remarks::Visible;
 use std::fmt::{Display, Formatter, Result as FmtResult, Write};
 use std::io;
 

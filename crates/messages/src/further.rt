@@ -6,8 +6,9 @@ use bstr::ByteSlice;
 use engines::{Verdict, judged};
 use fixed_form::LAST_LABEL_COLUMN;
 use pages::Outcome;
+use places::line_at;
 use remarks::{
-    Squeezed, cause_of, is_blank, is_comment, is_continuation, is_of_profile, is_of_text, line_at,
+    Squeezed, cause_of, is_blank, is_comment, is_continuation, is_of_profile, is_of_text,
 };
 use std::alloc::{AllocError, Global};
 

@@ -6,9 +6,9 @@ use engines::Note;
 use explanations::explain::{Explanation, fault, refusal};
 use explanations::fault_number;
 use pages::Outcome;
+use places::{Place, Visible};
 use remarks::{
-    Caret, Cause, Place, Squeezed, Visible, break_place, cause_of, hint, hint_of_fault,
-    hint_of_schedule,
+    Caret, Cause, Squeezed, break_place, cause_of, hint, hint_of_fault, hint_of_schedule,
 };
 use std::alloc::Global;
 use std::fmt::{Display, Formatter, Result as FmtResult, Write};

@@ -3,7 +3,7 @@
 use ast::{Fault, Line};
 use bstr::ByteSlice;
 use pages::{EngineFault, Outcome};
-use remarks::{Place, Visible};
+use places::{Place, Visible};
 use std::fmt::{Display, Formatter, Result as FmtResult, Write};
 
 /// The record at which a run came to BAD INPUT or END OF INPUT.

@@ -5,7 +5,7 @@ use codegen::LoopReport;
 use dependence::{LoopPlan, SerialReason};
 use loop_tree::{LoopTree, LoopView, loops};
 use placement::{first_read, first_shared, first_sources};
-use remarks::{Place, Visible};
+use places::{Place, Visible};
 use std::alloc::{AllocError, Global};
 use std::fmt::{Display, Formatter, Result as FmtResult, Write};
 

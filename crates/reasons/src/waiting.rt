@@ -14,7 +14,7 @@ use codegen::LoopReport;
 use dependence::{LoopPlan, PlanStmt, Reason, Relation, Relations, Run, SerialReason};
 use explanations::append_number;
 use loop_tree::{LoopTree, LoopView, Occurrence};
-use remarks::early_use;
+use places::early_use;
 use std::alloc::{AllocError, Global};
 
 /// How long a line with two references is at most, with its end.

@@ -1,10 +1,10 @@
 //! A place in the text of a statement, as it stands among the lines of its source.
 
 use crate::columns::{is_blank, is_comment, is_continuation, text_of};
-use crate::place::line_at;
 use ast::Line;
 use bstr::ByteSlice;
 use fixed_form::LAST_LABEL_COLUMN;
+use places::line_at;
 
 /// A place in a line: its column, from 0, and the line's text.
 #[derive(Clone, Copy)]

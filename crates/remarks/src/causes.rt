@@ -8,12 +8,12 @@ mod near;
 use crate::mentions::{Mention, mentions};
 use crate::rules::{is_of_profile, is_of_text};
 use crate::squeezed::Squeezed;
-use crate::visible::Visible;
 use ast::{Intrinsic, Label, Line, Name, Rule};
 use declared::Declared;
 use kinds::wrong_kind;
 use limits::limit;
 use near::meant_by;
+use places::Visible;
 use std::alloc::{AllocError, Global};
 use std::fmt::{Display, Formatter, Result as FmtResult, Write};
 

@@ -3,31 +3,23 @@
 //! no answer rests on them.
 #![tactic(auto)]
 
-mod beyond;
 mod breaks;
 mod caret;
 mod causes;
 mod columns;
-mod early;
 mod hints;
 mod mentions;
-mod place;
 mod rules;
 mod squeezed;
 mod tokens;
 mod usage;
-mod visible;
 mod warnings;
 
-pub use beyond::Beyond;
 pub use breaks::break_place;
 pub use caret::Caret;
 pub use causes::{Cause, cause_of};
 pub use columns::{is_blank, is_comment, is_continuation};
-pub use early::early_use;
 pub use hints::{hint, hint_of_fault, hint_of_schedule};
-pub use place::{Place, line_at};
 pub use rules::{is_of_profile, is_of_text};
 pub use squeezed::Squeezed;
-pub use visible::{Visible, VisibleLines};
 pub use warnings::{warn, warn_of_columns};

@@ -3,10 +3,10 @@
 use crate::columns::{
     has_late_label, is_blank, is_comment, is_continuation, is_cut, label_of, text_of, with_digit,
 };
-use crate::place::line_at;
 use crate::tokens::{digits_of, past, word_length};
 use ast::{Label, Line};
 use bstr::ByteSlice;
+use places::line_at;
 use std::alloc::{AllocError, Global};
 
 /// What stands for each character of a text.

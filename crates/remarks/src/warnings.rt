@@ -1,13 +1,12 @@
 //! What is warned of on standard error. No warning changes an answer.
 
 use crate::columns::{is_comment, is_cut, label_of, names_card, unread};
-use crate::place::{Place, line_at};
 use crate::squeezed::behind_parentheses;
 use crate::tokens::past;
 use crate::usage::{Seen, Usage};
-use crate::visible::Visible;
 use ast::{Kind, LONGEST_NAME, Line, Name, Node, Program, Symbol, SymbolKind};
 use bstr::ByteSlice;
+use places::{Place, Visible, line_at};
 
 /// How many lines are warned of for one thing.
 const MOST: u32 = 20;
