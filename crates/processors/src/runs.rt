@@ -93,7 +93,7 @@ impl<'c, C: Call> Recorded<'c, C> {
     ghost use Rattle.processors.specs.Calls.{HasTally, IsCoreOf, IsRunOf};
     ghost use Rattle.processors.specs.Left.{HasNoLocal, HasNoStep, NoneSteps};
     ghost use Rattle.processors.specs.Refused.{IsGivenUp};
-    ghost use Rattle.replay.specs.CoreView.{point_at};
+    ghost use Rattle.replay.specs.CoreView.{IsRecorded, point_at};
     ghost use Rattle.replay.specs.Replayed.{IsAnswer};
     ghost use Rattle.replay.specs.Stepping.{IsGoing};
 
@@ -115,8 +115,6 @@ impl<'c, C: Call> Recorded<'c, C> {
         ensures { IsGivenUp C.code C.input C.processors C.slots result }
     {
         let Recorded { core, .. } = self;
-        // Their contracts say that this schedule leads to where the core is, and can be written.
-        let _ = core.schedule().entries();
         let (output, _) = core.into_parts();
         RunRefusal::Memory { output }
     }
@@ -134,8 +132,6 @@ impl<'c, C: Call> Recorded<'c, C> {
             ..
         } = self;
         let tally = core.tally();
-        // Their contracts say that this schedule leads to where the core is, and can be written.
-        let _ = core.schedule().entries();
         let (_, schedule) = core.into_parts();
         Report {
             answer,
@@ -214,10 +210,9 @@ impl<'c, C: Call> Recorded<'c, C> {
     fn stuck(self) -> RunRefusal
         requires going { IsGoing self }
         requires none { NoneSteps self }
+        requires recorded { IsRecorded self }
         ensures { IsGivenUp C.code C.input C.processors C.slots result }
     {
-        // Their contracts say that this schedule leads to where the core is, and can be written.
-        let _ = self.core.schedule().entries();
         RunRefusal::Stuck
     }
 

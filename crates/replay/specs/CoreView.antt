@@ -1,11 +1,12 @@
 -- A core as its callers see it.
 use Rattle.std.specs.Prelude.{◌≡◌, ℕ, List, [], ◌∷◌}
 use Rattle.machine.specs.Code.{Code}
-use Rattle.schedules.specs.Schedules.{Entry, Schedule, with_entries}
+use Rattle.schedules.specs.Schedules.{Entry, IsSchedule, Schedule, with_entries}
 use Rattle.schedules.specs.declared.entry.Version.TheVariants.{Second}
 use Rattle.activities.specs.Parts.{Kept, point_of}
 use Rattle.activities.specs.Points.{Point, beginning}
 use Rattle.machine.specs.State.{AreSizes}
+use Rattle.replay.specs.Replays.{Replays}
 
 -- its code and input, the schedule of what it did, and what it keeps
 pub record CoreView : Type 0 where
@@ -17,6 +18,11 @@ pub record CoreView : Type 0 where
 -- where it is
 abbrev pub point_at : CoreView → Point
 point_at x = point_of x.code.variables x.schedule.slots x.kept
+
+-- its schedule can be written, and leads to where it is
+pub record IsRecorded (x : CoreView) : Type 0 where
+  pub kept : IsSchedule x.schedule
+  pub replays : Replays x.code x.input x.schedule (point_at x)
 
 -- nothing has been done
 pub record IsNew (code : Code) (input : List ℕ) (p s : ℕ) (x : CoreView) : Type 0 where

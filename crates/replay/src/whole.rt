@@ -75,13 +75,12 @@ impl<'c> Core<'c> {
     ghost use Rattle.machine.specs.WorkView.{IsSpent, work_of};
     ghost use Rattle.schedules.specs.declared.entry.Version.TheVariants.{Second};
     ghost use Rattle.activities.specs.Activities.{chosen, frame_at, who};
-    ghost use Rattle.replay.specs.CoreView.{CoreView, IsNew, point_at};
+    ghost use Rattle.replay.specs.CoreView.{CoreView, IsNew, IsRecorded, point_at};
     ghost use Rattle.activities.specs.Least.{IsLeast, has_ticket};
     ghost use Rattle.replay.specs.Loading.{CannotHandInWork, HandsInWork, HasFrame, Loads};
     ghost use Rattle.activities.specs.Parts.{held_of};
     ghost use Rattle.replay.specs.Replayed.{IsAnswer};
     ghost use Rattle.activities.specs.Points.{beginning, local_in};
-    ghost use Rattle.replay.specs.Replays.{Replays};
     ghost use Rattle.replay.specs.Stepping.{CannotHandIn, HandsIn, HasLocal, IsFrom, IsGoing};
     ghost use Rattle.replay.specs.Stepping.{HasEnded, IsDone, KeepsGoing, Labours, MayTry, NoCore};
     ghost use Rattle.replay.specs.Stepping.{PicksUp, Steps};
@@ -148,8 +147,7 @@ impl<'c> Core<'c> {
     /// What the processors did so far. The state is its replay.
     pub fn schedule(&self) -> &Schedule
         ensures schedule { result.now ≡ self.now.schedule }
-        ensures replays { Replays self.now.code self.now.input self.now.schedule
-            (point_at self.now) }
+        ensures recorded { IsRecorded self.now }
     {
         &self.schedule
     }
@@ -584,7 +582,7 @@ impl<'c> Core<'c> {
         self.tally
     }
 
-    /// The answer, where the run has ended.
+    /// The answer, where the run has ended. Ended or not, the schedule leads to where it is.
     ///
     /// # Errors
     ///
@@ -594,6 +592,7 @@ impl<'c> Core<'c> {
             IfSome o (IsAnswer self.now.code (point_at self.now).machine)) }
         ensures none { IfOk result (λ o. o ≡ None → IsGoing self.now) }
         ensures memory { OnErr result (HasEnded self.now) }
+        ensures recorded { IsRecorded self.now }
     {
         let shared = &self.activities.shared;
         let Some(end) = shared.ended else {
@@ -605,10 +604,11 @@ impl<'c> Core<'c> {
         Ok(Some(answer(alloc, self.activities.code, &shared.cells, output, end)?))
     }
 
-    /// What has gone out so far, and the schedule.
+    /// What has gone out so far, and the schedule, which leads there.
     pub fn into_parts(self) -> (Vec<u8>, Schedule)
         ensures output { result.0.items ≡ (point_at self.entry).machine.output }
         ensures schedule { result.1 ≡ self.entry.schedule }
+        ensures recorded { IsRecorded self.entry }
     {
         let Core {
             input: _,

@@ -29,6 +29,6 @@ pub fn no_run_is_stuck()
 pub fn some_step_goes(core: &Core<'_>)
     ensures { GoesOn core.now }
 {
-    // Their contracts say that this schedule leads to where the core is, and can be written.
-    let _ = core.schedule().entries();
+    // Its contract says that the schedule leads to where the core is, and can be written.
+    let _ = core.schedule();
 }

@@ -1,15 +1,14 @@
 use Rattle.std.proofs.Common.{sym, subst}
 use Rattle.replay.specs.CoreView.{CoreView, point_at}
 use Rattle.replay.specs.Replayed.{IsAnswer}
-use Rattle.schedules.specs.Schedules.{IsSchedule}
 use Rattle.processors.proofs.Keeping.{run_of, tally_of}
 use Rattle.processors.proofs.runs.Recorded.report_of.Goals as goal
 
 pub returns-clause-run : goal.returns-clause-run
 returns-clause-run g c =
-    run_of g.C.Call.code g.C.Call.input g.C.Call.processors g.C.Call.slots c.self.inside.core c.args.answer c.into_parts-schedule.result.1 c.self.invariant.0 c.schedule.ensures.replays
-    (subst (λ (x : CoreView). IsAnswer x.code (point_at x).machine c.args.answer) (sym c.self.view_is) c.requires)
-    (subst IsSchedule c.schedule.ensures.schedule c.entries.ensures.kept) c.into_parts-schedule.ensures.schedule
+    let parts = c.into_parts-schedule.ensures in
+    run_of g.C.Call.code g.C.Call.input g.C.Call.processors g.C.Call.slots c.self.inside.core c.args.answer c.into_parts-schedule.result.1 c.self.invariant.0 parts.recorded.replays
+    (subst (λ (x : CoreView). IsAnswer x.code (point_at x).machine c.args.answer) (sym c.self.view_is) c.requires) parts.recorded.kept parts.schedule
 
 pub returns-clause-tally : goal.returns-clause-tally
 returns-clause-tally g c =
