@@ -94,13 +94,13 @@ fn set_length<T: MadeWith<Global> + Copy, const N: usize>(
     }
 }
 
-/// So many private scalars, none of them defined.
+/// None of these private scalars is defined any more.
+#[inline(always)]
 #[tactic(auto, using(crate::proofs::Privates::undefined_law))]
-fn undefine(privates: &mut SmallVec<Scalar, 8>, count: usize)
-    requires room { count ≤ privates.old.capacity }
-    ensures { scalars_of privates.new.items ≡ replicate count None }
+fn undefine(privates: &mut [Scalar])
+    ensures { scalars_of privates.new ≡ replicate (length privates.old) None }
 {
-    fill_up(privates, Scalar::default(), count);
+    privates.fill(Scalar::default());
 }
 
 /// Where an iteration of a loop begins in the code, and how many private scalars it has.
@@ -118,7 +118,7 @@ fn first_place(code: &Code, number: u32) -> (usize, usize)
 }
 
 impl Frame {
-    ghost use Rattle.std.specs.Prelude.{◌≡◌, IfOk, OnErr, OnOk};
+    ghost use Rattle.std.specs.Prelude.{◌≡◌, IfOk, OnErr, OnOk, length, true};
     ghost use Rattle.machine.specs.CodeView.{code_of};
     ghost use Rattle.machine.specs.FrameView.{frame_of};
     ghost use Rattle.machine.specs.View.{begin, entry, index_at, main_frame};
@@ -186,6 +186,7 @@ impl Frame {
     /// # Errors
     ///
     /// `AllocError` where memory is refused.
+    #[inline(always)]
     #[tactic(auto, using(crate::proofs::Restarting::whole_law))]
     pub fn restart(
         &mut self,
@@ -199,18 +200,47 @@ impl Frame {
         ensures err { OnErr result (frame_of self.new ≡ frame_of self.old) }
     {
         let (place, privates) = first_place(code, opened.number);
-        make_room(&mut self.slots, code.operands)?;
-        make_room(&mut self.privates, privates)?;
-        make_room(&mut self.counters, code.counters)?;
-        set_length(&mut self.slots, 0, code.operands);
-        undefine(&mut self.privates, privates);
-        set_length(&mut self.counters, Counter::default(), code.counters);
+        if !self.has_lengths(code, privates) {
+            self.resize(code, privates)?;
+        }
+        undefine(self.privates.as_mut_slice());
         self.place = place;
         self.top = code.operands;
         self.inner = code.counters;
         self.number = Some(k);
         self.index = index;
         self.fault = None;
+        Ok(())
+    }
+
+    /// Whether it has as many slots as the code wants, and so many private scalars.
+    #[inline(always)]
+    fn has_lengths(&self, code: &Code, privates: usize) -> bool
+        ensures slots { result ≡ true → length self.now.slots.items ≡ code.now.operands }
+        ensures privates { result ≡ true → length self.now.privates.items ≡ privates }
+        ensures counters { result ≡ true → length self.now.counters.items ≡ code.now.counters }
+    {
+        self.slots.len() == code.operands
+            && self.privates.len() == privates
+            && self.counters.len() == code.counters
+    }
+
+    /// It gets as many slots as the code wants, and so many private scalars, whatever they hold. It
+    /// takes memory only where the room that it has is too little.
+    // Out of line, since nearly all frames have been those of such iterations before.
+    #[inline(never)]
+    fn resize(&mut self, code: &Code, privates: usize) -> Result<(), AllocError>
+        ensures slots { OnOk result (length self.new.slots.items ≡ code.now.operands) }
+        ensures privates { OnOk result (length self.new.privates.items ≡ privates) }
+        ensures counters { OnOk result (length self.new.counters.items ≡ code.now.counters) }
+        ensures err { OnErr result (frame_of self.new ≡ frame_of self.old) }
+    {
+        make_room(&mut self.slots, code.operands)?;
+        make_room(&mut self.privates, privates)?;
+        make_room(&mut self.counters, code.counters)?;
+        set_length(&mut self.slots, 0, code.operands);
+        set_length(&mut self.privates, Scalar::default(), privates);
+        set_length(&mut self.counters, Counter::default(), code.counters);
         Ok(())
     }
 
