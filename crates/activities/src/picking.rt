@@ -107,6 +107,7 @@ fn new_frame(
 
 /// The frame of iteration `k` of an open loop as it begins, in the room of a spare one where there
 /// is one.
+#[inline(always)]
 fn first_frame(
     spare: &mut Vec<Box<Frame>>,
     code: &Code,

@@ -80,6 +80,7 @@ fn park(shared: &mut Shared, iteration: &mut Iteration, slot: usize, event: u32,
 }
 
 /// An iteration is parked until it is the next to retire.
+#[inline(never)]
 pub fn wait_for_turn(shared: &mut Shared, iteration: &mut Iteration, slot: usize)
     requires event { 0 < length shared.old.kernel.counts }
     requires slot { slot < shared.old.kernel.slots }
@@ -168,7 +169,9 @@ fn store_private(cells: &mut [i64], code: &Code, variable: u32, private: Option<
 }
 
 /// The private scalars that were defined become the values of their variables.
-fn store_privates(cells: &mut [i64], code: &Code, variables: &[u32], values: &[Scalar])
+// Out of line, so that an iteration without any retires in its caller.
+#[inline(never)]
+fn store_all(cells: &mut [i64], code: &Code, variables: &[u32], values: &[Scalar])
     requires cells { length cells.old ≡ count_of code.now.variables.items }
     ensures { cells.new ≡ cells_after (code_of code.now) variables.now (scalars_of values.now)
         cells.old }
@@ -181,6 +184,18 @@ fn store_privates(cells: &mut [i64], code: &Code, variables: &[u32], values: &[S
     while i > 0 {
         i -= 1;
         store_private(cells, code, variables[i], values[i].get());
+    }
+}
+
+/// The same, where there are some.
+#[inline(always)]
+fn store_privates(cells: &mut [i64], code: &Code, variables: &[u32], values: &[Scalar])
+    requires cells { length cells.old ≡ count_of code.now.variables.items }
+    ensures { cells.new ≡ cells_after (code_of code.now) variables.now (scalars_of values.now)
+        cells.old }
+{
+    if !variables.is_empty() {
+        store_all(cells, code, variables, values);
     }
 }
 
@@ -197,6 +212,7 @@ fn go_out(output: &mut Vec<u8>, out: &[u8]) -> Result<(), AllocError>
 }
 
 /// An iteration of a loop retires: what it printed goes out.
+#[inline(always)]
 pub fn leave(
     shared: &mut Shared,
     iteration: &Iteration,
@@ -245,6 +261,7 @@ fn is_next(shared: &Shared, iteration: &Iteration) -> bool
 }
 
 /// An iteration retires, or waits until it is the next to do so.
+#[inline(always)]
 pub fn retire(
     shared: &mut Shared,
     iteration: &mut Iteration,

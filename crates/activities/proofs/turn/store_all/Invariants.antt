@@ -3,7 +3,7 @@ use Rattle.machine.specs.CodeView.{code_of}
 use Rattle.machine.specs.Laid.{count_of}
 use Rattle.machine.specs.ScalarView.{scalars_of}
 use Rattle.activities.specs.Turns.{cells_after}
-use Rattle.activities.proofs.turn.store_privates.Given as goal
+use Rattle.activities.proofs.turn.store_all.Given as goal
 
 abbrev pub invariant-loop-i : goal.invariant-loop-i
 invariant-loop-i l = record {

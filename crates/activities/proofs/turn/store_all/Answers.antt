@@ -4,8 +4,8 @@ use Rattle.machine.specs.CodeView.{code_of}
 use Rattle.machine.specs.ScalarView.{scalar_of, scalars_of}
 use Rattle.activities.specs.Turns.{one_after}
 use Rattle.activities.proofs.Turning.{one_length, scalar_at, stores_nothing, stores_one}
-use Rattle.activities.proofs.turn.store_privates.Goals as goal
-use Rattle.activities.proofs.turn.store_privates.Goals.{then-variables-values, else-variables-values}
+use Rattle.activities.proofs.turn.store_all.Goals as goal
+use Rattle.activities.proofs.turn.store_all.Goals.{then-variables-values, else-variables-values}
 
 pub loop-i-preserved : goal.loop-i-preserved
 loop-i-preserved c = record {
