@@ -1,21 +1,20 @@
 -- What the code alone tells of strides is so.
-use Rattle.std.proofs.Common.{◌≡◌, ◌∙◌, ℕ, zero, suc, ◌+◌, Bool, true, false, List, [], ◌∷◌, length, Option, Some, None, Result, Ok, Err, refl, sym, ap, subst, arith}
+use Rattle.std.proofs.Common.{◌≡◌, ◌∙◌, ℕ, suc, ◌+◌, Bool, true, false, List, [], ◌∷◌, length, Option, Some, None, Result, Ok, Err, refl, sym, ap, subst, arith}
 use Rattle.std.specs.Prelude.{ℤ, ◌-◌, pos, is_some, nat_lt, slice_get, slice_set, if◌then◌else◌}
 use Rattle.std.specs.Ordering.{int_eq}
 use Rattle.ast.specs.Store.{StoreOf}
-use Rattle.ast.specs.Exact.{is_true, trips, value_of, remainder, greater, less, prefixed_value, absolute}
+use Rattle.ast.specs.Exact.{trips, value_of, remainder, greater, less, prefixed_value, absolute}
 use Rattle.ast.specs.declared.fault.Fault.{Fault}
 use Rattle.ast.specs.declared.fault.Fault.TheVariants.{ZeroStep}
 use Rattle.machine.specs.Code.{Cell, Code, cell_at}
 use Rattle.machine.specs.Frame.{Frame, Stack, has_room}
-use Rattle.machine.specs.Local.{counter, counted_down, going_on, faulted, if_pushed, if_replaced, is_local, local, local_act, local_instr, loop_set_up, looping, one_of, part_of, private_pushed, private_set, pushed, one_replaced, replaced_at, skipping, skipping_unless, step_pushed, three_of, two_of, two_replaced, with_operands, without, without_fault}
+use Rattle.machine.specs.Local.{counter, going_on, faulted, if_pushed, if_replaced, is_local, local_act, local_instr, loop_set_up, looping, one_of, part_of, private_pushed, private_set, pushed, one_replaced, replaced_at, skipping, step_pushed, three_of, two_of, two_replaced, without, without_fault}
 use Rattle.machine.specs.Strides.{Held, Passed, gone_past, stride_past}
-use Rattle.machine.specs.View.{View, act_view, cell_from, doing_if, element_loading, element_storing, fault_view, instr_view, loading_if, scalar_loading, scalar_storing, storing_if, stuck, view}
-use Rattle.machine.specs.declared.code.Open.{Open}
+use Rattle.machine.specs.View.{act_view, cell_from, doing_if, element_loading, element_storing, fault_view, instr_view, loading_if, scalar_loading, scalar_storing, storing_if, stuck}
 use Rattle.machine.specs.declared.code.Variable.{Variable}
 use Rattle.machine.specs.declared.frame.Counter.{Counter}
 use Rattle.machine.specs.declared.instr.Act.{Act}
-use Rattle.machine.specs.declared.instr.Act.TheVariants.{Constant, Private, SetPrivate, Index, Binary, Modulo, Greatest, Least, Unary, Absolute, Check, Skip, SkipUnless, Back, SetUp, CountDown, Step, Load, LoadElement, Store, StoreElement, Print, TakeRecord, TakeValue, DropRecord, Await, Advance, Open as OpenLoop, Join, Retire, Stop, Halt}
+use Rattle.machine.specs.declared.instr.Act.TheVariants.{Constant, Private, SetPrivate, Index, Binary, Modulo, Greatest, Least, Unary, Absolute, Check, Skip, SkipUnless, Back, SetUp, CountDown, Step, Load, LoadElement, Store, StoreElement}
 use Rattle.machine.specs.declared.instr.Instr.{Instr}
 use Rattle.activities.specs.Kinds.{IsPath, ahead_at, ahead_if, ahead_of, kinds, kinds_if, local_to, shared_to}
 use Rattle.activities.specs.declared.kinds.Ahead.{Ahead}

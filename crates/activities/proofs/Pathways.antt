@@ -1,9 +1,9 @@
 -- Strides along a path are steps of its kinds.
-use Rattle.std.proofs.Common.{inl, ◌≡◌, ◌∙◌, ℕ, zero, suc, ◌+◌, ◌<◌, Bool, true, false, List, [], ◌∷◌, length, Option, Some, None, refl, sym, ap, subst, arith}
+use Rattle.std.proofs.Common.{◌≡◌, ◌∙◌, ℕ, zero, suc, Bool, List, ◌∷◌, Option, Some, None, refl, sym, ap, subst}
 use Rattle.ast.specs.Store.{StoreOf}
 use Rattle.machine.specs.Code.{Code}
 use Rattle.machine.specs.Frame.{Frame}
-use Rattle.machine.specs.Local.{and_then, is_local}
+use Rattle.machine.specs.Local.{and_then}
 use Rattle.machine.specs.Solo.{Still}
 use Rattle.machine.specs.State.{Machine, Who, the_main, iteration}
 use Rattle.machine.specs.Strides.{Held, Passed, stride_past, strides_past}

@@ -1,8 +1,9 @@
 //! Steps of what processors hold, in its own place.
 
-ghost use Rattle.std.specs.Prelude.{◌≡◌, ◌≤◌, ℕ, IfSome, List, length, option_map};
+ghost use Rattle.std.specs.Prelude.{◌≡◌, ◌≤◌, IfSome, length, option_map, true};
 ghost use Rattle.machine.specs.CodeView.{code_of};
 ghost use Rattle.machine.specs.FrameView.{frame_of};
+ghost use Rattle.stretches.specs.Reached.{AreReached, passed_by};
 ghost use Rattle.stretches.specs.Stretches.{Leads};
 ghost use Rattle.activities.specs.PartsView.{standing_of};
 ghost use Rattle.activities.specs.Sharing.{StrodeAt};
@@ -45,8 +46,8 @@ fn stride_at(
 
 /// The steps of a stretch are made of a frame, if it is right; how many.
 fn commit_on(frame: &mut Frame, cells: &mut Vec<i64>, stretch: &mut Stretch<'_>) -> u32
-    ensures made { Leads (code_of stretch.old.code.now) result (frame_of frame.old) cells.old.items
-        (frame_of frame.new) cells.new.items }
+    ensures made { Leads (passed_by stretch.old.reached) (code_of stretch.old.code.now) result
+        (frame_of frame.old) cells.old.items (frame_of frame.new) cells.new.items }
     ensures few { result ≤ stretch.old.made }
     ensures cells { length cells.new.items ≡ length cells.old.items }
     ensures code { code_of stretch.new.code.now ≡ code_of stretch.old.code.now }
@@ -54,17 +55,44 @@ fn commit_on(frame: &mut Frame, cells: &mut Vec<i64>, stretch: &mut Stretch<'_>)
     stretch.commit(frame, cells.as_mut_slice())
 }
 
-/// The same of what stands in a place.
-fn commit_at(place: &mut Option<Iteration>, cells: &mut Vec<i64>, stretch: &mut Stretch<'_>) -> u32
-    ensures made { (counts : List ℕ) → IfSome (option_map standing_of place.old) (λ a.
-        StrodeAt (code_of stretch.old.code.now) counts result cells.old.items a cells.new.items
-        (option_map standing_of place.new)) }
+/// Whether all counts that were seen are reached.
+fn are_reached(seen: &[u128], kernel: &Kernel) -> bool
+    requires counts { length kernel.now.counts ≡ 65 }
+    ensures { result ≡ true → AreReached seen.now kernel.now.counts }
+{
+    let mut event = 0;
+    while event < seen.len() {
+        if event > 64 || seen[event] > kernel.read(event) {
+            return false;
+        }
+        event += 1;
+    }
+    true
+}
+
+/// The same of what stands in a place, where the counts that the stretch was told are reached.
+fn commit_at(
+    place: &mut Option<Iteration>,
+    cells: &mut Vec<i64>,
+    kernel: &Kernel,
+    stretch: &mut Stretch<'_>,
+) -> u32
+    requires counts { length kernel.now.counts ≡ 65 }
+    ensures made { IfSome (option_map standing_of place.old) (λ a.
+        StrodeAt (code_of stretch.old.code.now) kernel.now.counts result cells.old.items a
+        cells.new.items (option_map standing_of place.new)) }
     ensures few { result ≤ stretch.old.made }
     ensures cells { length cells.new.items ≡ length cells.old.items }
     ensures code { code_of stretch.new.code.now ≡ code_of stretch.old.code.now }
 {
     match place {
-        Some(iteration) => commit_on(&mut iteration.frame, cells, stretch),
+        Some(iteration) => {
+            let seen = &stretch.reached;
+            if seen.number != iteration.number || !are_reached(&seen.counts, kernel) {
+                return 0;
+            }
+            commit_on(&mut iteration.frame, cells, stretch)
+        }
         None => 0,
     }
 }
@@ -195,12 +223,26 @@ impl<'c> Activities<'c> {
         ensures code { code_of stretch.new.code.now ≡ code_of stretch.old.code.now }
     {
         let at = self.place_from(k, place);
-        commit_at(&mut self.iterations[at], &mut self.shared.cells, stretch)
+        commit_at(
+            &mut self.iterations[at],
+            &mut self.shared.cells,
+            &self.shared.kernel,
+            stretch,
+        )
+    }
+
+    /// The counts of events, from event 0 on, for those who are to pass awaits by them.
+    pub fn see_counts(&self, seen: &mut [u128])
+        requires stand { AreActivities self.now }
+    {
+        for event in 0..seen.len().min(65) {
+            seen[event] = self.shared.kernel.read(event);
+        }
     }
 
     /// The steps of a stretch of the same code are made of the iteration that processor `q` holds,
-    /// where it is in the frame from which they lead, and all that was guessed is right; how many.
-    /// Else nothing changes.
+    /// where it is in the frame from which they lead, all that was guessed is right, and the counts
+    /// that were seen are reached; how many. Else nothing changes.
     pub fn commit(&mut self, q: usize, stretch: &mut Stretch<'_>) -> u32
         requires stand { AreActivities self.old }
         requires processor { q < length self.old.held.items }

@@ -41,7 +41,7 @@ fn go_on(
     cells: &mut Vec<i64>,
     n: u32,
 ) -> Result<u32, AllocError> {
-    stretch.load(frame)?;
+    stretch.load(frame, 0, &[])?;
     stretch.run(n);
     let wanted = stretch.made;
     let made = stretch.commit(frame, cells);
@@ -130,7 +130,7 @@ fn a_stretch_ends_where_there_is_no_room_for_a_note(rt: HostRuntime) -> Result<(
         let mirror = Mirror::new(alloc, code.cells())?;
         let mut stretch = Stretch::new(alloc, code, &mirror, 3)?;
         let mut frame = frame(alloc, code, 0)?;
-        stretch.load(&frame)?;
+        stretch.load(&frame, 0, &[])?;
         stretch.run(5);
         assert!(rt; stretch.made == 3);
         let mut cells = vec![in alloc; 0; code.cells()]?;

@@ -255,9 +255,7 @@ impl<C: Call, D: Driven<C> + Drop> Board<C, D> {
         if let Some(lengths) = self.lengths.get_mut(self.run.open_loop()) {
             lengths.add(handed.steps);
             lengths.begin(handed.begun);
-            if !handed.fits {
-                lengths.refuse_chunks();
-            }
+            lengths.learn(handed);
         }
         Ok(())
     }

@@ -49,24 +49,26 @@ impl<'c, C: Call> Draft<'c, C> {
         })
     }
 
-    /// Makes iteration `k` of an open loop, as far as that goes.
+    /// Makes iteration `k` of an open loop, which passes awaits by these counts, as far as that
+    /// goes.
     ///
     /// # Errors
     ///
     /// `AllocError` where memory is refused.
-    fn make(&mut self, opened: Open, k: u128) -> Result<(), AllocError> {
+    fn make(&mut self, opened: Open, k: u128, counts: &[u128]) -> Result<(), AllocError> {
         if let Some(index) = index_of(self.stretch.code, opened, k) {
-            self.stretch.begin(opened, k, index)?;
+            self.stretch.begin(opened, k, index, counts)?;
             self.stretch.run(MOST_WORK);
         }
         Ok(())
     }
 
-    /// Whether it came to the end of the iteration, or to where others are told of it.
+    /// Whether it came to where the iteration ends or others are told of it, or to where it only
+    /// waits for the one before it.
     fn is_whole(&self) -> bool {
         matches!(
             stands_next(self.stretch.code, &self.stretch.to),
-            Next::Retire { .. } | Next::Advance { .. },
+            Next::Retire { .. } | Next::Advance { .. } | Next::Await { distance: 1, .. },
         )
     }
 }
@@ -84,8 +86,6 @@ pub struct Chunk<'c, C: Call> {
     end: u128,
     /// How many drafts were made, of the first of them.
     made: usize,
-    /// Whether all of these are whole.
-    fits: bool,
 }
 
 impl<'c, C: Call> Chunk<'c, C> {
@@ -118,7 +118,6 @@ impl<'c, C: Call> Chunk<'c, C> {
             first: 0,
             end: 0,
             made: 0,
-            fits: true,
         })
     }
 
@@ -130,11 +129,6 @@ impl<'c, C: Call> Chunk<'c, C> {
     /// Whether none are.
     pub fn is_empty(&self) -> bool {
         self.first >= self.end
-    }
-
-    /// Whether each draft of the last time is whole.
-    pub fn fits(&self) -> bool {
-        self.fits
     }
 
     /// These are left to it.
@@ -155,22 +149,23 @@ impl<'c, C: Call> Chunk<'c, C> {
         self.turnstile.show(ticket);
     }
 
-    /// Makes drafts until one isn't whole.
+    /// Makes drafts that pass awaits by these counts, as long as they are whole.
     ///
     /// # Errors
     ///
     /// `AllocError` where memory is refused.
-    fn make(&mut self) -> Result<(), AllocError> {
+    fn make(&mut self, counts: &[u128]) -> Result<(), AllocError> {
         self.made = 0;
-        self.fits = true;
         let mut k = self.first;
         for draft in self.drafts.iter_mut() {
-            if k >= self.end || !self.fits {
+            if k >= self.end {
                 break;
             }
-            draft.make(self.opened, k)?;
-            self.fits = draft.is_whole();
+            draft.make(self.opened, k, counts)?;
             self.made = self.made.saturating_add(1);
+            if !draft.is_whole() {
+                break;
+            }
             k = k.saturating_add(1);
         }
         Ok(())
@@ -186,13 +181,13 @@ impl<'c, C: Call> Chunk<'c, C> {
         }
     }
 
-    /// Makes drafts, and waits a while until it is its turn.
+    /// Makes drafts that pass awaits by these counts, and waits a while until it is its turn.
     ///
     /// # Errors
     ///
     /// `AllocError` where memory is refused.
-    pub fn run(&mut self) -> Result<(), AllocError> {
-        self.make()?;
+    pub fn run(&mut self, counts: &[u128]) -> Result<(), AllocError> {
+        self.make(counts)?;
         self.queue();
         Ok(())
     }

@@ -45,8 +45,10 @@ pub struct Handed {
     pub more: u32,
     /// How many iterations it began, of those steps.
     pub begun: u32,
-    /// Whether iterations of the loop that is open may be made in chunks, for all that it saw.
-    pub fits: bool,
+    /// How many drafts it had made.
+    pub drafts: usize,
+    /// Of how many iterations that it began hardly any steps were left to make in place.
+    pub drafted: u32,
 }
 
 impl Default for Handed {
@@ -55,7 +57,8 @@ impl Default for Handed {
             steps: 0,
             more: 0,
             begun: 0,
-            fits: true,
+            drafts: 0,
+            drafted: 0,
         }
     }
 }
@@ -74,6 +77,9 @@ impl Handed {
         self.begun = self.begun.saturating_add(1);
         self.steps = self.steps.saturating_add(steps);
         self.more = self.more.saturating_add(more).saturating_add(1);
+        if more <= steps / 8 {
+            self.drafted = self.drafted.saturating_add(1);
+        }
     }
 }
 

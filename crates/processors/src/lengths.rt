@@ -1,5 +1,8 @@
 //! How long the iterations of a loop are.
 
+use crate::chunk::MOST_DRAFTS;
+use crate::driven::Handed;
+
 /// So many iterations are begun before it is asked how long they are.
 const FIRST_FEW: u64 = 64;
 
@@ -32,6 +35,14 @@ const LONG_IN_CHUNKS: u64 = 160;
 /// How many steps a chunk has, about.
 const CHUNK: u64 = 8192;
 
+/// Where iterations don't suit chunks of so many, none are made for a while: processors would rather
+/// wait for one another.
+const FEWEST: usize = 4;
+
+/// Chunks are tried again after so many iterations, first; after each time that these don't suit
+/// them, after twice as many.
+const FIRST_UNCHUNKED: u64 = 256;
+
 /// How many iterations of a loop have begun of late, and how many steps of them were made outside
 /// the lock.
 #[derive(Clone, Copy)]
@@ -42,8 +53,13 @@ pub struct Lengths {
     rest: u64,
     /// How often they were.
     trials: u32,
-    /// Whether they may be made in chunks, for all that was seen.
-    fits: bool,
+    /// How many iterations a chunk has, at most, for all that was seen. Where these are too few none
+    /// are made in chunks for a while.
+    most: usize,
+    /// How many are left to begin in that while.
+    unchunked: u64,
+    /// How many are to begin in the next one.
+    next_unchunked: u64,
 }
 
 impl Default for Lengths {
@@ -53,7 +69,9 @@ impl Default for Lengths {
             worked: 0,
             rest: FIRST_REST,
             trials: 0,
-            fits: true,
+            most: MOST_DRAFTS,
+            unchunked: 0,
+            next_unchunked: FIRST_UNCHUNKED,
         }
     }
 }
@@ -70,6 +88,7 @@ impl Lengths {
             self.worked /= 2;
         }
         self.begun = self.begun.wrapping_add(u64::from(begun));
+        self.rest_chunks(begun);
     }
 
     /// What is known is forgotten, so that iterations are made outside the lock for a while.
@@ -78,7 +97,7 @@ impl Lengths {
         self.worked = 0;
         self.rest = LONGEST_REST.min(self.rest.saturating_mul(2));
         self.trials = self.trials.wrapping_add(1);
-        self.fits = true;
+        self.most = MOST_DRAFTS;
     }
 
     /// So many more steps were made outside the lock.
@@ -93,26 +112,64 @@ impl Lengths {
 
     /// Whether iterations are short, as far as enough have begun to tell.
     pub fn are_short(&self) -> bool {
-        !self.have_done(if self.fits { SHORT_IN_CHUNKS } else { SHORT })
+        !self.have_done(if self.fits() { SHORT_IN_CHUNKS } else { SHORT })
     }
 
     /// Whether they are long, or too few have begun to tell.
     pub fn are_long(&self) -> bool {
-        self.have_done(if self.fits { LONG_IN_CHUNKS } else { LONG })
+        self.have_done(if self.fits() { LONG_IN_CHUNKS } else { LONG })
     }
 
-    /// They can't be made in chunks.
-    pub fn refuse_chunks(&mut self) {
-        self.fits = false;
+    /// A chunk was handed in, if any. Where much was left to do in place, chunks are too far ahead of
+    /// other iterations, or iterations don't suit them: they get smaller, at most by half.
+    pub fn learn(&mut self, handed: Handed) {
+        if handed.drafted < handed.begun {
+            self.narrow((handed.drafted as usize).max(handed.drafts / 2));
+        } else if handed.begun > 0 {
+            self.widen();
+        }
+    }
+
+    /// A chunk may have so many iterations, at most.
+    fn narrow(&mut self, most: usize) {
+        if self.fits() && most < FEWEST {
+            self.unchunked = self.next_unchunked;
+            self.next_unchunked = LONGEST_REST.min(self.next_unchunked.saturating_mul(2));
+        }
+        self.most = self.most.min(most);
+    }
+
+    /// A chunk may have one iteration more.
+    fn widen(&mut self) {
+        if self.fits() && self.most < MOST_DRAFTS {
+            self.most += 1;
+        }
+    }
+
+    /// So many more iterations have begun. Where they weren't made in chunks for a while, they are
+    /// again.
+    fn rest_chunks(&mut self, begun: u32) {
+        if self.fits() {
+            return;
+        }
+        self.unchunked = self.unchunked.saturating_sub(u64::from(begun));
+        if self.unchunked == 0 {
+            self.most = FEWEST;
+        }
+    }
+
+    /// Whether they may be made in chunks.
+    fn fits(&self) -> bool {
+        self.most >= FEWEST
     }
 
     /// How many iterations a chunk has; 0 where none are made, or too few have begun to tell.
     pub fn chunk(&self) -> usize {
-        if !self.fits || self.begun < FIRST_FEW {
+        if !self.fits() || self.begun < FIRST_FEW {
             return 0;
         }
         let each = (self.worked / self.begun).max(1);
-        (CHUNK / each) as usize
+        ((CHUNK / each) as usize).min(self.most)
     }
 
     /// Whether iterations have made so many steps each outside the lock, or too few have begun to

@@ -613,7 +613,8 @@ impl<'c, C: Call> Unrecorded<'c, C> {
         if q >= processors || processors == 1 || !own.pause.is_over(trial) {
             return Ok(false);
         }
-        let loads = self.run.load_stretch(q, &mut own.stretch)?;
+        self.run.see_counts(&mut own.counts);
+        let loads = self.run.load_stretch(q, &own.counts, &mut own.stretch)?;
         if loads {
             self.run.show(&mut self.stale, own.mirror);
             own.loaded = Loaded::Stretch;

@@ -9,6 +9,7 @@ use crate::chunk::{Chunk, MOST_DRAFTS};
 use crate::driven::Trial;
 use crate::telling::Told;
 use crate::turnstile::Turnstile;
+use ast::MOST_EVENTS;
 use machine::{Code, Work};
 use std::alloc::{AllocError, Global};
 use std::marker::PhantomData;
@@ -104,6 +105,8 @@ pub struct Own<'c, C: Call> {
     pub stretch: Stretch<'c>,
     pub chunk: Chunk<'c, C>,
     pub mirror: &'c Mirror,
+    /// The counts of events as it saw them last, from event 0 on.
+    pub counts: Vec<u128>,
     pub loaded: Loaded,
     pub pause: Pause,
     of: PhantomData<C>,
@@ -154,6 +157,16 @@ impl<'c, C: Call> Coded<'c, C> {
         if self.notes == 0 { 0 } else { MOST_DRAFTS }
     }
 
+    /// How many counts a processor looks at: those of the events that the code awaits, and of
+    /// event 0.
+    fn events(&self) -> usize {
+        let mut events = 1;
+        for one in &self.code.awaits {
+            events = events.max((one.event as usize).min(MOST_EVENTS).saturating_add(1));
+        }
+        events
+    }
+
     /// Room for a processor's work, of which none has been done.
     ///
     /// # Errors
@@ -171,6 +184,7 @@ impl<'c, C: Call> Coded<'c, C> {
                 self.drafts(),
             )?,
             mirror: self.mirror,
+            counts: vec![in self.alloc; 0; self.events()]?,
             loaded: Loaded::Nothing,
             pause: Pause::none(Trial { open: 0, trials: 0 }),
             of: PhantomData,
@@ -189,7 +203,7 @@ impl<'c, C: Call> Own<'c, C> {
             Loaded::Nothing => {}
             Loaded::Work => self.work.run(MOST_WORK)?,
             Loaded::Stretch => self.stretch.run(MOST_WORK),
-            Loaded::Chunk => self.chunk.run()?,
+            Loaded::Chunk => self.chunk.run(&self.counts)?,
         }
         Ok(())
     }

@@ -1,3 +1,4 @@
 pub mod Notes
 pub mod Guesses
+pub mod Reached
 pub mod Stretches

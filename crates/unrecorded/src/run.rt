@@ -9,7 +9,7 @@ use replay::{CoreRefusal, HandIn, answer};
 use schedules::{MOST_PROCESSORS, MOST_SLOTS};
 use std::alloc::{AllocError, Global};
 use std::marker::Model;
-use stretches::{Mirror, Stale, Stretch};
+use stretches::{Mirror, Stale, Stretch, passes};
 
 /// What has gone out.
 fn output_of(activities: Activities<'_>) -> Vec<u8>
@@ -289,39 +289,59 @@ impl<'c> Run<'c> {
         Ok(())
     }
 
-    /// Whether processor `q` holds an iteration.
-    fn iterates(&self, q: usize) -> bool
+    /// The counts of events, from event 0 on, for those who are to pass awaits by them.
+    pub fn see_counts(&self, seen: &mut [u128]) {
+        self.activities.see_counts(seen);
+    }
+
+    /// The number of the iteration that processor `q` holds, if it holds one.
+    fn iteration(&self, q: usize) -> Option<u128>
         requires processor { q < self.now.processors }
     {
         match self.activities.held[q] {
-            Some(Holder::Iteration { .. }) => true,
-            None | Some(Holder::Main) => false,
+            Some(Holder::Iteration { number, .. }) => Some(number),
+            None | Some(Holder::Main) => None,
         }
     }
 
-    /// Loads a stretch with the frame of the iteration that processor `q` holds, where a local
-    /// instruction, a load or a store of it stands next, and tells whether one does.
+    /// Whether a stretch that passes awaits by these counts could begin at a frame of an iteration:
+    /// a local instruction, a load, a store or such an await stands next.
+    fn begins_stretch(&self, frame: &Frame, number: u128, counts: &[u128]) -> bool {
+        match stands_next(self.activities.code, frame) {
+            Next::Local | Next::Load { .. } | Next::Store { .. } => true,
+            Next::Await { event, distance } => passes(counts, number, event, distance),
+            _ => false,
+        }
+    }
+
+    /// Loads a stretch with the frame of the iteration that processor `q` holds, where one that
+    /// passes awaits by these counts could begin there, and tells whether one could.
     ///
     /// # Errors
     ///
     /// `AllocError` where memory is refused. The stretch leads nowhere then.
-    pub fn load_stretch(&self, q: usize, stretch: &mut Stretch<'_>) -> Result<bool, AllocError>
+    pub fn load_stretch(
+        &self,
+        q: usize,
+        counts: &[u128],
+        stretch: &mut Stretch<'_>,
+    ) -> Result<bool, AllocError>
         requires processor { q < self.now.processors }
         ensures ok { IfOk result (λ did. did ≡ true
             → HasFrame self.now q (frame_of stretch.new.from)) }
         ensures code { code_of stretch.new.code.now ≡ code_of stretch.old.code.now }
     {
-        if !self.iterates(q) {
+        let Some(number) = self.iteration(q) else {
             return Ok(false);
-        }
+        };
         match self.held_frame(q) {
-            Some(frame) => match stands_next(self.activities.code, frame) {
-                Next::Local | Next::Load { .. } | Next::Store { .. } => {
-                    stretch.load(frame)?;
-                    Ok(true)
+            Some(frame) => {
+                if !self.begins_stretch(frame, number, counts) {
+                    return Ok(false);
                 }
-                _ => Ok(false),
-            },
+                stretch.load(frame, number, counts)?;
+                Ok(true)
+            }
             None => Ok(false),
         }
     }

@@ -3,7 +3,7 @@
 use crate::call::Call;
 use crate::chunk::MOST_DRAFTS;
 use crate::driven::{Handed, Pace};
-use crate::runs::{MOST_IN_PLACE, Unrecorded};
+use crate::runs::{MOST_ALONE, Unrecorded};
 use crate::work::{Loaded, Own};
 use machine::Open;
 use replay::{Choice, HandIn};
@@ -87,6 +87,7 @@ impl<'c, C: Call> Unrecorded<'c, C> {
         if own.chunk.is_empty() {
             return false;
         }
+        self.run.see_counts(&mut own.counts);
         self.run.show(&mut self.stale, own.mirror);
         own.loaded = Loaded::Chunk;
         true
@@ -114,7 +115,7 @@ impl<'c, C: Call> Unrecorded<'c, C> {
         if made == 0 {
             self.run.mend(stretch);
         }
-        let more = self.run.proceed(q, MOST_IN_PLACE, false, &mut self.stale);
+        let more = self.run.proceed(q, MOST_ALONE, false, &mut self.stale);
         handed.begin(made, more);
         Ok(())
     }
@@ -126,9 +127,13 @@ impl<'c, C: Call> Unrecorded<'c, C> {
     ///
     /// Want of memory.
     fn commit_drafts(&mut self, q: usize, own: &mut Own<'_, C>) -> Result<Handed, HandIn> {
-        let mut handed = Handed::default();
         let mut k = own.chunk.first();
-        for draft in own.chunk.take_drafts() {
+        let drafts = own.chunk.take_drafts();
+        let mut handed = Handed {
+            drafts: drafts.len(),
+            ..Handed::default()
+        };
+        for draft in drafts {
             if k == self.run.next_ticket() && self.is_free(q) {
                 self.commit_draft(q, &mut draft.stretch, &mut handed)?;
             } else {
@@ -166,8 +171,7 @@ impl<'c, C: Call> Unrecorded<'c, C> {
             self.forget(own);
             return Ok(Handed::default());
         }
-        let mut handed = self.commit_drafts(q, own)?;
-        handed.fits = own.chunk.fits();
+        let handed = self.commit_drafts(q, own)?;
         self.pass(own);
         Ok(handed)
     }

@@ -1,14 +1,20 @@
-use Rattle.std.proofs.Common.{refl}
+use Rattle.std.proofs.Common.{refl, rules, ◌≡◌}
 use Rattle.machine.specs.CodeView.{code_of}
 use Rattle.machine.specs.FrameView.{frame_of}
-use Rattle.machine.proofs.Past.{strides_are_past}
+use Rattle.stretches.specs.Reached.{AreReached, passed_by}
 use Rattle.activities.specs.Told.{is_told}
+use Rattle.activities.proofs.Passing.{reached_told, strides_more}
 use Rattle.activities.proofs.striding.commit_at.Goals as goal
 
-pub returns-in-Some-clause-made : goal.returns-in-Some-clause-made
-returns-in-Some-clause-made c counts =
+pub returns-else-not-are_reached-clause-made : goal.returns-else-not-are_reached-clause-made
+returns-else-not-are_reached-clause-made c =
+    let seen = c.args.stretch.now.reached in
+    let counts = c.args.kernel.now.counts in
+    let k = c.in-Some.iteration.number in
+    let reached : AreReached seen.counts.items counts = search rules in
+    let same : seen.number ≡ k = search rules in
     rw c.in-Some.is (record {
       frame = frame_of c.commit_on.new.frame;
-      leads = strides_are_past (is_told counts c.in-Some.iteration.number) (code_of c.args.stretch.now.code.now) c.commit_on.result _ _ (rw c.deref_mut.ensures.value at c.commit_on.ensures.made);
+      leads = strides_more (passed_by seen) (is_told counts k) (λ e d h. reached_told seen.counts.items counts k e d reached (rw same at h)) (code_of c.args.stretch.now.code.now) c.commit_on.result _ _ (rw c.deref_mut.ensures.value at c.commit_on.ensures.made);
       standing = refl;
     })

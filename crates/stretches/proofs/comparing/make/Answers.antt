@@ -1,4 +1,4 @@
-use Rattle.std.proofs.Common.{◌≡◌, ◌∙◌, false, List, slice_index_or, slice_set, sym, ap, rules, arith, w64, to_z, of_z}
+use Rattle.std.proofs.Common.{◌≡◌, ◌∙◌, false, List, slice_index_or, sym, ap, rules, arith}
 use Rattle.std.specs.Prelude.{ℤ, pos, true}
 use Rattle.stretches.specs.Notes.{holds}
 use Rattle.stretches.specs.declared.note.Note.{Note}
