@@ -1,7 +1,7 @@
-//! Stretches over mirrors that lie, against strides in place, on random code.
+//! Stretches over mirrors that lie, against strides in place, on random code; and awaits in them.
 
 use crate::locals::{Chance, frame, parts, strides};
-use machine::{Act, Code, Frame, Instr};
+use machine::{Act, Await, Code, Frame, Instr};
 use std::alloc::{AllocError, Global};
 use stretches::{Mirror, Stretch};
 
@@ -135,6 +135,41 @@ fn a_stretch_ends_where_there_is_no_room_for_a_note(rt: HostRuntime) -> Result<(
         assert!(rt; stretch.made == 3);
         let mut cells = vec![in alloc; 0; code.cells()]?;
         assert!(rt; stretch.commit(&mut frame, &mut cells) == 3);
+    }
+    Ok(())
+}
+
+/// Code that awaits event 1 of the second iteration before, and then loads the scalar B.
+fn awaits(alloc: Global) -> Result<Option<Code>, AllocError> {
+    let mut made = parts(alloc, &mut Chance { state: 1977 })?;
+    made.instructions.clear();
+    made.awaits.push(Await {
+        event: 1,
+        distance: 2,
+    })?;
+    for act in [Act::Await(0), Act::Load(1)] {
+        made.instructions.push(Instr { line: 1, act })?;
+    }
+    Code::new(alloc, made)
+}
+
+/// How many steps of iteration 5 a stretch makes that saw this count of event 1.
+fn made_by(alloc: Global, code: &Code, count: u128) -> Result<u32, AllocError> {
+    let mirror = Mirror::new(alloc, code.cells())?;
+    let mut stretch = Stretch::new(alloc, code, &mirror, 3)?;
+    stretch.load(&frame(alloc, code, 0)?, 5, &[0, count])?;
+    stretch.run(5);
+    Ok(stretch.made)
+}
+
+#[test]
+fn a_stretch_passes_an_await_by_the_count_that_it_saw(rt: HostRuntime) -> Result<(), AllocError> {
+    let alloc = rt.alloc();
+    let code = awaits(alloc)?;
+    assert!(rt; code.is_some());
+    if let Some(code) = &code {
+        assert!(rt; made_by(alloc, code, 3)? == 0);
+        assert!(rt; made_by(alloc, code, 4)? == 2);
     }
     Ok(())
 }

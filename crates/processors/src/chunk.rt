@@ -146,7 +146,11 @@ impl<'c, C: Call> Chunk<'c, C> {
     /// This ticket is next: iterations before it have begun.
     pub fn pass(&mut self, ticket: u128) {
         self.first = self.first.max(ticket);
-        self.turnstile.show(ticket);
+    }
+
+    /// It is the turn of the chunk that begins with this iteration.
+    pub fn call(&self, first: u128) {
+        self.turnstile.show(first);
     }
 
     /// Makes drafts that pass awaits by these counts, as long as they are whole.

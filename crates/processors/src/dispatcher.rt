@@ -11,6 +11,11 @@ pub struct Dispatcher {
 }
 
 impl Dispatcher {
+    /// Whether some are left to a processor.
+    pub fn is_used(&self) -> bool {
+        self.processors > 0
+    }
+
     /// The first iteration that is left to nobody, where this ticket is next.
     pub fn first(&self, ticket: u128) -> u128 {
         if self.processors == 0 {

@@ -143,6 +143,7 @@ impl Lengths {
     fn widen(&mut self) {
         if self.fits() && self.most < MOST_DRAFTS {
             self.most += 1;
+            self.next_unchunked = FIRST_UNCHUNKED.max(self.next_unchunked / 2);
         }
     }
 

@@ -838,7 +838,11 @@ impl<'c, C: Call> Driven<C> for Unrecorded<'c, C> {
             Loaded::Nothing => Ok(Handed::default()),
             Loaded::Work => Ok(Handed::of(self.put(q, own)?)),
             Loaded::Stretch => Ok(Handed::of(self.commit(q, own)?)),
-            Loaded::Chunk => self.commit_chunk(q, own),
+            Loaded::Chunk => {
+                let handed = self.commit_chunk(q, own)?;
+                self.call(own);
+                Ok(handed)
+            }
         }
     }
 
@@ -850,7 +854,9 @@ impl<'c, C: Call> Driven<C> for Unrecorded<'c, C> {
     ) -> Result<Advanced, AllocError> {
         let mut made = Made::default();
         for _ in 0..MOST_ROUNDS {
-            if let Some(onward) = self.round(q, own, pace, &mut made)? {
+            let onward = self.round(q, own, pace, &mut made)?;
+            self.call(own);
+            if let Some(onward) = onward {
                 return Ok(made.and(onward));
             }
             if made.steps >= MOST_STEPS {

@@ -1,13 +1,14 @@
-//! Which ticket is next, told without the lock.
+//! Whose turn it is to draw tickets, told without the lock.
 
 use std::sync::atomic::{AtomicU64, Ordering};
 
-/// The number of a ticket, as far as there is room for it.
-fn shown(ticket: u128) -> u64 {
-    u64::try_from(ticket).unwrap_or(u64::MAX)
+/// The number of an iteration, as far as there is room for it.
+fn shown(iteration: u128) -> u64 {
+    u64::try_from(iteration).unwrap_or(u64::MAX)
 }
 
-/// Shows which ticket is next. Nothing is known of it: who goes by it looks again under the lock.
+/// Shows which iteration's turn it is. Nothing is known of it: who goes by it looks again under the
+/// lock.
 #[derive(Drop)]
 pub struct Turnstile {
     next: AtomicU64,
@@ -21,13 +22,13 @@ impl Turnstile {
         }
     }
 
-    /// It is to show this ticket.
-    pub fn show(&self, ticket: u128) {
-        self.next.store(shown(ticket), Ordering::SeqCst);
+    /// It is to show this iteration.
+    pub fn show(&self, iteration: u128) {
+        self.next.store(shown(iteration), Ordering::SeqCst);
     }
 
-    /// Whether the ticket that it shows is before this one.
-    pub fn is_before(&self, ticket: u128) -> bool {
-        self.next.load(Ordering::SeqCst) < shown(ticket)
+    /// Whether the iteration that it shows is before this one.
+    pub fn is_before(&self, iteration: u128) -> bool {
+        self.next.load(Ordering::SeqCst) < shown(iteration)
     }
 }

@@ -54,6 +54,23 @@ impl<'c, C: Call> Unrecorded<'c, C> {
         }
     }
 
+    /// Which iteration's turn it is to be drawn: the next one's, and where iterations wait for one
+    /// another only once those before it have retired, so that it needn't be parked.
+    fn turn(&self, own: &Own<'_, C>) -> u128 {
+        let ticket = self.run.next_ticket();
+        if own.counts.len() == 1 {
+            return ticket;
+        }
+        ticket.saturating_sub(self.run.overlap())
+    }
+
+    /// Processors that wait for their turn are told whose it is.
+    pub(super) fn call(&self, own: &Own<'_, C>) {
+        if self.dispatcher.is_used() {
+            own.chunk.call(self.turn(own));
+        }
+    }
+
     /// Iterations before the next ticket are no longer left to a processor.
     fn pass(&mut self, own: &mut Own<'_, C>) {
         let had_some = !own.chunk.is_empty();
@@ -109,6 +126,7 @@ impl<'c, C: Call> Unrecorded<'c, C> {
         ensures code { code_of stretch.new.code.now ≡ code_of stretch.old.code.now }
     {
         if q >= self.run.processors() || !self.run.pick(q, Choice::Ticket)? {
+            self.run.mend(stretch);
             return Ok(());
         }
         let made = self.run.commit(q, stretch);
