@@ -1,6 +1,7 @@
 //! What processors that hold nothing take up.
 
-ghost use Rattle.std.specs.Prelude.{◌≡◌, ◌+◌, ◌<◌, IfOk, IfSome, None, Some, false, length, option_map, true};
+ghost use Rattle.std.specs.Prelude.{◌≡◌, ◌+◌, ◌<◌, IfOk, IfSome, None, Some, false, length};
+ghost use Rattle.std.specs.Prelude.{option_map, true};
 ghost use Rattle.ast.specs.Exact.{fits};
 ghost use Rattle.ec_kernel.specs.View.{IsKernel};
 ghost use Rattle.machine.specs.CodeView.{code_of};

@@ -82,7 +82,8 @@ fn clear(place: &mut Option<Iteration>, spare: &mut Vec<Box<Frame>>)
     }
 }
 
-/// The frame of an iteration is left to those that begin later; where it finds no room it is dropped.
+/// The frame of an iteration is left to those that begin later; where it finds no room it is
+/// dropped.
 #[inline(always)]
 pub fn keep(iteration: Iteration, spare: &mut Vec<Box<Frame>>) {
     let Iteration { frame, .. } = iteration;

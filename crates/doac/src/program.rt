@@ -19,8 +19,8 @@ use std::thread::Threads;
 use std::{env, io};
 use threaded::Nowhere;
 
-/// How many bytes of records may wait to be written where standard output is no terminal. A run that
-/// is ended from outside loses these, so they are few.
+/// How many bytes of records may wait to be written where standard output is no terminal. A run
+/// that is ended from outside loses these, so they are few.
 const MOST_WAITING: usize = 4_096;
 
 /// Does what the words of the command line ask for, and gives the exit status. On a terminal each

@@ -20,8 +20,8 @@ const TELLER: usize = 0;
 #[derive(Clone, Copy, PartialEq, Eq)]
 pub enum Standing {
     Going,
-    /// It was given up: a processor has found no memory, a thread couldn't be started, or the writer
-    /// of the records has failed.
+    /// It was given up: a processor has found no memory, a thread couldn't be started, or the
+    /// writer of the records has failed.
     GivenUp,
     /// It hasn't ended, and no step is possible.
     Stuck,
@@ -69,9 +69,9 @@ pub struct Board<C: Call, D: Driven<C> + Drop> {
 impl<C: Call, D: Driven<C> + Drop> Board<C, D> {
     ghost use Rattle.std.specs.Prelude.{◌≡◌};
 
-    /// A run of code with so many loops in which nothing has happened, whether the gate is to be told
-    /// of iterations, and how many bytes of records may wait, where they are handed on while it goes
-    /// on.
+    /// A run of code with so many loops in which nothing has happened, whether the gate is to be
+    /// told of iterations, and how many bytes of records may wait, where they are handed on while
+    /// it goes on.
     ///
     /// # Errors
     ///
@@ -211,7 +211,8 @@ impl<C: Call, D: Driven<C> + Drop> Board<C, D> {
     }
 
     /// Whether one who sleeps is worth waking: an activity is ready, or an iteration may begin and
-    /// iterations are long. Where they are short, one who comes back at once takes up what is ready.
+    /// iterations are long. Where they are short, one who comes back at once takes up what is
+    /// ready.
     pub fn wants_another(&self, comes_back: bool) -> bool {
         if self.asleep == 0 || comes_back && self.are_short() {
             return false;

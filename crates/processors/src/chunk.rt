@@ -22,8 +22,8 @@ const MOST_NOTES: usize = 256;
 /// How many steps a draft has, at most.
 const MOST_WORK: u32 = 16 * 1024;
 
-/// How often a processor looks whether it is its turn, at most: for some 200 microseconds. Whoever is
-/// before it is late then.
+/// How often a processor looks whether it is its turn, at most: for some 200 microseconds. Whoever
+/// is before it is late then.
 const MOST_LOOKS: u32 = 4000;
 
 /// A stretch from the beginning of an iteration whose ticket hasn't been drawn.

@@ -8,8 +8,8 @@ use crate::work::Own;
 use std::hint::spin_loop;
 use std::sync::{Condvar, Mutex, MutexGuard, Wait};
 
-/// How often it is looked whether the lock is free before a processor sleeps until it is. Most turns
-/// are shorter than that, and to be woken takes longer.
+/// How often it is looked whether the lock is free before a processor sleeps until it is. Most
+/// turns are shorter than that, and to be woken takes longer.
 const MOST_LOOKS: u32 = 1000;
 
 /// A run under a lock, at which each processor takes its turns. One who finds nothing to do sleeps
@@ -43,8 +43,8 @@ impl<C: Call, D: Driven<C> + Drop> Desk<C, D> {
         self.board.lock(rt)
     }
 
-    /// A turn of processor `q`, which hands in what it did outside the lock. It sleeps until there is
-    /// something to do. Records that wait are told to it then, where it hands them on.
+    /// A turn of processor `q`, which hands in what it did outside the lock. It sleeps until there
+    /// is something to do. Records that wait are told to it then, where it hands them on.
     pub fn turn<R: Wait>(&self, rt: &R, q: usize, own: &mut Own<'_, C>, told: &mut Told<C>) -> Next
         ensures { told.new.shown ≡ told.old.shown }
     {

@@ -17,9 +17,9 @@ const FIRST_REST: u64 = 2048;
 /// After how many short iterations they are tried again, at most.
 const LONGEST_REST: u64 = 1024 * 1024;
 
-/// Iterations are short where they make fewer steps each outside the lock. Of several processors one
-/// alone begins them, and makes their steps in place, and the others sleep: to hand the lock from
-/// one to another takes longer.
+/// Iterations are short where they make fewer steps each outside the lock. Of several processors
+/// one alone begins them, and makes their steps in place, and the others sleep: to hand the lock
+/// from one to another takes longer.
 const SHORT: u64 = 768;
 
 /// They are long where they make so many. A processor that sleeps is woken for another iteration
@@ -35,8 +35,8 @@ const LONG_IN_CHUNKS: u64 = 160;
 /// How many steps a chunk has, about.
 const CHUNK: u64 = 8192;
 
-/// Where iterations don't suit chunks of so many, none are made for a while: processors would rather
-/// wait for one another.
+/// Where iterations don't suit chunks of so many, none are made for a while: processors would
+/// mostly wait for one another.
 const FEWEST: usize = 4;
 
 /// Chunks are tried again after so many iterations, first; after each time that these don't suit
@@ -53,8 +53,8 @@ pub struct Lengths {
     rest: u64,
     /// How often they were.
     trials: u32,
-    /// How many iterations a chunk has, at most, for all that was seen. Where these are too few none
-    /// are made in chunks for a while.
+    /// How many iterations a chunk has, at most, for all that was seen. Where these are too few
+    /// none are made in chunks for a while.
     most: usize,
     /// How many are left to begin in that while.
     unchunked: u64,
@@ -120,8 +120,8 @@ impl Lengths {
         self.have_done(if self.fits() { LONG_IN_CHUNKS } else { LONG })
     }
 
-    /// A chunk was handed in, if any. Where much was left to do in place, chunks are too far ahead of
-    /// other iterations, or iterations don't suit them: they get smaller, at most by half.
+    /// A chunk was handed in, if any. Where much was left to do in place, chunks are too far ahead
+    /// of other iterations, or iterations don't suit them: they get smaller, at most by half.
     pub fn learn(&mut self, handed: Handed) {
         if handed.drafted < handed.begun {
             self.narrow((handed.drafted as usize).max(handed.drafts / 2));

@@ -1,6 +1,6 @@
 //! Runs in threads.
 
-ghost use Rattle.std.specs.Prelude.{◌≡◌, ℕ, List, Err, IfOk, IfErr, OnErr, OnOk, is_some, true};
+ghost use Rattle.std.specs.Prelude.{◌≡◌, ℕ, List, Err, IfOk, IfErr, OnErr, is_some, true};
 ghost use Rattle.machine.specs.Code.{Code as PlainCode};
 ghost use Rattle.machine.specs.CodeView.{code_of};
 ghost use Rattle.machine.specs.State.{AreSizes};
@@ -23,7 +23,7 @@ use crate::work::{Coded, Own};
 use ast::Answer;
 use machine::Code;
 use replay::{Core, CoreRefusal, Legs};
-use std::alloc::{AllocError, Global};
+use std::alloc::Global;
 use std::io::{Sink, Write};
 use std::marker::Brand;
 use std::sync::Wait;
@@ -35,8 +35,8 @@ use unrecorded::Run;
 /// How many loads and stores a processor makes outside the lock in a row, at most.
 const MOST_NOTES: usize = 4096;
 
-/// The turns of processor `q` until it leaves. What it does between two of them is `own`; it hands on
-/// the records that it is told, and gives how many bytes.
+/// The turns of processor `q` until it leaves. What it does between two of them is `own`; it hands
+/// on the records that it is told, and gives how many bytes.
 ///
 /// # Errors
 ///
@@ -116,8 +116,8 @@ fn assist<C: Call, D: Driven<C> + Drop, G: Gate, R: Wait>(
     let _ = process(rt, desk, coded, q, gate, false, &mut io::sink());
 }
 
-/// Starts a thread for each processor but the first, which the caller is, and joins all of them. The
-/// first hands records on, and gives the writer back with how many bytes.
+/// Starts a thread for each processor but the first, which the caller is, and joins all of them.
+/// The first hands records on, and gives the writer back with how many bytes.
 ///
 /// # Errors
 ///
@@ -408,9 +408,9 @@ fn answer_call<
     }
 }
 
-/// As `run`, but keeps no schedule: the memory that it takes grows only with what is printed. Several
-/// processors also make loads and stores of iterations outside the lock, on a mirror of the store.
-/// What it gives is the answer.
+/// As `run`, but keeps no schedule: the memory that it takes grows only with what is printed.
+/// Several processors also make loads and stores of iterations outside the lock, on a mirror of the
+/// store. What it gives is the answer.
 ///
 /// # Errors
 ///
@@ -439,10 +439,10 @@ pub fn run_unrecorded<G: Gate + Sync, R: Threads + Wait + Sync>(
     }
 }
 
-/// As `run_unrecorded`, of code whose runs each print a beginning of one text: its records are handed
-/// on to `out` while it goes on, and `out` is given back. Of these some `most_waiting` bytes may
-/// wait; at 0 each goes on as soon as the caller's thread is told. What is still to be written of
-/// the output stands behind what was handed on.
+/// As `run_unrecorded`, of code whose runs each print a beginning of one text: its records are
+/// handed on to `out` while it goes on, and `out` is given back. Of these some `most_waiting` bytes
+/// may wait; at 0 each goes on as soon as the caller's thread is told. What is still to be written
+/// of the output stands behind what was handed on.
 ///
 /// # Errors
 ///

@@ -20,11 +20,12 @@ use unrecorded::Run;
 /// made outside the lock.
 const MOST_IN_PLACE: u32 = 1_024;
 
-/// So many entries of a schedule, at most, hold the steps that are made in place in a row where they
-/// are local.
+/// So many entries of a schedule, at most, hold the steps that are made in place in a row where
+/// they are local.
 const FEW_ENTRIES: usize = 2;
 
-/// How many steps the only processor makes in place in a row, at most.
+/// How many steps the only processor makes in place in a row, at most, or whoever has handed in a
+/// draft, of its iteration.
 const MOST_ALONE: u32 = 4096;
 
 /// How often in one go steps are made in place and then one of another kind, at most.
@@ -308,9 +309,9 @@ impl<'c, C: Call> Recorded<'c, C> {
         }
     }
 
-    /// Processor `q` makes local instructions, loads and stores in place, and then a step of another
-    /// kind; where many local ones stand next and another processor could have the lock meanwhile,
-    /// it loads them. What it does next, where it is not to make more in place.
+    /// Processor `q` makes local instructions, loads and stores in place, and then a step of
+    /// another kind; where many local ones stand next and another processor could have the lock
+    /// meanwhile, it loads them. What it does next, where it is not to make more in place.
     fn round(
         &mut self,
         q: usize,
@@ -650,8 +651,8 @@ impl<'c, C: Call> Unrecorded<'c, C> {
         })
     }
 
-    /// Processor `q` draws the next ticket, where it may begin iterations and one is left to nobody;
-    /// where they are made in chunks it goes on with these.
+    /// Processor `q` draws the next ticket, where it may begin iterations and one is left to
+    /// nobody; where they are made in chunks it goes on with these.
     fn draw(
         &mut self,
         q: usize,

@@ -15,12 +15,12 @@ use std::alloc::{AllocError, Global};
 use std::marker::PhantomData;
 use stretches::{Mirror, Stretch};
 
-/// How many steps are made outside the lock in a row, at most. Too few would be done sooner than the
-/// lock is had, and with too many a processor would be long in finding that the run is over.
+/// How many steps are made outside the lock in a row, at most. Too few would be done sooner than
+/// the lock is had, and with too many a processor would be long in finding that the run is over.
 const MOST_WORK: u32 = 32 * 1024;
 
-/// A stretch of fewer steps is short: to load it and to commit it takes as long as to make its steps
-/// in place.
+/// A stretch of fewer steps is short: to load it and to commit it takes as long as to make its
+/// steps in place.
 const FEW: u32 = 128;
 
 /// After short stretches, one behind the other, steps are made in place so often, at most, before
@@ -97,8 +97,8 @@ impl Pause {
     }
 }
 
-/// What a processor does outside the lock, which is of a call's code. Its room is kept from one turn
-/// to the next.
+/// What a processor does outside the lock, which is of a call's code. Its room is kept from one
+/// turn to the next.
 #[derive(Drop)]
 pub struct Own<'c, C: Call> {
     pub work: Work<'c>,

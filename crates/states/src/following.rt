@@ -127,8 +127,9 @@ fn show_entries<W: Write>(
 ///
 /// # Errors
 ///
-/// Those of `replay` but for a run that hasn't ended, with the states before the refused line written; want of memory,
-/// with those of some lines written; and the writer's, with a beginning of such states.
+/// Those of `replay` but for a run that hasn't ended, with the states before the refused line
+/// written; want of memory, with those of some lines written; and the writer's, with a beginning of
+/// such states.
 pub fn show<W: Write>(
     activities: &mut Activities<'_>,
     schedule: &Schedule,

@@ -72,8 +72,8 @@ impl<'c> Stretch<'c> {
         })
     }
 
-    /// The stretch is to lead from a frame equal to this one, of the iteration of that number, which
-    /// passes awaits by these counts. No step has been made. Where memory is refused it leads
+    /// The stretch is to lead from a frame equal to this one, of the iteration of that number,
+    /// which passes awaits by these counts. No step has been made. Where memory is refused it leads
     /// nowhere until it is loaded again.
     ///
     /// # Errors
@@ -155,8 +155,8 @@ impl<'c> Stretch<'c> {
     }
 
     /// Makes the steps on the frame and the cells themselves, where the frame is the one from which
-    /// they lead and all notes hold; how many. Else it makes none. Afterwards none are left. Whether
-    /// the counts were reached the caller knows.
+    /// they lead and all notes hold; how many. Else it makes none. Afterwards none are left.
+    /// Whether the counts were reached the caller knows.
     pub fn commit(&mut self, frame: &mut Frame, cells: &mut [i64]) -> u32
         ensures made { Leads (passed_by self.old.reached) (code_of self.old.code.now) result
             (frame_of frame.old) cells.old (frame_of frame.new) cells.new }

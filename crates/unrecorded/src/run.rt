@@ -62,7 +62,8 @@ impl<'c> Run<'c> {
     ghost use Rattle.replay.specs.Replayed.{IsAnswer};
     ghost use Rattle.replay.specs.Stepping.{NoCore};
     ghost use Rattle.unrecorded.specs.Handing.{CannotHandIn, HandsIn, HasFrame, Loads, is_local};
-    ghost use Rattle.unrecorded.specs.View.{Drives, GoesOn, HasEnded, IsGoing, IsNew, IsRun, Labours};
+    ghost use Rattle.unrecorded.specs.View.{Drives, GoesOn, HasEnded, IsGoing, IsNew, IsRun};
+    ghost use Rattle.unrecorded.specs.View.{Labours};
     ghost use Rattle.unrecorded.specs.View.{Shares, TakesUp, point_at};
 
     /// A run at its beginning, of `p` processors, 1 to 64, with `s` iterations open at most, 1 to

@@ -110,8 +110,8 @@ impl<'c, C: Call> Unrecorded<'c, C> {
         true
     }
 
-    /// Processor `q` draws the next ticket, and makes the steps of the iteration's draft, and others
-    /// in place.
+    /// Processor `q` draws the next ticket, and makes the steps of the iteration's draft, and
+    /// others in place.
     ///
     /// # Errors
     ///
@@ -162,8 +162,8 @@ impl<'c, C: Call> Unrecorded<'c, C> {
         Ok(handed)
     }
 
-    /// A processor's drafts are forgotten, since those before it are late. The mirror is mended, and
-    /// what was left to anybody is left to all.
+    /// A processor's drafts are forgotten, since those before it are late. The mirror is mended,
+    /// and what was left to anybody is left to all.
     fn forget(&mut self, own: &mut Own<'_, C>) {
         for draft in own.chunk.take_drafts() {
             self.run.mend(&draft.stretch);

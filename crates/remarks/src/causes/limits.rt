@@ -5,8 +5,8 @@ use crate::squeezed::{PROGRAM, Squeezed};
 use ast::{Intrinsic, Line, MOST_NAMES, MOST_NESTED, MOST_STATEMENTS, Name};
 use std::alloc::{AllocError, Global};
 
-/// The limit that a program is past at a statement, before which so many DO ranges and IF blocks are
-/// open.
+/// The limit that a program is past at a statement, before which so many DO ranges and IF blocks
+/// are open.
 pub fn limit(
     alloc: Global,
     statements: &[Squeezed],

@@ -1,8 +1,8 @@
 //! The signs that hints go by: what a statement begins with and holds, without blanks and in
 //! capitals, and what to say of it.
 
-/// What a statement begins with and what it holds, either may be empty, by which it is told what was
-/// meant, and the hint.
+/// What a statement begins with and what it holds, either may be empty, by which it is told what
+/// was meant, and the hint.
 pub struct Sign(pub &'static [u8], pub &'static [u8], pub &'static str);
 
 /// What stands in a line that is refused by rule 1.
