@@ -70,7 +70,8 @@ fn are_reached(seen: &[u128], kernel: &Kernel) -> bool
     true
 }
 
-/// The same of what stands in a place, where the counts that the stretch was told are reached.
+/// The same of what stands in a place, where it is the stretch's iteration and the counts that the
+/// stretch saw are reached.
 fn commit_at(
     place: &mut Option<Iteration>,
     cells: &mut Vec<i64>,
@@ -231,7 +232,9 @@ impl<'c> Activities<'c> {
         )
     }
 
-    /// The counts of events, from event 0 on, for those who are to pass awaits by them.
+    /// Writes the counts of events, from event 0 on, as far as there are some and there is room, for
+    /// those who are to pass awaits by them. No clause says that they are right: `commit` compares
+    /// them.
     pub fn see_counts(&self, seen: &mut [u128])
         requires stand { AreActivities self.now }
     {

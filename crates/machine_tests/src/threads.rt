@@ -204,16 +204,37 @@ const MIDDLING_WITH_A_FAULT: &[u8] = b"      INTEGER A(500),B(400),S
       END
 ";
 
+/// The same where each waits for the 40th before it, and then where each waits for the one before
+/// it.
+const MIDDLING_THAT_WAIT: &[u8] = b"      INTEGER A(500),B(500),S
+      DO 10 I=1,500
+      B(I)=0
+   10 A(I)=I
+      DO 30 I=41,440
+      S=B(I-40)
+      DO 20 K=1,20
+   20 S=MOD(S+A(I+K)*K,1009)
+   30 B(I)=S
+      DO 50 I=2,400
+      S=0
+      DO 40 K=1,20
+   40 S=S+A(I+K)*K
+   50 B(I)=MOD(S+B(I-1),1009)
+      PRINT *,B(1),B(440)
+      END
+";
+
 /// Processors and slots by which chunks are made, and one by which they aren't.
 const IN_CHUNKS: &[(u64, u64)] = &[(1, 64), (2, 1), (2, 64), (4, 64), (8, 256)];
 
 /// Sources, and the sizes by which they run: many processors with one iteration at a time, few and
 /// many of them with short iterations, and with middling ones.
-static FURTHER: [(&[u8], &[(u64, u64)]); 4] = [
+static FURTHER: [(&[u8], &[(u64, u64)]); 5] = [
     (TWO_APART, &[(64, 1)]),
     (SHORT, &[(1, 4), (2, 4), (4, 4), (64, 4)]),
     (MIDDLING, IN_CHUNKS),
     (MIDDLING_WITH_A_FAULT, IN_CHUNKS),
+    (MIDDLING_THAT_WAIT, IN_CHUNKS),
 ];
 
 #[test]

@@ -63,9 +63,9 @@ impl<'c, C: Call> Draft<'c, C> {
         Ok(())
     }
 
-    /// Whether it came to where the iteration ends or others are told of it, or to where it only
-    /// waits for the one before it.
-    fn is_whole(&self) -> bool {
+    /// Whether drafts behind it are worth making: it came to where the iteration ends or others are
+    /// told of it, or to where it only waits for the one before it.
+    fn may_be_followed(&self) -> bool {
         matches!(
             stands_next(self.stretch.code, &self.stretch.to),
             Next::Retire { .. } | Next::Advance { .. } | Next::Await { distance: 1, .. },
@@ -148,12 +148,12 @@ impl<'c, C: Call> Chunk<'c, C> {
         self.first = self.first.max(ticket);
     }
 
-    /// It is the turn of the chunk that begins with this iteration.
-    pub fn call(&self, first: u128) {
+    /// It is the turn of the chunk that has this iteration, or begins with it.
+    pub fn announce_turn(&self, first: u128) {
         self.turnstile.show(first);
     }
 
-    /// Makes drafts that pass awaits by these counts, as long as they are whole.
+    /// Makes drafts that pass awaits by these counts, as long as further ones are worth making.
     ///
     /// # Errors
     ///
@@ -167,7 +167,7 @@ impl<'c, C: Call> Chunk<'c, C> {
             }
             draft.make(self.opened, k, counts)?;
             self.made = self.made.saturating_add(1);
-            if !draft.is_whole() {
+            if !draft.may_be_followed() {
                 break;
             }
             k = k.saturating_add(1);

@@ -37,7 +37,7 @@ pub struct Pace {
 }
 
 /// What a processor did outside the lock.
-#[derive(Clone, Copy)]
+#[derive(Clone, Copy, Default)]
 pub struct Handed {
     /// How many steps it made there.
     pub steps: u32,
@@ -45,22 +45,8 @@ pub struct Handed {
     pub more: u32,
     /// How many iterations it began, of those steps.
     pub begun: u32,
-    /// How many drafts it had made.
-    pub drafts: usize,
-    /// Of how many iterations that it began hardly any steps were left to make in place.
-    pub drafted: u32,
-}
-
-impl Default for Handed {
-    fn default() -> Handed {
-        Handed {
-            steps: 0,
-            more: 0,
-            begun: 0,
-            drafts: 0,
-            drafted: 0,
-        }
-    }
+    /// How many of these iterations left at most an eighth of their draft's steps to make in place.
+    pub fitting: u32,
 }
 
 impl Handed {
@@ -78,7 +64,7 @@ impl Handed {
         self.steps = self.steps.saturating_add(steps);
         self.more = self.more.saturating_add(more).saturating_add(1);
         if more <= steps / 8 {
-            self.drafted = self.drafted.saturating_add(1);
+            self.fitting = self.fitting.saturating_add(1);
         }
     }
 }

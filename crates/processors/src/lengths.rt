@@ -14,7 +14,7 @@ const MOST_COUNTED: u64 = 1024;
 /// after twice as many.
 const FIRST_REST: u64 = 2048;
 
-/// After how many short iterations they are tried again, at most.
+/// After how many iterations short ones are tried again, or chunks, at most.
 const LONGEST_REST: u64 = 1024 * 1024;
 
 /// Iterations are short where they make fewer steps each outside the lock. Of several processors
@@ -112,19 +112,27 @@ impl Lengths {
 
     /// Whether iterations are short, as far as enough have begun to tell.
     pub fn are_short(&self) -> bool {
-        !self.have_done(if self.fits() { SHORT_IN_CHUNKS } else { SHORT })
+        !self.have_done(if self.suit_chunks() {
+            SHORT_IN_CHUNKS
+        } else {
+            SHORT
+        })
     }
 
     /// Whether they are long, or too few have begun to tell.
     pub fn are_long(&self) -> bool {
-        self.have_done(if self.fits() { LONG_IN_CHUNKS } else { LONG })
+        self.have_done(if self.suit_chunks() {
+            LONG_IN_CHUNKS
+        } else {
+            LONG
+        })
     }
 
     /// A chunk was handed in, if any. Where much was left to do in place, chunks are too far ahead
     /// of other iterations, or iterations don't suit them: they get smaller, at most by half.
     pub fn learn(&mut self, handed: Handed) {
-        if handed.drafted < handed.begun {
-            self.narrow((handed.drafted as usize).max(handed.drafts / 2));
+        if handed.fitting < handed.begun {
+            self.narrow((handed.fitting as usize).max(self.most / 2));
         } else if handed.begun > 0 {
             self.widen();
         }
@@ -132,7 +140,7 @@ impl Lengths {
 
     /// A chunk may have so many iterations, at most.
     fn narrow(&mut self, most: usize) {
-        if self.fits() && most < FEWEST {
+        if self.suit_chunks() && most < FEWEST {
             self.unchunked = self.next_unchunked;
             self.next_unchunked = LONGEST_REST.min(self.next_unchunked.saturating_mul(2));
         }
@@ -141,7 +149,7 @@ impl Lengths {
 
     /// A chunk may have one iteration more.
     fn widen(&mut self) {
-        if self.fits() && self.most < MOST_DRAFTS {
+        if self.suit_chunks() && self.most < MOST_DRAFTS {
             self.most += 1;
             self.next_unchunked = FIRST_UNCHUNKED.max(self.next_unchunked / 2);
         }
@@ -150,23 +158,26 @@ impl Lengths {
     /// So many more iterations have begun. Where they weren't made in chunks for a while, they are
     /// again.
     fn rest_chunks(&mut self, begun: u32) {
-        if self.fits() {
+        if self.suit_chunks() {
             return;
         }
         self.unchunked = self.unchunked.saturating_sub(u64::from(begun));
         if self.unchunked == 0 {
+            // Some were made in place meanwhile, of which no steps were counted.
+            self.begun = 0;
+            self.worked = 0;
             self.most = FEWEST;
         }
     }
 
     /// Whether they may be made in chunks.
-    fn fits(&self) -> bool {
+    fn suit_chunks(&self) -> bool {
         self.most >= FEWEST
     }
 
     /// How many iterations a chunk has; 0 where none are made, or too few have begun to tell.
     pub fn chunk(&self) -> usize {
-        if !self.fits() || self.begun < FIRST_FEW {
+        if !self.suit_chunks() || self.begun < FIRST_FEW {
             return 0;
         }
         let each = (self.worked / self.begun).max(1);

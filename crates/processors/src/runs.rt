@@ -24,8 +24,8 @@ const MOST_IN_PLACE: u32 = 1_024;
 /// they are local.
 const FEW_ENTRIES: usize = 2;
 
-/// How many steps the only processor makes in place in a row, at most, or whoever has handed in a
-/// draft, of its iteration.
+/// How many steps are made in place in a row, at most, by the only processor of a run, and of an
+/// iteration whose draft was handed in.
 const MOST_ALONE: u32 = 4096;
 
 /// How often in one go steps are made in place and then one of another kind, at most.
@@ -841,7 +841,7 @@ impl<'c, C: Call> Driven<C> for Unrecorded<'c, C> {
             Loaded::Stretch => Ok(Handed::of(self.commit(q, own)?)),
             Loaded::Chunk => {
                 let handed = self.commit_chunk(q, own)?;
-                self.call(own);
+                self.announce_turn(own);
                 Ok(handed)
             }
         }
@@ -856,7 +856,7 @@ impl<'c, C: Call> Driven<C> for Unrecorded<'c, C> {
         let mut made = Made::default();
         for _ in 0..MOST_ROUNDS {
             let onward = self.round(q, own, pace, &mut made)?;
-            self.call(own);
+            self.announce_turn(own);
             if let Some(onward) = onward {
                 return Ok(made.and(onward));
             }

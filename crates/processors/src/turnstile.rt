@@ -11,24 +11,24 @@ fn shown(iteration: u128) -> u64 {
 /// lock.
 #[derive(Drop)]
 pub struct Turnstile {
-    next: AtomicU64,
+    turn: AtomicU64,
 }
 
 impl Turnstile {
     /// It shows 0.
     pub fn new() -> Turnstile {
         Turnstile {
-            next: AtomicU64::new(0),
+            turn: AtomicU64::new(0),
         }
     }
 
     /// It is to show this iteration.
     pub fn show(&self, iteration: u128) {
-        self.next.store(shown(iteration), Ordering::SeqCst);
+        self.turn.store(shown(iteration), Ordering::SeqCst);
     }
 
     /// Whether the iteration that it shows is before this one.
     pub fn is_before(&self, iteration: u128) -> bool {
-        self.next.load(Ordering::SeqCst) < shown(iteration)
+        self.turn.load(Ordering::SeqCst) < shown(iteration)
     }
 }

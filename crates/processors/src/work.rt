@@ -27,7 +27,7 @@ const FEW: u32 = 128;
 /// another stretch is tried.
 const LONGEST_PAUSE: u32 = 64;
 
-/// The code of a call, the mirror of its store, and what shows which ticket is next.
+/// The code of a call, the mirror of its store, and what shows whose turn it is to draw tickets.
 #[derive(Drop)]
 pub struct Coded<'c, C: Call> {
     alloc: Global,
@@ -119,7 +119,7 @@ impl<'c, C: Call> Coded<'c, C> {
     ghost use Rattle.machine.specs.CodeView.{code_of};
 
     /// The code of a call, with what its processors' room is taken from, the mirror of its store,
-    /// what shows which ticket is next, and how many loads and stores a stretch has, at most.
+    /// what shows whose turn it is, and how many loads and stores a stretch has, at most.
     pub fn new(
         alloc: Global,
         code: &'c Code,
@@ -157,14 +157,13 @@ impl<'c, C: Call> Coded<'c, C> {
         if self.notes == 0 { 0 } else { MOST_DRAFTS }
     }
 
-    /// How many counts a processor looks at: those of the events that the code awaits, and of
-    /// event 0.
-    fn events(&self) -> usize {
-        let mut events = 1;
+    /// How many counts a processor looks at: from event 0 to the greatest event that is awaited.
+    fn counts(&self) -> usize {
+        let mut counts = 1;
         for one in &self.code.awaits {
-            events = events.max((one.event as usize).min(MOST_EVENTS).saturating_add(1));
+            counts = counts.max((one.event as usize).min(MOST_EVENTS).saturating_add(1));
         }
-        events
+        counts
     }
 
     /// Room for a processor's work, of which none has been done.
@@ -184,7 +183,7 @@ impl<'c, C: Call> Coded<'c, C> {
                 self.drafts(),
             )?,
             mirror: self.mirror,
-            counts: vec![in self.alloc; 0; self.events()]?,
+            counts: vec![in self.alloc; 0; self.counts()]?,
             loaded: Loaded::Nothing,
             pause: Pause::none(Trial { open: 0, trials: 0 }),
             of: PhantomData,
@@ -193,6 +192,11 @@ impl<'c, C: Call> Coded<'c, C> {
 }
 
 impl<'c, C: Call> Own<'c, C> {
+    /// Whether the code has awaits, so that counts of events are seen.
+    pub fn sees_events(&self) -> bool {
+        self.counts.len() > 1
+    }
+
     /// Does what was loaded.
     ///
     /// # Errors

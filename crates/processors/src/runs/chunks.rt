@@ -54,20 +54,22 @@ impl<'c, C: Call> Unrecorded<'c, C> {
         }
     }
 
-    /// Which iteration's turn it is to be drawn: the next one's, and where iterations wait for one
-    /// another only once those before it have retired, so that it needn't be parked.
+    /// Whose turn it is: the chunk's that has this iteration or begins with it. It is the next to
+    /// begin; where the code has awaits, the first that hasn't retired, since one that is drawn
+    /// while those before it are open is likely to be parked.
     fn turn(&self, own: &Own<'_, C>) -> u128 {
         let ticket = self.run.next_ticket();
-        if own.counts.len() == 1 {
-            return ticket;
+        if own.sees_events() {
+            ticket.saturating_sub(self.run.overlap())
+        } else {
+            ticket
         }
-        ticket.saturating_sub(self.run.overlap())
     }
 
     /// Processors that wait for their turn are told whose it is.
-    pub(super) fn call(&self, own: &Own<'_, C>) {
+    pub(super) fn announce_turn(&self, own: &Own<'_, C>) {
         if self.dispatcher.is_used() {
-            own.chunk.call(self.turn(own));
+            own.chunk.announce_turn(self.turn(own));
         }
     }
 
@@ -146,12 +148,8 @@ impl<'c, C: Call> Unrecorded<'c, C> {
     /// Want of memory.
     fn commit_drafts(&mut self, q: usize, own: &mut Own<'_, C>) -> Result<Handed, HandIn> {
         let mut k = own.chunk.first();
-        let drafts = own.chunk.take_drafts();
-        let mut handed = Handed {
-            drafts: drafts.len(),
-            ..Handed::default()
-        };
-        for draft in drafts {
+        let mut handed = Handed::default();
+        for draft in own.chunk.take_drafts() {
             if k == self.run.next_ticket() && self.is_free(q) {
                 self.commit_draft(q, &mut draft.stretch, &mut handed)?;
             } else {
