@@ -133,11 +133,8 @@ impl<'a> Display for Message<'a> {
 impl<'a> Message<'a> {
     /// Writes where it is, and what is wrong.
     fn write_head<W: Write>(&self, f: &mut Formatter<W>) -> FmtResult {
-        let Explanation {
-            number,
-            sentence,
-            ..
-        } = &self.explanation;
+        let Explanation { number, page, .. } = &self.explanation;
+        let sentence = page.sentence;
         let verdict = self.verdict;
         let place = Place {
             file: self.file,

@@ -1,137 +1,72 @@
 //! The faults, each with a program that has it and one that is cured.
 
-ghost use Rattle.std.specs.Prelude.{◌≡◌, IfSome, is_some};
-ghost use Rattle.explanations.specs.Explained.{is_within};
-
-use crate::explain::{Explanation, Origin, page_in};
-use ast::Fault;
-
-/// What the fault of a number means, if there is one.
-pub fn page(number: u8) -> Option<Explanation>
-    ensures number { IfSome result (λ explanation. explanation.number ≡ number) }
-    ensures whether { is_some result ≡ is_within 1 6 number }
-{
-    page_in(&TABLE, 1, 6, number)
-}
+use crate::explain::Page;
 
 /// The pages in the order of their numbers.
-const PAGES: [Explanation; 6] = [
-    OVERFLOW,
-    INDEX,
-    ZERO_DIVISOR,
-    ZERO_STEP,
-    END_OF_INPUT,
-    BAD_INPUT,
-];
-
-const _: () = prove!(PAGES[0].number == 1);
-
-const _: () = prove!(PAGES[1].number == 2);
-
-const _: () = prove!(PAGES[2].number == 3);
-
-const _: () = prove!(PAGES[3].number == 4);
-
-const _: () = prove!(PAGES[4].number == 5);
-
-const _: () = prove!(PAGES[5].number == 6);
-
-static TABLE: [Explanation; 6] = PAGES;
-
-const OVERFLOW: Explanation = Explanation {
-    number: 1,
-    origin: Origin::Fault(Fault::Overflow),
-    sentence: "a result is too large for an INTEGER",
-    meaning: "An INTEGER holds the whole numbers from -9223372036854775808 to
+pub static PAGES: [Page; 6] = [
+    Page {
+        sentence: "a result is too large for an INTEGER",
+        meaning: "An INTEGER holds the whole numbers from -9223372036854775808 to
 9223372036854775807. An operation of the line gave a number outside of them, here in
-the second statement:
-",
-    example: "      K=9223372036854775807
+the second statement:",
+        example: "      K=9223372036854775807
       K=K+1
-      END
-",
-    advice: "print the values of the line's names in the line before, and look for the
+      END",
+        advice: "print the values of the line's names in the line before, and look for the
 operation that leaves the range. A remainder is kept small by taking MOD after each
-step, and a count by stopping in time:
-",
-    cure: "      K=9223372036854775807
+step, and a count by stopping in time:",
+        cure: "      K=9223372036854775807
       IF (K.LT.9223372036854775807) K=K+1
-      END
-",
-};
-
-const INDEX: Explanation = Explanation {
-    number: 2,
-    origin: Origin::Fault(Fault::Index),
-    sentence: "a subscript is out of bounds",
-    meaning: "Each subscript of an array's element lies from the lower bound of its dimension, which
-is 1 where none is declared, to the upper one. Here I is 4 in the last trip:
-",
-    example: "      INTEGER A(3)
+      END",
+    },
+    Page {
+        sentence: "a subscript is out of bounds",
+        meaning: "Each subscript of an array's element lies from the lower bound of its dimension, which
+is 1 where none is declared, to the upper one. Here I is 4 in the last trip:",
+        example: "      INTEGER A(3)
       DO 10 I=1,4
    10 A(I)=I
-      END
-",
-    advice: "print the subscripts before the line, and look at the limits of the loops
+      END",
+        advice: "print the subscripts before the line, and look at the limits of the loops
 around it. Of .AND. and .OR. both sides have to have a value, so one side guards
 nothing in the other: put one IF into another. If the subscripts are right, declare
-more elements:
-",
-    cure: "      INTEGER A(4)
+more elements:",
+        cure: "      INTEGER A(4)
       DO 10 I=1,4
    10 A(I)=I
-      END
-",
-};
-
-const ZERO_DIVISOR: Explanation = Explanation {
-    number: 3,
-    origin: Origin::Fault(Fault::ZeroDivisor),
-    sentence: "a division by zero",
-    meaning: "The divisor of a /, or the second argument of MOD, was 0 when the line ran. A name that
-was never assigned is 0, so this line faults wherever N has no value yet:
-",
-    example: "      K=10/N
-      END
-",
-    advice: "assign the divisor before the line, and look for a name that is spelled in
+      END",
+    },
+    Page {
+        sentence: "a division by zero",
+        meaning: "The divisor of a /, or the second argument of MOD, was 0 when the line ran. A name that
+was never assigned is 0, so this line faults wherever N has no value yet:",
+        example: "      K=10/N
+      END",
+        advice: "assign the divisor before the line, and look for a name that is spelled in
 two ways. Of .AND. and .OR. both sides have to have a value, so one side guards
-nothing in the other: put one IF into another. Here a value was missing:
-",
-    cure: "      N=5
+nothing in the other: put one IF into another. Here a value was missing:",
+        cure: "      N=5
       K=10/N
-      END
-",
-};
-
-const ZERO_STEP: Explanation = Explanation {
-    number: 4,
-    origin: Origin::Fault(Fault::ZeroStep),
-    sentence: "a DO that counts by zero",
-    meaning: "The third number of a DO is what its variable grows by after each trip, and it may not
-be 0. A name that was never assigned is 0:
-",
-    example: "      DO 10 I=1,10,N
+      END",
+    },
+    Page {
+        sentence: "a DO that counts by zero",
+        meaning: "The third number of a DO is what its variable grows by after each trip, and it may not
+be 0. A name that was never assigned is 0:",
+        example: "      DO 10 I=1,10,N
    10 PRINT *,I
-      END
-",
-    advice: "assign the step before the DO, or leave it out where it is 1. A step below
-zero counts down:
-",
-    cure: "      DO 10 I=10,1,-1
+      END",
+        advice: "assign the step before the DO, or leave it out where it is 1. A step below
+zero counts down:",
+        cure: "      DO 10 I=10,1,-1
    10 PRINT *,I
-      END
-",
-};
-
-const END_OF_INPUT: Explanation = Explanation {
-    number: 5,
-    origin: Origin::Fault(Fault::EndOfInput),
-    sentence: "there is no record left to read",
-    meaning: "Each READ takes at least one line of the input, and goes on to the next lines until
-all its items have values. With an input of two lines the third trip faults:
-",
-    example: "      DO 10 I=1,3
+      END",
+    },
+    Page {
+        sentence: "there is no record left to read",
+        meaning: "Each READ takes at least one line of the input, and goes on to the next lines until
+all its items have values. With an input of two lines the third trip faults:",
+        example: "      DO 10 I=1,3
       READ *,K
    10 PRINT *,K
       END
@@ -139,13 +74,11 @@ all its items have values. With an input of two lines the third trip faults:
 with the input
 
 7
-8
-",
-    advice: "add the lines that are missing, or read the number of lines first and loop
+8",
+        advice: "add the lines that are missing, or read the number of lines first and loop
 that often. The input is the file named behind that of the source; without one it is
-empty:
-",
-    cure: "      READ *,N
+empty:",
+        cure: "      READ *,N
       DO 10 I=1,N
       READ *,K
    10 PRINT *,K
@@ -155,35 +88,28 @@ with the input
 
 2
 7
-8
-",
-};
-
-const BAD_INPUT: Explanation = Explanation {
-    number: 6,
-    origin: Origin::Fault(Fault::BadInput),
-    sentence: "a record that isn't made of integers",
-    meaning: "A line of the input holds integers, and between two of them blanks or one comma. Other
+8",
+    },
+    Page {
+        sentence: "a record that isn't made of integers",
+        meaning: "A line of the input holds integers, and between two of them blanks or one comma. Other
 characters, a comma with nothing on one side, and numbers outside of the INTEGER's
-range make it malformed, as 3,,4 and 3.5 and 2*1 are:
-",
-    example: "      READ *,I,J
+range make it malformed, as 3,,4 and 3.5 and 2*1 are:",
+        example: "      READ *,I,J
       PRINT *,I+J
       END
 
 with the input
 
-3,,4
-",
-    advice: "write every value out as a whole number, with blanks or a comma between
-them:
-",
-    cure: "      READ *,I,J
+3,,4",
+        advice: "write every value out as a whole number, with blanks or a comma between
+them:",
+        cure: "      READ *,I,J
       PRINT *,I+J
       END
 
 with the input
 
-3, -4
-",
-};
+3, -4",
+    },
+];
