@@ -2,9 +2,9 @@
 //! tells.
 
 use crate::mentions::without_keyword;
-use crate::squeezed::{Squeezed, action, has_outer, is_if, transfer_length};
+use crate::squeezed::{Squeezed, action, begins_with, has_outer, is_if, transfer_length};
 use crate::tokens::{
-    WrongToken, digits_of, open_text, operator_length, past, quoted_length, word_length,
+    digits_of, open_text, operator_length, past, quoted_length, refused_token, word_length,
 };
 use ast::Rule;
 use bstr::ByteSlice;
@@ -12,19 +12,15 @@ use bstr::ByteSlice;
 /// What may stand next in an expression.
 #[derive(Clone, Copy)]
 enum Wanted {
-    /// An operand, before which a sign may stand or not.
-    Operand { may_sign: bool },
-    /// An operator, or what ends an operand; behind a name also subscripts.
-    Operator { is_behind_name: bool },
+    /// An operand, before which a sign may stand.
+    First,
+    /// An operand without a sign.
+    Next,
+    /// An operator, or what ends an operand.
+    Behind,
+    /// The same, or subscripts.
+    BehindName,
 }
-
-const FIRST: Wanted = Wanted::Operand { may_sign: true };
-
-const NEXT: Wanted = Wanted::Operand { may_sign: false };
-
-const BEHIND: Wanted = Wanted::Operator {
-    is_behind_name: false,
-};
 
 /// A part of a statement that is being read.
 #[derive(Drop)]
@@ -42,12 +38,14 @@ struct Reading<'a> {
 /// The place in the text of a statement of what it is refused for by a rule that is of texts, if
 /// that can be told.
 pub fn break_place(rule: Rule, statement: &Squeezed) -> Option<usize> {
+    let text = statement.text.as_slice();
     match rule {
-        Rule::UnknownStatement | Rule::LeftOut => action_place(&statement.text),
-        Rule::UnendedText => open_text(&statement.text),
-        Rule::RealConstant => token_place(WrongToken::RealConstant, statement),
-        Rule::LargeConstant => token_place(WrongToken::TooLarge, statement),
-        Rule::LongName => token_place(WrongToken::TooLong, statement),
+        Rule::UnknownStatement | Rule::LeftOut => action_place(text),
+        Rule::UnendedText => open_text(text),
+        Rule::RealConstant | Rule::LargeConstant | Rule::LongName => {
+            let start = text.len().saturating_sub(without_keyword(statement).len());
+            refused_token(rule, text, start)
+        }
         Rule::Malformed => end_of_form(statement),
         _ => None,
     }
@@ -61,13 +59,6 @@ fn action_place(text: &[u8]) -> Option<usize> {
     }
 }
 
-/// Where the first token that no statement has stands behind the keyword of a statement.
-fn token_place(wrong: WrongToken, statement: &Squeezed) -> Option<usize> {
-    let text = statement.text.as_slice();
-    let start = text.len().saturating_sub(without_keyword(statement).len());
-    wrong.place_in(text, start)
-}
-
 /// Where the operands and operators of a statement stop being in the order of one.
 fn end_of_form(statement: &Squeezed) -> Option<usize> {
     let text = statement.text.as_slice();
@@ -76,7 +67,7 @@ fn end_of_form(statement: &Squeezed) -> Option<usize> {
     }
     if statement.is_loop() {
         let start = text.find_byte(b'=')?.saturating_add(1);
-        return Reading::new(text, start, false, true).end();
+        return Reading::new(text, start, false, true).end(false);
     }
     if is_if(text) {
         return in_condition(text);
@@ -89,46 +80,24 @@ fn in_assignment(text: &[u8], start: usize) -> Option<usize> {
     if !has_outer(b'=', past(text, start)) {
         return None;
     }
-    Reading::new(text, start, true, false).end()
+    Reading::new(text, start, true, false).end(false)
 }
 
 /// Where a PRINT or a READ stops being one, whose list may begin here.
 fn in_list(text: &[u8], start: usize) -> Option<usize> {
-    let has_comma = text.get(start) == Some(&b',');
-    match (
-        text.starts_with(b"PRINT*") || text.starts_with(b"READ*"),
-        has_comma,
-    ) {
-        (_, _) if start >= text.len() => None,
-        (true, false) | (false, true) => Some(start),
-        (true, true) => Reading::new(text, start.saturating_add(1), false, true).end(),
-        (false, false) => Reading::new(text, start, false, true).end(),
+    let sign = text.get(start)?;
+    let wants_comma = begins_with(text, &[b"PRINT*", b"READ*"]);
+    if wants_comma != (*sign == b',') {
+        return Some(start);
     }
+    let first = start.saturating_add(usize::from(wants_comma));
+    Reading::new(text, first, false, true).end(false)
 }
 
 /// Where an IF stops being one: in its condition, or in the statement behind it.
 fn in_condition(text: &[u8]) -> Option<usize> {
-    let start = text.find_byte(b'(')?;
-    let mut reading = Reading::new(text, start, false, false);
-    for _ in 0..=text.len() {
-        match reading.step() {
-            Step::On if reading.depth == 0 => break,
-            Step::On => {}
-            Step::Broken => return Some(reading.at),
-            Step::Ended => return Some(text.len()),
-        }
-    }
-    in_assignment(text, reading.at)
-}
-
-/// What came of reading on.
-#[derive(Clone, Copy)]
-enum Step {
-    On,
-    /// What stands here can't stand here.
-    Broken,
-    /// Nothing stands here.
-    Ended,
+    let mut reading = Reading::new(text, text.find_byte(b'(')?, false, false);
+    reading.end(true).or(in_assignment(text, reading.at))
 }
 
 impl<'a> Reading<'a> {
@@ -137,45 +106,42 @@ impl<'a> Reading<'a> {
             text,
             at,
             depth: 0,
-            wanted: FIRST,
+            wanted: Wanted::First,
             may_assign,
             is_list,
         }
     }
 
-    /// Where it breaks, read to the end.
-    fn end(mut self) -> Option<usize> {
+    /// Where it breaks, read to the end, or to the parenthesis that closes the first one.
+    fn end(&mut self, is_closed: bool) -> Option<usize> {
         for _ in 0..=self.text.len() {
-            match self.step() {
-                Step::On => {}
-                Step::Broken => return Some(self.at),
-                Step::Ended if self.is_whole() => return None,
-                Step::Ended => return Some(self.text.len()),
+            let Some(byte) = self.text.get(self.at).copied() else {
+                return (!self.is_whole()).then_some(self.text.len());
+            };
+            let Some((length, wanted)) = self.token(byte) else {
+                return Some(self.at);
+            };
+            self.at = self.at.saturating_add(length);
+            self.wanted = wanted;
+            if is_closed && self.depth == 0 {
+                break;
             }
         }
         None
     }
 
     fn is_whole(&self) -> bool {
-        self.depth == 0 && matches!(self.wanted, Wanted::Operator { .. })
+        self.depth == 0 && matches!(self.wanted, Wanted::Behind | Wanted::BehindName)
     }
 
-    /// Reads one token more.
-    fn step(&mut self) -> Step {
-        let Some(byte) = self.text.get(self.at).copied() else {
-            return Step::Ended;
-        };
-        let next = match self.wanted {
-            Wanted::Operand { may_sign } => self.operand(byte, may_sign),
-            Wanted::Operator { is_behind_name } => self.operator(byte, is_behind_name),
-        };
-        match next {
-            Some((length, wanted)) => {
-                self.at = self.at.saturating_add(length);
-                self.wanted = wanted;
-                Step::On
-            }
-            None => Step::Broken,
+    /// The length of the token that begins with a byte, if it may stand here, and what may stand
+    /// behind it.
+    fn token(&mut self, byte: u8) -> Option<(usize, Wanted)> {
+        match self.wanted {
+            Wanted::First => self.operand(byte, true),
+            Wanted::Next => self.operand(byte, false),
+            Wanted::Behind => self.operator(byte, false),
+            Wanted::BehindName => self.operator(byte, true),
         }
     }
 
@@ -184,17 +150,12 @@ impl<'a> Reading<'a> {
         match byte {
             b'(' => {
                 self.depth = self.depth.saturating_add(1);
-                Some((1, FIRST))
+                Some((1, Wanted::First))
             }
-            b'+' | b'-' if may_sign => Some((1, NEXT)),
-            b'0'..=b'9' => Some((digits_of(self.rest()), BEHIND)),
-            b'A'..=b'Z' => Some((
-                word_length(self.rest()),
-                Wanted::Operator {
-                    is_behind_name: true,
-                },
-            )),
-            b'\'' if self.is_list => Some((quoted_length(self.rest()), BEHIND)),
+            b'+' | b'-' if may_sign => Some((1, Wanted::Next)),
+            b'0'..=b'9' => Some((digits_of(self.rest()), Wanted::Behind)),
+            b'A'..=b'Z' => Some((word_length(self.rest()), Wanted::BehindName)),
+            b'\'' if self.is_list => Some((quoted_length(self.rest()), Wanted::Behind)),
             b'.' => self.dotted_operand(),
             _ => None,
         }
@@ -203,19 +164,19 @@ impl<'a> Reading<'a> {
     /// The same of an operator, or of what ends an operand.
     fn operator(&mut self, byte: u8, is_behind_name: bool) -> Option<(usize, Wanted)> {
         match byte {
-            b'+' | b'-' | b'*' | b'/' => Some((1, NEXT)),
-            b',' if self.depth > 0 || self.is_list => Some((1, FIRST)),
+            b'+' | b'-' | b'*' | b'/' => Some((1, Wanted::Next)),
+            b',' if self.depth > 0 || self.is_list => Some((1, Wanted::First)),
             b')' if self.depth > 0 => {
                 self.depth = self.depth.saturating_sub(1);
-                Some((1, BEHIND))
+                Some((1, Wanted::Behind))
             }
             b'(' if is_behind_name => {
                 self.depth = self.depth.saturating_add(1);
-                Some((1, FIRST))
+                Some((1, Wanted::First))
             }
             b'=' if self.depth == 0 && self.may_assign => {
                 self.may_assign = false;
-                Some((1, FIRST))
+                Some((1, Wanted::First))
             }
             b'.' => self.dotted_operator(),
             _ => None,
@@ -229,16 +190,12 @@ impl<'a> Reading<'a> {
 
     fn dotted_operand(&self) -> Option<(usize, Wanted)> {
         let rest = self.rest();
-        for (word, wanted) in [
-            (b".NOT.".as_slice(), FIRST),
-            (b".TRUE.".as_slice(), BEHIND),
-            (b".FALSE.".as_slice(), BEHIND),
-        ] {
-            if rest.starts_with(word) {
-                return Some((word.len(), wanted));
-            }
+        if rest.starts_with(b".NOT.") {
+            return Some((5, Wanted::First));
         }
-        None
+        let words: [&[u8]; 2] = [b".TRUE.", b".FALSE."];
+        let word = words.iter().find(|word| rest.starts_with(word))?;
+        Some((word.len(), Wanted::Behind))
     }
 
     /// The length of an operator between points, and what may stand behind it.
@@ -247,6 +204,6 @@ impl<'a> Reading<'a> {
         if rest.starts_with(b".NOT.") {
             return None;
         }
-        Some((operator_length(rest)?, FIRST))
+        Some((operator_length(rest)?, Wanted::First))
     }
 }

@@ -1,6 +1,6 @@
 //! The columns of a line.
 
-use crate::tokens::{digits_of, past};
+use crate::tokens::{digits_of, front, past};
 use ast::Label;
 use bstr::ByteSlice;
 use fixed_form::{LAST_COLUMN, LAST_LABEL_COLUMN};
@@ -34,8 +34,11 @@ fn is_told(text: &[u8]) -> bool {
 /// Whether past the last column stands what names a card: letters, and digits behind them.
 pub fn names_card(text: &[u8]) -> bool {
     let text = text.trim();
-    let letters = text.iter().position(|byte| !byte.is_ascii_alphabetic());
-    let digits = past(text, letters.unwrap_or(text.len()));
+    let letters = text
+        .iter()
+        .take_while(|byte| byte.is_ascii_alphabetic())
+        .count();
+    let digits = past(text, letters);
     digits.len() < text.len()
         && 2 <= digits.len()
         && text.len() <= CARD_WIDTH
@@ -44,7 +47,7 @@ pub fn names_card(text: &[u8]) -> bool {
 
 /// What stands in the columns that are read.
 fn read(line: &[u8]) -> &[u8] {
-    line.get(..LAST_COLUMN).unwrap_or(line)
+    front(line, LAST_COLUMN)
 }
 
 /// What stands in the columns of a statement's text.
@@ -79,25 +82,23 @@ pub fn has_late_label(line: &[u8]) -> bool {
     is_number && is_behind_blank && word.first().is_some_and(u8::is_ascii_alphabetic)
 }
 
-/// A number with one digit more.
-pub fn with_digit(number: Label, digit: u8) -> Label {
-    number
-        .saturating_mul(10)
-        .saturating_add(Label::from(digit.saturating_sub(b'0')))
+/// The number that the digits of a text are.
+pub fn number_in(text: &[u8]) -> Label {
+    let digits = text.iter().filter(|byte| byte.is_ascii_digit());
+    digits.fold(0, |number: Label, digit| {
+        number
+            .saturating_mul(10)
+            .saturating_add(Label::from(digit.saturating_sub(b'0')))
+    })
 }
 
 /// The label of a line, if it has one.
 pub fn label_of(line: &[u8]) -> Option<Label> {
-    if is_continuation(line) {
-        return None;
-    }
-    let mut label = None;
-    for byte in line.iter().take(LAST_LABEL_COLUMN) {
-        match *byte {
-            digit @ b'0'..=b'9' => label = Some(with_digit(label.unwrap_or(0), digit)),
-            b' ' => {}
-            _ => return None,
-        }
-    }
-    label
+    let columns = front(line, LAST_LABEL_COLUMN);
+    let is_label = !is_continuation(line)
+        && columns.iter().any(u8::is_ascii_digit)
+        && columns
+            .iter()
+            .all(|byte| *byte == b' ' || byte.is_ascii_digit());
+    is_label.then_some(number_in(columns))
 }

@@ -9,15 +9,12 @@ use crate::squeezed::{
     Squeezed, action, assigns, begins_with, behind_parentheses, has_outer, is_if, names_label,
     transfer_length,
 };
-use crate::tokens::{OPERATORS, digits_of, past, word_length};
+use crate::tokens::{OPERATORS, digits_of, front, past, word_length};
 use ast::{Fault, Rule};
 use bstr::ByteSlice;
 use fixed_form::LAST_LABEL_COLUMN;
 pub use replays::hint_of_schedule;
-use signs::{
-    BEGINNINGS, CHARACTERS, COMPARISONS, CONTINUED, FOREIGN, FREE_FORM, LEAST, LEFT_OUT, LENGTHS,
-    NEIGHBOURS, SUBPROGRAMS, Sign, TYPOGRAPHY, WHILE,
-};
+use signs::{BEGINNINGS, CHARACTERS, FOREIGN, LEFT_OUT, LENGTHS, WHILE, earliest_of, first_of};
 use std::cmp::Ordering;
 
 /// What is said of a name that is not integer, where nothing more is known.
@@ -33,9 +30,6 @@ const LABEL: &str = "a label stands in columns 1 to 5";
 
 /// What is said of a comment by other signs, or in other columns.
 const COMMENT: &str = "a comment has a C or * in column 1";
-
-/// What is said of END with something behind it.
-const ALONE: &str = "END stands alone";
 
 /// What is said of operators without their points.
 const POINTS: &str = "an operator has a point at each end, as in .EQ. and .AND.; there are .LT., \
@@ -57,7 +51,7 @@ pub fn hint(rule: Rule, line: &[u8], statement: &Squeezed) -> Option<&'static st
         Rule::LineBehindEnd => of_rest(line, text),
         Rule::UnknownStatement | Rule::Malformed => of_form(line, statement),
         Rule::LongName => of_signs(text)
-            .or(first_of(&LENGTHS, text))
+            .or(first_of(LENGTHS, text))
             .or(of_constant(text))
             .or(of_form(line, statement))
             .or(Some("a name has six characters at most")),
@@ -66,7 +60,7 @@ pub fn hint(rule: Rule, line: &[u8], statement: &Squeezed) -> Option<&'static st
             .or(of_apostrophes(text)),
         Rule::RealConstant => of_real(text).or(of_points(text)),
         Rule::LargeConstant => text
-            .contains_str(LEAST)
+            .contains_str(b"-9223372036854775808")
             .then_some("write -9223372036854775807-1"),
         Rule::LeftOut => of_left_out(text),
         Rule::NotInteger => of_name(text).or(Some(DECLARE)),
@@ -94,37 +88,14 @@ fn of_constant(text: &[u8]) -> Option<&'static str> {
     )
 }
 
-/// What is said of the sign that stands first in a text; of two at one place, of the first row.
-fn earliest_of(signs: &[Sign], text: &[u8]) -> Option<&'static str> {
-    let mut found = None;
-    let mut before = text.len();
-    for Sign(_, holds, hint) in signs {
-        match text.find(holds) {
-            Some(place) if place < before => {
-                before = place;
-                found = Some(*hint);
-            }
-            _ => {}
-        }
-    }
-    found
-}
-
-fn first_of(signs: &[Sign], text: &[u8]) -> Option<&'static str> {
-    let Sign(_, _, hint) = signs.iter().find(|sign| text.starts_with(sign.0)
-        && text.contains_str(sign.1))?;
-    Some(*hint)
-}
-
 fn of_character(line: &[u8]) -> Option<&'static str> {
-    let known = first_of(&CHARACTERS, line);
-    if known.is_some() {
-        return known;
+    if let Some(known) = first_of(CHARACTERS, line) {
+        return Some(known);
     }
     if matches!(line.first(), Some(0x80..=0xBF | 0xF8..=0xFF)) {
         return Some("the line begins with a byte that begins no character; this is no text file");
     }
-    if holds_one(&TYPOGRAPHY, line) {
+    if line.chars().any(is_typographic) {
         return Some("a dash or a quotation mark is not one of the keyboard");
     }
     line.iter()
@@ -132,62 +103,72 @@ fn of_character(line: &[u8]) -> Option<&'static str> {
         .then_some("a character that is not of ASCII stands in the line")
 }
 
+/// Whether a character is a dash or a quotation mark of a word processor.
+fn is_typographic(character: char) -> bool {
+    matches!(
+        character,
+        '\u{2010}'..='\u{2015}' | '\u{2018}' | '\u{2019}' | '\u{201C}' | '\u{201D}'
+    )
+}
+
 fn of_columns(line: &[u8]) -> Option<&'static str> {
-    let front = line.get(..=LAST_LABEL_COLUMN).unwrap_or(line);
+    let columns = front(line, LAST_LABEL_COLUMN + 1);
     let is_comment = matches!(
-        front,
+        columns,
         [b'!' | b'#' | b'/' | b'%', ..] | [b'D' | b'd', b' ', ..]
     );
     if is_comment || is_note(line.trim_start()) {
         return Some(COMMENT);
     }
-    if front.contains(&b':') {
+    if columns.contains(&b':') {
         return Some("a label has no colon behind it");
     }
     if is_free_form(line) {
         return Some("this looks like free form; doac reads fixed form");
     }
-    if front.iter().any(|byte| byte.is_ascii_alphabetic()) {
-        return of_letters(front);
+    if columns.iter().any(u8::is_ascii_alphabetic) {
+        return Some(of_letters(columns));
     }
     if goes_past_label(line) {
         return Some(LABEL);
     }
-    of_label_columns(line)
+    let label = front(line, LAST_LABEL_COLUMN);
+    if is_continuation(line) && label.iter().any(u8::is_ascii_digit) {
+        return Some("column 6 is blank in the line that a statement begins in");
+    }
+    (label_of(line) == Some(0)).then_some("a label is a number from 1 to 99999")
 }
 
 /// Whether a line looks as if it began in any column: a word of free form stands first, or a sign
 /// that goes on with the next line stands last.
 fn is_free_form(line: &[u8]) -> bool {
+    let words: [&[u8]; 5] = [
+        b"program ",
+        b"module ",
+        b"use ",
+        b"implicit ",
+        b"subroutine ",
+    ];
     let text = line.trim();
     text.ends_with(b"&")
         || text.contains_str(b"::")
-        || FREE_FORM.iter().any(|word| {
-            text.get(..word.len())
-                .is_some_and(|front| front.eq_ignore_ascii_case(word))
-        })
+        || words
+            .iter()
+            .any(|word| front(text, word.len()).eq_ignore_ascii_case(word))
 }
 
 /// What is said of letters in columns 1 to 6.
-fn of_letters(front: &[u8]) -> Option<&'static str> {
-    if digits_of(front.trim_start()) > 0 {
-        return Some("the text behind a label begins in column 7");
+fn of_letters(columns: &[u8]) -> &'static str {
+    if digits_of(columns.trim_start()) > 0 {
+        "the text behind a label begins in column 7"
+    } else {
+        "a statement begins in column 7, with six blanks before it"
     }
-    Some("a statement begins in column 7, with six blanks before it")
 }
 
 /// Whether a text looks like a comment that begins in another column.
 fn is_note(text: &[u8]) -> bool {
     matches!(text, [b'C' | b'c' | b'*', b' ', ..])
-}
-
-/// What is said of a line with digits in columns 1 to 5.
-fn of_label_columns(line: &[u8]) -> Option<&'static str> {
-    let front = line.get(..LAST_LABEL_COLUMN).unwrap_or(line);
-    if is_continuation(line) && front.iter().any(|byte| byte.is_ascii_digit()) {
-        return Some("column 6 is blank in the line that a statement begins in");
-    }
-    (label_of(line) == Some(0)).then_some("a label is a number from 1 to 99999")
 }
 
 /// Whether digits stand before a blank, and not all in the columns of a label.
@@ -202,12 +183,11 @@ fn goes_past_label(line: &[u8]) -> bool {
 
 /// What is said of signs of other languages, up to the first that makes a comment or a text there.
 fn of_signs(text: &[u8]) -> Option<&'static str> {
-    let end = place_of_mark(text).unwrap_or(text.len());
-    let front = text.get(..end).unwrap_or(text);
-    if past(front, word_length(front)).starts_with(b"/=") {
+    let before = front(text, place_of_mark(text).unwrap_or(text.len()));
+    if past(before, word_length(before)).starts_with(b"/=") {
         return Some("write it out, as in K=K/2");
     }
-    earliest_of(&FOREIGN, front).or(of_mark(text))
+    earliest_of(FOREIGN, before).or(of_mark(text))
 }
 
 fn of_mark(text: &[u8]) -> Option<&'static str> {
@@ -217,21 +197,13 @@ fn of_mark(text: &[u8]) -> Option<&'static str> {
     }
 }
 
-/// The place of the first quotation mark, or '!' that is not of an operator.
+/// The place of the first quotation mark, or '!' that is not of the '!=' of other languages.
 fn place_of_mark(text: &[u8]) -> Option<usize> {
-    for (place, byte) in text.iter().enumerate() {
-        match byte {
-            b'"' => return Some(place),
-            b'!' if !is_operator(past(text, place)) => return Some(place),
-            _ => {}
-        }
-    }
-    None
-}
-
-/// Whether a text begins with the '!=' of other languages.
-fn is_operator(text: &[u8]) -> bool {
-    text.starts_with(b"!=") && !text.starts_with(b"!==")
+    (0..text.len()).find(|place| match past(text, *place) {
+        [b'"', ..] | [b'!', b'=', b'=', ..] => true,
+        [b'!', b'=', ..] => false,
+        rest => rest.starts_with(b"!"),
+    })
 }
 
 fn of_left_out(text: &[u8]) -> Option<&'static str> {
@@ -239,15 +211,15 @@ fn of_left_out(text: &[u8]) -> Option<&'static str> {
     if is_if(text) && digits_of(done) > 0 {
         return Some("there is no arithmetic IF; write an IF block");
     }
-    first_of(&LEFT_OUT, done)
+    first_of(LEFT_OUT, done)
 }
 
 fn of_end(text: &[u8]) -> Option<&'static str> {
-    match text.strip_prefix(b"END".as_slice()) {
-        Some([sign, ..]) if !sign.is_ascii_alphanumeric() => Some(ALONE),
-        Some(rest) if rest.starts_with(b"PROGRAM") => Some(ALONE),
-        _ => None,
-    }
+    let rest = text.strip_prefix(b"END".as_slice())?;
+    let ends_word = rest
+        .first()
+        .is_some_and(|sign| !sign.is_ascii_alphanumeric());
+    (ends_word || rest.starts_with(b"PROGRAM")).then_some("END stands alone")
 }
 
 /// What is said of a source without END, by its last line and statement.
@@ -260,23 +232,26 @@ fn of_missing_end(line: &[u8], text: &[u8]) -> Option<&'static str> {
 
 /// What is said of a line behind END.
 fn of_rest(line: &[u8], text: &[u8]) -> Option<&'static str> {
-    let known = first_of(&CHARACTERS, line);
-    if known.is_some() {
-        return known;
+    if let Some(known) = first_of(CHARACTERS, line) {
+        return Some(known);
     }
     if line.trim_start().starts_with(b"!") {
         return Some(COMMENT);
     }
-    if SUBPROGRAMS.iter().any(|word| text.contains_str(word)) {
+    if holds_one(&[b"SUBROUTINE", b"FUNCTION", b"BLOCKDATA"], text) {
         return Some("a source is one program, with no subroutines and functions behind it");
     }
     Some("the END above ends the program")
 }
 
+/// How often a sign stands in a text.
+fn count(sign: u8, text: &[u8]) -> usize {
+    text.iter().filter(|byte| **byte == sign).count()
+}
+
 /// What is said of apostrophes, of which there is an odd number.
 fn of_apostrophes(text: &[u8]) -> Option<&'static str> {
-    let count = text.iter().filter(|byte| **byte == b'\'').count();
-    (count >= 3).then_some("an apostrophe within a text is written twice")
+    (count(b'\'', text) >= 3).then_some("an apostrophe within a text is written twice")
 }
 
 fn of_form(line: &[u8], statement: &Squeezed) -> Option<&'static str> {
@@ -292,7 +267,7 @@ fn of_form(line: &[u8], statement: &Squeezed) -> Option<&'static str> {
         .or(of_end(text))
         .or(of_parentheses(text))
         .or(of_list(done))
-        .or(first_of(&BEGINNINGS, done))
+        .or(first_of(BEGINNINGS, done))
         .or(of_neighbours(text))
         .or(of_points(text))
         .or(of_text(text))
@@ -305,7 +280,7 @@ fn of_first(line: &[u8], text: &[u8]) -> Option<&'static str> {
     }
     match text.first() {
         None => Some("a label stands before a statement, as in 10 CONTINUE"),
-        Some(sign) if CONTINUED.contains(sign) => {
+        Some(b'+' | b'-' | b'/' | b',' | b'.' | b')' | b'=') => {
             Some("a statement goes on in a line with a sign in column 6")
         }
         Some(_) => None,
@@ -356,9 +331,7 @@ fn of_label(line: &[u8], text: &[u8]) -> Option<&'static str> {
 }
 
 fn of_parentheses(text: &[u8]) -> Option<&'static str> {
-    let opened = text.iter().filter(|byte| **byte == b'(').count();
-    let closed = text.iter().filter(|byte| **byte == b')').count();
-    match opened.cmp(&closed) {
+    match count(b'(', text).cmp(&count(b')', text)) {
         Ordering::Greater => Some(OPEN),
         Ordering::Less => Some("a parenthesis is closed that is not open"),
         Ordering::Equal => None,
@@ -369,78 +342,61 @@ fn of_condition(text: &[u8]) -> Option<&'static str> {
     if is_if(text) {
         return within_condition(text);
     }
-    if (text.starts_with(b"IF") || text.starts_with(b"ELSEIF")) && !assigns(text) {
-        return around_condition(text);
+    if assigns(text) {
+        return None;
     }
-    (text.starts_with(b"ELSE") && !assigns(text)).then_some("ELSE stands alone in its line")
+    if begins_with(text, &[b"IF", b"ELSEIF"]) {
+        let is_meant = text.contains(&b'.') || text.ends_with(b"THEN");
+        return is_meant.then_some("parentheses stand around the condition of an IF");
+    }
+    text.starts_with(b"ELSE")
+        .then_some("ELSE stands alone in its line")
 }
 
 fn within_condition(text: &[u8]) -> Option<&'static str> {
     let Some(rest) = behind_parentheses(text) else {
         return Some(OPEN);
     };
-    let end = text.len().saturating_sub(rest.len());
-    if text.get(..end).unwrap_or(text).contains(&b'=') {
+    if front(text, text.len().saturating_sub(rest.len())).contains(&b'=') {
         return Some("write .EQ. in the place of '=' in a condition");
     }
-    match rest.strip_prefix(b"THEN".as_slice()) {
-        Some(behind) if !behind.is_empty() => {
-            Some("THEN ends its line; the statement stands in the next one")
-        }
-        Some(_) => None,
-        None if text.starts_with(b"ELSE") => Some("THEN is missing"),
-        None if rest.is_empty() => {
-            Some("THEN is missing, or what is done if the condition holds")
-        }
-        None => None,
+    if let Some(behind) = rest.strip_prefix(b"THEN".as_slice()) {
+        let is_more = !behind.is_empty();
+        return is_more.then_some("THEN ends its line; the statement stands in the next one");
     }
-}
-
-fn around_condition(text: &[u8]) -> Option<&'static str> {
-    (text.contains(&b'.') || text.ends_with(b"THEN")).then_some(
-        "parentheses stand around the condition of an IF",
-    )
+    if text.starts_with(b"ELSE") {
+        return Some("THEN is missing");
+    }
+    rest.is_empty()
+        .then_some("THEN is missing, or what is done if the condition holds")
 }
 
 fn of_loop(line: &[u8], text: &[u8]) -> Option<&'static str> {
-    if names_label(text) {
-        return of_parameters(text);
+    if !names_label(text) {
+        let is_do = matches!(line.trim_start(), [b'D' | b'd', b'O' | b'o', b' ', ..]);
+        return is_do.then_some("a DO names the label of its last statement, as in DO 10 I=1,3");
     }
-    is_do(line).then_some("a DO names the label of its last statement, as in DO 10 I=1,3")
-}
-
-fn of_parameters(text: &[u8]) -> Option<&'static str> {
     if behind_label(text).starts_with(b"WHILE(") {
         return Some(WHILE);
     }
-    (!has_parameters(text)).then_some("a DO has an '=' and then commas, as in DO 10 I=1,5")
-}
-
-/// Whether commas stand between the parameters of a DO.
-fn has_parameters(text: &[u8]) -> bool {
-    text.find_byte(b'=').is_some_and(|place| has_outer(b',', past(text, place))
-        && !text.ends_with(b","))
-}
-
-/// Whether a line may be meant as a DO.
-fn is_do(line: &[u8]) -> bool {
-    matches!(line.trim_start(), [b'D' | b'd', b'O' | b'o', b' ', ..])
+    let parameters = past(text, text.find_byte(b'=').unwrap_or(text.len()));
+    let are_whole = has_outer(b',', parameters) && !text.ends_with(b",");
+    (!are_whole).then_some("a DO has an '=' and then commas, as in DO 10 I=1,5")
 }
 
 fn of_star(text: &[u8]) -> Option<&'static str> {
     let has_star = begins_with(text, &[b"PRINT*", b"READ*"]);
-    let has_comma = begins_with(text, &[b"PRINT*,", b"READ*,"]);
-    (has_star && !has_comma).then_some("a comma stands behind the '*'")
+    (has_star && !begins_with(text, &[b"PRINT*,", b"READ*,"])).then_some(
+        "a comma stands behind the '*'",
+    )
 }
 
 fn of_real(text: &[u8]) -> Option<&'static str> {
-    if !names_label(text) {
-        return None;
-    }
-    if text.contains(&b',') {
-        return Some("a DO goes by whole numbers, its step too");
-    }
-    Some("commas stand between the parameters of a DO")
+    names_label(text).then_some(if text.contains(&b',') {
+        "a DO goes by whole numbers, its step too"
+    } else {
+        "commas stand between the parameters of a DO"
+    })
 }
 
 fn of_name(text: &[u8]) -> Option<&'static str> {
@@ -459,7 +415,7 @@ fn of_kind(line: &[u8], text: &[u8]) -> Option<&'static str> {
     if !is_if(text) || text.contains(&b'.') {
         return None;
     }
-    if has_word(&COMPARISONS, line) {
+    if has_word(&[b"EQ", b"NE", b"LT", b"LE", b"GT", b"GE"], line) {
         return Some("points stand around an operator, as in .EQ.");
     }
     Some("a condition compares, as in K.NE.0")
@@ -485,10 +441,16 @@ fn of_points(text: &[u8]) -> Option<&'static str> {
         if *byte != b'.' || closing == Some(place) {
             continue;
         }
-        let word = letters_behind(text, place);
+        let rest = past(text, place.saturating_add(1));
+        let word = front(
+            rest,
+            rest.iter()
+                .take_while(|byte| byte.is_ascii_alphabetic())
+                .count(),
+        );
         let end = place.saturating_add(word.len()).saturating_add(1);
         let is_closed = text.get(end) == Some(&b'.');
-        if lacks_point(text.get(..place).unwrap_or(&[]), word, is_closed) {
+        if lacks_point(front(text, place), word, is_closed) {
             return Some(POINTS);
         }
         if is_closed && !word.is_empty() {
@@ -496,13 +458,6 @@ fn of_points(text: &[u8]) -> Option<&'static str> {
         }
     }
     None
-}
-
-/// The letters behind a place of a text.
-fn letters_behind(text: &[u8], place: usize) -> &[u8] {
-    let rest = past(text, place.saturating_add(1));
-    let end = rest.iter().position(|byte| !byte.is_ascii_alphabetic());
-    rest.get(..end.unwrap_or(rest.len())).unwrap_or(&[])
 }
 
 /// Whether a point lacks the other one of an operator, by the text before it and the word behind.
@@ -525,7 +480,8 @@ fn of_neighbours(text: &[u8]) -> Option<&'static str> {
     if text.ends_with(b"++") || text.ends_with(b"--") {
         return Some("write it out, as in K=K+1");
     }
-    holds_one(&NEIGHBOURS, text).then_some(
+    let neighbours: [&[u8]; 8] = [b"*-", b"*+", b"/-", b"/+", b"+-", b"-+", b"--", b"++"];
+    holds_one(&neighbours, text).then_some(
         "a sign behind an operator stands in parentheses, as in 2*(-1)",
     )
 }

@@ -90,10 +90,10 @@ pub fn without_keyword(statement: &Squeezed) -> &[u8] {
 /// The text of a DO behind its label and the comma that may follow it.
 pub fn behind_label(text: &[u8]) -> &[u8] {
     let rest = past(text, 2);
-    let end = rest
+    let label = rest
         .iter()
-        .position(|byte| !byte.is_ascii_digit() && *byte != b',');
-    past(rest, end.unwrap_or(rest.len()))
+        .take_while(|byte| byte.is_ascii_digit() || **byte == b',');
+    past(rest, label.count())
 }
 
 /// The name that letters and digits are, if they are one.
@@ -122,8 +122,15 @@ impl Scanner {
         self.closed = None;
         match byte {
             b'.' => self.is_operator = true,
-            b'(' => self.open(named)?,
-            b'=' => self.give(given),
+            b'(' => {
+                self.opened.push(named)?;
+                self.count_one();
+            }
+            b'=' => {
+                if let Some(mention) = self.mention(given) {
+                    mention.is_given = true;
+                }
+            }
             b',' => self.count_one(),
             b')' => self.closed = self.opened.pop().unwrap_or(None),
             _ => {}
@@ -150,27 +157,16 @@ impl Scanner {
         Ok(Some(number))
     }
 
-    /// Notes that an equals sign stands behind a name.
-    fn give(&mut self, named: Option<usize>) {
-        if let Some(number) = named {
-            if let Some(mention) = self.found.get_mut(number) {
-                mention.is_given = true;
-            }
-        }
-    }
-
-    fn open(&mut self, named: Option<usize>) -> Result<(), AllocError> {
-        self.opened.push(named)?;
-        self.count_one();
-        Ok(())
+    /// The name of a number, if there is one.
+    fn mention(&mut self, number: Option<usize>) -> Option<&mut Mention> {
+        self.found.get_mut(number?)
     }
 
     /// Counts a subscript or an argument of the name before the innermost parenthesis.
     fn count_one(&mut self) {
-        if let Some(Some(number)) = self.opened.last() {
-            if let Some(mention) = self.found.get_mut(*number) {
-                mention.count = mention.count.saturating_add(1);
-            }
+        let innermost = self.opened.last().copied().flatten();
+        if let Some(mention) = self.mention(innermost) {
+            mention.count = mention.count.saturating_add(1);
         }
     }
 }

@@ -4,36 +4,10 @@ use ast::Rule;
 
 /// Whether a rule is one for the texts of statements.
 pub fn is_of_text(rule: Rule) -> bool {
-    matches!(
-        rule,
-        Rule::UnknownStatement
-            | Rule::UnendedText
-            | Rule::RealConstant
-            | Rule::LargeConstant
-            | Rule::LongName
-            | Rule::Malformed
-            | Rule::Deep
-            | Rule::LeftOut
-    )
+    matches!(rule.number(), 20..=27)
 }
 
 /// Whether a rule is one of the profile.
 pub fn is_of_profile(rule: Rule) -> bool {
-    matches!(
-        rule,
-        Rule::OutOfOrder
-            | Rule::NotInteger
-            | Rule::DeclaredTwice
-            | Rule::WrongSubscripts
-            | Rule::OpenLoop
-            | Rule::WrongTerminal
-            | Rule::CrossedBlocks
-            | Rule::ActiveVariable
-            | Rule::ChangedConstant
-            | Rule::CrossedBounds
-            | Rule::LargeProgram
-            | Rule::RepeatedLabel
-            | Rule::NoValue
-            | Rule::WrongKind
-    )
+    matches!(rule.number(), 30..=43)
 }

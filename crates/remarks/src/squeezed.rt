@@ -1,9 +1,9 @@
 //! Statements of a source as hints look at them.
 
 use crate::columns::{
-    has_late_label, is_blank, is_comment, is_continuation, is_cut, label_of, text_of, with_digit,
+    has_late_label, is_blank, is_comment, is_continuation, is_cut, label_of, number_in, text_of,
 };
-use crate::tokens::{digits_of, past, word_length};
+use crate::tokens::{digits_of, front, past, word_length};
 use ast::{Label, Line};
 use bstr::ByteSlice;
 use places::line_at;
@@ -82,12 +82,10 @@ pub fn begins_with(text: &[u8], fronts: &[&[u8]]) -> bool {
 /// Whether a text begins with a name, with subscripts or without, and an equals sign.
 pub fn assigns(text: &[u8]) -> bool {
     let rest = past(text, word_length(text));
-    let behind = if rest.starts_with(b"(") {
-        behind_parentheses(rest)
-    } else {
-        Some(rest)
-    };
-    behind.is_some_and(|behind| behind.starts_with(b"="))
+    match behind_parentheses(rest) {
+        Some(behind) if rest.starts_with(b"(") => behind.starts_with(b"="),
+        _ => rest.starts_with(b"="),
+    }
 }
 
 /// Whether a text begins as a DO with a label.
@@ -122,10 +120,7 @@ impl Squeezed {
             .filter(|statement| statement.line <= line)
             .count();
         statements.truncate(count);
-        match statements.pop() {
-            Some(statement) => Ok(statement),
-            None => Ok(Squeezed::new(alloc, line, None)),
-        }
+        Ok(statements.pop().unwrap_or(Squeezed::new(alloc, line, None)))
     }
 
     /// All statements of a source whose lines are in order.
@@ -205,11 +200,7 @@ impl Squeezed {
     /// The label that a DO names.
     pub fn terminal(&self) -> Label {
         let text = past(&self.text, 2);
-        let mut label: Label = 0;
-        for digit in text.iter().take(digits_of(text)) {
-            label = with_digit(label, *digit);
-        }
-        label
+        number_in(front(text, digits_of(text)))
     }
 
     /// Whether it is the IF of a block, if it is a statement.
@@ -221,8 +212,7 @@ impl Squeezed {
 
     /// Whether it declares names with bounds, if it is a statement.
     pub fn is_declaration(&self) -> bool {
-        let begins = self.text.starts_with(b"INTEGER") || self.text.starts_with(b"DIMENSION");
-        begins && !self.is_assignment()
+        begins_with(&self.text, &[b"INTEGER", b"DIMENSION"]) && !self.is_assignment()
     }
 
     /// Whether it names constants, if it is a statement.
@@ -237,7 +227,7 @@ impl Squeezed {
     }
 
     fn add_line(&mut self, number: Line, line: &[u8]) -> Result<(), AllocError> {
-        self.is_cut = self.is_cut || is_cut(line);
+        self.is_cut |= is_cut(line);
         if self.late_label.is_none() && is_continuation(line) && has_late_label(line) {
             self.late_label = Some(number);
         }

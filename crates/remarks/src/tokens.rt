@@ -1,7 +1,7 @@
 //! Where the first real constant, constant that is too large, or name that is too long stands, or
 //! the text that isn't finished.
 
-use ast::LONGEST_NAME;
+use ast::{LONGEST_NAME, Rule};
 
 /// The operators that stand between points.
 pub const OPERATORS: [&[u8]; 11] = [
@@ -11,37 +11,27 @@ pub const OPERATORS: [&[u8]; 11] = [
 /// The digits of the largest constant.
 const LARGEST: &[u8] = b"9223372036854775807";
 
-/// A token that no statement has.
-#[derive(Clone, Copy)]
-pub enum WrongToken {
-    RealConstant,
-    TooLarge,
-    TooLong,
+/// The place of the first token that a rule refuses, in a text that is looked at from a place on.
+pub fn refused_token(rule: Rule, text: &[u8], start: usize) -> Option<usize> {
+    let mut at = start;
+    for _ in start..text.len() {
+        let rest = text.get(at..)?;
+        if begins_refused(rule, rest) {
+            return Some(at);
+        }
+        at = at.saturating_add(token_length(rest));
+    }
+    None
 }
 
-impl WrongToken {
-    /// The place of the first one in a text that is looked at from a place on.
-    pub fn place_in(self, text: &[u8], start: usize) -> Option<usize> {
-        let mut at = start;
-        for _ in start..text.len() {
-            let rest = text.get(at..)?;
-            if self.is_at(rest) {
-                return Some(at);
-            }
-            at = at.saturating_add(token_length(rest));
-        }
-        None
-    }
-
-    /// Whether a text begins with one.
-    fn is_at(self, text: &[u8]) -> bool {
-        match (self, text.first()) {
-            (WrongToken::RealConstant, Some(b'.')) => digits_of(past(text, 1)) > 0,
-            (WrongToken::RealConstant, Some(b'0'..=b'9')) => is_real(text),
-            (WrongToken::TooLarge, Some(b'0'..=b'9')) => is_too_large(text),
-            (WrongToken::TooLong, Some(b'A'..=b'Z')) => word_length(text) > LONGEST_NAME,
-            _ => false,
-        }
+/// Whether a text begins with a token that a rule refuses.
+fn begins_refused(rule: Rule, text: &[u8]) -> bool {
+    match (rule, text.first()) {
+        (Rule::RealConstant, Some(b'.')) => digits_of(past(text, 1)) > 0,
+        (Rule::RealConstant, Some(b'0'..=b'9')) => is_real(text),
+        (Rule::LargeConstant, Some(b'0'..=b'9')) => is_too_large(text),
+        (Rule::LongName, Some(b'A'..=b'Z')) => word_length(text) > LONGEST_NAME,
+        _ => false,
     }
 }
 
@@ -77,19 +67,24 @@ fn token_length(text: &[u8]) -> usize {
 
 /// How many letters and digits a text begins with.
 pub fn word_length(text: &[u8]) -> usize {
-    let end = text.iter().position(|byte| !byte.is_ascii_alphanumeric());
-    end.unwrap_or(text.len())
+    text.iter()
+        .take_while(|byte| byte.is_ascii_alphanumeric())
+        .count()
 }
 
 /// How many digits a text begins with.
 pub fn digits_of(text: &[u8]) -> usize {
-    let end = text.iter().position(|byte| !byte.is_ascii_digit());
-    end.unwrap_or(text.len())
+    text.iter().take_while(|byte| byte.is_ascii_digit()).count()
 }
 
 /// What stands past so many bytes of a text.
 pub fn past(text: &[u8], length: usize) -> &[u8] {
     text.get(length..).unwrap_or(&[])
+}
+
+/// The first bytes of a text, at most so many.
+pub fn front(text: &[u8], length: usize) -> &[u8] {
+    text.get(..length).unwrap_or(text)
 }
 
 /// How long the operator is that a text begins with, with its points, if it begins with one.
@@ -120,17 +115,18 @@ fn is_real(text: &[u8]) -> bool {
     let rest = past(text, digits_of(text));
     match rest {
         [b'.', ..] => operator_length(rest).is_none(),
-        [b'E' | b'D', b'+' | b'-', rest @ ..] => digits_of(rest) > 0,
-        [b'E' | b'D', rest @ ..] => digits_of(rest) > 0,
+        [b'E' | b'D', b'+' | b'-', rest @ ..] | [b'E' | b'D', rest @ ..] => digits_of(rest) > 0,
         _ => false,
     }
 }
 
 /// Whether the digits at the beginning of a text are a constant that is too large.
 fn is_too_large(text: &[u8]) -> bool {
-    let digits = text.get(..digits_of(text)).unwrap_or(&[]);
-    let zeros = digits.iter().position(|byte| *byte != b'0');
-    let figures = past(digits, zeros.unwrap_or(digits.len()));
+    let digits = front(text, digits_of(text));
+    let figures = past(
+        digits,
+        digits.iter().take_while(|byte| **byte == b'0').count(),
+    );
     match figures.len().checked_sub(LARGEST.len()) {
         Some(0) => figures > LARGEST,
         longer => longer.is_some(),

@@ -1,7 +1,7 @@
 //! How a program uses its names.
 
 use ast::{
-    Access, Arm, Bounds, Declarator, DoHead, Expr, Item, Kind, Label, Line, Name, Node, Program,
+    Access, Arm, Bounds, Declarator, DoHead, Expr, Item, Kind, Line, Name, Node, Program,
     SymbolKind,
 };
 use std::alloc::{AllocError, Global};
@@ -24,47 +24,21 @@ pub struct Seen {
     pub first_assigned: Option<Line>,
 }
 
-/// How a program uses its names and labels.
+/// How a program uses its names.
 #[derive(Drop)]
 pub struct Usage {
     /// For each symbol, in the program's order.
     pub symbols: Vec<Seen>,
     /// The constants, in byte order of their names.
     pub constants: Vec<Constant>,
-    /// The labels that DO statements name, in order.
-    pub terminals: Vec<Label>,
-}
-
-#[cycle(terminals)]
-fn add_terminals(nodes: &[Node], terminals: &mut Vec<Label>) -> Result<(), AllocError> {
-    for node in nodes {
-        match node {
-            Node::Plain(_) => {}
-            Node::Loop(_, head, range) => {
-                terminals.push(head.terminal)?;
-                add_terminals(range, terminals)?;
-            }
-            Node::Choice(arms) => add_terminals_of_arms(arms, terminals)?,
-        }
-    }
-    Ok(())
-}
-
-#[cycle(terminals)]
-fn add_terminals_of_arms(arms: &[Arm], terminals: &mut Vec<Label>) -> Result<(), AllocError> {
-    for arm in arms {
-        add_terminals(&arm.body, terminals)?;
-    }
-    Ok(())
 }
 
 impl Usage {
-    /// How a program uses its names and labels.
+    /// How a program uses its names.
     pub fn of(alloc: Global, program: &Program) -> Result<Self, AllocError> {
         let mut usage = Usage {
             symbols: Vec::with_capacity(alloc, program.symbols.len())?,
             constants: Vec::new(alloc),
-            terminals: Vec::new(alloc),
         };
         for symbol in &program.symbols {
             usage.symbols.push(Seen {
@@ -82,8 +56,6 @@ impl Usage {
         usage
             .constants
             .sort_unstable_by_key(|constant| constant.name);
-        add_terminals(&program.body, &mut usage.terminals)?;
-        usage.terminals.sort_unstable();
         usage.see_nodes(&program.body);
         Ok(usage)
     }
@@ -91,19 +63,14 @@ impl Usage {
     #[cycle(nodes)]
     fn see_nodes(&mut self, nodes: &[Node]) {
         for node in nodes {
-            self.see_node(node);
-        }
-    }
-
-    #[cycle(nodes)]
-    fn see_node(&mut self, node: &Node) {
-        match node {
-            Node::Plain(statement) => self.see_kind(statement.line, &statement.kind),
-            Node::Loop(line, head, range) => {
-                self.see_head(*line, head);
-                self.see_nodes(range);
+            match node {
+                Node::Plain(statement) => self.see_kind(statement.line, &statement.kind),
+                Node::Loop(line, head, range) => {
+                    self.see_head(*line, head);
+                    self.see_nodes(range);
+                }
+                Node::Choice(arms) => self.see_arms(arms),
             }
-            Node::Choice(arms) => self.see_arms(arms),
         }
     }
 

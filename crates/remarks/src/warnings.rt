@@ -1,12 +1,14 @@
 //! What is warned of on standard error. No warning changes an answer.
 
-use crate::columns::{is_comment, is_cut, label_of, names_card, unread};
-use crate::squeezed::behind_parentheses;
-use crate::tokens::past;
+use crate::columns::{is_comment, is_cut, names_card, unread};
+use crate::squeezed::{Squeezed, behind_parentheses};
+use crate::tokens::{front, past};
 use crate::usage::{Seen, Usage};
-use ast::{Kind, LONGEST_NAME, Line, Name, Node, Program, Symbol, SymbolKind};
+use ast::{Kind, LONGEST_NAME, Label, Line, Name, Node, Program, Symbol, SymbolKind};
 use bstr::ByteSlice;
 use places::{Place, Visible, line_at};
+use std::alloc::AllocError;
+use std::fmt::Display;
 
 /// How many lines are warned of for one thing.
 const MOST: u32 = 20;
@@ -22,8 +24,13 @@ pub fn warn<R: Eprint + AllocGlobal>(rt: &R, file: &str, source: &[u8], program:
     if let Ok(usage) = Usage::of(rt.alloc(), program) {
         warn_of_names(rt, file, program, &usage);
         warn_of_constants(rt, file, program, &usage);
-        warn_of_labels(rt, file, source, &usage);
     }
+    let _ = warn_of_labels(rt, file, source);
+}
+
+/// Says what is warned of in a line.
+fn say<R: Eprint, T: Display + Drop>(rt: &R, file: &str, line: Line, told: T) {
+    let _ = eprintln!(rt; "{}warning: {told}", Place { file, line });
 }
 
 /// Warns of each line with something past the last column that is read, of the first 20, and of
@@ -67,10 +74,13 @@ fn warn_of_cards<R: Eprint>(rt: &R, file: &str, source: &[u8]) {
 
 /// Says what stands in a line past the last column that is read.
 fn say_unread<R: Eprint>(rt: &R, file: &str, index: usize, text: &[u8]) {
-    let line = line_at(index);
-    let place = Place { file, line };
     let cut = Visible::new(unread(text).trim());
-    let _ = eprintln!(rt; "{place}warning: what stands past column 72 is not read: {cut}");
+    say(
+        rt,
+        file,
+        line_at(index),
+        format_args!("what stands past column 72 is not read: {cut}"),
+    );
 }
 
 /// Warns of comments that look like assignments to a name that begins with C, or like a CONTINUE or
@@ -80,9 +90,12 @@ fn warn_of_comments<R: Eprint>(rt: &R, file: &str, source: &[u8]) {
     for (index, text) in source.lines().enumerate() {
         if left > 0 && looks_like_statement(text) {
             left -= 1;
-            let line = line_at(index);
-            let place = Place { file, line };
-            let _ = eprintln!(rt; "{place}warning: with a C in column 1 this is a comment");
+            say(
+                rt,
+                file,
+                line_at(index),
+                "with a C in column 1 this is a comment",
+            );
         }
     }
 }
@@ -96,12 +109,9 @@ fn looks_like_statement(line: &[u8]) -> bool {
     if line.trim().eq_ignore_ascii_case(b"CONTINUE") {
         return true;
     }
-    if line
-        .get(..CALL.len())
-        .is_some_and(|front| front.eq_ignore_ascii_case(CALL))
-    {
-        return behind_name(past(line, CALL.len())).is_some_and(|rest| rest.starts_with(b"(")
-            && is_closed(rest));
+    if front(line, CALL.len()).eq_ignore_ascii_case(CALL) {
+        let arguments = behind_name(past(line, CALL.len()));
+        return arguments.is_some_and(|rest| rest.starts_with(b"(") && is_closed(rest));
     }
     match behind_name(line) {
         Some(rest) if rest.starts_with(b"(") => {
@@ -133,9 +143,8 @@ fn behind_name(text: &[u8]) -> Option<&[u8]> {
 fn warn_of_names<R: Eprint>(rt: &R, file: &str, program: &Program, usage: &Usage) {
     for (symbol, seen) in program.symbols.iter().zip(usage.symbols.iter()) {
         if let Some((line, told)) = told_of(program, symbol, *seen) {
-            let place = Place { file, line };
             let name = Visible::new(symbol.name.trimmed());
-            let _ = eprintln!(rt; "{place}warning: {name} {told}");
+            say(rt, file, line, format_args!("{name} {told}"));
         }
     }
 }
@@ -157,29 +166,42 @@ fn warn_of_constants<R: Eprint>(rt: &R, file: &str, program: &Program, usage: &U
     for constant in &usage.constants {
         if !constant.is_used {
             let line = declared_at(&program.body, constant.name);
-            let place = Place { file, line };
             let name = Visible::new(constant.name.trimmed());
-            let _ = eprintln!(rt; "{place}warning: {name} is never used");
+            say(rt, file, line, format_args!("{name} is never used"));
         }
     }
 }
 
-fn warn_of_labels<R: Eprint>(rt: &R, file: &str, source: &[u8], usage: &Usage) {
-    for (index, text) in source.lines().enumerate() {
-        if let Some(label) = label_of(text) {
-            if usage.terminals.binary_search(&label).is_err() {
-                let line = line_at(index);
-                let place = Place { file, line };
-                let _ = eprintln!(rt; "{place}warning: no DO names the label {label}");
+fn warn_of_labels<R: Eprint + AllocGlobal>(
+    rt: &R,
+    file: &str,
+    source: &[u8],
+) -> Result<(), AllocError> {
+    let statements = Squeezed::all(rt.alloc(), source)?;
+    let loops = statements.iter().filter(|statement| statement.is_loop());
+    let mut terminals: Vec<Label> = loops
+        .map(|statement| statement.terminal())
+        .collect(rt.alloc())?;
+    terminals.sort_unstable();
+    for statement in &statements {
+        if let Some(label) = statement.label {
+            if terminals.binary_search(&label).is_err() {
+                say(
+                    rt,
+                    file,
+                    statement.line,
+                    format_args!("no DO names the label {label}"),
+                );
             }
         }
     }
+    Ok(())
 }
 
 /// The line where a name is declared, 0 where it isn't.
 fn declared_at(body: &[Node], name: Name) -> Line {
     let found = body.iter().find_map(|node| match node {
-        Node::Plain(statement) if declares(&statement.kind, name) => Some(statement.line),
+        Node::Plain(statement) => declares(&statement.kind, name).then_some(statement.line),
         _ => None,
     });
     found.unwrap_or(0)
@@ -187,12 +209,8 @@ fn declared_at(body: &[Node], name: Name) -> Line {
 
 fn declares(kind: &Kind, name: Name) -> bool {
     match kind {
-        Kind::Integer(declarators) | Kind::Dimension(declarators) => {
-            declarators.iter().any(|declarator| declarator.name == name)
-        }
-        Kind::Parameter(definitions) => {
-            definitions.iter().any(|definition| definition.name == name)
-        }
+        Kind::Integer(list) | Kind::Dimension(list) => list.iter().any(|one| one.name == name),
+        Kind::Parameter(list) => list.iter().any(|one| one.name == name),
         _ => false,
     }
 }

@@ -3,8 +3,8 @@
 
 use super::{Cause, Told};
 use crate::mentions::Mention;
-use crate::squeezed::{Squeezed, TRANSFERS, begins_with, behind_parentheses, has_outer};
-use crate::tokens::past;
+use crate::squeezed::{Squeezed, TRANSFERS, begins_with, behind_parentheses, has_outer, is_if};
+use crate::tokens::{front, past};
 use bstr::ByteSlice;
 
 /// The operators that compare integers.
@@ -45,10 +45,9 @@ pub fn wrong_kind(
 /// Whether an assignment gives a logical value.
 fn gives_logical(done: &Squeezed) -> bool {
     let text = done.text.as_slice();
-    let value = match text.find_byte(b'=') {
-        Some(place) => past(text, place.saturating_add(1)),
-        None => text,
-    };
+    let value = text
+        .find_byte(b'=')
+        .map_or(text, |place| past(text, place.saturating_add(1)));
     !done.is_loop() && (has_outer(b'.', value) || is_parenthesised(value) && value.contains(&b'.'))
 }
 
@@ -64,13 +63,10 @@ fn wants_numbers(done: &Squeezed) -> bool {
 
 /// Whether a logical value stands beside an operator that compares integers.
 fn compares_logical(text: &[u8]) -> bool {
-    for place in 0..text.len() {
-        let front = text.get(..place).unwrap_or(&[]);
-        if behind_relation(past(text, place)).is_some_and(|behind| has_logical(front, behind)) {
-            return true;
-        }
-    }
-    false
+    (0..text.len()).any(|place| {
+        let behind = behind_relation(past(text, place));
+        behind.is_some_and(|behind| has_logical(front(text, place), behind))
+    })
 }
 
 /// What stands behind the operator that a text begins with, if it compares.
@@ -84,9 +80,8 @@ fn behind_relation(text: &[u8]) -> Option<&[u8]> {
 
 /// Whether a logical value ends the text before an operator or begins the one behind.
 fn has_logical(before: &[u8], behind: &[u8]) -> bool {
-    let last = before.get(last_start(before)..).unwrap_or(before);
-    let first = behind.get(..first_length(behind)).unwrap_or(behind);
-    last.contains(&b'.') || first.contains(&b'.')
+    past(before, last_start(before)).contains(&b'.')
+        || front(behind, first_length(behind)).contains(&b'.')
 }
 
 /// The place of the integer beside the first of these operators, if there is one.
@@ -98,15 +93,10 @@ fn beside(text: &[u8], operator: &[u8]) -> Option<usize> {
 
 /// The place of the condition of an IF that is an integer alone.
 fn condition(text: &[u8]) -> Option<usize> {
-    let front: &[u8] = if text.starts_with(b"ELSE") {
-        b"ELSEIF("
-    } else {
-        b"IF("
-    };
-    let rest = text.strip_prefix(front)?;
-    let length = first_length(rest);
-    match rest.get(length) {
-        Some(b')') => name_in(rest.get(..length)?, front.len()),
+    let start = text.find_byte(b'(')?.saturating_add(1);
+    let rest = past(text, start);
+    match rest.get(first_length(rest)) {
+        Some(b')') if is_if(text) => name_in(front(rest, first_length(rest)), start),
         _ => None,
     }
 }
@@ -114,43 +104,35 @@ fn condition(text: &[u8]) -> Option<usize> {
 /// The place of the integer at the end of a text, unless it is compared there.
 fn integer_before(text: &[u8]) -> Option<usize> {
     let start = last_start(text);
-    let front = text.get(..start)?;
-    if RELATIONS.iter().any(|relation| front.ends_with(relation)) {
+    if RELATIONS
+        .iter()
+        .any(|relation| front(text, start).ends_with(relation))
+    {
         return None;
     }
-    name_in(text.get(start..)?, start)
+    name_in(past(text, start), start)
 }
 
 /// The place of the integer that begins at a place, unless it is compared there.
 fn integer_behind(text: &[u8], start: usize) -> Option<usize> {
-    let rest = text.get(start..)?;
+    let rest = past(text, start);
     let length = first_length(rest);
-    if behind_relation(rest.get(length..)?).is_some() {
+    if behind_relation(past(rest, length)).is_some() {
         return None;
     }
-    name_in(rest.get(..length)?, start)
+    name_in(front(rest, length), start)
 }
 
-/// An operand as far as it was read.
+/// An operand that is being read from one of its ends.
 #[derive(Drop)]
 struct Operand {
     /// The sign that opens a parenthesis.
     opening: u8,
     depth: usize,
-    /// How many bytes it has.
-    length: usize,
 }
 
 impl Operand {
-    fn new(opening: u8) -> Self {
-        Operand {
-            opening,
-            depth: 0,
-            length: 0,
-        }
-    }
-
-    /// Whether a byte belongs to it too; it then has it.
+    /// Whether a byte belongs to it too.
     fn takes(&mut self, byte: u8) -> bool {
         match byte {
             b'(' | b')' if byte == self.opening => self.depth = self.depth.saturating_add(1),
@@ -158,31 +140,31 @@ impl Operand {
             b'(' | b')' => self.depth = self.depth.saturating_sub(1),
             _ => {}
         }
-        self.length = self.length.saturating_add(1);
         true
     }
 }
 
 /// How many bytes the operand at the beginning of a text has.
 fn first_length(text: &[u8]) -> usize {
-    let mut operand = Operand::new(b'(');
-    for byte in text {
-        if !operand.takes(*byte) {
-            break;
-        }
-    }
-    operand.length
+    let mut operand = Operand {
+        opening: b'(',
+        depth: 0,
+    };
+    text.iter().take_while(|byte| operand.takes(**byte)).count()
 }
 
 /// Where the operand at the end of a text begins.
 fn last_start(text: &[u8]) -> usize {
-    let mut operand = Operand::new(b')');
-    for byte in text.iter().rev() {
-        if !operand.takes(*byte) {
-            break;
-        }
-    }
-    text.len().saturating_sub(operand.length)
+    let mut operand = Operand {
+        opening: b')',
+        depth: 0,
+    };
+    let length = text
+        .iter()
+        .rev()
+        .take_while(|byte| operand.takes(**byte))
+        .count();
+    text.len().saturating_sub(length)
 }
 
 /// The place of the first name in an operand without points that begins at a place.
@@ -190,6 +172,6 @@ fn name_in(operand: &[u8], start: usize) -> Option<usize> {
     if operand.contains(&b'.') {
         return None;
     }
-    let front = operand.iter().position(|byte| byte.is_ascii_alphabetic())?;
-    Some(start.saturating_add(front))
+    let place = operand.iter().position(|byte| byte.is_ascii_alphabetic())?;
+    Some(start.saturating_add(place))
 }

@@ -1,5 +1,6 @@
 //! Which name may have been meant by another one.
 
+use crate::tokens::past;
 use ast::Name;
 
 /// How short a name is that is like many others.
@@ -21,20 +22,16 @@ pub fn meant_by(name: Name, names: &[Name]) -> Option<Name> {
 /// Whether one text comes of the other by one letter more, less or changed, or by two neighbours
 /// that change places.
 fn is_near(text: &[u8], other: &[u8]) -> bool {
-    let same = common(text, other);
-    let rest = text.get(same..).unwrap_or(&[]);
-    let others = other.get(same..).unwrap_or(&[]);
-    match (rest, others) {
-        ([_, behind @ ..], _) if behind == others => true,
-        (_, [_, behind @ ..]) if behind == rest => true,
+    let same = text
+        .iter()
+        .zip(other.iter())
+        .take_while(|(a, b)| a == b)
+        .count();
+    match (past(text, same), past(other, same)) {
+        ([_, behind @ ..], others) if behind == others => true,
+        (rest, [_, behind @ ..]) if behind == rest => true,
         ([_, behind @ ..], [_, others @ ..]) if behind == others => true,
         ([a, b, behind @ ..], [c, d, others @ ..]) => a == d && b == c && behind == others,
         _ => false,
     }
-}
-
-/// How many letters two texts have in common from their beginning.
-fn common(text: &[u8], other: &[u8]) -> usize {
-    let differs = text.iter().zip(other.iter()).position(|(a, b)| a != b);
-    differs.unwrap_or(text.len().min(other.len()))
 }
