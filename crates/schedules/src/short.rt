@@ -64,7 +64,7 @@ pub struct Entries<'a> {
 }
 
 impl<'a> Entries<'a> {
-    ghost use Rattle.std.specs.Prelude.{◌≡◌, ◌∷◌, [], ◌<◌, length, drop, get_or, IfSome, None};
+    ghost use Rattle.std.specs.Prelude.{◌≡◌, ◌≤◌, ◌∷◌, [], ◌<◌, length, drop, get_or, IfSome, None};
     ghost use Rattle.schedules.specs.Kept.{entries_of};
     ghost use Rattle.schedules.specs.View.{entry as entry_view};
 
@@ -75,6 +75,22 @@ impl<'a> Entries<'a> {
         ensures picked { result.picked.now ≡ picked.now }
     {
         Entries { shorts, picked }
+    }
+
+    /// The next entries, as they are kept.
+    pub fn shorts(&self) -> &'a [Short]
+        ensures { result.now ≡ self.now.shorts.now }
+    {
+        self.shorts
+    }
+
+    /// Goes past so many entries, none of which picks an iteration.
+    pub fn pass(&mut self, count: usize)
+        requires there { count ≤ length self.old.shorts.now }
+        ensures shorts { self.new.shorts.now ≡ drop count self.old.shorts.now }
+        ensures picked { self.new.picked.now ≡ self.old.picked.now }
+    {
+        self.shorts = &self.shorts[count..];
     }
 
     /// The number of the next iteration that is picked; 0 where there is none.
