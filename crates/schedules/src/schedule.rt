@@ -221,13 +221,10 @@ impl Schedule {
         ensures same { result ≡ false → self.new ≡ self.old }
         ensures kept { result ≡ true → IsSchedule self.new }
     {
-        if more > LONGEST_BURST {
-            return false;
-        }
         let Some((last, count)) = self.last_burst() else {
             return false;
         };
-        if last != processor || count > LONGEST_BURST - more {
+        if last != processor || more > LONGEST_BURST || count > LONGEST_BURST - more {
             return false;
         }
         self.recount(count + more);
