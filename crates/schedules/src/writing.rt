@@ -224,16 +224,20 @@ fn put_lines(lines: &mut [u8], shorts: &[Short]) -> (usize, usize)
     (count, at)
 }
 
-/// Appends the lines of the next entries, as many as are short and have room, and goes past them.
-fn append_lines(out: &mut Vec<u8>, left: &mut Entries<'_>) -> Result<(), AllocError>
+/// Appends the lines of the next entries, as many as are short and have room in `lines`, and goes
+/// past them.
+fn append_lines(
+    out: &mut Vec<u8>,
+    lines: &mut [u8],
+    left: &mut Entries<'_>,
+) -> Result<(), AllocError>
     ensures ok { OnOk result (out.new.items
         ++ entries_before (entries_of left.new.shorts.now left.new.picked.now) []
         ≡ out.old.items
         ++ entries_before (entries_of left.old.shorts.now left.old.picked.now) []) }
     ensures fewer { length left.new.shorts.now ≤ length left.old.shorts.now }
 {
-    let mut lines = [0; ROOM];
-    let (count, len) = put_lines(&mut lines, left.shorts());
+    let (count, len) = put_lines(lines, left.shorts());
     left.pass(count);
     out.extend_from_slice(&lines[..len])
 }
@@ -243,11 +247,12 @@ pub fn append_entries(out: &mut Vec<u8>, entries: Entries<'_>) -> Result<(), All
     ensures { OnOk result (out.new.items ≡ out.old.items
         ++ entries_before (entries_of entries.entry.shorts.now entries.entry.picked.now) []) }
 {
+    let mut lines = [0; ROOM];
     let mut left = entries;
-    append_lines(out, &mut left)?;
+    append_lines(out, &mut lines, &mut left)?;
     while let Some(entry) = left.next() {
         append_entry(out, entry)?;
-        append_lines(out, &mut left)?;
+        append_lines(out, &mut lines, &mut left)?;
     }
     Ok(())
 }
