@@ -1,4 +1,5 @@
 pub mod Actions
+pub mod Along
 pub mod Privates
 pub mod Stacks
 pub mod Runs

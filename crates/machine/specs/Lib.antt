@@ -1,4 +1,5 @@
 mod ActCode
+pub mod Courses
 pub mod Alike
 pub mod Code
 pub mod CodeView

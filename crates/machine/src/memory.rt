@@ -17,6 +17,10 @@ pub trait Memory {
     /// Gives a cell a value; whether that could be done.
     fn put(&mut self, cell: usize, value: i64) -> bool
         ensures { Puts result (seen self.old) cell value (seen self.new) };
+
+    /// Whether loops of one statement are swept on it. It is always the same, so that strides have
+    /// no code for sweeps where there are none.
+    fn is_swept(&self) -> bool;
 }
 
 /// The cells themselves. However many cells agree are as many as there are.
@@ -41,5 +45,11 @@ impl Memory for Vec<i64> {
         }
         self[cell] = value;
         true
+    }
+
+    // Single trips on the cells themselves are a tenth slower where sweeps are among them.
+    #[inline(always)]
+    fn is_swept(&self) -> bool {
+        false
     }
 }

@@ -89,4 +89,9 @@ impl Memory for Guesses<'_> {
             None => false,
         }
     }
+
+    #[inline(always)]
+    fn is_swept(&self) -> bool {
+        true
+    }
 }

@@ -33,6 +33,11 @@ impl Memory for Noting {
         self.stale.note(cell);
         true
     }
+
+    #[inline(always)]
+    fn is_swept(&self) -> bool {
+        false
+    }
 }
 
 /// Local instructions, loads, stores and awaits that are passed of a frame, those that stand next,

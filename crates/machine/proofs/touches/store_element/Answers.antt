@@ -1,4 +1,4 @@
-use Rattle.std.proofs.Common.{◌≡◌, ◌∙◌, ◌<◌, ◌+◌, ℤ, List, sym, ap, length, rules, w64, to_z, of_z}
+use Rattle.std.proofs.Common.{◌≡◌, ◌∙◌, ◌<◌, ◌+◌, ℤ, sym, length, rules, w64, to_z, of_z}
 use Rattle.std.specs.Prelude.{set}
 use Rattle.machine.specs.Gone.{StridesTo}
 use Rattle.machine.specs.Memory.{Within}
