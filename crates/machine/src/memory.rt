@@ -47,7 +47,7 @@ impl Memory for Vec<i64> {
         true
     }
 
-    // Single trips on the cells themselves are a tenth slower where sweeps are among them.
+    // With sweeps the compiler lays out the loop of strides anew, and other loops are slower.
     #[inline(always)]
     fn is_swept(&self) -> bool {
         false
