@@ -18,9 +18,11 @@ Weighs m n b = ((b ≡ 1) × Still m n) ⊎ ((b ≡ 0) × (Still m n → ⊥))
 
 module _ (F L : Type 0) (view : F → View F L) (trips : L → ℕ) (begin : L → ℕ → F) (slots : ℕ) where
   -- how many of a run's steps count
-  abbrev pub Weight : (p : ℕ) (m : State F L) (qs : List ℕ) (n : State F L) → Run F L view trips begin slots p m qs n → ℕ → Type 0
+  abbrev pub Weight : (p : ℕ) (m : State F L) (qs : List ℕ) (n : State F L)
+      → Run F L view trips begin slots p m qs n → ℕ → Type 0
   Weight p m [] n r w = w ≡ 0
-  Weight p m (q ∷ qs) n r w = (b : ℕ) × (v : ℕ) × Weighs m r.0 b × Weight p r.0 qs n r.3 v × (w ≡ b + v)
+  Weight p m (q ∷ qs) n r w =
+      (b : ℕ) × (v : ℕ) × Weighs m r.0 b × Weight p r.0 qs n r.3 v × (w ≡ b + v)
 
 -- a run alone that ends, with so many steps that count
 pub record Solo (code : Code) (input : List ℕ) (w : ℕ) : Type 0 where
@@ -29,4 +31,5 @@ pub record Solo (code : Code) (input : List ℕ) (w : ℕ) : Type 0 where
   pub run : CodeRun code 1 1 (Init code input) turns last
   pub end : End
   pub ended : last.ended ≡ Some end
-  pub weight : Weight Frame Open (view code) trips_of (begin code) 1 1 (Init code input) turns last run w
+  pub weight :
+      Weight Frame Open (view code) trips_of (begin code) 1 1 (Init code input) turns last run w
