@@ -1,5 +1,6 @@
 -- What the activities of a core stand for, and what a call of them did.
-use Rattle.std.specs.Prelude.{◌≡◌, ◌≤◌, ℕ, Bool, true, false, List, [], length, map, Option, Some, None, option_map, pos, replicate}
+use Rattle.std.specs.Prelude.{◌≡◌, ◌≤◌, ℕ, Bool, true, false, List, [], length}
+use Rattle.std.specs.Prelude.{map, Option, Some, None, option_map, pos, replicate}
 use Rattle.ast.specs.Input.{records_of}
 use Rattle.machine.specs.Code.{Code}
 use Rattle.machine.specs.CodeView.{code_of}
@@ -32,7 +33,13 @@ chosen choices.Ticket = take_ticket
 
 -- what is shared as main begins, and its input
 abbrev pub shared_at_first : Code → ℕ → Shared
-shared_at_first code s = record { cells = replicate (count_of code.variables) (pos 0); order = at_first s; output = []; loop = None; ended = None }
+shared_at_first code s = record {
+  cells = replicate (count_of code.variables) (pos 0);
+  order = at_first s;
+  output = [];
+  loop = None;
+  ended = None;
+}
 
 abbrev pub input_at_first : List ℕ → Input
 input_at_first input = record { left = []; records = records_of input }

@@ -1,5 +1,6 @@
 -- What holds of all that a core keeps.
-use Rattle.std.specs.Prelude.{◌≡◌, ◌<◌, ◌≤◌, ◌+◌, ◌%◌, ◌^◌, ℕ, true, length, get_or, Option, Some, None}
+use Rattle.std.specs.Prelude.{◌≡◌, ◌<◌, ◌≤◌, ◌+◌, ◌%◌, ◌^◌, ℕ, true}
+use Rattle.std.specs.Prelude.{length, get_or, Option, Some, None}
 use Rattle.ast.specs.Exact.{fits}
 use Rattle.ec_kernel.specs.View.{IsKernel, count_at}
 use Rattle.machine.specs.Code.{Code}
@@ -40,7 +41,8 @@ pub record IsCore (code : Code) (s : ℕ) (x : Kept) : Type 0 where
   pub main : Stands x.shared.order 0 x.waiting
   pub each : (j : ℕ) → j < s → Stands x.shared.order (1 + j) (wait_in (get_or x.iterations j None))
   -- each open iteration stands in its place, has not retired and has had its ticket
-  pub numbers : (j : ℕ) (a : Standing) → get_or x.iterations j None ≡ Some a → (a.number % s ≡ j) × (count_at x.shared.order 0 ≤ a.number) × (a.number < x.shared.order.ticket)
+  pub numbers : (j : ℕ) (a : Standing) → get_or x.iterations j None ≡ Some a → (a.number % s ≡ j)
+      × (count_at x.shared.order 0 ≤ a.number) × (a.number < x.shared.order.ticket)
   -- who is held isn't parked, and no two processors hold one activity
   pub leads : (q : ℕ) → held_of x.held q ≡ Some the_main → x.waiting ≡ None
   pub runs : (q k : ℕ) → held_of x.held q ≡ Some (iteration k) → IsRunning s k x

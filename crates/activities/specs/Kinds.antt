@@ -1,9 +1,14 @@
 -- The kinds of the steps that stand next, so far as the code alone tells them.
-use Rattle.std.specs.Prelude.{◌≡◌, ◌+◌, ◌-◌, ℕ, zero, suc, Bool, true, false, List, [], ◌∷◌, length, Option, Some, None, slice_get}
+use Rattle.std.specs.Prelude.{◌≡◌, ◌+◌, ◌-◌, ℕ, zero, suc, Bool, true, false, List}
+use Rattle.std.specs.Prelude.{[], ◌∷◌, length, Option, Some, None, slice_get}
 use Rattle.machine.specs.Code.{Code}
 use Rattle.machine.specs.Solo.{Still}
 use Rattle.machine.specs.declared.instr.Act.{Act}
-use Rattle.machine.specs.declared.instr.Act.TheVariants.{Constant, Private, SetPrivate, Index, Binary, Modulo, Greatest, Least, Unary, Absolute, Check, Skip, SkipUnless, Back, SetUp, CountDown, Step, Load, LoadElement, Store, StoreElement}
+use Rattle.machine.specs.declared.instr.Act.TheVariants.{Constant, Private, SetPrivate, Index}
+use Rattle.machine.specs.declared.instr.Act.TheVariants.{Binary, Modulo, Greatest, Least, Unary}
+use Rattle.machine.specs.declared.instr.Act.TheVariants.{Absolute, Check, Skip, SkipUnless}
+use Rattle.machine.specs.declared.instr.Act.TheVariants.{Back, SetUp, CountDown, Step, Load}
+use Rattle.machine.specs.declared.instr.Act.TheVariants.{LoadElement, Store, StoreElement}
 use Rattle.machine.specs.declared.instr.Instr.{Instr}
 use Rattle.activities.specs.Points.{Moves, Point}
 use Rattle.activities.specs.declared.kinds.Ahead.{Ahead}
@@ -63,8 +68,9 @@ kinds code (suc n) p = kinds_if (ahead_at code p) (λ q. kinds code n q)
 abbrev pub IsPath : List Instr → (n place : ℕ) → Type 0
 IsPath code n p = length (kinds code n p) ≡ n
 
--- Processor q makes steps of these kinds, one after another, none of which parks anybody or takes up
--- who was parked.
+-- Processor q makes steps of these kinds, one after another, none of which parks anybody or
+-- takes up who was parked.
 abbrev pub Makes : Code → ℕ → List Bool → Point → ℕ → Point → Type 0
 Makes code s [] a q b = a ≡ b
-Makes code s (k ∷ ks) a q b = (x : Point) × Moves code s k a q x × Still a.machine x.machine × Makes code s ks x q b
+Makes code s (k ∷ ks) a q b =
+    (x : Point) × Moves code s k a q x × Still a.machine x.machine × Makes code s ks x q b

@@ -1,6 +1,7 @@
 -- What is ready, and what of it is taken up where iterations are to retire early.
 use Rattle.std.specs.Prelude.{◌≡◌, ◌<◌, ◌+◌, ◌&&◌, ℕ, nat_lt, Bool, false, Option, Some, None}
-use Rattle.machine.specs.State.{Choice, take_main, take_iteration, take_ticket, Machine, Reached, Wait}
+use Rattle.machine.specs.State.{Choice, take_main, take_iteration}
+use Rattle.machine.specs.State.{take_ticket, Machine, Reached, Wait}
 use Rattle.machine.specs.declared.code.Open.{Open}
 
 -- it is parked, and what it waits for has been reached

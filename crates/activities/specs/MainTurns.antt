@@ -25,19 +25,30 @@ pub record MainPart : Type 0 where
 
 -- what a `Main` stands for
 abbrev pub main_part : Main → MainPart
-main_part m = record { frame = frame_of m.frame; waiting = option_map wait m.wait; input = input_of m.input }
+main_part m =
+    record { frame = frame_of m.frame; waiting = option_map wait m.wait; input = input_of m.input }
 
 -- a record of main's goes out
 abbrev pub printed_out : List Piece → Frame → Shared → Shared
-printed_out pieces f x = record x { output = x.output ++ record_of (filled (map part pieces) (values_for (map part pieces) f)) }
+printed_out pieces f x = record x {
+  output = x.output ++ record_of (filled (map part pieces) (values_for (map part pieces) f));
+}
 
 -- what a core keeps, by its parts
 abbrev pub kept_of : Shared → MainPart → List (Option Standing) → List (Option Who) → Kept
-kept_of x m xs hs = record { shared = x; input = m.input; main = m.frame; waiting = m.waiting; iterations = xs; held = hs }
+kept_of x m xs hs = record {
+  shared = x;
+  input = m.input;
+  main = m.frame;
+  waiting = m.waiting;
+  iterations = xs;
+  held = hs;
+}
 
 -- what a step of main leaves, by its parts
 abbrev pub after_of : Outcome → Shared → MainPart → MainAfter
-after_of o x m = record { outcome = o; shared = x; input = m.input; main = m.frame; waiting = m.waiting }
+after_of o x m =
+    record { outcome = o; shared = x; input = m.input; main = m.frame; waiting = m.waiting }
 
 -- a step of main may be made: it is in no place of the kernel, and nobody waits where no iteration
 -- is open

@@ -1,5 +1,6 @@
 -- What a core keeps, and the state of the machine that it stands for.
-use Rattle.std.specs.Prelude.{ℕ, ℤ, ◌%◌, ◌==◌, eqb, cond, if◌then◌else◌, List, get_or, Option, Some, None}
+use Rattle.std.specs.Prelude.{ℕ, ℤ, ◌%◌, ◌==◌, eqb, cond, if◌then◌else◌}
+use Rattle.std.specs.Prelude.{List, get_or, Option, Some, None}
 use Rattle.ast.specs.declared.fault.End.{End}
 use Rattle.ec_kernel.specs.View as kernel
 use Rattle.machine.specs.Frame.{Frame}

@@ -1,5 +1,6 @@
 -- An account of the code: what a core keeps after something was taken up.
-use Rattle.std.specs.Prelude.{ℕ, ◌+◌, ◌<◌, ◌%◌, nat_le, Bool, false, length, set, Option, Some, None, []}
+use Rattle.std.specs.Prelude.{ℕ, ◌+◌, ◌<◌, ◌%◌, nat_le, Bool, false}
+use Rattle.std.specs.Prelude.{length, set, Option, Some, None, []}
 use Rattle.ec_kernel.specs.View.{View, count_at, without}
 use Rattle.machine.specs.Code.{Code}
 use Rattle.machine.specs.State.{Wait, until_count, until_retired, Who, the_main, iteration}
@@ -23,7 +24,10 @@ holding q u x = record x { held = set x.held q (Some u) }
 
 -- main is taken up
 abbrev pub main_up : ℕ → Kept → Kept
-main_up q x = record (holding q the_main x) { shared = record x.shared { order = no_longer_ready 0 x.shared.order }; waiting = None }
+main_up q x = record (holding q the_main x) {
+  shared = record x.shared { order = no_longer_ready 0 x.shared.order };
+  waiting = None;
+}
 
 -- the iteration that stands at a place
 abbrev pub iteration_up : ℕ → ℕ → Standing → Kept → Kept
@@ -40,7 +44,8 @@ begun code l k = record { number = k; frame = begin code l k; out = []; wait = N
 abbrev pub ticket_up : Code → ℕ → ℕ → Open → Kept → Kept
 ticket_up code s q l x = record (holding q (iteration x.shared.order.ticket) x) {
   shared = record x.shared { order = record x.shared.order { ticket = x.shared.order.ticket + 1 } };
-  iterations = set x.iterations (x.shared.order.ticket % s) (Some (begun code l x.shared.order.ticket));
+  iterations =
+      set x.iterations (x.shared.order.ticket % s) (Some (begun code l x.shared.order.ticket));
 }
 
 -- the event that an activity is parked on, if it is, has a count

@@ -1,12 +1,16 @@
 -- Where a run stands, and the steps that lead from there.
-use Rattle.std.specs.Prelude.{◌≡◌, ◌⊎◌, ℕ, zero, suc, ◌+◌, ◌%◌, Bool, true, false, List, [], ◌∷◌, Option, Some, None}
+use Rattle.std.specs.Prelude.{◌≡◌, ◌⊎◌, ℕ, zero, suc, ◌+◌, ◌%◌, Bool, true}
+use Rattle.std.specs.Prelude.{false, List, [], ◌∷◌, Option, Some, None}
 use Rattle.ec_kernel.specs.View as kernel
 use Rattle.ec_kernel.specs.View.{first_of, without, parked, advanced, restarted, new_kernel}
 use Rattle.machine.specs.Code.{Code}
 use Rattle.machine.specs.Frame.{Frame}
 use Rattle.machine.specs.Local.{is_local}
-use Rattle.machine.specs.State.{Active, Machine, CodeStep, Init, Wait, until_count, until_retired, Who, the_main, iteration, Choice, take_main, take_iteration, take_ticket, Takes}
-use Rattle.machine.specs.View.{View, advancing, leaving, opening, stuck, most_events, view, trips_of, begin}
+use Rattle.machine.specs.State.{Active, Machine, CodeStep, Init, Wait, until_count}
+use Rattle.machine.specs.State.{until_retired, Who, the_main, iteration, Choice}
+use Rattle.machine.specs.State.{take_main, take_iteration, take_ticket, Takes}
+use Rattle.machine.specs.View.{View, advancing, leaving, opening, stuck}
+use Rattle.machine.specs.View.{most_events, view, trips_of, begin}
 use Rattle.machine.specs.declared.code.Open.{Open}
 
 -- ---- Beside the machine's state stands who waits and who became ready when: a kernel of
@@ -78,7 +82,8 @@ pub record Moves (code : Code) (s : ℕ) (local : Bool) (a : Point) (q : ℕ) (b
   pub holds : a.machine.held q ≡ Some who
   pub kind : local_in code (frame_of a.machine who) ≡ local
   pub step : CodeStep code s a.machine q b.machine
-  pub order : b.order ≡ moved (wait_of b.machine who) (view_in code (frame_of a.machine who)) (slot s who) a.order
+  pub order : b.order
+      ≡ moved (wait_of b.machine who) (view_in code (frame_of a.machine who)) (slot s who) a.order
 
 -- Processor q, which holds nothing, takes this up.
 pub record Picks (code : Code) (s : ℕ) (c : Choice) (a : Point) (q : ℕ) (b : Point) : Type 0 where
@@ -105,17 +110,21 @@ NoLocal code s a q = (b : Point) → Moves code s true a q b → ⊥
 -- Processor q makes so many steps of what it holds, each a local or a shared one.
 abbrev pub Steps : Code → ℕ → ℕ → Point → ℕ → Point → Type 0
 Steps code s zero a q b = a ≡ b
-Steps code s (suc n) a q b = (x : Point) × (local : Bool) × Moves code s local a q x × Steps code s n x q b
+Steps code s (suc n) a q b =
+    (x : Point) × (local : Bool) × Moves code s local a q x × Steps code s n x q b
 
--- Processor q makes a step of what it holds; or, if iterations may be begun, it takes the next ticket
--- where nothing is ready.
+-- Processor q makes a step of what it holds; or, if iterations may be begun, it takes the next
+-- ticket where nothing is ready.
 abbrev pub Acts : (begins : Bool) → Code → ℕ → Point → ℕ → Point → Type 0
-Acts begins code s a q b = ((local : Bool) × Moves code s local a q b) ⊎ ((begins ≡ true) × (a.order.ready ≡ []) × Picks code s take_ticket a q b)
+Acts begins code s a q b =
+    ((local : Bool) × Moves code s local a q b)
+    ⊎ ((begins ≡ true) × (a.order.ready ≡ []) × Picks code s take_ticket a q b)
 
 -- Processor q does so much, one after another.
 abbrev pub Proceeds : (begins : Bool) → Code → ℕ → ℕ → Point → ℕ → Point → Type 0
 Proceeds begins code s zero a q b = a ≡ b
-Proceeds begins code s (suc n) a q b = (x : Point) × Acts begins code s a q x × Proceeds begins code s n x q b
+Proceeds begins code s (suc n) a q b =
+    (x : Point) × Acts begins code s a q x × Proceeds begins code s n x q b
 
 -- Main is ready, and nothing else has happened.
 abbrev pub at_first : ℕ → kernel.View

@@ -12,4 +12,5 @@ to_print is_first ps left vs = all_shown is_first (filled ps (reverse (take left
 abbrev pub PrintsPiece : Bool → Part → ℕ → List ℤ → List ℕ → ℕ → List ℕ → Type 0
 PrintsPiece is_first p left vs old rest new =
     (ps : List Part) → values_wanted (p ∷ ps) ≡ left → left ≤ length vs
-    → (values_wanted ps ≡ rest) × (new ++ to_print false ps rest vs ≡ old ++ to_print is_first (p ∷ ps) left vs)
+    → (values_wanted ps ≡ rest)
+    × (new ++ to_print false ps rest vs ≡ old ++ to_print is_first (p ∷ ps) left vs)

@@ -23,7 +23,10 @@ holds _ it place = Some (holders.Iteration it.number place)
 
 -- activities with this iteration, after a step of processor q that came to this
 abbrev pub seat : Outcome → ℕ → (place : ℕ) → Iteration → Activities → Activities
-seat o q place it x = record x { iterations = with_item x.iterations place (placed o it); held = with_item x.held q (holds o it place) }
+seat o q place it x = record x {
+  iterations = with_item x.iterations place (placed o it);
+  held = with_item x.held q (holds o it place);
+}
 
 -- the same where the processor holds the iteration
 abbrev pub seated : ℕ → (place : ℕ) → Iteration → Activities → Activities

@@ -25,7 +25,8 @@ went Idle = false
 went _ = true
 
 -- an iteration in a slot made its step, and this stands in its place then
-pub record Turned (code : Code) (slot : ℕ) (x : Shared) (a : Standing) (o : Outcome) (y : Shared) (b : Option Standing) : Type 0 where
+pub record Turned (code : Code) (slot : ℕ) (x : Shared) (a : Standing) (o : Outcome)
+    (y : Shared) (b : Option Standing) : Type 0 where
   pub next : Next
   pub told : Tells code a.frame (view code a.frame) next
   pub outcome : o ≡ (iteration_after code slot next x a).outcome
@@ -51,22 +52,27 @@ pub record Working (code : List Instr) (n : ℕ) (done : Bool) (f g : Frame) : T
 abbrev pub with_frame : Frame → Standing → Standing
 with_frame g a = record a { frame = g }
 
--- As many local instructions as stand next, at most n, were made of an iteration, and this stands in
--- its place then.
-pub record MadeAt (code : List Instr) (n made : ℕ) (a : Standing) (b : Option Standing) : Type 0 where
+-- As many local instructions as stand next, at most n, were made of an iteration, and this
+-- stands in its place then.
+pub record MadeAt (code : List Instr) (n made : ℕ) (a : Standing)
+    (b : Option Standing) : Type 0 where
   pub frame : Frame
   pub works : Works code n a.frame made frame
   pub standing : b ≡ Some (with_frame frame a)
 
 -- the same of an iteration, and this stands in its place then
-pub record WorkedAt (code : List Instr) (n : ℕ) (done : Bool) (a : Standing) (b : Option Standing) : Type 0 where
+pub record WorkedAt (code : List Instr) (n : ℕ) (done : Bool) (a : Standing)
+    (b : Option Standing) : Type 0 where
   pub frame : Frame
   pub working : Working code n done a.frame frame
   pub standing : b ≡ Some (with_frame frame a)
 
--- So many strides were made of an iteration, on these cells, past awaits that have been told by these
--- counts, and this stands in its place then.
-pub record StrodeAt (code : Code) (counts : List ℕ) (made : ℕ) (cells : List ℤ) (a : Standing) (ds : List ℤ) (b : Option Standing) : Type 0 where
+-- So many strides were made of an iteration, on these cells, past awaits that have been told by
+-- these counts, and this stands in its place then.
+pub record StrodeAt (code : Code) (counts : List ℕ) (made : ℕ) (cells : List ℤ) (a : Standing)
+    (ds : List ℤ) (b : Option Standing) : Type 0 where
   pub frame : Frame
-  pub leads : strides_past (is_told counts a.number) code made (record { frame = a.frame; store = store_of code.variables cells }) ≡ Some (record { frame = frame; store = store_of code.variables ds })
+  pub leads : strides_past (is_told counts a.number) code made
+      (record { frame = a.frame; store = store_of code.variables cells })
+      ≡ Some (record { frame = frame; store = store_of code.variables ds })
   pub standing : b ≡ Some (with_frame frame a)

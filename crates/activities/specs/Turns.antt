@@ -1,5 +1,7 @@
 -- An account of the code: what a step of an iteration leaves.
-use Rattle.std.specs.Prelude.{◌≡◌, ℕ, ℤ, pos, ◌+◌, ◌-◌, ◌<◌, ◌≤◌, ◌^◌, length, ◌==◌, nat_lt, nat_le, Bool, true, false, if◌then◌else◌, List, [], ◌∷◌, ◌++◌, get_or, map, set, Option, Some, None, slice_get, Result, Ok, Err}
+use Rattle.std.specs.Prelude.{◌≡◌, ℕ, ℤ, pos, ◌+◌, ◌-◌, ◌<◌, ◌≤◌, ◌^◌, length, ◌==◌, nat_lt}
+use Rattle.std.specs.Prelude.{nat_le, Bool, true, false, if◌then◌else◌, List, [], ◌∷◌, ◌++◌}
+use Rattle.std.specs.Prelude.{get_or, map, set, Option, Some, None, slice_get, Result, Ok, Err}
 use Rattle.ast.specs.Exact.{in_range}
 use Rattle.ast.specs.Input.{next_integer, taken as read_record}
 use Rattle.ast.specs.Record.{record_of}
@@ -14,11 +16,14 @@ use Rattle.machine.specs.Laid.{cell_number, count_of}
 use Rattle.machine.specs.Local.{going_on, without}
 use Rattle.machine.specs.Next.{values_for}
 use Rattle.machine.specs.State.{Wait, until_count, until_retired, Who}
-use Rattle.machine.specs.View.{Input, filled, frame_after, frame_joined, frame_with, index_at, input_after, input_behind, with_operand}
+use Rattle.machine.specs.View.{Input, filled, frame_after, frame_joined, frame_with}
+use Rattle.machine.specs.View.{index_at, input_after, input_behind, with_operand}
 use Rattle.machine.specs.declared.code.Open.{Open}
 use Rattle.machine.specs.declared.code.Piece.{Piece}
 use Rattle.machine.specs.declared.next.Next.{Next}
-use Rattle.machine.specs.declared.next.Next.TheVariants.{Load, Store, Print, TakeRecord, TakeValue, DropRecord, Await, Advance, Opens, Join, Retire, Report, Stop, Halt}
+use Rattle.machine.specs.declared.next.Next.TheVariants.{Load, Store, Print, TakeRecord}
+use Rattle.machine.specs.declared.next.Next.TheVariants.{TakeValue, DropRecord, Await, Advance}
+use Rattle.machine.specs.declared.next.Next.TheVariants.{Opens, Join, Retire, Report, Stop, Halt}
 use Rattle.activities.specs.Parts.{Standing, Shared, Kept}
 use Rattle.activities.specs.declared.turn.Outcome.{Outcome}
 use Rattle.activities.specs.declared.turn.Outcome.TheVariants.{Stays, Parks, Leaves, Ends, Idle}
@@ -39,7 +44,11 @@ idle x a = record { outcome = Idle; shared = x; standing = a }
 
 -- the iteration is parked in its slot, on the count of event e
 abbrev pub parks : ℕ → ℕ → ℕ → Wait → Shared → Standing → After
-parks slot e v w x a = record { outcome = Parks; shared = record x { order = parked x.order e v slot }; standing = record a { wait = Some w } }
+parks slot e v w x a = record {
+  outcome = Parks;
+  shared = record x { order = parked x.order e v slot };
+  standing = record a { wait = Some w };
+}
 
 -- the iteration waits until it is the next to retire
 abbrev pub waits_its_turn : ℕ → Shared → Standing → After
@@ -55,7 +64,8 @@ abbrev pub cells_after : Code → List ℕ → List (Option ℤ) → List ℤ �
 cells_after code [] vs cells = cells
 cells_after code (x ∷ xs) [] cells = cells
 cells_after code (x ∷ xs) (None ∷ vs) cells = cells_after code xs vs cells
-cells_after code (x ∷ xs) (Some v ∷ vs) cells = set_if (cell_number (slice_get code.variables x) (pos 0)) v (cells_after code xs vs cells)
+cells_after code (x ∷ xs) (Some v ∷ vs) cells =
+    set_if (cell_number (slice_get code.variables x) (pos 0)) v (cells_after code xs vs cells)
 
 -- the cells after one private scalar is stored, where it was defined
 abbrev pub one_after : Code → ℕ → Option ℤ → List ℤ → List ℤ
@@ -76,7 +86,11 @@ leaves code n x a = record {
 
 -- the run ends, and the iteration's output goes out
 abbrev pub ends : End → Shared → Standing → After
-ends e x a = record { outcome = Ends; shared = record x { output = x.output ++ a.out; ended = Some e }; standing = a }
+ends e x a = record {
+  outcome = Ends;
+  shared = record x { output = x.output ++ a.out; ended = Some e };
+  standing = a;
+}
 
 -- a fault or a STOP of an iteration: it ends the run where those before have retired
 abbrev pub reported : ℕ → End → Shared → Standing → After
@@ -91,16 +105,22 @@ printed_own pieces k a = record a {
 
 -- an iteration in a slot makes the step that stands next
 abbrev pub iteration_after : Code → ℕ → Next → Shared → Standing → After
-iteration_after code slot (Load n k) x a = stays x (record a { frame = with_operand k a.frame (get_or x.cells n (pos 0)) })
-iteration_after code slot (Store n v k) x a = stays (record x { cells = set x.cells n v }) (record a { frame = going_on (without k a.frame.operands) a.frame })
+iteration_after code slot (Load n k) x a =
+    stays x (record a { frame = with_operand k a.frame (get_or x.cells n (pos 0)) })
+iteration_after code slot (Store n v k) x a =
+    stays (record x { cells = set x.cells n v })
+    (record a { frame = going_on (without k a.frame.operands) a.frame })
 iteration_after code slot (Print pieces k) x a = stays x (printed_own pieces.now k a)
 iteration_after code slot (Await e d) x a =
-    if nat_lt a.number (count_at x.order e + d) then stays x (record a { frame = going_on a.frame.operands a.frame })
+    if nat_lt a.number (count_at x.order e + d)
+    then stays x (record a { frame = going_on a.frame.operands a.frame })
     else parks slot e (a.number + 1 - d) (until_count e (a.number + 1 - d)) x a
 iteration_after code slot (Advance e) x a =
-    if count_at x.order e == a.number then stays (record x { order = advanced x.order e }) (record a { frame = going_on a.frame.operands a.frame })
+    if count_at x.order e == a.number then stays (record x { order = advanced x.order e })
+    (record a { frame = going_on a.frame.operands a.frame })
     else idle x a
-iteration_after code slot (Retire n) x a = if count_at x.order 0 == a.number then leaves code n x a else waits_its_turn slot x a
+iteration_after code slot (Retire n) x a =
+    if count_at x.order 0 == a.number then leaves code n x a else waits_its_turn slot x a
 iteration_after code slot (Report e line) x a = reported slot (Faulted e line) x a
 iteration_after code slot (Stop line) x a = reported slot (Stopped line) x a
 iteration_after code slot next x a = idle x a
@@ -138,7 +158,8 @@ pub record MainAfter : Type 0 where
 
 -- nothing of what is kept has changed
 abbrev pub main_as : Outcome → Kept → MainAfter
-main_as o x = record { outcome = o; shared = x.shared; input = x.input; main = x.main; waiting = x.waiting }
+main_as o x =
+    record { outcome = o; shared = x.shared; input = x.input; main = x.main; waiting = x.waiting }
 
 -- main goes on with this frame
 abbrev pub main_stays : Frame → Kept → MainAfter
@@ -156,17 +177,24 @@ none_open (Some a ∷ xs) = false
 
 -- main opens a loop
 abbrev pub opens : Open → Kept → MainAfter
-opens l x = record (main_as Stays x) { shared = record x.shared { order = restarted x.shared.order; loop = Some l }; main = going_on (without 2 x.main.operands) x.main }
+opens l x = record (main_as Stays x) {
+  shared = record x.shared { order = restarted x.shared.order; loop = Some l };
+  main = going_on (without 2 x.main.operands) x.main;
+}
 
 -- the loop's variable gets its last value, unless that leaves the 64-bit integers
 abbrev pub with_last : Code → Open → Result ℤ Fault → List ℤ → List ℤ
-with_last code l (Ok v) cells = set_if (cell_number (slice_get code.variables (loop_at code l.number).variable) (pos 0)) v cells
+with_last code l (Ok v) cells =
+    set_if (cell_number (slice_get code.variables (loop_at code l.number).variable) (pos 0)) v cells
 with_last code l (Err e) cells = cells
 
 -- main joins a loop whose iterations have all retired
 abbrev pub closes : Code → ℕ → Open → Kept → MainAfter
 closes code line l x = record (main_as Stays x) {
-  shared = record x.shared { cells = with_last code l (in_range (index_at code l l.trips)) x.shared.cells; loop = None };
+  shared = record x.shared {
+    cells = with_last code l (in_range (index_at code l l.trips)) x.shared.cells;
+    loop = None;
+  };
   main = frame_joined (in_range (index_at code l l.trips)) line x.main;
 }
 
@@ -175,18 +203,37 @@ abbrev pub joins : Code → ℕ → Option Open → Kept → MainAfter
 joins code line None x = main_as Idle x
 joins code line (Some l) x =
     if nat_le l.trips (count_at x.shared.order 0) then closes code line l x
-    else record (main_as Parks x) { shared = record x.shared { order = parked x.shared.order 0 l.trips 0 }; waiting = Some (until_retired l.trips) }
+    else record (main_as Parks x) {
+      shared = record x.shared { order = parked x.shared.order 0 l.trips 0 };
+      waiting = Some (until_retired l.trips);
+    }
 
 -- main makes the step that stands next
 abbrev pub main_after : Code → Next → Kept → MainAfter
-main_after code (Load n k) x = main_stays (with_operand k x.main (get_or x.shared.cells n (pos 0))) x
-main_after code (Store n v k) x = record (main_stays (going_on (without k x.main.operands) x.main) x) { shared = record x.shared { cells = set x.shared.cells n v } }
-main_after code (Print pieces k) x = record (main_stays (going_on (without k x.main.operands) x.main) x) {
-  shared = record x.shared { output = x.shared.output ++ record_of (filled (map part pieces.now) (values_for (map part pieces.now) x.main)) };
-}
-main_after code (TakeRecord line) x = record (main_stays (frame_after (read_record x.input.records) line x.main) x) { input = input_after (read_record x.input.records) x.input }
-main_after code (TakeValue line) x = record (main_stays (frame_with (next_integer x.input.left x.input.records) line x.main) x) { input = input_behind (next_integer x.input.left x.input.records) x.input }
-main_after code DropRecord x = record (main_stays (going_on x.main.operands x.main) x) { input = record x.input { left = [] } }
+main_after code (Load n k) x =
+    main_stays (with_operand k x.main (get_or x.shared.cells n (pos 0))) x
+main_after code (Store n v k) x =
+    record (main_stays (going_on (without k x.main.operands) x.main) x) {
+      shared = record x.shared { cells = set x.shared.cells n v };
+    }
+main_after code (Print pieces k) x =
+    record (main_stays (going_on (without k x.main.operands) x.main) x) {
+      shared = record x.shared {
+        output =
+            x.shared.output
+            ++ record_of (filled (map part pieces.now) (values_for (map part pieces.now) x.main));
+      };
+    }
+main_after code (TakeRecord line) x =
+    record (main_stays (frame_after (read_record x.input.records) line x.main) x) {
+      input = input_after (read_record x.input.records) x.input;
+    }
+main_after code (TakeValue line) x =
+    record (main_stays (frame_with (next_integer x.input.left x.input.records) line x.main) x) {
+      input = input_behind (next_integer x.input.left x.input.records) x.input;
+    }
+main_after code DropRecord x =
+    record (main_stays (going_on x.main.operands x.main) x) { input = record x.input { left = [] } }
 main_after code (Opens l) x = if none_open x.iterations then opens l x else main_as Idle x
 main_after code (Join line) x = joins code line x.shared.loop x
 main_after code (Report e line) x = main_ends (Faulted e line) x
@@ -196,7 +243,13 @@ main_after code next x = main_as Idle x
 
 -- processor q has made a step of main
 abbrev pub put_main : ℕ → MainAfter → Kept → Kept
-put_main q y x = record x { shared = y.shared; input = y.input; main = y.main; waiting = y.waiting; held = held_after y.outcome q x.held }
+put_main q y x = record x {
+  shared = y.shared;
+  input = y.input;
+  main = y.main;
+  waiting = y.waiting;
+  held = held_after y.outcome q x.held;
+}
 
 -- a step of the iteration may be made: it is in no place of the kernel, and none before it is
 -- missing

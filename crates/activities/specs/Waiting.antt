@@ -11,7 +11,8 @@ Waits v slot (w ∷ ws) = ((w.0 ≡ v) × (w.1 ≡ slot)) ⊎ Waits v slot ws
 -- where the count has reached the value the slot is ready, and otherwise it waits
 abbrev pub StandsAt : View → ℕ → ℕ → ℕ → Type 0
 StandsAt x slot e v =
-    (e < length x.counts) × (((v ≤ count_at x e) × (0 < times slot x.ready)) ⊎ ((count_at x e < v) × Waits v slot (waiters_at x e)))
+    (e < length x.counts) × (((v ≤ count_at x e) × (0 < times slot x.ready))
+    ⊎ ((count_at x e < v) × Waits v slot (waiters_at x e)))
 
 -- a slot whose activity isn't parked stands nowhere; events have the numbers from 1 on
 abbrev pub Stands : View → ℕ → Option Wait → Type 0

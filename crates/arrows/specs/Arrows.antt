@@ -1,5 +1,7 @@
 -- The arrows of a loop's picture: these and no others.
-use Rattle.std.specs.Prelude.{◌==◌, ◌&&◌, ◌%◌, ◌+◌, ◌*◌, ◌-◌, ℕ, suc, zero, nat_le, if◌then◌else◌, codes, decimal, List, [], ◌∷◌, ◌++◌, length, Option, Some, None, Vec, option_map}
+use Rattle.std.specs.Prelude.{◌==◌, ◌&&◌, ◌%◌, ◌+◌, ◌*◌, ◌-◌, ℕ, suc, zero, nat_le}
+use Rattle.std.specs.Prelude.{if◌then◌else◌, codes, decimal, List, [], ◌∷◌}
+use Rattle.std.specs.Prelude.{◌++◌, length, Option, Some, None, Vec, option_map}
 use Rattle.std.specs.Global.{Global}
 use Rattle.arrows.specs.Markup.{curve}
 use Rattle.arrows.specs.declared.picture.Advance.{Advance}
@@ -25,7 +27,8 @@ to w = record { column = w.from.column + w.over; row = w.row }
 
 -- between these rows, from an iteration on
 abbrev pub arrow_in : Ends → ℕ → ℕ → Way
-arrow_in e distance k = record { from = record { column = k; row = e.source }; over = distance; row = e.sink }
+arrow_in e distance k =
+    record { from = record { column = k; row = e.source }; over = distance; row = e.sink }
 
 -- the first row in which a line stands, by the number of the first row
 abbrev pub row_from : ℕ → List Row → ℕ → Option ℕ
@@ -41,12 +44,14 @@ between None sink = None
 -- source where there is none
 abbrev pub leaving : List Advance → (event source : ℕ) → ℕ
 leaving [] event source = source
-leaving (a ∷ advances) event source = if a.event == event && nat_le source a.row then a.row else leaving advances event source
+leaving (a ∷ advances) event source =
+    if a.event == event && nat_le source a.row then a.row else leaving advances event source
 
 -- between the row where the event is advanced and the one that stands behind
 abbrev pub ends_of : List Row → List Advance → Arrow → Option Ends
 ends_of rows advances a =
-    between (option_map (leaving advances a.event) (row_from 0 rows a.source_line)) (row_from 0 rows a.sink_line)
+    between (option_map (leaving advances a.event) (row_from 0 rows a.source_line))
+    (row_from 0 rows a.sink_line)
 
 -- from the last row of an iteration to the first one of the next
 abbrev pub in_turn : List Row → Ends
@@ -107,11 +112,13 @@ head a = ((hued a ++ lines a) ++ span a) ++ codes "</title>"
 
 -- a dependence with its arrows
 abbrev pub group : ℕ → List Row → List Advance → Arrow → List ℕ
-group columns rows advances a = head a ++ strokes_of columns a.distance (ends_of rows advances a) ++ codes "</g>\n"
+group columns rows advances a =
+    head a ++ strokes_of columns a.distance (ends_of rows advances a) ++ codes "</g>\n"
 
 abbrev pub groups : ℕ → List Row → List Advance → List Arrow → List ℕ
 groups columns rows advances [] = []
-groups columns rows advances (a ∷ others) = group columns rows advances a ++ groups columns rows advances others
+groups columns rows advances (a ∷ others) =
+    group columns rows advances a ++ groups columns rows advances others
 
 -- each iteration comes behind the one before
 abbrev pub one_by_one : ℕ → List Row → List ℕ

@@ -1,5 +1,6 @@
 -- Text in an SVG file.
-use Rattle.std.specs.Prelude.{◌==◌, ◌&&◌, not, ℕ, nat_le, Bool, if◌then◌else◌, codes, List, [], ◌∷◌, ◌++◌}
+use Rattle.std.specs.Prelude.{◌==◌, ◌&&◌, not, ℕ, nat_le, Bool}
+use Rattle.std.specs.Prelude.{if◌then◌else◌, codes, List, [], ◌∷◌, ◌++◌}
 
 -- a character of ASCII that can be shown
 abbrev pub is_printable : ℕ → Bool

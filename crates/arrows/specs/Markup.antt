@@ -111,4 +111,5 @@ root s = codes "<svg xmlns=\"http://www.w3.org/2000/svg\" role=\"img\"" ++ sized
 
 -- what it begins with: its size, a style sheet with the tips of arrows, and the ground
 abbrev pub opening : Size → List ℕ → List ℕ
-opening s sheet = root s ++ sheet ++ codes "<rect class=\"ground\" width=\"100%\" height=\"100%\"/>\n"
+opening s sheet =
+    root s ++ sheet ++ codes "<rect class=\"ground\" width=\"100%\" height=\"100%\"/>\n"

@@ -1,5 +1,6 @@
 -- The vectors of a two-dimensional iteration space: from sources to sinks, these and no others.
-use Rattle.std.specs.Prelude.{◌==◌, ◌&&◌, ◌+◌, ◌*◌, ◌-◌, ◌/◌, ℕ, suc, zero, nat_le, if◌then◌else◌, codes, decimal, List, [], ◌∷◌, ◌++◌, length, Option, Some, None}
+use Rattle.std.specs.Prelude.{◌==◌, ◌&&◌, ◌+◌, ◌*◌, ◌-◌, ◌/◌, ℕ, suc, zero, nat_le, if◌then◌else◌}
+use Rattle.std.specs.Prelude.{codes, decimal, List, [], ◌∷◌, ◌++◌, length, Option, Some, None}
 use Rattle.arrows.specs.Arrows.{hue}
 use Rattle.arrows.specs.Markup.{point}
 use Rattle.arrows.specs.declared.picture.LoopPicture.{LoopPicture}
@@ -69,7 +70,8 @@ along down up = if up == 0 then decimal down else codes "-" ++ decimal up
 abbrev pub pair : Vector → List ℕ
 pair v = codes "(" ++ decimal v.over ++ codes "," ++ along v.down v.up ++ codes ")"
 
--- what a vector's group begins with; within one iteration of the outer loop it is the inner one's own
+-- what a vector's group begins with; within one iteration of the outer loop it
+-- is the inner one's own
 abbrev pub kind : Vector → List ℕ
 kind v = if v.over == 0 then codes "<g class=\"vector own hue" else codes "<g class=\"vector hue"
 
@@ -87,7 +89,8 @@ groups g n (v ∷ vs) = group g n v ++ groups g (n + 1) vs
 
 -- the space is below the rows of a loop's picture
 abbrev pub grid_of : LoopPicture → Space → Grid
-grid_of p s = record { top = TOP + PITCH * length p.rows.items + ABOVE; columns = p.columns; rows = s.rows }
+grid_of p s =
+    record { top = TOP + PITCH * length p.rows.items + ABOVE; columns = p.columns; rows = s.rows }
 
 -- all vectors of a loop's picture, if it has a space
 abbrev pub vectors_if : LoopPicture → Option Space → List ℕ

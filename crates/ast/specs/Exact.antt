@@ -2,14 +2,20 @@
 -- integers or divides by zero. 64-bit two's complement is the profile's INTEGER; the standard says
 -- that a quotient is truncated toward zero and that MOD(a,b) is a - INT(a/b)*b. A truth value is 1
 -- where it is true and 0 where it is false.
-use Rattle.std.specs.Prelude.{ℕ, ℤ, pos, negsuc, zero, suc, Bool, true, false, nat_lt, ◌^◌, ◌+ℤ◌, ◌-ℤ◌, ◌*ℤ◌, neg_ℤ, int_div, int_rem, int_lt, unsigned_abs, not, ◌&&◌, ◌||◌, if◌then◌else◌, List, [], ◌∷◌, Result, Ok, Err}
+use Rattle.std.specs.Prelude.{ℕ, ℤ, pos, negsuc, zero, suc, Bool, true, false, nat_lt, ◌^◌}
+use Rattle.std.specs.Prelude.{◌+ℤ◌, ◌-ℤ◌, ◌*ℤ◌, neg_ℤ, int_div, int_rem, int_lt, unsigned_abs}
+use Rattle.std.specs.Prelude.{not, ◌&&◌, ◌||◌, if◌then◌else◌, List, [], ◌∷◌, Result, Ok, Err}
 use Rattle.std.specs.Ordering.{int_eq}
 use Rattle.ast.specs.declared.expression.Operator.{Operator}
-use Rattle.ast.specs.declared.expression.Operator.TheVariants.{Add, Subtract, Multiply, Divide, Less, LessOrEqual, Equal, NotEqual, Greater, GreaterOrEqual, And, Or, Equivalent, NotEquivalent}
+use Rattle.ast.specs.declared.expression.Operator.TheVariants.{Add, Subtract, Multiply, Divide}
+use Rattle.ast.specs.declared.expression.Operator.TheVariants.{Less, LessOrEqual, Equal, NotEqual}
+use Rattle.ast.specs.declared.expression.Operator.TheVariants.{Greater, GreaterOrEqual, And}
+use Rattle.ast.specs.declared.expression.Operator.TheVariants.{Or, Equivalent, NotEquivalent}
 use Rattle.ast.specs.declared.expression.Prefix.{Prefix}
 use Rattle.ast.specs.declared.expression.Prefix.TheVariants.{Plus, Minus, Not}
 use Rattle.ast.specs.declared.expression.Intrinsic.{Intrinsic}
-use Rattle.ast.specs.declared.expression.Intrinsic.TheVariants.{Abs, Iabs, Max, Max0, Min, Min0, Mod}
+use Rattle.ast.specs.declared.expression.Intrinsic.TheVariants.{Abs, Iabs, Max, Max0}
+use Rattle.ast.specs.declared.expression.Intrinsic.TheVariants.{Min, Min0, Mod}
 use Rattle.ast.specs.declared.fault.Fault.{Fault}
 use Rattle.ast.specs.declared.fault.Fault.TheVariants.{Overflow, ZeroDivisor}
 

@@ -1,7 +1,9 @@
 -- The input of a program: records, cut as the lines of a source are. A record is well formed if it
 -- holds, between optional blanks, any number of integers, two neighbours parted by blanks or by one
 -- comma with optional blanks; a blank is a space or a tab (the profile).
-use Rattle.std.specs.Prelude.{ℕ, ℤ, pos, ◌+◌, neg_ℤ, Bool, true, false, not, ◌&&◌, ◌||◌, ◌==◌, if◌then◌else◌, List, [], ◌∷◌, ◌++◌, map, Option, Some, None, Result, Ok, Err}
+use Rattle.std.specs.Prelude.{ℕ, ℤ, pos, ◌+◌, neg_ℤ, Bool, true, false, not}
+use Rattle.std.specs.Prelude.{◌&&◌, ◌||◌, ◌==◌, if◌then◌else◌, List, [], ◌∷◌}
+use Rattle.std.specs.Prelude.{◌++◌, map, Option, Some, None, Result, Ok, Err}
 use Rattle.std.specs.List.{list_all, filter}
 use Rattle.std.specs.Char.{is_ascii_digit}
 use Rattle.std.specs.Str.Parse.{digits_value}
@@ -41,7 +43,8 @@ words text = filter (λ w. not (is_empty w)) (cut_at is_blank text)
 -- a sign or none, and digits: an integer of 64 bits
 abbrev pub integer_of : (ℕ → ℤ) → List ℕ → Option ℤ
 integer_of sign digits =
-    if not (is_empty digits) && (list_all is_ascii_digit digits && fits (sign (digits_value 10 digits)))
+    if not (is_empty digits)
+    && (list_all is_ascii_digit digits && fits (sign (digits_value 10 digits)))
     then Some (sign (digits_value 10 digits)) else None
 
 -- the integer that a word spells, if it spells one of 64 bits
@@ -73,7 +76,9 @@ commas_part (p ∷ q ∷ ps) = list_all (λ part. not (is_empty (words part))) (
 
 -- the integers of a record, if it is well formed
 unfoldable pub integers_of : List ℕ → Option (List ℤ)
-integers_of text = if commas_part (cut_at is_comma text) then integers_in (all_words (cut_at is_comma text)) else None
+integers_of text =
+    if commas_part (cut_at is_comma text) then integers_in (all_words (cut_at is_comma text))
+    else None
 
 -- a record as it is taken: its integers, or BAD INPUT where it isn't well formed
 abbrev pub well_formed : Option (List ℤ) → Result (List ℤ) Fault
@@ -86,7 +91,8 @@ taken [] = Err EndOfInput
 taken (r ∷ rs) = well_formed (integers_of r) >>= λ xs. Ok (xs, rs)
 
 -- the first of these integers, or what is next where there is none
-abbrev pub first_or : List ℤ → List (List ℕ) → Result (ℤ × List ℤ × List (List ℕ)) Fault → Result (ℤ × List ℤ × List (List ℕ)) Fault
+abbrev pub first_or : List ℤ → List (List ℕ) → Result (ℤ × List ℤ × List (List ℕ)) Fault
+    → Result (ℤ × List ℤ × List (List ℕ)) Fault
 first_or [] rs next = next
 first_or (x ∷ xs) rs next = Ok (x, xs, rs)
 

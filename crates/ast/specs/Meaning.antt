@@ -1,15 +1,20 @@
 -- The sequential meaning of a program, by recursion on its tree and on the trips that are left. It
 -- knows no code, no processor and no event.
-use Rattle.std.specs.Prelude.{ℕ, ℤ, zero, suc, pos, ◌+ℤ◌, Bool, true, false, if◌then◌else◌, List, [], ◌∷◌, ◌++◌, Option, Some, None, Result, Ok, Err}
+use Rattle.std.specs.Prelude.{ℕ, ℤ, zero, suc, pos, ◌+ℤ◌, Bool, true, false, if◌then◌else◌}
+use Rattle.std.specs.Prelude.{List, [], ◌∷◌, ◌++◌, Option, Some, None, Result, Ok, Err}
 use Rattle.std.specs.Ordering.{int_eq}
-use Rattle.ast.specs.Exact.{truth_value, is_true, value_of, prefixed_value, intrinsic_value, in_range, trips}
+use Rattle.ast.specs.Exact.{truth_value, is_true, value_of, prefixed_value}
+use Rattle.ast.specs.Exact.{intrinsic_value, in_range, trips}
 use Rattle.ast.specs.Input.{records_of, taken, next_integer}
 use Rattle.ast.specs.Program.{ProgramTree}
 use Rattle.ast.specs.Record.{Printed, number, text, record_of}
 use Rattle.ast.specs.Results.{◌>>=◌}
 use Rattle.ast.specs.Store.{StoreOf, zeros, put}
 use Rattle.ast.specs.Symbols.{Symbol, place_of, dimensions_in}
-use Rattle.ast.specs.Tree.{Ref, Term, constant, truth, parameter, element, call, parentheses, unary, binary, Terms, no_terms, then_term, Access, PrintItem, value_item, text_item, Kind, assign, print, read, stop, end, Node, plain, loop, choose, Block, no_nodes, then_node, Arms, no_arms, then_arm}
+use Rattle.ast.specs.Tree.{Ref, Term, constant, truth, parameter, element, call, parentheses, unary}
+use Rattle.ast.specs.Tree.{binary, Terms, no_terms, then_term, Access, PrintItem, value_item}
+use Rattle.ast.specs.Tree.{text_item, Kind, assign, print, read, stop, end, Node, plain}
+use Rattle.ast.specs.Tree.{loop, choose, Block, no_nodes, then_node, Arms, no_arms, then_arm}
 use Rattle.ast.specs.declared.fault.Fault.{Fault}
 use Rattle.ast.specs.declared.fault.Fault.TheVariants.{ZeroStep}
 use Rattle.ast.specs.declared.fault.End.{End}
@@ -71,7 +76,8 @@ written run name place n = record run { store = put run.store name place n }
 -- what the items of a PRINT print, or their first fault, from left to right
 abbrev pub printed : LookUp → List PrintItem → Result (List Printed) Fault
 printed look [] = Ok []
-printed look (value_item e ∷ items) = value look e >>= λ n. printed look items >>= λ ps. Ok (number n ∷ ps)
+printed look (value_item e ∷ items) =
+    value look e >>= λ n. printed look items >>= λ ps. Ok (number n ∷ ps)
 printed look (text_item t ∷ items) = printed look items >>= λ ps. Ok (text t ∷ ps)
 
 -- the three parameters of a DO, evaluated once; the last is 1 where it is absent
@@ -101,7 +107,8 @@ is_last_stop_of (then_node n b) = is_last_stop n b
 
 -- the place of an element that is given a value
 abbrev pub target : List Symbol → StoreOf → Access → Result ℕ Fault
-target symbols store a = values (looked_up symbols store) a.subscripts >>= λ xs. place_in symbols a.ref.name xs
+target symbols store a =
+    values (looked_up symbols store) a.subscripts >>= λ xs. place_in symbols a.ref.name xs
 
 -- READ stores value by value: each is taken before the subscripts of its element are evaluated
 abbrev pub read_elements : List Symbol → ℕ → List Access → List ℤ → Run → Run
@@ -117,21 +124,25 @@ exec_plain symbols line (assign a e) run =
     given (value (looked_up symbols run.store) e) line run (λ n.
     given (target symbols run.store a) line run (λ p. written run a.ref.name p n))
 exec_plain symbols line (print items) run =
-    given (printed (looked_up symbols run.store) items) line run (λ ps. record run { output = run.output ++ record_of ps })
+    given (printed (looked_up symbols run.store) items) line run
+    (λ ps. record run { output = run.output ++ record_of ps })
 exec_plain symbols line (read elements) run =
-    given (taken run.input) line run (λ x. read_elements symbols line elements x.0 (record run { input = x.1 }))
+    given (taken run.input) line run
+    (λ x. read_elements symbols line elements x.0 (record run { input = x.1 }))
 exec_plain symbols line stop run = record run { end = Stopped line }
 exec_plain symbols line _ run = run
 
 -- after each trip the DO variable grows by the step
 abbrev pub grown : ℕ → List ℕ → ℤ → Run → Run
-grown line name step run = given (in_range (run.store name 0 +ℤ step)) line run (λ n. written run name 0 n)
+grown line name step run =
+    given (in_range (run.store name 0 +ℤ step)) line run (λ n. written run name 0 n)
 
 -- the trips of a loop whose range runs so, by its parameters
 abbrev pub looped : ℕ → List ℕ → (Run → Run) → ℤ → ℤ → ℤ → Run → Run
 looped line name range m1 m2 m3 run =
     if int_eq m3 (pos 0) then record run { end = Faulted ZeroStep line }
-    else turns (λ before. then_do (range before) (λ after. grown line name m3 after)) (trips m1 m2 m3) (written run name 0 m1)
+    else turns (λ before. then_do (range before) (λ after. grown line name m3 after))
+    (trips m1 m2 m3) (written run name 0 m1)
 
 abbrev mutual
   -- Where a run stands after a statement. The parameters of a DO are evaluated first, in order.
@@ -147,14 +158,17 @@ abbrev mutual
   -- a STOP that END follows does what END does
   pub exec_block : List Symbol → Block → Run → Run
   exec_block symbols no_nodes run = run
-  exec_block symbols (then_node n b) run = if is_last_stop n b then run else then_do (exec symbols n run) (λ after. exec_block symbols b after)
+  exec_block symbols (then_node n b) run =
+      if is_last_stop n b then run
+      else then_do (exec symbols n run) (λ after. exec_block symbols b after)
 
   -- the first arm whose condition is true, an ELSE without one
   pub exec_arms : List Symbol → Arms → Run → Run
   exec_arms symbols no_arms run = run
   exec_arms symbols (then_arm line None b more) run = exec_block symbols b run
   exec_arms symbols (then_arm line (Some c) b more) run =
-      given (value (looked_up symbols run.store) c) line run (λ v. if is_true v then exec_block symbols b run else exec_arms symbols more run)
+      given (value (looked_up symbols run.store) c) line run
+      (λ v. if is_true v then exec_block symbols b run else exec_arms symbols more run)
 
 -- where every run starts: a store of zeros, the records of the input, no output
 abbrev pub start : List ℕ → Run

@@ -1,10 +1,12 @@
 -- The program that a `Program` stands for, and what holds of each.
-use Rattle.std.specs.Prelude.{ℕ, ◌+◌, List, Bool, true, false, ◌&&◌, nat_le, slice_get, Option, Some, None}
+use Rattle.std.specs.Prelude.{ℕ, ◌+◌, List, Bool, true, false, ◌&&◌}
+use Rattle.std.specs.Prelude.{nat_le, slice_get, Option, Some, None}
 use Rattle.std.specs.List.{list_all}
 use Rattle.ast.specs.References.{block_references, block_expressions}
 use Rattle.ast.specs.Store.{same_name}
 use Rattle.ast.specs.Symbols.{Sort, variable, fixed, Symbol}
-use Rattle.ast.specs.Tree.{Ref, Node, plain, loop, choose, Block, no_nodes, then_node, Arms, no_arms, then_arm, depth}
+use Rattle.ast.specs.Tree.{Ref, Node, plain, loop, choose, Block, no_nodes}
+use Rattle.ast.specs.Tree.{then_node, Arms, no_arms, then_arm, depth}
 
 -- a program: what its names stand for, its statements, and how many its text has
 pub record ProgramTree : Type 0 where

@@ -6,4 +6,8 @@ use Rattle.ast.specs.declared.program.Program.{Program}
 
 -- its symbols, its statements, and how many statements its text has
 abbrev pub program : Program → ProgramTree
-program p = record { symbols = map symbol p.symbols.items; block = block_view p.body.items; count = p.statements }
+program p = record {
+  symbols = map symbol p.symbols.items;
+  block = block_view p.body.items;
+  count = p.statements;
+}

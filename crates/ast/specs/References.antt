@@ -2,8 +2,12 @@
 -- element before the element; the right side of an assignment before its target; of a DO its
 -- parameters, its variable, then its range; of an IF its first condition, its first arm, the second
 -- condition, and so on. A program's references are numbered in this order.
-use Rattle.std.specs.Prelude.{ℕ, ◌+◌, Bool, true, ◌&&◌, ◌==◌, List, [], ◌∷◌, ◌++◌, Option, Some, None, map}
-use Rattle.ast.specs.Tree.{Ref, Term, Terms, element, call, parentheses, unary, binary, no_terms, then_term, accessed, PrintItem, value_item, text_item, DoHead, Kind, assign, print, read, Node, plain, loop, choose, Block, no_nodes, then_node, Arms, no_arms, then_arm}
+use Rattle.std.specs.Prelude.{ℕ, ◌+◌, Bool, true, ◌&&◌, ◌==◌, List}
+use Rattle.std.specs.Prelude.{[], ◌∷◌, ◌++◌, Option, Some, None, map}
+use Rattle.ast.specs.Tree.{Ref, Term, Terms, element, call, parentheses, unary, binary}
+use Rattle.ast.specs.Tree.{no_terms, then_term, accessed, PrintItem, value_item, text_item}
+use Rattle.ast.specs.Tree.{DoHead, Kind, assign, print, read, Node, plain, loop}
+use Rattle.ast.specs.Tree.{choose, Block, no_nodes, then_node, Arms, no_arms, then_arm}
 
 abbrev mutual
   pub term_references : Term → List Ref
@@ -53,7 +57,8 @@ abbrev mutual
 
   pub arms_expressions : Arms → List Term
   arms_expressions no_arms = []
-  arms_expressions (then_arm l c b more) = optional c ++ block_expressions b ++ arms_expressions more
+  arms_expressions (then_arm l c b more) =
+      optional c ++ block_expressions b ++ arms_expressions more
 
 abbrev pub expressions_references : List Term → List Ref
 expressions_references [] = []

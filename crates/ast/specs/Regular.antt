@@ -1,19 +1,23 @@
 -- What holds of each program's tree beside the places and the numbers of its references: the
 -- profile's rules on subscripts, on DO variables and on END, and the range of constants.
-use Rattle.std.specs.Prelude.{ℕ, Bool, true, false, not, ◌&&◌, ◌||◌, ◌==◌, List, [], ◌∷◌, length, map}
+use Rattle.std.specs.Prelude.{ℕ, Bool, true, false, not, ◌&&◌, ◌||◌}
+use Rattle.std.specs.Prelude.{◌==◌, List, [], ◌∷◌, length, map}
 use Rattle.std.specs.List.{list_all, list_any}
 use Rattle.ast.specs.Exact.{fits}
 use Rattle.ast.specs.References.{block_expressions}
 use Rattle.ast.specs.Stops.{is_end_kind}
 use Rattle.ast.specs.Store.{same_name}
 use Rattle.ast.specs.Symbols.{Symbol, dimensions_in}
-use Rattle.ast.specs.Tree.{Term, Terms, constant, parameter, element, call, parentheses, unary, binary, no_terms, then_term, count_of, Kind, assign, read, Node, plain, loop, choose, Block, no_nodes, then_node, Arms, no_arms, then_arm}
+use Rattle.ast.specs.Tree.{Term, Terms, constant, parameter, element, call, parentheses, unary}
+use Rattle.ast.specs.Tree.{binary, no_terms, then_term, count_of, Kind, assign, read, Node, plain}
+use Rattle.ast.specs.Tree.{loop, choose, Block, no_nodes, then_node, Arms, no_arms, then_arm}
 
 -- ---- each reference has as many subscripts as its name has dimensions
 
 abbrev mutual
   pub is_counted : List Symbol → Term → Bool
-  is_counted symbols (element r es) = (count_of es == length (dimensions_in symbols r.name)) && are_counted symbols es
+  is_counted symbols (element r es) =
+      (count_of es == length (dimensions_in symbols r.name)) && are_counted symbols es
   is_counted symbols (call f es) = are_counted symbols es
   is_counted symbols (parentheses e) = is_counted symbols e
   is_counted symbols (unary p e) = is_counted symbols e
@@ -57,7 +61,8 @@ abbrev mutual
   -- range
   pub node_keeps : List (List ℕ) → Node → Bool
   node_keeps names (plain s) = list_all (is_none_of names) (given_by s.kind)
-  node_keeps names (loop l h b) = is_none_of names h.variable.name && block_keeps (h.variable.name ∷ names) b
+  node_keeps names (loop l h b) =
+      is_none_of names h.variable.name && block_keeps (h.variable.name ∷ names) b
   node_keeps names (choose a) = arms_keep names a
 
   pub block_keeps : List (List ℕ) → Block → Bool
@@ -99,7 +104,9 @@ ends_outside (then_node n b) = not (holds_end n) && ends_outside b
 -- Each reference has as many subscripts as its name has dimensions; no statement and no DO gives
 -- the variable of a DO around it a value; END stands in no range and in no arm.
 abbrev pub is_regular : List Symbol → Block → Bool
-is_regular symbols b = list_all (λ e. is_counted symbols e) (block_expressions b) && (block_keeps [] b && ends_outside b)
+is_regular symbols b =
+    list_all (λ e. is_counted symbols e) (block_expressions b)
+    && (block_keeps [] b && ends_outside b)
 
 -- each constant in a block is a 64-bit integer
 abbrev pub are_fitting : Block → Bool

@@ -2,9 +2,13 @@
 use Rattle.std.specs.Prelude.{ℕ, List, Option, Some, None, codes, if◌then◌else◌}
 use Rattle.ast.specs.Store.{same_name}
 use Rattle.ast.specs.declared.expression.Intrinsic.{Intrinsic}
-use Rattle.ast.specs.declared.expression.Intrinsic.TheVariants.{Abs, Iabs, Max, Max0, Min, Min0, Mod}
+use Rattle.ast.specs.declared.expression.Intrinsic.TheVariants.{Abs, Iabs, Max, Max0}
+use Rattle.ast.specs.declared.expression.Intrinsic.TheVariants.{Min, Min0, Mod}
 use Rattle.ast.specs.declared.expression.Operator.{Operator}
-use Rattle.ast.specs.declared.expression.Operator.TheVariants.{Add, Subtract, Multiply, Divide, Less, LessOrEqual, Equal, NotEqual, Greater, GreaterOrEqual, And, Or, Equivalent, NotEquivalent}
+use Rattle.ast.specs.declared.expression.Operator.TheVariants.{Add, Subtract, Multiply, Divide}
+use Rattle.ast.specs.declared.expression.Operator.TheVariants.{Less, LessOrEqual, Equal, NotEqual}
+use Rattle.ast.specs.declared.expression.Operator.TheVariants.{Greater, GreaterOrEqual, And}
+use Rattle.ast.specs.declared.expression.Operator.TheVariants.{Or, Equivalent, NotEquivalent}
 use Rattle.ast.specs.declared.expression.Prefix.{Prefix}
 use Rattle.ast.specs.declared.expression.Prefix.TheVariants.{Plus, Minus, Not}
 

@@ -1,5 +1,6 @@
 -- Stores: the value of each element of each name, elements numbered from 0 in storage order.
-use Rattle.std.specs.Prelude.{ℕ, ℤ, zero, suc, ◌+◌, pos, Bool, nat_eq, ◌==◌, ◌&&◌, List, [], ◌∷◌, if◌then◌else◌, Option, None, unwrap_or, slice_get, get_or, take, drop}
+use Rattle.std.specs.Prelude.{ℕ, ℤ, zero, suc, ◌+◌, pos, Bool, nat_eq, ◌==◌, ◌&&◌, List, [], ◌∷◌}
+use Rattle.std.specs.Prelude.{if◌then◌else◌, Option, None, unwrap_or, slice_get, get_or, take, drop}
 use Rattle.std.specs.Cmp.Lexicographic.{pointwise}
 
 -- whether two names are the same
@@ -26,7 +27,8 @@ values_from value n (suc count) = value n ∷ values_from value (n + 1) count
 -- the value that a list of names, each with its values, has for a name at a place
 abbrev pub value_at : List (List ℕ × List ℤ) → List ℕ → ℕ → Option ℤ
 value_at [] name place = None
-value_at (c ∷ cs) name place = if same_name c.0 name then slice_get c.1 place else value_at cs name place
+value_at (c ∷ cs) name place =
+    if same_name c.0 name then slice_get c.1 place else value_at cs name place
 
 -- the store that such a list stands for
 unfoldable pub store_of : List (List ℕ × List ℤ) → StoreOf

@@ -1,5 +1,6 @@
 -- A program's symbols: what each of its names stands for.
-use Rattle.std.specs.Prelude.{ℕ, ℤ, ◌+◌, ◌*◌, ◌-ℤ◌, int_lt, unsigned_abs, nat_le, Bool, not, ◌&&◌, if◌then◌else◌, List, [], ◌∷◌, Result, Ok, Err, map}
+use Rattle.std.specs.Prelude.{ℕ, ℤ, ◌+◌, ◌*◌, ◌-ℤ◌, int_lt, unsigned_abs, nat_le, Bool, not}
+use Rattle.std.specs.Prelude.{◌&&◌, if◌then◌else◌, List, [], ◌∷◌, Result, Ok, Err, map}
 use Rattle.std.specs.List.{list_all}
 use Rattle.ast.specs.Results.{◌>>=◌}
 use Rattle.ast.specs.Store.{StoreOf, same_name, values_from}
@@ -53,7 +54,8 @@ abbrev pub place_of : List Extent → List ℤ → Result ℕ Fault
 place_of [] xs = Ok 0
 place_of (d ∷ ds) [] = Err Index
 place_of (d ∷ ds) (x ∷ xs) =
-    if is_within d x then (place_of ds xs >>= (λ p. Ok (unsigned_abs (x -ℤ d.lower) + width d * p))) else Err Index
+    if is_within d x then (place_of ds xs >>= (λ p. Ok (unsigned_abs (x -ℤ d.lower) + width d * p)))
+    else Err Index
 
 -- the dimensions of a name: none of a scalar
 abbrev pub dimensions_of : Sort → List Extent
@@ -63,7 +65,8 @@ dimensions_of (fixed n) = []
 -- the dimensions of a name among symbols; none where it isn't there
 abbrev pub dimensions_in : List Symbol → List ℕ → List Extent
 dimensions_in [] name = []
-dimensions_in (s ∷ symbols) name = if same_name s.name name then dimensions_of s.sort else dimensions_in symbols name
+dimensions_in (s ∷ symbols) name =
+    if same_name s.name name then dimensions_of s.sort else dimensions_in symbols name
 
 -- the elements of all arrays together are at most so many, by the profile
 abbrev pub most_elements : ℕ
@@ -71,7 +74,8 @@ most_elements = 1048576
 
 -- no bounds are crossed, and the elements are few
 abbrev pub is_sized_sort : Sort → Bool
-is_sized_sort s = list_all (λ d. not (int_lt d.upper d.lower)) (dimensions_of s) && nat_le (size s) most_elements
+is_sized_sort s =
+    list_all (λ d. not (int_lt d.upper d.lower)) (dimensions_of s) && nat_le (size s) most_elements
 
 -- no bounds of a symbol are crossed, and it has at most 1,048,576 elements
 abbrev pub is_sized : Symbol → Bool

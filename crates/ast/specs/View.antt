@@ -4,7 +4,8 @@ use Rattle.ast.specs.Store.{dealt}
 use Rattle.ast.specs.Symbols as symbols
 use Rattle.ast.specs.Symbols.{Extent, Sort}
 use Rattle.ast.specs.Tree as tree
-use Rattle.ast.specs.Tree.{Ref, Term, terms, PrintItem, value_item, text_item, Statement, Block, block, arms}
+use Rattle.ast.specs.Tree.{Ref, Term, terms, PrintItem, value_item}
+use Rattle.ast.specs.Tree.{text_item, Statement, Block, block, arms}
 use Rattle.ast.specs.declared.name.Name.{Name}
 use Rattle.ast.specs.declared.expression.Expr.{Expr, fold-Expr}
 use Rattle.ast.specs.declared.expression.Expr.TheOpen.{Expr-F, Access-F}
@@ -86,7 +87,13 @@ definition d = record { name = d.name.letters; value = term d.value }
 
 -- a DO statement
 abbrev pub head : DoHead → tree.DoHead
-head h = record { terminal = h.terminal; variable = ref h.variable; first = term h.first; last = term h.last; step = optional_term h.step }
+head h = record {
+  terminal = h.terminal;
+  variable = ref h.variable;
+  first = term h.first;
+  last = term h.last;
+  step = optional_term h.step;
+}
 
 abbrev pub kind_step : Kind-F tree.Kind → tree.Kind
 kind_step (Kind-F.Program x) = tree.program x.letters
@@ -122,7 +129,8 @@ node_step (Node-F.Loop l h b) = tree.loop l (head h) (block b.items)
 node_step (Node-F.Choice a) = tree.choose (arms a.items)
 
 abbrev pub arm_step : Arm-F tree.Node tree.Arm → tree.Arm
-arm_step a = record { line = a.line; condition = optional_term a.condition; body = block a.body.items }
+arm_step a =
+    record { line = a.line; condition = optional_term a.condition; body = block a.body.items }
 
 -- a statement of a program, with those that it holds
 abbrev pub node : Node → tree.Node

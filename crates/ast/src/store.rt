@@ -115,8 +115,10 @@ impl Store {
     #[tactic(auto, using(crate::proofs::Cells::within, crate::proofs::Cells::written))]
     pub fn set(&mut self, cell: usize, place: usize, value: i64)
         requires { place < length (values_in (cells self.old) cell) }
-        ensures { cells self.new ≡ set (cells self.old) cell
-            ((get_or (cells self.old) cell ([], [])).0, set (values_in (cells self.old) cell) place value) }
+        ensures { cells self.new ≡ set (cells self.old) cell (
+          (get_or (cells self.old) cell ([], [])).0,
+          set (values_in (cells self.old) cell) place value,
+        ) }
     {
         let at = self.table.start(cell) + place;
         self.numbers[at] = value;

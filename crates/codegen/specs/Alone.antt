@@ -5,7 +5,8 @@ use Rattle.std.specs.Prelude.{◌≡◌, ◌<◌, ℕ, zero, suc, ℤ, List, [],
 use Rattle.ast.specs.Store.{StoreOf}
 use Rattle.machine.specs.Code.{Code, Cell}
 use Rattle.machine.specs.State.{Machine, CodeRun, Init, put_cell, put_cells}
-use Rattle.machine.specs.View.{Cause, View, doing, loading, storing, printing, awaiting, advancing, leaving, breaking}
+use Rattle.machine.specs.View.{Cause, View, doing, loading, storing, printing}
+use Rattle.machine.specs.View.{awaiting, advancing, leaving, breaking}
 
 -- the run alone comes to this state
 abbrev pub Alone : Code → List ℕ → Machine → Type 0

@@ -1,13 +1,16 @@
 -- An account of the code: blocks of a program as main runs them, some of their loops being opened.
-use Rattle.std.specs.Prelude.{◌≡◌, ℕ, ◌+◌, ◌-◌, max, Option, Some, None, List, [], ◌∷◌, ◌++◌, length, set}
-use Rattle.ast.specs.Tree.{Ref, Term, PrintItem, value_item, text_item, DoHead, Arm, Node, Block, Arms}
+use Rattle.std.specs.Prelude.{◌≡◌, ℕ, ◌+◌, ◌-◌, max, Option, Some}
+use Rattle.std.specs.Prelude.{None, List, [], ◌∷◌, ◌++◌, length, set}
+use Rattle.ast.specs.Tree.{Ref, Term, PrintItem, value_item}
+use Rattle.ast.specs.Tree.{text_item, DoHead, Arm, Node, Block, Arms}
 use Rattle.machine.specs.Code.{Part}
 use Rattle.machine.specs.declared.instr.Act.TheVariants as acts
 use Rattle.machine.specs.declared.instr.Instr.{Instr}
 use Rattle.expr_code.specs.Computes.{operands}
 use Rattle.expr_code.specs.Emitted.{instr, short, term_code}
 use Rattle.expr_code.specs.Places.{Places}
-use Rattle.codegen.specs.Emitted.{arms_code, arms_records, block_code, block_records, grown_code, node_code, node_records, step_code, variable_code}
+use Rattle.codegen.specs.Emitted.{arms_code, arms_records, block_code, block_records}
+use Rattle.codegen.specs.Emitted.{grown_code, node_code, node_records, step_code, variable_code}
 use Rattle.codegen.specs.Plain.{plain_arms, plain_block, plain_node}
 use Rattle.codegen.specs.Room.{block_loops, block_room}
 use Rattle.codegen.specs.declared.skips.Pending.{Pending}
@@ -37,29 +40,37 @@ module _ (opens : ℕ → Option ℕ) (p : Places) where
 
 -- a serial DO up to its trips
 abbrev pub begun_code : Places → DoHead → List Instr
-begun_code p h = term_code p h.first ++ (term_code p h.last ++ (step_code p h.step ++ (instr p.line acts.SetUp ∷ variable_code p h.variable)))
+begun_code p h =
+    term_code p h.first ++ (term_code p h.last
+    ++ (step_code p h.step ++ (instr p.line acts.SetUp ∷ variable_code p h.variable)))
 
 -- Code ends with a trip that begins at a place: the variable grows, and the trip goes back; how
 -- many instructions it has is filled in where it begins.
 abbrev pub trip_ended : Places → Ref → ℕ → List Instr → List Instr
 trip_ended p r start is =
-    set ((is ++ grown_code p r) ++ instr p.line (acts.Back (short (length (is ++ grown_code p r) - start))) ∷ []) start (instr p.line (acts.CountDown (short (length (is ++ grown_code p r) - start))))
+    set ((is ++ grown_code p r)
+    ++ instr p.line (acts.Back (short (length (is ++ grown_code p r) - start))) ∷ []) start
+    (instr p.line (acts.CountDown (short (length (is ++ grown_code p r) - start))))
 
 -- ---- arms
 
 -- the body of an arm behind its condition; how many instructions are to be skipped behind it isn't
 -- known yet
 abbrev pub body_left_open : ℕ → List Instr → List Instr
-body_left_open line body = instr line (acts.SkipUnless (short (length body + 1))) ∷ (body ++ instr line (acts.Skip 0) ∷ [])
+body_left_open line body =
+    instr line (acts.SkipUnless (short (length body + 1))) ∷ (body ++ instr line (acts.Skip 0) ∷ [])
 
 -- Code ends with the body of an arm, which the skip at a place goes behind.
 abbrev pub body_ended : ℕ → ℕ → List Instr → List Instr
-body_ended line start is = set (is ++ instr line (acts.Skip 0) ∷ []) start (instr line (acts.SkipUnless (short (length is - start))))
+body_ended line start is =
+    set (is ++ instr line (acts.Skip 0) ∷ []) start
+    (instr line (acts.SkipUnless (short (length is - start))))
 
 -- the skips at these places are filled in: to the code's end
 abbrev pub closed : ℕ → List Pending → List Instr → List Instr
 closed last [] is = is
-closed last (s ∷ ss) is = set (closed last ss is) s.place (instr s.line (acts.Skip (short (last - s.place - 1))))
+closed last (s ∷ ss) is =
+    set (closed last ss is) s.place (instr s.line (acts.Skip (short (last - s.place - 1))))
 
 -- code comes to other code when these skips are filled in
 abbrev pub Ends : List Pending → List Instr → List Instr → Type 0

@@ -1,8 +1,11 @@
 -- An account of the code: what is emitted for statements, by recursion on their tree.
-use Rattle.std.specs.Prelude.{ℕ, pos, ◌+◌, if◌then◌else◌, List, [], ◌∷◌, ◌++◌, length, Option, Some, None}
-use Rattle.ast.specs.Tree.{Ref, Term, Access, PrintItem, value_item, text_item, DoHead, Kind, assign, print, read, stop}
+use Rattle.std.specs.Prelude.{ℕ, pos, ◌+◌, if◌then◌else◌, List, []}
+use Rattle.std.specs.Prelude.{◌∷◌, ◌++◌, length, Option, Some, None}
+use Rattle.ast.specs.Tree.{Ref, Term, Access, PrintItem, value_item}
+use Rattle.ast.specs.Tree.{text_item, DoHead, Kind, assign, print, read, stop}
 use Rattle.ast.specs.declared.expression.Operator.TheVariants.{Add}
-use Rattle.dependence.specs.Plan.{PlanNode, awaits, advances, plain, loop, choose, PlanBlock, no_nodes, then_node, PlanArms, no_arms, made_else, then_arm}
+use Rattle.dependence.specs.Plan.{PlanNode, awaits, advances, plain, loop, choose, PlanBlock}
+use Rattle.dependence.specs.Plan.{no_nodes, then_node, PlanArms, no_arms, made_else, then_arm}
 use Rattle.machine.specs.Code.{Part, operand, text_as}
 use Rattle.machine.specs.declared.instr.Act.TheVariants as acts
 use Rattle.machine.specs.declared.code.Await.{Await}
@@ -13,7 +16,9 @@ use Rattle.codegen.specs.Process.{is_last_stop}
 
 -- a value that was pushed goes to an element
 abbrev pub stored_code : Places → Access → List Instr
-stored_code p x = target_code p x.ref x.subscripts ++ instr p.line (given_act (dimensions_at p.symbols x.ref.cell) (home p (dimensions_at p.symbols x.ref.cell) x.ref.name) x.ref.cell) ∷ []
+stored_code p x =
+    target_code p x.ref x.subscripts ++ instr p.line (given_act (dimensions_at p.symbols x.ref.cell)
+    (home p (dimensions_at p.symbols x.ref.cell) x.ref.name) x.ref.cell) ∷ []
 
 -- the values of a PRINT's items are pushed, one after another
 abbrev pub items_code : Places → List PrintItem → List Instr
@@ -41,7 +46,8 @@ kind_records _ = []
 abbrev pub kind_code : Places → ℕ → Kind → List Instr
 kind_code p n (assign x e) = term_code p e ++ stored_code p x
 kind_code p n (print items) = items_code p items ++ instr p.line (acts.Print (short n)) ∷ []
-kind_code p n (read elements) = instr p.line acts.TakeRecord ∷ (elements_code p elements ++ instr p.line acts.DropRecord ∷ [])
+kind_code p n (read elements) =
+    instr p.line acts.TakeRecord ∷ (elements_code p elements ++ instr p.line acts.DropRecord ∷ [])
 kind_code p n stop = instr p.line acts.Stop ∷ []
 kind_code p n _ = []
 
@@ -56,23 +62,32 @@ variable_code p r = instr p.line (given_act [] (home p [] r.name) r.cell) ∷ []
 
 -- the variable of a DO grows by the step
 abbrev pub grown_code : Places → Ref → List Instr
-grown_code p r = instr p.line (scalar_act (home p [] r.name) r.cell) ∷ instr p.line acts.Step ∷ instr p.line (acts.Binary Add) ∷ variable_code p r
+grown_code p r =
+    instr p.line (scalar_act (home p [] r.name) r.cell) ∷ instr p.line acts.Step
+    ∷ instr p.line (acts.Binary Add) ∷ variable_code p r
 
 -- the trips of a serial DO around the code of its range
 abbrev pub turns_code : Places → Ref → List Instr → List Instr
 turns_code p r range =
     instr p.line (acts.CountDown (short (length (range ++ grown_code p r) + 1)))
-    ∷ ((range ++ grown_code p r) ++ instr p.line (acts.Back (short (length (range ++ grown_code p r) + 1))) ∷ [])
+    ∷ ((range ++ grown_code p r)
+    ++ instr p.line (acts.Back (short (length (range ++ grown_code p r) + 1))) ∷ [])
 
 abbrev pub serial_code : Places → DoHead → List Instr → List Instr
-serial_code p h range = term_code p h.first ++ (term_code p h.last ++ (step_code p h.step ++ (instr p.line acts.SetUp ∷ (variable_code p h.variable ++ turns_code p h.variable range))))
+serial_code p h range =
+    term_code p h.first ++ (term_code p h.last ++ (step_code p h.step
+    ++ (instr p.line acts.SetUp ∷ (variable_code p h.variable ++ turns_code p h.variable range))))
 
 abbrev pub opened_code : Places → DoHead → ℕ → List Instr
-opened_code p h n = term_code p h.first ++ (term_code p h.last ++ (instr p.line (acts.Open (short n)) ∷ instr p.line acts.Join ∷ []))
+opened_code p h n =
+    term_code p h.first
+    ++ (term_code p h.last ++ (instr p.line (acts.Open (short n)) ∷ instr p.line acts.Join ∷ []))
 
 -- the code of an IF with this condition's arm and the arms behind it
 abbrev pub chosen_code : Places → List Instr → List Instr → List Instr
-chosen_code p body others = instr p.line (acts.SkipUnless (short (length body + 1))) ∷ (body ++ instr p.line (acts.Skip (short (length others))) ∷ others)
+chosen_code p body others =
+    instr p.line (acts.SkipUnless (short (length body + 1)))
+    ∷ (body ++ instr p.line (acts.Skip (short (length others))) ∷ others)
 
 abbrev pub loop_code : Option ℕ → Places → DoHead → List Instr → List Instr
 loop_code None p h range = serial_code p h range
@@ -98,7 +113,8 @@ module _ (p : Places) (opens : ℕ → Option ℕ) where
 
     pub block_records : PlanBlock → List (List Part)
     block_records no_nodes = []
-    block_records (then_node n b) = if is_last_stop n b then [] else node_records n ++ block_records b
+    block_records (then_node n b) =
+        if is_last_stop n b then [] else node_records n ++ block_records b
 
     pub arms_records : PlanArms → List (List Part)
     arms_records no_arms = []
@@ -135,10 +151,15 @@ module _ (p : Places) (opens : ℕ → Option ℕ) where
 
     pub block_code : ℕ → ℕ → PlanBlock → List Instr
     block_code r w no_nodes = []
-    block_code r w (then_node n b) = if is_last_stop n b then [] else node_code r w n ++ block_code (r + length (node_records n)) (w + length (node_awaits n)) b
+    block_code r w (then_node n b) =
+        if is_last_stop n b then []
+        else node_code r w n
+        ++ block_code (r + length (node_records n)) (w + length (node_awaits n)) b
 
     pub arms_code : ℕ → ℕ → PlanArms → List Instr
     arms_code r w no_arms = []
     arms_code r w (made_else b) = block_code r w b
     arms_code r w (then_arm line None b more) = block_code r w b
-    arms_code r w (then_arm line (Some c) b more) = term_code (on line) c ++ chosen_code (on line) (block_code r w b) (arms_code (r + length (block_records b)) (w + length (block_awaits b)) more)
+    arms_code r w (then_arm line (Some c) b more) =
+        term_code (on line) c ++ chosen_code (on line) (block_code r w b)
+        (arms_code (r + length (block_records b)) (w + length (block_awaits b)) more)

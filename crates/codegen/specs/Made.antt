@@ -13,7 +13,8 @@ use Rattle.machine.specs.declared.instr.Instr.{Instr}
 use Rattle.expr_code.specs.Emitted.{instr}
 use Rattle.codegen.specs.Emitted.{block_code, block_records}
 use Rattle.codegen.specs.Plain.{plain_block}
-use Rattle.codegen.specs.Program.{Planned, loop_entry, main_places, opened_by, range_awaits, range_code, range_records}
+use Rattle.codegen.specs.Program.{Planned, loop_entry, main_places, opened_by}
+use Rattle.codegen.specs.Program.{range_awaits, range_code, range_records}
 use Rattle.codegen.specs.Records.{records_of}
 use Rattle.codegen.specs.declared.ranges.Made as declared
 
@@ -26,12 +27,18 @@ pub record Made : Type 0 where
 
 -- what a `Made` of the code stands for
 abbrev pub made_of : declared.Made → Made
-made_of m = record { instructions = m.instructions.items; records = records_of m.records; awaits = m.awaits.items; loops = map loop_of m.loops.items }
+made_of m = record {
+  instructions = m.instructions.items;
+  records = records_of m.records;
+  awaits = m.awaits.items;
+  loops = map loop_of m.loops.items;
+}
 
 -- with the range of one more loop
 abbrev pub with_range : List Symbol → Planned → Made → Made
 with_range symbols x m = record {
-  instructions = m.instructions ++ range_code symbols (length m.loops) (length m.records) (length m.awaits) x;
+  instructions =
+      m.instructions ++ range_code symbols (length m.loops) (length m.records) (length m.awaits) x;
   records = m.records ++ range_records symbols x;
   awaits = m.awaits ++ range_awaits symbols x;
   loops = m.loops ++ loop_entry symbols (length m.instructions) x ∷ [];
@@ -45,12 +52,14 @@ with_ranges symbols (x ∷ xs) m = with_ranges symbols xs (with_range symbols x 
 -- a loop with a plan of this body and these private names; what the plan claims tells nothing of
 -- its code
 abbrev pub bare_plan : Loop → PlanBlock → List (List ℕ) → Planned
-bare_plan l body names = record { loop = l; plan = record { body = body; privates = names; relations = [] } }
+bare_plan l body names =
+    record { loop = l; plan = record { body = body; privates = names; relations = [] } }
 
 -- main alone, with the loops opened that are told to be; and with the ranges behind it
 abbrev pub main_made : ProgramTree → (ℕ → Option ℕ) → Made
 main_made t opens = record {
-  instructions = block_code (main_places t.symbols) opens 0 0 (plain_block t.block) ++ instr 0 Halt ∷ [];
+  instructions =
+      block_code (main_places t.symbols) opens 0 0 (plain_block t.block) ++ instr 0 Halt ∷ [];
   records = block_records (main_places t.symbols) opens (plain_block t.block);
   awaits = [];
   loops = [];

@@ -1,5 +1,6 @@
 -- An account of the code: what is noted of loops, one after another.
-use Rattle.std.specs.Prelude.{◌≡◌, ◌<◌, ℕ, Bool, false, List, ◌∷◌, length, Option, Some, None, slice_get}
+use Rattle.std.specs.Prelude.{◌≡◌, ◌<◌, ℕ, Bool, false, List, ◌∷◌}
+use Rattle.std.specs.Prelude.{length, Option, Some, None, slice_get}
 use Rattle.loop_tree.specs.Loops.{Loop, loop_numbered}
 use Rattle.placement.specs.Judged.{IsInside}
 use Rattle.placement.specs.Placement.{loops_around}
@@ -20,4 +21,5 @@ is_noted noted (Some n) = is_true_or_none (slice_get noted n)
 -- of each loop so far it is noted, by its number, whether it or one around it may be open
 pub record AreNoted (all : List Loop) (noted : List Bool) : Type 0 where
   pub none : slice_get noted 0 ≡ Some false
-  pub each : (n : ℕ) (l : Loop) → n < length noted → loop_numbered all n ≡ Some l → IsInside (l ∷ loops_around all l) (is_noted noted (Some n))
+  pub each : (n : ℕ) (l : Loop) → n < length noted → loop_numbered all n ≡ Some l
+      → IsInside (l ∷ loops_around all l) (is_noted noted (Some n))

@@ -1,6 +1,8 @@
 -- The code of a whole program: main's, a Halt behind it, and then, of each loop that is opened, the
 -- code of one iteration, a Retire behind it.
-use Rattle.std.specs.Prelude.{max, ◌≡◌, ◌<◌, ◌≤◌, ◌^◌, ◌⊎◌, ◌+◌, ◌-◌, ◌==◌, ⊤, ℕ, pos, true, if◌then◌else◌, List, [], ◌∷◌, ◌++◌, length, map, Option, Some, None, unwrap_or}
+use Rattle.std.specs.Prelude.{max, ◌≡◌, ◌<◌, ◌≤◌, ◌^◌, ◌⊎◌, ◌+◌, ◌-◌, ◌==◌}
+use Rattle.std.specs.Prelude.{⊤, ℕ, pos, true, if◌then◌else◌, List, [], ◌∷◌}
+use Rattle.std.specs.Prelude.{◌++◌, length, map, Option, Some, None, unwrap_or}
 use Rattle.ast.specs.Program.{ProgramTree}
 use Rattle.ast.specs.Store.{same_name}
 use Rattle.ast.specs.Symbols.{Symbol}
@@ -36,7 +38,8 @@ pub record Planned : Type 0 where
 abbrev pub AreOpenedOf : List Loop → List Loop → List Planned → Type 0
 AreOpenedOf all [] xs = xs ≡ []
 AreOpenedOf all (l ∷ ls) xs =
-    (EligibleIn l (loops_around all l) × ((p : PlanTree) × IsPlacedBody l p × ((ys : List Planned) × (xs ≡ (record { loop = l; plan = p }) ∷ ys) × AreOpenedOf all ls ys)))
+    (EligibleIn l (loops_around all l) × ((p : PlanTree) × IsPlacedBody l p
+    × ((ys : List Planned) × (xs ≡ (record { loop = l; plan = p }) ∷ ys) × AreOpenedOf all ls ys)))
     ⊎ ((EligibleIn l (loops_around all l) → ⊥) × AreOpenedOf all ls xs)
 
 -- these are the loops of a program that are opened
@@ -46,7 +49,8 @@ AreOpened t xs = AreOpenedOf (loops_of t.block) (loops_of t.block) xs
 -- the number, from n on, of the loop that a DO opens, told by its variable's reference
 abbrev pub number_from : ℕ → List Planned → ℕ → Option ℕ
 number_from n [] id = None
-number_from n (x ∷ xs) id = if x.loop.head.variable.id == id then Some n else number_from (n + 1) xs id
+number_from n (x ∷ xs) id =
+    if x.loop.head.variable.id == id then Some n else number_from (n + 1) xs id
 
 -- the number of the loop that a DO opens, that of the first being 0; none where it opens none
 abbrev pub opened_by : List Planned → ℕ → Option ℕ
@@ -78,7 +82,12 @@ main_records t xs = block_records (main_places t.symbols) (opened_by xs) (plain_
 
 -- where an iteration finds its variables: the private ones and the loop's in its frame
 abbrev pub range_places : List Symbol → Planned → Places
-range_places symbols x = record { symbols = symbols; privates = x.plan.privates; loop_name = Some x.loop.head.variable.name; line = x.loop.line }
+range_places symbols x = record {
+  symbols = symbols;
+  privates = x.plan.privates;
+  loop_name = Some x.loop.head.variable.name;
+  line = x.loop.line;
+}
 
 -- the records of the PRINTs in a range
 abbrev pub range_records : List Symbol → Planned → List (List Part)
@@ -90,7 +99,9 @@ range_awaits symbols x = block_awaits (range_places symbols x) none_open x.plan.
 
 -- an iteration of loop n; r, w: how many records and awaits stand before
 abbrev pub range_code : List Symbol → (n r w : ℕ) → Planned → List Instr
-range_code symbols n r w x = block_code (range_places symbols x) none_open r w x.plan.body ++ instr x.loop.line (Retire (short n)) ∷ []
+range_code symbols n r w x =
+    block_code (range_places symbols x) none_open r w x.plan.body
+    ++ instr x.loop.line (Retire (short n)) ∷ []
 
 -- the number of a name among the symbols, that of the first being n
 abbrev pub place_of_name : ℕ → List Symbol → List ℕ → ℕ
@@ -114,7 +125,9 @@ module _ (symbols : List Symbol) where
   -- the code of an iteration of each of these loops, the first of which is loop n
   abbrev pub ranges_code : (n r w : ℕ) → List Planned → List Instr
   ranges_code n r w [] = []
-  ranges_code n r w (x ∷ xs) = range_code symbols n r w x ++ ranges_code (n + 1) (r + length (range_records symbols x)) (w + length (range_awaits symbols x)) xs
+  ranges_code n r w (x ∷ xs) =
+      range_code symbols n r w x ++ ranges_code (n + 1) (r + length (range_records symbols x))
+      (w + length (range_awaits symbols x)) xs
 
   -- the records that they print
   abbrev pub ranges_records : List Planned → List (List Part)
@@ -130,7 +143,8 @@ module _ (symbols : List Symbol) where
   abbrev pub ranges_loops : (place n r w : ℕ) → List Planned → List machine.Loop
   ranges_loops place n r w [] = []
   ranges_loops place n r w (x ∷ xs) =
-      loop_entry symbols place x ∷ ranges_loops (place + length (range_code symbols n r w x)) (n + 1) (r + length (range_records symbols x)) (w + length (range_awaits symbols x)) xs
+      loop_entry symbols place x ∷ ranges_loops (place + length (range_code symbols n r w x))
+      (n + 1) (r + length (range_records symbols x)) (w + length (range_awaits symbols x)) xs
 
 -- ---- the whole
 
@@ -161,7 +175,9 @@ room_of t = max (block_room (plain_block t.block)) (block_loops (plain_block t.b
 -- the code of a program would be too long: it has more instructions or wants more room, or the
 -- program has more symbols
 abbrev pub IsTooLong : ProgramTree → List Planned → Type 0
-IsTooLong t xs = (most_instructions < length (all_code t xs)) ⊎ ((most_room ≤ room_of t) ⊎ (most_symbols < length t.symbols))
+IsTooLong t xs =
+    (most_instructions < length (all_code t xs))
+    ⊎ ((most_room ≤ room_of t) ⊎ (most_symbols < length t.symbols))
 
 -- a program has no code with these loops opened: it would be too long, and no line is at fault
 abbrev pub RefusesWith : ProgramTree → List Planned → Refusal → Type 0
@@ -182,7 +198,8 @@ pub record IsCodeOf (t : ProgramTree) (xs : List Planned) (code : Code) : Type 0
   pub instructions : code.instructions ≡ all_code t xs
   pub records : code.records ≡ all_records t xs
   pub awaits : code.awaits ≡ ranges_awaits t.symbols xs
-  pub loops : code.loops ≡ ranges_loops t.symbols (length (main_code t xs)) 0 (length (main_records t xs)) 0 xs
+  pub loops : code.loops
+      ≡ ranges_loops t.symbols (length (main_code t xs)) 0 (length (main_records t xs)) 0 xs
   pub variables : HasVariables code t.symbols
   pub distinct : are_distinct (names_in code.variables) ≡ true
   pub laid : are_laid 0 code.variables ≡ true

@@ -11,7 +11,9 @@ use Rattle.codegen.specs.declared.programs.Compiled.{Compiled}
 -- it is the program's, with the loops opened whose reports have a plan with a body: those that may
 -- be open
 abbrev pub IsOpened : ProgramTree → Compiled → Type 0
-IsOpened t c = AreOpened t (opened_of t c.reports.items) × IsCodeOf t (opened_of t c.reports.items) (code_of c.code)
+IsOpened t c =
+    AreOpened t (opened_of t c.reports.items)
+    × IsCodeOf t (opened_of t c.reports.items) (code_of c.code)
 
 -- every state of every run stands where the run alone stands
 abbrev pub StatesAreAlone : ProgramTree → Compiled → Type 0

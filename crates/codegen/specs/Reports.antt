@@ -1,5 +1,6 @@
 -- What is reported of a program's loops.
-use Rattle.std.specs.Prelude.{◌≡◌, ◌==◌, ◌+◌, ⊤, ℕ, Bool, if◌then◌else◌, List, [], ◌∷◌, ◌++◌, map, Option, Some, None, slice_get}
+use Rattle.std.specs.Prelude.{◌≡◌, ◌==◌, ◌+◌, ⊤, ℕ, Bool, if◌then◌else◌, List}
+use Rattle.std.specs.Prelude.{[], ◌∷◌, ◌++◌, map, Option, Some, None, slice_get}
 use Rattle.ast.specs.Program.{ProgramTree}
 use Rattle.dependence.specs.Plan.{PlanTree}
 use Rattle.dependence.specs.PlanView.{plan_of}
@@ -32,7 +33,8 @@ abbrev pub kept_line : List ℕ → List ℕ → Kept → ℕ × ℕ × ℕ
 kept_line lines sources k = (event_of 1 sources k.source, k.distance, line_at lines k.sink)
 
 -- the report of a loop with this line, by what placement gives for it
-pub record IsReport (lines : List ℕ) (line : ℕ) (placed : Placed) (report : LoopReport) : Type 0 where
+pub record IsReport (lines : List ℕ) (line : ℕ) (placed : Placed)
+    (report : LoopReport) : Type 0 where
   pub line_is : report.line ≡ line
   pub plan_is : report.plan ≡ placed.plan
   pub sources_are : report.sources.items ≡ map (line_at lines) placed.sources.items
@@ -40,7 +42,8 @@ pub record IsReport (lines : List ℕ) (line : ℕ) (placed : Placed) (report : 
 
 -- A report of what placement gives for a loop of a program with these loops; the check of plans
 -- accepts it.
-pub record IsPlacedReport (all : List Loop) (lines : List ℕ) (l : Loop) (report : LoopReport) : Type 0 where
+pub record IsPlacedReport (all : List Loop) (lines : List ℕ) (l : Loop)
+    (report : LoopReport) : Type 0 where
   pub inside : Bool
   pub is_inside : IsInside (loops_around all l) inside
   pub placed : Placed

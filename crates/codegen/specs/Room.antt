@@ -1,8 +1,10 @@
 -- How much room statements want. What stands behind an ELSE counts as well: a loop there may be
 -- opened.
 use Rattle.std.specs.Prelude.{ℕ, ◌+◌, max, List, [], ◌∷◌, Option, Some, None}
-use Rattle.ast.specs.Tree.{Term, Access, accessed, PrintItem, value_item, text_item, DoHead, Kind, assign, print, read}
-use Rattle.dependence.specs.Plan.{PlanNode, plain, loop, choose, PlanBlock, no_nodes, then_node, PlanArms, no_arms, made_else, then_arm}
+use Rattle.ast.specs.Tree.{Term, Access, accessed, PrintItem, value_item}
+use Rattle.ast.specs.Tree.{text_item, DoHead, Kind, assign, print, read}
+use Rattle.dependence.specs.Plan.{PlanNode, plain, loop, choose, PlanBlock, no_nodes}
+use Rattle.dependence.specs.Plan.{then_node, PlanArms, no_arms, made_else, then_arm}
 use Rattle.expr_code.specs.Computes.{operands}
 
 abbrev pub items_room : List PrintItem → ℕ

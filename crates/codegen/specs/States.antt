@@ -27,16 +27,20 @@ pub record IsAlone (code : Code) (input : List ℕ) (m : Machine) : Type 0 where
 
 -- Iteration k stands where it stands alone, on the store that those before it leave, and has
 -- printed the same; where what it does next is a load, its cell holds what is loaded alone.
-pub record StandsAlone (code : Code) (l : Open) (k : ℕ) (σ : StoreOf) (a : Active Frame) (m : Machine) : Type 0 where
+pub record StandsAlone (code : Code) (l : Open) (k : ℕ) (σ : StoreOf) (a : Active Frame)
+    (m : Machine) : Type 0 where
   pub steps : ℕ
   pub own : Own Frame
-  pub is : own ≡ own_after Frame Open (view code) steps (begun Frame Open (view code) (begin code) l k σ)
+  pub is :
+      own ≡ own_after Frame Open (view code) steps (begun Frame Open (view code) (begin code) l k σ)
   pub frame : own.frame ≡ a.frame
   pub out : own.out ≡ a.out
-  pub loads : (c : Cell) (φ : ℤ → Frame) → view code a.frame ≡ loading c φ → own.store c.name c.place ≡ m.store c.name c.place
+  pub loads : (c : Cell) (φ : ℤ → Frame) → view code a.frame ≡ loading c φ
+      → own.store c.name c.place ≡ m.store c.name c.place
 
 -- A loop is open: `opening` is the state of the run alone in which it has just been opened.
-pub record IsWithin (t : ProgramTree) (code : Code) (xs : List Planned) (input : List ℕ) (l : Open) (m : Machine) : Type 0 where
+pub record IsWithin (t : ProgramTree) (code : Code) (xs : List Planned) (input : List ℕ)
+    (l : Open) (m : Machine) : Type 0 where
   pub opening : Machine
   pub alone : Alone code input opening
   pub loop : opening.loop ≡ Some l
@@ -45,20 +49,29 @@ pub record IsWithin (t : ProgramTree) (code : Code) (xs : List Planned) (input :
   pub unread : opening.input ≡ m.input
   -- Of the first iterations all retire, one after another, or one is the first that breaks off;
   -- then the sequential program ends so.
-  pub fates : (n : ℕ) → n ≤ l.trips → AllRetire Frame Open (view code) (begin code) l n opening.store ⊎ ((b : Cause) × BreaksOff Frame Open (view code) (begin code) l n opening.store b × ((seq t input).end ≡ end_of b))
+  pub fates : (n : ℕ) → n ≤ l.trips
+      → AllRetire Frame Open (view code) (begin code) l n opening.store
+      ⊎ ((b : Cause) × BreaksOff Frame Open (view code) (begin code) l n opening.store b
+      × ((seq t input).end ≡ end_of b))
   -- each open iteration up to that one
-  pub iterations : (k : ℕ) (a : Active Frame) (σ : StoreOf) → m.iterations k ≡ Some a → Before Frame Open (view code) (begin code) l k 0 opening.store σ → StandsAlone code l k σ a m
+  pub iterations : (k : ℕ) (a : Active Frame) (σ : StoreOf) → m.iterations k ≡ Some a
+      → Before Frame Open (view code) (begin code) l k 0 opening.store σ
+      → StandsAlone code l k σ a m
   -- the lowest iteration that hasn't retired never waits: where it is parked, that is reached,
   pub lowest : (w : Wait) → m.parked m.retired ≡ Some w → Reached m w
   -- since the count of each event that the body names has reached its number
-  pub counts : (x : Planned) (e d : ℕ) → slice_get xs l.number ≡ Some x → Names x.plan e d → m.retired ≤ m.counts e
+  pub counts : (x : Planned) (e d : ℕ) → slice_get xs l.number ≡ Some x → Names x.plan e d
+      → m.retired ≤ m.counts e
 
 -- What holds of a state of a run, by whether a loop is open in it.
-pub record AsAlone (t : ProgramTree) (code : Code) (xs : List Planned) (input : List ℕ) (m : Machine) : Type 0 where
+pub record AsAlone (t : ProgramTree) (code : Code) (xs : List Planned) (input : List ℕ)
+    (m : Machine) : Type 0 where
   pub outside : m.loop ≡ None → IsAlone code input m
   pub inside : (l : Open) → m.loop ≡ Some l → IsWithin t code xs input l m
 
 -- For all inputs, processors, open iterations and runs; xs: the loops that are opened, with their
 -- plans.
 abbrev pub AreAsAlone : ProgramTree → Code → List Planned → Type 0
-AreAsAlone t code xs = (input : List ℕ) (p s : ℕ) (qs : List ℕ) (m : Machine) → AreSizes p s → CodeRun code s p (Init code input) qs m → AsAlone t code xs input m
+AreAsAlone t code xs =
+    (input : List ℕ) (p s : ℕ) (qs : List ℕ) (m : Machine)
+    → AreSizes p s → CodeRun code s p (Init code input) qs m → AsAlone t code xs input m

@@ -1,23 +1,31 @@
 -- The command lines of the program, as clap reads them.
-use Rattle.std.specs.Prelude.{◌≡◌, ◌≢◌, ◌<◌, ◌≤◌, ◌^◌, ⊤, ◌⊎◌, ℕ, Bool, true, false, codes, List, [], ◌∷◌, Option, Some, None, option_map}
+use Rattle.std.specs.Prelude.{◌≡◌, ◌≢◌, ◌<◌, ◌≤◌, ◌^◌, ⊤, ◌⊎◌, ℕ, Bool, true, false}
+use Rattle.std.specs.Prelude.{codes, List, [], ◌∷◌, Option, Some, None, option_map}
 use Rattle.std.specs.Str.Parse.{IsNumeral, digits_value, without_leading_plus}
-use Rattle.clap.specs.Words.{App, app_of, IsAmong, Row, Rule, Text, fault_of, first_of, kind_of, new_app, new_rule, one_of, subcommand_of, with_rule, with_subcommand}
+use Rattle.clap.specs.Words.{App, app_of, IsAmong, Row, Rule, Text, fault_of, first_of, kind_of}
+use Rattle.clap.specs.Words.{new_app, new_rule, one_of, subcommand_of, with_rule, with_subcommand}
 use Rattle.clap.specs.declared.builder.command.Command.{Command as ClapCommand}
 use Rattle.clap.specs.declared.builder.command.Command.TheViews.{out-Command as fields_of}
 use Rattle.clap.specs.declared.error.Error.{Error}
-use Rattle.clap.specs.declared.error.kind.ErrorKind.TheVariants.{DisplayHelp, DisplayVersion, OutOfMemory}
+use Rattle.clap.specs.declared.error.kind.ErrorKind.TheVariants.{DisplayHelp, DisplayVersion}
+use Rattle.clap.specs.declared.error.kind.ErrorKind.TheVariants.{OutOfMemory}
 use Rattle.clap.specs.declared.builder.action.ArgAction.TheVariants.{Set, SetTrue}
 use Rattle.explanations.specs.Explained.{is_explained, is_within}
 use Rattle.command_line.specs.declared.command.Command.{Command}
-use Rattle.command_line.specs.declared.command.Command.TheVariants.{Check, ListLoops, ShowCode, Seq, Run, Model, Replay, Upgrade, Draw, Timeline, Explain, ExplainSerial}
+use Rattle.command_line.specs.declared.command.Command.TheVariants.{Check, ListLoops, ShowCode}
+use Rattle.command_line.specs.declared.command.Command.TheVariants.{Seq, Run, Model, Replay}
+use Rattle.command_line.specs.declared.command.Command.TheVariants.{Upgrade, Draw, Timeline}
+use Rattle.command_line.specs.declared.command.Command.TheVariants.{Explain, ExplainSerial}
 use Rattle.command_line.specs.declared.matches.LineFault.{LineFault}
-use Rattle.command_line.specs.declared.matches.LineFault.TheVariants.{Help, Mistake, NoCommand, NoSuchNumber, NoSize, NoPortion, Memory}
+use Rattle.command_line.specs.declared.matches.LineFault.TheVariants.{Help, Mistake, NoCommand}
+use Rattle.command_line.specs.declared.matches.LineFault.TheVariants.{NoSuchNumber, NoSize}
+use Rattle.command_line.specs.declared.matches.LineFault.TheVariants.{NoPortion, Memory}
 use Rattle.command_line.specs.declared.command.Drawing.{Drawing}
 use Rattle.command_line.specs.declared.command.Modelled.{Modelled}
 use Rattle.command_line.specs.declared.command.TextFiles.{TextFiles}
 use Rattle.command_line.specs.declared.command.Threaded.{Threaded}
-use Rattle.pages.specs.declared.status.Status.{Status}
-use Rattle.pages.specs.declared.status.Status.TheVariants as statuses
+use Rattle.command_output.specs.declared.status.Status.{Status}
+use Rattle.command_output.specs.declared.status.Status.TheVariants as statuses
 
 -- an argument that can't be done without
 abbrev pub needed : Text → Rule
@@ -120,20 +128,26 @@ seq = with_rule (with_rule (with_rule (new_app (codes "seq")) source) input) sto
 -- run F INPUT, with -p, -s, --schedule, --store and --tally
 abbrev pub run : App
 run =
-    with_rule (with_rule (with_rule (with_rule (with_rule (with_rule (with_rule (new_app (codes "run")) source) input) processors) slots) schedule_out) store) tally
+    with_rule (with_rule (with_rule (with_rule (with_rule (with_rule
+    (with_rule (new_app (codes "run")) source) input) processors) slots) schedule_out) store) tally
 
 -- model F INPUT, with -p, -s, --most and --schedule
 abbrev pub model : App
 model =
-    with_rule (with_rule (with_rule (with_rule (with_rule (with_rule (new_app (codes "model")) source) input) processors) slots) most) schedule_out
+    with_rule (with_rule (with_rule (with_rule (with_rule
+    (with_rule (new_app (codes "model")) source) input) processors) slots) most) schedule_out
 
 -- replay F INPUT SCHEDULE, with --states
 abbrev pub replay : App
-replay = with_rule (with_rule (with_rule (with_rule (new_app (codes "replay")) source) whole_input) schedule) states
+replay =
+    with_rule (with_rule
+    (with_rule (with_rule (new_app (codes "replay")) source) whole_input) schedule) states
 
 -- upgrade F INPUT SCHEDULE OUT
 abbrev pub upgrade : App
-upgrade = with_rule (with_rule (with_rule (with_rule (new_app (codes "upgrade")) source) whole_input) schedule) out
+upgrade =
+    with_rule
+    (with_rule (with_rule (with_rule (new_app (codes "upgrade")) source) whole_input) schedule) out
 
 -- code F
 abbrev pub code : App
@@ -141,11 +155,15 @@ code = with_rule (new_app (codes "code")) source
 
 -- draw F OUT, with --loop and --iterations
 abbrev pub draw : App
-draw = with_rule (with_rule (with_rule (with_rule (new_app (codes "draw")) source) out) loop_number) iterations
+draw =
+    with_rule
+    (with_rule (with_rule (with_rule (new_app (codes "draw")) source) out) loop_number) iterations
 
 -- timeline F INPUT SCHEDULE OUT
 abbrev pub timeline : App
-timeline = with_rule (with_rule (with_rule (with_rule (new_app (codes "timeline")) source) whole_input) schedule) out
+timeline =
+    with_rule
+    (with_rule (with_rule (with_rule (new_app (codes "timeline")) source) whole_input) schedule) out
 
 -- explain N REASON
 abbrev pub explain : App
@@ -153,7 +171,8 @@ explain = with_rule (with_rule (new_app (codes "explain")) number) reason
 
 -- a command that wants one of its subcommands, and has a version
 abbrev pub wants_subcommand : App → App
-wants_subcommand a = record a { top = record a.top { subcommand_required = true; has_version = true } }
+wants_subcommand a =
+    record a { top = record a.top { subcommand_required = true; has_version = true } }
 
 -- a command with these subcommands, the last of them first
 abbrev pub with_subcommands : List App → App → App
@@ -163,7 +182,8 @@ with_subcommands (x ∷ xs) a = with_subcommand (with_subcommands xs a) x.top
 -- the program, with its subcommands
 abbrev pub doac : App
 doac =
-    with_subcommands (explain ∷ code ∷ timeline ∷ draw ∷ upgrade ∷ replay ∷ model ∷ run ∷ seq ∷ list ∷ check ∷ [])
+    with_subcommands
+    (explain ∷ code ∷ timeline ∷ draw ∷ upgrade ∷ replay ∷ model ∷ run ∷ seq ∷ list ∷ check ∷ [])
     (wants_subcommand (new_app (codes "doac")))
 
 -- a command of clap's reads these words
@@ -177,22 +197,27 @@ pub record IsLine (app : App) (c : ClapCommand) : Type 0 where
 
 -- what clap makes of a flag
 abbrev pub IsFlag : Bool → Option Text → Type 0
-IsFlag flag given = (given ≡ Some (codes "true") → flag ≡ true) × (given ≡ Some (codes "false") → flag ≡ false) × (given ≡ None → flag ≡ false)
+IsFlag flag given =
+    (given ≡ Some (codes "true") → flag ≡ true) × (given ≡ Some (codes "false") → flag ≡ false)
+    × (given ≡ None → flag ≡ false)
 
 -- a text writes an explained number, where a plus sign may stand first
 abbrev pub IsNumber : ℕ → Text → Type 0
 IsNumber n text =
-    IsNumeral 10 (without_leading_plus text) × (digits_value 10 (without_leading_plus text) ≡ n) × (is_explained n ≡ true)
+    IsNumeral 10 (without_leading_plus text) × (digits_value 10 (without_leading_plus text) ≡ n)
+    × (is_explained n ≡ true)
 
 -- a text writes the number of a reason, where a plus sign may stand first
 abbrev pub IsReason : ℕ → Text → Type 0
 IsReason n text =
-    IsNumeral 10 (without_leading_plus text) × (digits_value 10 (without_leading_plus text) ≡ n) × (is_within 1 6 n ≡ true)
+    IsNumeral 10 (without_leading_plus text) × (digits_value 10 (without_leading_plus text) ≡ n)
+    × (is_within 1 6 n ≡ true)
 
 -- a text writes a number that 64 bits hold, where a plus sign may stand first
 abbrev pub IsSize : ℕ → Text → Type 0
 IsSize n text =
-    IsNumeral 10 (without_leading_plus text) × (digits_value 10 (without_leading_plus text) ≡ n) × (n < 2 ^ 64)
+    IsNumeral 10 (without_leading_plus text)
+    × (digits_value 10 (without_leading_plus text) ≡ n) × (n < 2 ^ 64)
 
 -- the number of an option, or another one where it isn't given
 abbrev pub IsSizeOf : Option Text → (default n : ℕ) → Type 0
@@ -260,25 +285,33 @@ pub record HoldsDrawing (values : List Row) (d : Drawing) : Type 0 where
 
 -- the subcommand's name and the values of its arguments are a command's
 abbrev pub Holds : Text → List Row → Command → Type 0
-Holds name values (Check source) = (name ≡ codes "check") × (first_of (codes "F") values ≡ Some source.now)
+Holds name values (Check source) =
+    (name ≡ codes "check") × (first_of (codes "F") values ≡ Some source.now)
 Holds name values (ListLoops source why) =
-    (name ≡ codes "list") × (first_of (codes "F") values ≡ Some source.now) × IsFlag why (one_of (codes "why") values)
-Holds name values (ShowCode source) = (name ≡ codes "code") × (first_of (codes "F") values ≡ Some source.now)
+    (name ≡ codes "list") × (first_of (codes "F") values ≡ Some source.now)
+    × IsFlag why (one_of (codes "why") values)
+Holds name values (ShowCode source) =
+    (name ≡ codes "code") × (first_of (codes "F") values ≡ Some source.now)
 Holds name values (Seq source input store) =
     (name ≡ codes "seq") × (first_of (codes "F") values ≡ Some source.now)
-    × (first_of (codes "INPUT") values ≡ option_map (λ i. i.now) input) × IsFlag store (one_of (codes "store") values)
+    × (first_of (codes "INPUT") values ≡ option_map (λ i. i.now) input)
+    × IsFlag store (one_of (codes "store") values)
 Holds name values (Run t) = (name ≡ codes "run") × HoldsRun values t
 Holds name values (Model m) = (name ≡ codes "model") × HoldsModel values m
 Holds name values (Replay files states) =
-    (name ≡ codes "replay") × HoldsTexts values files × IsFlag states (one_of (codes "states") values)
+    (name ≡ codes "replay") × HoldsTexts values files
+    × IsFlag states (one_of (codes "states") values)
 Holds name values (Upgrade files out) =
-    (name ≡ codes "upgrade") × HoldsTexts values files × (first_of (codes "OUT") values ≡ Some out.now)
+    (name ≡ codes "upgrade") × HoldsTexts values files
+    × (first_of (codes "OUT") values ≡ Some out.now)
 Holds name values (Draw drawing) = (name ≡ codes "draw") × HoldsDrawing values drawing
 Holds name values (Timeline files out) =
-    (name ≡ codes "timeline") × HoldsTexts values files × (first_of (codes "OUT") values ≡ Some out.now)
+    (name ≡ codes "timeline") × HoldsTexts values files
+    × (first_of (codes "OUT") values ≡ Some out.now)
 Holds name values (Explain None) = (name ≡ codes "explain") × (first_of (codes "N") values ≡ None)
 Holds name values (Explain (Some number)) =
-    (name ≡ codes "explain") × (text : Text) × (first_of (codes "N") values ≡ Some text) × IsNumber number text × (first_of (codes "REASON") values ≡ None)
+    (name ≡ codes "explain") × (text : Text) × (first_of (codes "N") values ≡ Some text)
+    × IsNumber number text × (first_of (codes "REASON") values ≡ None)
 Holds name values (ExplainSerial reason) =
     (name ≡ codes "explain") × (first_of (codes "N") values ≡ Some (codes "serial"))
     × ((text : Text) × (first_of (codes "REASON") values ≡ Some text) × IsReason reason text)
@@ -295,11 +328,15 @@ Names words command = (fault_of doac words ≡ []) × HeldIn (subcommand_of doac
 -- the subcommand is none of the program's, or lacks a file that it can't do without
 abbrev pub Lacks : Text → List Row → Type 0
 Lacks name values =
-    (((name ≡ codes "check") ⊎ ((name ≡ codes "list") ⊎ ((name ≡ codes "seq") ⊎ ((name ≡ codes "run") ⊎ ((name ≡ codes "code") ⊎ (name ≡ codes "model")))))) → first_of (codes "F") values ≡ None)
+    (((name ≡ codes "check") ⊎ ((name ≡ codes "list") ⊎ ((name ≡ codes "seq")
+    ⊎ ((name ≡ codes "run") ⊎ ((name ≡ codes "code") ⊎ (name ≡ codes "model"))))))
+    → first_of (codes "F") values ≡ None)
     × (name ≡ codes "replay" → LacksOne (codes "F" ∷ codes "INPUT" ∷ codes "SCHEDULE" ∷ []) values)
-    × (name ≡ codes "upgrade" → LacksOne (codes "F" ∷ codes "INPUT" ∷ codes "SCHEDULE" ∷ codes "OUT" ∷ []) values)
+    × (name ≡ codes "upgrade"
+    → LacksOne (codes "F" ∷ codes "INPUT" ∷ codes "SCHEDULE" ∷ codes "OUT" ∷ []) values)
     × (name ≡ codes "draw" → LacksOne (codes "F" ∷ codes "OUT" ∷ []) values)
-    × (name ≡ codes "timeline" → LacksOne (codes "F" ∷ codes "INPUT" ∷ codes "SCHEDULE" ∷ codes "OUT" ∷ []) values)
+    × (name ≡ codes "timeline"
+    → LacksOne (codes "F" ∷ codes "INPUT" ∷ codes "SCHEDULE" ∷ codes "OUT" ∷ []) values)
     × (name ≡ codes "explain" → ⊥)
 
 -- the words behind `explain` name nothing that is explained: one alone no explained number, two no
@@ -312,17 +349,22 @@ NamesNothing word (Some text) = word ≡ codes "serial" → (n : ℕ) → IsReas
 abbrev pub AsksInVain : Text → List Row → Type 0
 AsksInVain name values =
     (name ≡ codes "explain")
-    × ((word : Text) × (first_of (codes "N") values ≡ Some word) × NamesNothing word (first_of (codes "REASON") values))
+    × ((word : Text) × (first_of (codes "N") values ≡ Some word)
+    × NamesNothing word (first_of (codes "REASON") values))
 
 -- the subcommand is to run code, and one of its numbers is none
 abbrev pub HasNoNumber : Text → List Row → Type 0
 HasNoNumber name values =
-    ((name ≡ codes "run") × (HasNoSize (first_of (codes "p") values) ⊎ HasNoSize (first_of (codes "s") values)))
-    ⊎ ((name ≡ codes "model") × (HasNoSize (first_of (codes "p") values) ⊎ (HasNoSize (first_of (codes "s") values) ⊎ HasNoSize (first_of (codes "most") values))))
+    ((name ≡ codes "run")
+    × (HasNoSize (first_of (codes "p") values) ⊎ HasNoSize (first_of (codes "s") values)))
+    ⊎ ((name ≡ codes "model") × (HasNoSize (first_of (codes "p") values)
+    ⊎ (HasNoSize (first_of (codes "s") values) ⊎ HasNoSize (first_of (codes "most") values))))
 
 -- the subcommand is to draw a loop, and one of its numbers is none
 abbrev pub HasNoPortion : Text → List Row → Type 0
-HasNoPortion name values = (name ≡ codes "draw") × (HasNoSize (first_of (codes "loop") values) ⊎ HasNoCount (first_of (codes "iterations") values))
+HasNoPortion name values =
+    (name ≡ codes "draw") × (HasNoSize (first_of (codes "loop") values)
+    ⊎ HasNoCount (first_of (codes "iterations") values))
 
 -- why what clap found is no command
 abbrev pub HoldsNone : Text → List Row → LineFault → Type 0
@@ -356,10 +398,13 @@ MadeOf error Memory = kind_of error ≡ OutOfMemory
 abbrev pub NamesNone : List Text → LineFault → Type 0
 NamesNone words (Help e) = IsHelp e × IsAmong (kind_of e) (fault_of doac words)
 NamesNone words (Mistake e) = (IsHelp e → ⊥) × IsAmong (kind_of e) (fault_of doac words)
-NamesNone words NoCommand = (fault_of doac words ≡ []) × HeldInNone (subcommand_of doac words) NoCommand
-NamesNone words NoSuchNumber = (fault_of doac words ≡ []) × HeldInNone (subcommand_of doac words) NoSuchNumber
+NamesNone words NoCommand =
+    (fault_of doac words ≡ []) × HeldInNone (subcommand_of doac words) NoCommand
+NamesNone words NoSuchNumber =
+    (fault_of doac words ≡ []) × HeldInNone (subcommand_of doac words) NoSuchNumber
 NamesNone words NoSize = (fault_of doac words ≡ []) × HeldInNone (subcommand_of doac words) NoSize
-NamesNone words NoPortion = (fault_of doac words ≡ []) × HeldInNone (subcommand_of doac words) NoPortion
+NamesNone words NoPortion =
+    (fault_of doac words ≡ []) × HeldInNone (subcommand_of doac words) NoPortion
 NamesNone words Memory = ⊤
 
 -- the exit status of words that name no command

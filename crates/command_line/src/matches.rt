@@ -11,8 +11,8 @@ ghost use Rattle.command_line.specs.declared.matches.LineFault.TheVariants.{NoSi
 use crate::command::{Command, Drawing, Modelled, TextFiles, Threaded};
 use clap::ArgMatches;
 use clap::error::ErrorKind;
+use command_output::Status;
 use explanations::explain::{is_explained, is_reason};
-use pages::Status;
 use std::alloc::AllocError;
 use thiserror::Error;
 

@@ -183,8 +183,8 @@ fn with<'a>(
     argument: Arg<'a>,
 ) -> Result<clap::Command<'a>, AllocError>
     requires { argument.global ≡ false }
-    ensures { (app : App) (rule : Rule) → IfOk line.entry (IsLine app) → rule_of argument.entry ≡ rule
-        → IfOk result (IsLine (with_rule app rule)) }
+    ensures { (app : App) (rule : Rule) → IfOk line.entry (IsLine app)
+        → rule_of argument.entry ≡ rule → IfOk result (IsLine (with_rule app rule)) }
 {
     line?.arg(argument)
 }

@@ -1,7 +1,8 @@
 -- An account of the code: whether there is a READ in a range, and whether the variables of the
 -- loops inside are among names.
 use Rattle.std.specs.Prelude.{Bool, true, false, ◌&&◌, ◌||◌, ℕ, List}
-use Rattle.ast.specs.Tree.{Node, plain, loop, choose, Block, no_nodes, then_node, Arms, no_arms, then_arm}
+use Rattle.ast.specs.Tree.{Node, plain, loop, choose, Block, no_nodes}
+use Rattle.ast.specs.Tree.{then_node, Arms, no_arms, then_arm}
 use Rattle.dependence.specs.Hiding.{has_name}
 use Rattle.dependence.specs.Kept.{is_read}
 

@@ -31,6 +31,8 @@ nth_form (f ∷ fs) (suc (suc n)) = nth_form fs (suc n)
 
 -- whether the test that a relation names gives it
 abbrev pub verified_by : Loop → List (Option Form) → List (Option Form) → Relation → Bool
-verified_by l fs gs (Apart n reason) = on_forms (nth_form fs n) (nth_form gs n) (λ f g. says_apart l reason f g)
-verified_by l fs gs (Distance n d) = on_forms (nth_form fs n) (nth_form gs n) (λ f g. is_only (by_distance l f g) d)
+verified_by l fs gs (Apart n reason) =
+    on_forms (nth_form fs n) (nth_form gs n) (λ f g. says_apart l reason f g)
+verified_by l fs gs (Distance n d) =
+    on_forms (nth_form fs n) (nth_form gs n) (λ f g. is_only (by_distance l f g) d)
 verified_by l fs gs Any = true

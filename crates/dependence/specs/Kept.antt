@@ -1,9 +1,11 @@
 -- Which dependences are kept, and which loops may be open.
-use Rattle.std.specs.Prelude.{◌≡◌, ◌≤◌, ℕ, ℤ, pos, Bool, true, false, ◌||◌, List, [], ◌∷◌, ◌++◌, length, map, Option, Some, None, ⊤}
+use Rattle.std.specs.Prelude.{◌≡◌, ◌≤◌, ℕ, ℤ, pos, Bool, true, false, ◌||◌, List}
+use Rattle.std.specs.Prelude.{[], ◌∷◌, ◌++◌, length, map, Option, Some, None, ⊤}
 use Rattle.std.specs.List.{Contains, list_any}
 use Rattle.std.specs.Ordering.{int_eq}
 use Rattle.ast.specs.Store.{same_name}
-use Rattle.ast.specs.Tree.{Ref, Kind, read, Node, plain, loop, choose, Block, no_nodes, then_node, Arms, no_arms, then_arm}
+use Rattle.ast.specs.Tree.{Ref, Kind, read, Node, plain, loop, choose, Block}
+use Rattle.ast.specs.Tree.{no_nodes, then_node, Arms, no_arms, then_arm}
 use Rattle.dependence.specs.Tests.{relation}
 use Rattle.dependence.specs.declared.relation.Relation.{Relation}
 use Rattle.dependence.specs.declared.relation.Relation.TheVariants.{Apart, Distance, Any}

@@ -1,5 +1,6 @@
 -- When two iterations may touch one element.
-use Rattle.std.specs.Prelude.{◌≡◌, ◌<◌, ℕ, ℤ, pos, ◌+ℤ◌, ◌*ℤ◌, ◌-◌, Bool, true, false, Option, Some, None, ⊤}
+use Rattle.std.specs.Prelude.{◌≡◌, ◌<◌, ℕ, ℤ, pos, ◌+ℤ◌, ◌*ℤ◌, ◌-◌}
+use Rattle.std.specs.Prelude.{Bool, true, false, Option, Some, None, ⊤}
 use Rattle.std.specs.Ordering.{int_eq}
 use Rattle.ast.specs.Tree.{Terms, no_terms, then_term}
 use Rattle.dependence.specs.declared.relation.Relation.{Relation}
@@ -13,7 +14,8 @@ use Rattle.subscripts.specs.Values.{MayBe}
 -- doesn't assign have the same values for both.
 abbrev pub MayAgree : Loop → (ℕ → ℤ) → ℤ → ℤ → Terms → Terms → Type 0
 MayAgree l held i j no_terms no_terms = ⊤
-MayAgree l held i j (then_term e es) (then_term f fs) = (v : ℤ) × MayBe l held i e v × MayBe l held j f v × MayAgree l held i j es fs
+MayAgree l held i j (then_term e es) (then_term f fs) =
+    (v : ℤ) × MayBe l held i e v × MayBe l held j f v × MayAgree l held i j es fs
 MayAgree l held i j _ _ = ⊥
 
 -- the step of the loop where that is a constant other than 0, otherwise any
@@ -29,7 +31,8 @@ pub record Meets (l : Loop) (a : Occurrence) (b : Occurrence) (k j : ℕ) : Type
   pub held : ℕ → ℤ
   pub name : a.ref.name ≡ b.ref.name
   pub is_step : IsStep l.step step
-  pub agree : MayAgree l held (first +ℤ (pos k *ℤ step)) (first +ℤ (pos j *ℤ step)) a.subscripts b.subscripts
+  pub agree : MayAgree l held (first +ℤ (pos k *ℤ step))
+      (first +ℤ (pos j *ℤ step)) a.subscripts b.subscripts
 
 -- an iteration is one of the loop's, as far as its trips are known
 abbrev pub IsWithin : Option ℕ → ℕ → Type 0

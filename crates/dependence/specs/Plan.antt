@@ -2,7 +2,8 @@
 use Rattle.std.specs.Prelude.{ℕ, List, [], ◌∷◌, Option, Some, None}
 use Rattle.ast.specs.Tree.{Term, DoHead, Statement}
 use Rattle.dependence.specs.declared.relation.Relation.{Relation}
-use Rattle.loop_tree.specs.Paths.{await, advance, PathSet, Just, Then, Either, AnyTimes, KindPaths, head_tokens, term_tokens}
+use Rattle.loop_tree.specs.Paths.{await, advance, PathSet, Just, Then, Either}
+use Rattle.loop_tree.specs.Paths.{AnyTimes, KindPaths, head_tokens, term_tokens}
 
 mutual
   -- a statement of a plan; an IF without an ELSE may have a made one
@@ -39,7 +40,8 @@ abbrev mutual
   PlanArmsPaths no_arms = Just []
   PlanArmsPaths (made_else b) = PlanPaths b
   PlanArmsPaths (then_arm l None b more) = PlanPaths b
-  PlanArmsPaths (then_arm l (Some e) b more) = Then (Just (term_tokens e)) (Either (PlanPaths b) (PlanArmsPaths more))
+  PlanArmsPaths (then_arm l (Some e) b more) =
+      Then (Just (term_tokens e)) (Either (PlanPaths b) (PlanArmsPaths more))
 
 -- a plan with a body: private names, and what is claimed of pairs of references
 pub record PlanTree : Type 0 where

@@ -3,7 +3,8 @@ use Rattle.std.specs.Prelude.{ℕ, List, [], ◌∷◌, map, Option, Some, None}
 use Rattle.ast.specs.Tree.{Term}
 use Rattle.ast.specs.View.{head, letters, optional_term, statement}
 use Rattle.dependence.specs.Plan as plan
-use Rattle.dependence.specs.Plan.{PlanNode, PlanBlock, PlanArms, PlanTree, no_nodes, then_node, no_arms, made_else, then_arm}
+use Rattle.dependence.specs.Plan.{PlanNode, PlanBlock, PlanArms, PlanTree, no_nodes}
+use Rattle.dependence.specs.Plan.{then_node, no_arms, made_else, then_arm}
 use Rattle.dependence.specs.Related.{relations as relations_of}
 use Rattle.dependence.specs.declared.plan.LoopPlan.{LoopPlan}
 use Rattle.dependence.specs.declared.plan.LoopPlan.TheVariants.{Serial, Body}
@@ -39,10 +40,12 @@ node_step (PlanStmt-F.Await e d) = plan.awaits e d
 node_step (PlanStmt-F.Advance e) = plan.advances e
 node_step (PlanStmt-F.Plain s) = plan.plain (statement s)
 node_step (PlanStmt-F.Loop l h b) = plan.loop l (head h) (block b.items)
-node_step (PlanStmt-F.Choice a made) = plan.choose (arms a.items (last_arm (nodes_of (λ v. v.items) made)))
+node_step (PlanStmt-F.Choice a made) =
+    plan.choose (arms a.items (last_arm (nodes_of (λ v. v.items) made)))
 
 abbrev pub arm_step : PlanArm-F PlanNode ArmOf → ArmOf
-arm_step a = record { line = a.line; condition = optional_term a.condition; body = block a.body.items }
+arm_step a =
+    record { line = a.line; condition = optional_term a.condition; body = block a.body.items }
 
 -- a statement of a plan
 abbrev pub plan_node : PlanStmt → PlanNode

@@ -1,7 +1,8 @@
 -- The numbers by which the reasons of serial loops are known.
 use Rattle.std.specs.Prelude.{ℕ}
 use Rattle.dependence.specs.declared.serial.SerialReason.{SerialReason}
-use Rattle.dependence.specs.declared.serial.SerialReason.TheVariants.{NoStep, Reads, SharedVariable, ManySources, Inside, Refused}
+use Rattle.dependence.specs.declared.serial.SerialReason.TheVariants.{NoStep, Reads, SharedVariable}
+use Rattle.dependence.specs.declared.serial.SerialReason.TheVariants.{ManySources, Inside, Refused}
 
 abbrev pub number_of : SerialReason → ℕ
 number_of NoStep = 1

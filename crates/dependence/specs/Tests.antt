@@ -1,11 +1,14 @@
 -- The four tests of two subscripts of one dimension: of a reference in an earlier iteration, with
 -- the form f, and of one in a later iteration, with the form g.
-use Rattle.std.specs.Prelude.{ℕ, ℤ, zero, suc, pos, ◌+◌, ◌-ℤ◌, ◌*ℤ◌, ◌%◌, int_div, int_rem, int_lt, nat_le, unsigned_abs, Bool, true, false, not, ◌&&◌, ◌==◌, if◌then◌else◌, List, [], ◌∷◌, ◌++◌, map, filter, Option, Some, None}
+use Rattle.std.specs.Prelude.{ℕ, ℤ, zero, suc, pos, ◌+◌, ◌-ℤ◌, ◌*ℤ◌, ◌%◌, int_div, int_rem}
+use Rattle.std.specs.Prelude.{int_lt, nat_le, unsigned_abs, Bool, true, false, not, ◌&&◌, ◌==◌}
+use Rattle.std.specs.Prelude.{if◌then◌else◌, List, [], ◌∷◌, ◌++◌, map, filter, Option, Some, None}
 use Rattle.std.specs.List.{list_any, list_all}
 use Rattle.std.specs.Ordering.{int_eq}
 use Rattle.ast.specs.Tree.{Term, Terms, no_terms, then_term}
 use Rattle.dependence.specs.declared.relation.Reason.{Reason}
-use Rattle.dependence.specs.declared.relation.Reason.TheVariants.{Constant, Divisor, Distance as NoDistance, Range}
+use Rattle.dependence.specs.declared.relation.Reason.TheVariants.{Constant, Divisor}
+use Rattle.dependence.specs.declared.relation.Reason.TheVariants.{Distance as NoDistance, Range}
 use Rattle.dependence.specs.declared.relation.Relation.{Relation}
 use Rattle.dependence.specs.declared.relation.Relation.TheVariants.{Apart, Distance, Any}
 use Rattle.dependence.specs.declared.relation.Found.{Found}
@@ -80,7 +83,9 @@ no_others l fs gs = list_all is_nothing (sizes (others fs (steady l gs)))
 
 -- no varying scalars, and equal shares of all others
 abbrev pub are_alike : Loop → Form → Form → Bool
-are_alike l f g = not (vary l f.shares) && (not (vary l g.shares) && (no_gaps l f.shares g.shares && no_others l f.shares g.shares))
+are_alike l f g =
+    not (vary l f.shares)
+    && (not (vary l g.shares) && (no_gaps l f.shares g.shares && no_others l f.shares g.shares))
 
 -- by how much the constant of f is above that of g
 abbrev pub difference : Form → Form → ℤ
@@ -88,7 +93,8 @@ difference f g = f.constant -ℤ g.constant
 
 -- without the loop's variable, and the constants differ
 abbrev pub are_constants : Form → Form → Bool
-are_constants f g = is_zero f.coefficient && (is_zero g.coefficient && not (int_eq f.constant g.constant))
+are_constants f g =
+    is_zero f.coefficient && (is_zero g.coefficient && not (int_eq f.constant g.constant))
 
 -- alike but for that
 abbrev pub by_constant : Loop → Form → Form → Bool
@@ -97,7 +103,8 @@ by_constant l f g = are_alike l f g && are_constants f g
 -- the numbers that the divisor test takes: all but the constants of two forms
 abbrev pub divided : Loop → Form → Form → List ℕ
 divided l f g =
-    unsigned_abs f.coefficient ∷ unsigned_abs g.coefficient ∷ (sizes (varying l f.shares) ++ (sizes (varying l g.shares) ++ differences l f g))
+    unsigned_abs f.coefficient ∷ unsigned_abs g.coefficient
+    ∷ (sizes (varying l f.shares) ++ (sizes (varying l g.shares) ++ differences l f g))
 
 -- whether a number other than 0 doesn't divide another
 abbrev pub leaves_rest : ℕ → ℕ → Bool
@@ -116,7 +123,9 @@ only_positive q = if int_lt (pos 0) q then Only (unsigned_abs q) else Nowhere
 
 -- the positive whole d with stride * d = n, where the stride isn't 0
 abbrev pub by_stride : ℤ → ℤ → Found
-by_stride n stride = if is_zero stride then Nothing else if is_zero (int_rem n stride) then only_positive (int_div n stride) else Nowhere
+by_stride n stride =
+    if is_zero stride then Nothing
+    else if is_zero (int_rem n stride) then only_positive (int_div n stride) else Nowhere
 
 -- the same by the loop's step, where it is constant, and the coefficient
 abbrev pub at_step : Option ℤ → ℤ → ℤ → Found
@@ -126,7 +135,9 @@ at_step (Some s) c n = by_stride n (c *ℤ s)
 -- Alike, equal coefficients, and a constant step; the product of these isn't 0, so neither is 0.
 abbrev pub by_distance : Loop → Form → Form → Found
 by_distance l f g =
-    if are_alike l f g && int_eq f.coefficient g.coefficient then at_step l.step f.coefficient (difference f g) else Nothing
+    if are_alike l f g && int_eq f.coefficient g.coefficient
+    then at_step l.step f.coefficient (difference f g)
+    else Nothing
 
 -- whether so many iterations apart are never two of the loop's, as far as its trips are known
 abbrev pub is_beyond : Option ℕ → ℕ → Bool
@@ -173,7 +184,8 @@ before Any rest = rest
 
 -- the relation by the dimensions from the nth on
 abbrev pub dimensions : Loop → ℕ → Terms → Terms → Relation
-dimensions l n (then_term e es) (then_term f fs) = before (dimension l n (form_of l e) (form_of l f)) (dimensions l (n + 1) es fs)
+dimensions l n (then_term e es) (then_term f fs) =
+    before (dimension l n (form_of l e) (form_of l f)) (dimensions l (n + 1) es fs)
 dimensions l n _ _ = Any
 
 -- The relation of a reference to one in a later iteration.
@@ -230,8 +242,10 @@ in_dimension l n es fs test = on_forms (form_at l es n) (form_at l fs n) test
 
 -- Whether the test that a relation names gives it; always where nothing is claimed.
 abbrev pub is_verified : Loop → Occurrence → Occurrence → Relation → Bool
-is_verified l a b (Apart n reason) = in_dimension l n a.subscripts b.subscripts (λ f g. says_apart l reason f g)
-is_verified l a b (Distance n d) = in_dimension l n a.subscripts b.subscripts (λ f g. is_only (by_distance l f g) d)
+is_verified l a b (Apart n reason) =
+    in_dimension l n a.subscripts b.subscripts (λ f g. says_apart l reason f g)
+is_verified l a b (Distance n d) =
+    in_dimension l n a.subscripts b.subscripts (λ f g. is_only (by_distance l f g) d)
 is_verified l a b Any = true
 
 -- nothing is claimed

@@ -1,10 +1,10 @@
 -- What making a text comes to, written.
 use Rattle.std.proofs.Common.{refl, ℕ, List, Option, Vec, inr}
 use Rattle.std.specs.Global.{Global}
-use Rattle.pages.specs.declared.page.Page.{Page}
-use Rattle.pages.specs.declared.status.Status.{Status}
+use Rattle.command_output.specs.declared.page.Page.{Page}
+use Rattle.command_output.specs.declared.status.Status.{Status}
 use Rattle.engines.specs.declared.made.Made.TheVariants.{Text, Shown}
-use Rattle.files.specs.Deeds.{Deed}
+use Rattle.named_files.specs.Deeds.{Deed}
 use Rattle.doac.specs.Deeds.{GivesFile}
 use Rattle.doac.specs.Making.{Allows, EndsMaking}
 use Rattle.doac.specs.Statuses.{Ends, IsPage}

@@ -1,7 +1,7 @@
 -- What follows once it is known whether a schedule's file may be written, and once it is written.
 use Rattle.std.proofs.Common.{◌≡◌, refl, ℕ, List, Option, Some, None, Result, Ok, Err, subst}
-use Rattle.files.specs.Deeds.{Deed}
-use Rattle.pages.specs.declared.status.Status.{Status}
+use Rattle.named_files.specs.Deeds.{Deed}
+use Rattle.command_output.specs.declared.status.Status.{Status}
 use Rattle.doac.specs.Deeds.{MayWrite, UnlessOnto, WroteFirst}
 use Rattle.doac.specs.Running.{WritesFirst}
 

@@ -1,13 +1,13 @@
 -- Files are read one after another, and what follows of that.
 use Rattle.std.proofs.Common.{◌≡◌, ◌∙◌, refl, ℕ, List, [], Option, Some, None, Result, Ok, Err, inl, inr, subst}
-use Rattle.files.specs.Deeds.{Compares, Deed, HasGiven, HasRead, Reads, noted}
-use Rattle.files.specs.declared.fault.FileFault.{FileFault}
-use Rattle.files.specs.declared.files.Clash.{Clash}
-use Rattle.files.specs.declared.files.Given.{Given}
-use Rattle.files.specs.declared.files.Unread.{Unread}
-use Rattle.pages.specs.declared.status.Status.{Status}
+use Rattle.named_files.specs.Deeds.{Compares, Deed, HasGiven, HasRead, Reads, noted}
+use Rattle.named_files.specs.declared.fault.FileFault.{FileFault}
+use Rattle.named_files.specs.declared.files.Clash.{Clash}
+use Rattle.named_files.specs.declared.files.Given.{Given}
+use Rattle.named_files.specs.declared.files.Unread.{Unread}
+use Rattle.command_output.specs.declared.status.Status.{Status}
 use Rattle.doac.specs.Deeds.{AfterCompare, AfterFile, AfterGiven, AfterTexts, ReadsFile, ReadsGiven, ReadsTexts, UnlessRead}
-use Rattle.pages.specs.declared.texts.Texts.{Texts}
+use Rattle.command_output.specs.declared.texts.Texts.{Texts}
 
 -- a file was read, and what is made of it goes on from there
 pub read_on : (name : List ℕ) (before mid after : Option (List Deed)) (old new : Option (List ℕ)) (status : Status) (made : Option (List Deed) → List ℕ → Type 0) (given : Result (List ℕ) FileFault)

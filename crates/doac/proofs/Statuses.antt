@@ -2,11 +2,11 @@
 use Rattle.std.proofs.Common.{◌≡◌, inl, ℕ, Bool, true, false, List, Option, Result, Ok, Err, subst, sym}
 use Rattle.std.proofs.KnownBytes.{Keeps-refl}
 use Rattle.ast.specs.ProgramView.{program as program_of}
-use Rattle.pages.specs.declared.fault.EngineFault.{EngineFault}
-use Rattle.pages.specs.declared.fault.EngineFault.TheVariants.{Source, Input, Schedule, Writing, Memory, OutOfRange, NotStarted, Stuck}
-use Rattle.pages.specs.declared.outcomes.Outcome.{Outcome}
-use Rattle.pages.specs.declared.outcomes.Outcome.TheVariants.{Completed, Refused, Faulted, NoSchedule}
-use Rattle.pages.specs.declared.status.Status.{Status}
+use Rattle.command_output.specs.declared.fault.EngineFault.{EngineFault}
+use Rattle.command_output.specs.declared.fault.EngineFault.TheVariants.{Source, Input, Schedule, Writing, Memory, OutOfRange, NotStarted, Stuck}
+use Rattle.command_output.specs.declared.outcomes.Outcome.{Outcome}
+use Rattle.command_output.specs.declared.outcomes.Outcome.TheVariants.{Completed, Refused, Faulted, NoSchedule}
+use Rattle.command_output.specs.declared.status.Status.{Status}
 use Rattle.engines.specs.Engines.{Checks, IsRefused, IsVerdict, Tells, Works}
 use Rattle.engines.specs.declared.verdict.Verdict.{Verdict}
 use Rattle.engines.specs.declared.verdict.Verdict.TheVariants as verdict

@@ -1,15 +1,15 @@
 //! `code`: what is made of a source.
 
 ghost use Rattle.engines.specs.Coded.{ShowsCode};
-ghost use Rattle.files.specs.Deeds.{got};
+ghost use Rattle.named_files.specs.Deeds.{got};
 ghost use Rattle.doac.specs.Commands.{OnSource};
 ghost use Rattle.doac.specs.Deeds.{AfterFile};
 ghost use Rattle.doac.specs.Statuses.{Ends};
 
 use crate::told::{refuse_file, tell};
+use command_output::Status;
 use engines::code_text;
-use files::{FileFault, NamedFiles};
-use pages::Status;
+use named_files::{FileFault, NamedFiles};
 use std::io::Write;
 
 /// Shows the code of the source of a file.

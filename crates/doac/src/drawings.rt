@@ -2,16 +2,16 @@
 
 ghost use Rattle.std.specs.Prelude.{◌≡◌};
 ghost use Rattle.engines.specs.Drawing.{Draws};
-ghost use Rattle.files.specs.Deeds.{got};
+ghost use Rattle.named_files.specs.Deeds.{got};
 ghost use Rattle.doac.specs.Deeds.{AfterCompare, AfterFile, ReadsFile};
 ghost use Rattle.doac.specs.Pictures.{DrawsFile, EndsDrawing};
 ghost use Rattle.doac.specs.Statuses.{Ends, IsPage};
 
 use crate::told::{give_file, refuse_file, refuse_out, tell};
 use command_line::Drawing;
+use command_output::{EngineFault, Page, Status};
 use engines::{Drawn, MOST_ARROWS, Portion, draw_text};
-use files::{Clash, FileFault, NamedFiles};
-use pages::{EngineFault, Page, Status};
+use named_files::{Clash, FileFault, NamedFiles};
 use places::Place;
 use std::io::Write;
 

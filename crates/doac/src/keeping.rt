@@ -1,12 +1,12 @@
 //! The file that is to have the schedule of a run, for `run` and `model`.
 
 ghost use Rattle.std.specs.Prelude.{◌≡◌, ◌∷◌, option_map};
-ghost use Rattle.files.specs.Deeds.{Compares, noted};
+ghost use Rattle.named_files.specs.Deeds.{Compares, noted};
 ghost use Rattle.doac.specs.Deeds.{MayWrite, WroteFirst, named};
 
 use crate::told::{refuse_out, refuse_write};
-use files::{Clash, NamedFiles};
-use pages::Status;
+use command_output::Status;
+use named_files::{Clash, NamedFiles};
 
 /// Why a file may not be written where the source's and the input's are read.
 fn clash_of<F: NamedFiles>(

@@ -6,9 +6,9 @@ ghost use Rattle.doac.specs.Making.{Allows, EndsMaking, MakesFiles};
 
 use crate::told::{give_file, refuse_file, refuse_out, show_page, tell_of};
 use command_line::TextFiles;
+use command_output::{EngineFault, Status, Texts};
 use engines::{Made, timeline_texts, upgrade_texts};
-use files::{Clash, NamedFiles, Unread, read_texts};
-use pages::{EngineFault, Status, Texts};
+use named_files::{Clash, NamedFiles, Unread, read_texts};
 use std::alloc::{AllocError, Global};
 use std::io::Write;
 

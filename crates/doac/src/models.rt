@@ -9,9 +9,9 @@ ghost use Rattle.doac.specs.Running.{Shown, WritesRun};
 use crate::keeping::{check_onto, write_first};
 use crate::told::{refuse_file, tell_ended, warn_of_names};
 use command_line::Modelled;
-use files::{Given, NamedFiles, Unread, read_given};
+use command_output::{EngineFault, Outcome, Status};
 use modelled::{Pace, Timing, model_texts};
-use pages::{EngineFault, Outcome, Status};
+use named_files::{Given, NamedFiles, Unread, read_given};
 use std::io::Write;
 
 /// Runs the source of a file in model time, if the file for its schedule may be written. Where the

@@ -6,9 +6,9 @@ ghost use Rattle.doac.specs.Statuses.{EndsReplay, WritesReplay};
 
 use crate::told::{refuse_file, tell_replay, warn_of_names, warn_of_run};
 use command_line::TextFiles;
+use command_output::{EngineFault, Outcome, Status, Texts};
 use engines::replay_texts;
-use files::{NamedFiles, Unread, read_texts};
-use pages::{EngineFault, Outcome, Status, Texts};
+use named_files::{NamedFiles, Unread, read_texts};
 use states::state_texts;
 use std::alloc::Global;
 use std::io::Write;

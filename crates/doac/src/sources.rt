@@ -2,18 +2,18 @@
 
 ghost use Rattle.std.specs.Prelude.{option_map};
 ghost use Rattle.engines.specs.Engines.{Checks};
-ghost use Rattle.files.specs.Deeds.{got};
+ghost use Rattle.named_files.specs.Deeds.{got};
 ghost use Rattle.doac.specs.Commands.{ListsFile, OnInput, OnSource};
 ghost use Rattle.doac.specs.Deeds.{AfterFile, AfterGiven};
 ghost use Rattle.doac.specs.Statuses.{Ends, EndsList, EndsSeq};
 
 use crate::told::{refuse_file, tell, tell_run, warn_of_names, warn_of_run};
+use command_output::{EngineFault, Status};
 use engines::{Prepared, Verdict, judged, prepare, seq_noted, tell_loops, tell_verdict};
-use files::{FileFault, Given, NamedFiles, Unread, read_given};
 use messages::tell_further;
-use pages::{EngineFault, Status};
+use named_files::{FileFault, Given, NamedFiles, Unread, read_given};
 use reasons::say_why_serial;
-use remarks::warn;
+use source_hints::warn;
 use std::io::Write;
 
 /// Checks the source of a file.

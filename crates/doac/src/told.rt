@@ -1,19 +1,19 @@
 //! What is said on standard error, and the exit status that goes with it.
 
 ghost use Rattle.std.specs.Prelude.{◌≡◌, OnErr, OnOk};
-ghost use Rattle.files.specs.Deeds.{file_status, unput};
+ghost use Rattle.named_files.specs.Deeds.{file_status, unput};
 ghost use Rattle.doac.specs.Deeds.{GivesFile, OfError, OfWrite, clash_status};
 ghost use Rattle.doac.specs.Statuses.{Ends, IsPage, OfPrint, exit_of};
 
 use command_line::TextFiles;
+use command_output::{EngineFault, Outcome, Page, Status, Texts};
 use engines::{Note, Sequential, known_of};
-use files::{Clash, FileFault, NamedFiles, STANDARD_INPUT};
 use messages::{LastRecord, Message};
-use pages::{EngineFault, Outcome, Page, Status, Texts};
+use named_files::{Clash, FileFault, NamedFiles, STANDARD_INPUT};
 use places::Place;
 use reasons::Met;
-use remarks::warn_of_columns;
 use schedules::Flaw;
+use source_hints::warn_of_columns;
 use std::io::{self, Write};
 
 /// Says that writing failed; where nobody reads any more nobody needs to know.

@@ -1,6 +1,7 @@
 -- The lists that a kernel keeps in `Links`: list 0 is the ready list, list 1 the free list, and the
 -- events' lists of waiters follow.
-use Rattle.std.specs.Prelude.{ℕ, ◌≡◌, ◌+◌, ◌<◌, List, [], ◌∷◌, ◌++◌, length, map, get_or, drop, take}
+use Rattle.std.specs.Prelude.{ℕ, ◌≡◌, ◌+◌, ◌<◌, List, [], ◌∷◌, ◌++◌}
+use Rattle.std.specs.Prelude.{length, map, get_or, drop, take}
 use Rattle.std.specs.List.{prefix_len, range_with_len}
 use Rattle.std.specs.Prelude.{Bool, nat_le, Option, Some, None, if◌then◌else◌}
 use Rattle.ready_list.specs.Lists.{Lists, IsLinked, list_at, with_list}

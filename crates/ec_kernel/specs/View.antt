@@ -1,5 +1,7 @@
 -- The kernel as its callers see it.
-use Rattle.std.specs.Prelude.{ℕ, ◌≡◌, ◌+◌, ◌<◌, ◌≤◌, ◌==◌, if◌then◌else◌, nat_le, List, [], ◌∷◌, ◌++◌, Option, Some, None, length, map, get_or, set, drop, replicate, take, Bool}
+use Rattle.std.specs.Prelude.{ℕ, ◌≡◌, ◌+◌, ◌<◌, ◌≤◌, ◌==◌, if◌then◌else◌, nat_le}
+use Rattle.std.specs.Prelude.{List, [], ◌∷◌, ◌++◌, Option, Some, None, length}
+use Rattle.std.specs.Prelude.{map, get_or, set, drop, replicate, take, Bool}
 use Rattle.std.specs.List.{range_with_len, prefix_len}
 
 -- a waiter is a value, at which it wakes, and a slot

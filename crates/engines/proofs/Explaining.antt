@@ -5,10 +5,10 @@ use Rattle.std.proofs.Math.Seq.{drop-cons}
 use Rattle.std.proofs.lemmas.List.{take-append-drop}
 use Rattle.std.specs.Prelude.{IfErr, IsErrAnd, OnOk}
 use Rattle.codegen.specs.declared.reports.LoopReport.{LoopReport}
-use Rattle.handing.specs.Handing.{AppendsPart, Begins, FallsShort}
-use Rattle.pages.specs.declared.fault.EngineFault.{EngineFault}
-use Rattle.pages.specs.declared.fault.EngineFault.TheVariants.{Source, Input, Schedule, Writing, Memory, OutOfRange, NotStarted, Stuck}
-use Rattle.pages.specs.declared.outcomes.Outcome.{Outcome}
+use Rattle.record_writer.specs.Written.{AppendsPart, Begins, FallsShort}
+use Rattle.command_output.specs.declared.fault.EngineFault.{EngineFault}
+use Rattle.command_output.specs.declared.fault.EngineFault.TheVariants.{Source, Input, Schedule, Writing, Memory, OutOfRange, NotStarted, Stuck}
+use Rattle.command_output.specs.declared.outcomes.Outcome.{Outcome}
 use Rattle.engines.specs.Explained.{BreaksEach, BreaksLoop, BreaksOff, BreaksSome, Broke, Grows, GrowsSome, IsFront, StreamsLoops, TellsEach, TellsLoop}
 use Rattle.engines.specs.Listing.{Lines, LinesWhy, ListingOf}
 use Rattle.engines.proofs.Listings.{listed_more}

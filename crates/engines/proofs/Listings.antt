@@ -6,7 +6,7 @@ use Rattle.std.specs.List.Sorted.{IsSorted}
 use Rattle.std.specs.declared.cmp.Ordering.{Ordering}
 use Rattle.ast.specs.View.{letters}
 use Rattle.ast.specs.declared.name.Name.{Name}
-use Rattle.pages.specs.Shown.{Extends, byte_order}
+use Rattle.command_output.specs.Shown.{Extends, byte_order}
 use Rattle.engines.specs.Listing.{ListingOf, advance_lines, advances_by_event}
 use Rattle.codegen.specs.declared.reports.LoopReport.{LoopReport}
 use Rattle.engines.specs.declared.spots.Spot.{Spot}

@@ -5,14 +5,14 @@ use Rattle.std.specs.Io.KnownBytes.{Appends}
 use Rattle.ast.specs.Program.{ProgramTree}
 use Rattle.ast.specs.ProgramView.{program as program_of}
 use Rattle.codegen.specs.declared.reports.LoopReport.{LoopReport}
-use Rattle.handing.specs.Handing.{AppendsPart}
+use Rattle.record_writer.specs.Written.{AppendsPart}
 use Rattle.machine.specs.CodeView.{code_of}
-use Rattle.pages.specs.Outcomes.{IsWriting}
-use Rattle.pages.specs.declared.fault.EngineFault.{EngineFault}
-use Rattle.pages.specs.declared.fault.EngineFault.TheVariants.{Source, Input, Schedule, Writing, Memory, OutOfRange, NotStarted, Stuck}
-use Rattle.pages.specs.declared.outcomes.Outcome.{Outcome}
-use Rattle.pages.specs.declared.outcomes.Outcome.TheVariants.{Completed, Refused, Faulted, NoSchedule}
-use Rattle.pages.specs.declared.page.Page.{Page}
+use Rattle.command_output.specs.Outcomes.{IsWriting}
+use Rattle.command_output.specs.declared.fault.EngineFault.{EngineFault}
+use Rattle.command_output.specs.declared.fault.EngineFault.TheVariants.{Source, Input, Schedule, Writing, Memory, OutOfRange, NotStarted, Stuck}
+use Rattle.command_output.specs.declared.outcomes.Outcome.{Outcome}
+use Rattle.command_output.specs.declared.outcomes.Outcome.TheVariants.{Completed, Refused, Faulted, NoSchedule}
+use Rattle.command_output.specs.declared.page.Page.{Page}
 use Rattle.engines.specs.Engines.{Works}
 use Rattle.engines.specs.Listing.{Lines, LinesWhy}
 use Rattle.engines.specs.Explained.{StreamsLoops}

@@ -14,20 +14,20 @@ use Rattle.ast.specs.declared.fault.End.TheVariants.{Done, Stopped, Fault as Fau
 use Rattle.ast.specs.declared.refusal.Refusal.TheVariants.{Refused as RefusedAt}
 use Rattle.ast.specs.declared.rule.Rule.{Rule}
 use Rattle.interpreter.specs.Answers.{Streams as Ended}
-use Rattle.handing.specs.Handing.{AppendsPart}
+use Rattle.record_writer.specs.Written.{AppendsPart}
 use Rattle.interpreter.specs.declared.run_end.RunEnd.{RunEnd}
 use Rattle.interpreter.specs.declared.run_end.RunFault.{RunFault}
 use Rattle.interpreter.specs.declared.run_end.RunFault.TheVariants as run_faults
 use Rattle.profile_check.specs.Causes.{Refuses}
 use Rattle.profile_check.specs.Reads.{Reads}
-use Rattle.pages.specs.Outcomes.{outcome_of}
-use Rattle.pages.specs.Shown.{EndShown, Extends, Row, refused, row_of}
-use Rattle.pages.specs.View.{rows_from}
-use Rattle.pages.specs.declared.fault.EngineFault.{EngineFault}
-use Rattle.pages.specs.declared.fault.EngineFault.TheVariants.{Source, Input, Schedule, Writing, Memory, OutOfRange, NotStarted, Stuck}
-use Rattle.pages.specs.declared.outcomes.Outcome.{Outcome}
-use Rattle.pages.specs.declared.outcomes.Outcome.TheVariants.{Refused}
-use Rattle.pages.proofs.StoreRows.{rows_whole}
+use Rattle.command_output.specs.Outcomes.{outcome_of}
+use Rattle.command_output.specs.Shown.{EndShown, Extends, Row, refused, row_of}
+use Rattle.command_output.specs.View.{rows_from}
+use Rattle.command_output.specs.declared.fault.EngineFault.{EngineFault}
+use Rattle.command_output.specs.declared.fault.EngineFault.TheVariants.{Source, Input, Schedule, Writing, Memory, OutOfRange, NotStarted, Stuck}
+use Rattle.command_output.specs.declared.outcomes.Outcome.{Outcome}
+use Rattle.command_output.specs.declared.outcomes.Outcome.TheVariants.{Refused}
+use Rattle.command_output.proofs.StoreRows.{rows_whole}
 use Rattle.engines.specs.Engines.{FollowsRecords, IsRefusal, IsRun, Runs, ShowsRun, Streaming, Works, engine_fault}
 
 -- the store at the end of a run has a cell for each symbol

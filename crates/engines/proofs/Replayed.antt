@@ -16,10 +16,10 @@ use Rattle.replay.specs.Replayed.{GivesNone, HasStop, IsReplay}
 use Rattle.schedules.specs.Schedules.{IsSchedule, Schedule}
 use Rattle.schedules.specs.declared.flaw.Flaw.{Flaw}
 use Rattle.schedules.specs.declared.flaw.Flaw.TheVariants.{BehindEnd, Entry, Header, Impossible, Processor, Unended}
-use Rattle.pages.specs.Outcomes.{outcome_of}
-use Rattle.pages.specs.Shown.{EndShown, Extends, Row, no_schedule, row_of}
-use Rattle.pages.specs.declared.outcomes.Outcome.{Outcome}
-use Rattle.pages.specs.declared.outcomes.Outcome.TheVariants.{NoSchedule}
+use Rattle.command_output.specs.Outcomes.{outcome_of}
+use Rattle.command_output.specs.Shown.{EndShown, Extends, Row, no_schedule, row_of}
+use Rattle.command_output.specs.declared.outcomes.Outcome.{Outcome}
+use Rattle.command_output.specs.declared.outcomes.Outcome.TheVariants.{NoSchedule}
 use Rattle.engines.specs.Prepared.{IsDescribedRun, IsLine, IsStop, WithRun}
 use Rattle.engines.specs.Schedules.{IsReplayed, Replaying}
 use Rattle.engines.specs.Timeline.{IsBegun, IsTimed}

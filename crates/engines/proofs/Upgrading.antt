@@ -1,12 +1,12 @@
 -- What is written of an upgrade.
 use Rattle.std.proofs.Common.{◌≡◌, ℕ, List, Option, Result, Ok, Err, IfOk, IfErr, subst, sym}
-use Rattle.pages.specs.Outcomes.{IsWriting, status_of}
-use Rattle.pages.specs.Reading.{AreGiven, Gives, OfTexts}
-use Rattle.pages.specs.Status.{number_of}
-use Rattle.pages.specs.declared.fault.EngineFault.{EngineFault}
-use Rattle.pages.specs.declared.fault.EngineFault.TheVariants.{Source, Input, Schedule, Writing, Memory, OutOfRange, NotStarted, Stuck}
-use Rattle.pages.specs.declared.outcomes.Outcome.{Outcome}
-use Rattle.pages.specs.declared.texts.Texts.{Texts}
+use Rattle.command_output.specs.Outcomes.{IsWriting, status_of}
+use Rattle.command_output.specs.Reading.{AreGiven, Gives, OfTexts}
+use Rattle.command_output.specs.Status.{number_of}
+use Rattle.command_output.specs.declared.fault.EngineFault.{EngineFault}
+use Rattle.command_output.specs.declared.fault.EngineFault.TheVariants.{Source, Input, Schedule, Writing, Memory, OutOfRange, NotStarted, Stuck}
+use Rattle.command_output.specs.declared.outcomes.Outcome.{Outcome}
+use Rattle.command_output.specs.declared.texts.Texts.{Texts}
 use Rattle.engines.specs.Schedules.{LeavesBoth, UpgradeWorks, Upgrading, WritesPart, WritesUpgraded, WroteUpgradedAs, WroteUpgradedPart, upgrade_outcome}
 use Rattle.engines.specs.declared.made.Made.{Made}
 

@@ -1,6 +1,7 @@
 -- Where the events of a plan's body are advanced.
 use Rattle.std.specs.Prelude.{ℕ, Bool, true, false, List, [], ◌∷◌, ◌++◌}
-use Rattle.dependence.specs.Plan.{PlanNode, awaits, advances, plain, loop, choose, PlanBlock, no_nodes, then_node, PlanArms, no_arms, made_else, then_arm}
+use Rattle.dependence.specs.Plan.{PlanNode, awaits, advances, plain, loop, choose, PlanBlock}
+use Rattle.dependence.specs.Plan.{no_nodes, then_node, PlanArms, no_arms, made_else, then_arm}
 use Rattle.engines.specs.declared.spots.Spot.{Spot}
 use Rattle.engines.specs.declared.spots.Spot.TheVariants.{Behind, Arm, Made}
 

@@ -1,5 +1,7 @@
 -- What `code` writes of a program's code.
-use Rattle.std.specs.Prelude.{ℕ, ℤ, pos, ◌+◌, ◌-◌, ◌+ℤ◌, ◌-ℤ◌, nat_le, Bool, true, false, if◌then◌else◌, codes, decimal, List, [], ◌∷◌, ◌++◌, Option, Some, None, slice_get}
+use Rattle.std.specs.Prelude.{ℕ, ℤ, pos, ◌+◌, ◌-◌, ◌+ℤ◌, ◌-ℤ◌, nat_le, Bool}
+use Rattle.std.specs.Prelude.{true, false, if◌then◌else◌, codes, decimal, List}
+use Rattle.std.specs.Prelude.{[], ◌∷◌, ◌++◌, Option, Some, None, slice_get}
 use Rattle.std.specs.Fmt.{signed_decimal}
 use Rattle.ast.specs.Name.{trimmed}
 use Rattle.ast.specs.Spelling.{prefix_spelling, spelling}
@@ -11,7 +13,7 @@ use Rattle.machine.specs.declared.instr.Act.{Act}
 use Rattle.machine.specs.declared.instr.Act.TheVariants as acts
 use Rattle.machine.specs.declared.instr.Axis.{Axis}
 use Rattle.machine.specs.declared.instr.Instr.{Instr}
-use Rattle.pages.specs.Shown.{at_line}
+use Rattle.command_output.specs.Shown.{at_line}
 
 -- ---- what instructions cite
 
@@ -27,7 +29,8 @@ variable_word variables number = name_or (slice_get variables number) number
 -- later, and others where there is none
 abbrev pub privates_at : List ℕ → List Loop → ℕ → List ℕ
 privates_at others [] place = others
-privates_at others (l ∷ loops) place = privates_at (if nat_le l.body place then l.privates else others) loops place
+privates_at others (l ∷ loops) place =
+    privates_at (if nat_le l.body place then l.privates else others) loops place
 
 -- a private scalar by its number among these
 abbrev pub private_or : List Variable → Option ℕ → ℕ → List ℕ
@@ -66,7 +69,9 @@ abbrev pub upper_bound : Axis → ℤ
 upper_bound d = d.lower +ℤ pos d.width -ℤ pos 1
 
 abbrev pub axis_words : Axis → List ℕ
-axis_words d = signed_decimal d.lower ++ codes ".." ++ signed_decimal (upper_bound d) ++ codes " BY " ++ decimal d.stride
+axis_words d =
+    signed_decimal d.lower ++ codes ".." ++ signed_decimal (upper_bound d)
+    ++ codes " BY " ++ decimal d.stride
 
 -- the place behind a skip of so many instructions
 abbrev pub forward : ℕ → ℕ → List ℕ
@@ -116,8 +121,10 @@ act_word acts.Halt = codes "Halt"
 -- what an instruction at a place works on
 abbrev pub act_operands : Code → ℕ → Act → List ℕ
 act_operands code place (acts.Constant n) = 32 ∷ signed_decimal n
-act_operands code place (acts.Private k) = 32 ∷ private_word code.variables (privates_at [] code.loops place) k
-act_operands code place (acts.SetPrivate k) = 32 ∷ private_word code.variables (privates_at [] code.loops place) k
+act_operands code place (acts.Private k) =
+    32 ∷ private_word code.variables (privates_at [] code.loops place) k
+act_operands code place (acts.SetPrivate k) =
+    32 ∷ private_word code.variables (privates_at [] code.loops place) k
 act_operands code place (acts.Binary o) = 32 ∷ spelling o
 act_operands code place (acts.Unary p) = 32 ∷ prefix_spelling p
 act_operands code place (acts.Check k d) = 32 ∷ decimal k ++ 32 ∷ axis_words d
@@ -143,7 +150,9 @@ sort_word false = codes " SHARED "
 
 -- the line of the instruction at a place
 abbrev pub instr_line : Code → ℕ → Instr → List ℕ
-instr_line code place i = decimal place ++ sort_word (is_own i.act) ++ act_word i.act ++ act_operands code place i.act ++ at_line i.line
+instr_line code place i =
+    decimal place ++ sort_word (is_own i.act) ++ act_word i.act ++ act_operands code place i.act
+    ++ at_line i.line
 
 -- those of instructions from a place on
 abbrev pub instr_lines : Code → ℕ → List Instr → List ℕ
@@ -167,11 +176,14 @@ begin_words n place = codes "LOOP " ++ decimal n ++ codes " PLACE " ++ decimal p
 
 -- its variable and its step
 abbrev pub course_words : List Variable → ℕ → ℤ → List ℕ
-course_words variables x step = codes " VARIABLE " ++ variable_word variables x ++ codes " STEP " ++ signed_decimal step
+course_words variables x step =
+    codes " VARIABLE " ++ variable_word variables x ++ codes " STEP " ++ signed_decimal step
 
 -- the line of loop n
 abbrev pub loop_line : List Variable → ℕ → Loop → List ℕ
-loop_line variables n l = begin_words n l.body ++ course_words variables l.variable l.step ++ private_words variables l.privates ++ 10 ∷ []
+loop_line variables n l =
+    begin_words n l.body ++ course_words variables l.variable l.step
+    ++ private_words variables l.privates ++ 10 ∷ []
 
 abbrev pub loop_lines : List Variable → ℕ → List Loop → List ℕ
 loop_lines variables n [] = []

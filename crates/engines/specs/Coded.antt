@@ -1,7 +1,7 @@
 -- What `code` may write of a source text.
 use Rattle.std.specs.Prelude.{◌≡◌, ◌⊎◌, List, ℕ}
-use Rattle.pages.specs.declared.outcomes.Outcome.{Outcome}
-use Rattle.pages.specs.declared.outcomes.Outcome.TheVariants.{Completed}
+use Rattle.command_output.specs.declared.outcomes.Outcome.{Outcome}
+use Rattle.command_output.specs.declared.outcomes.Outcome.TheVariants.{Completed}
 use Rattle.engines.specs.CodeLines.{code_lines}
 use Rattle.engines.specs.Prepared.{IsUncoded, WithCode}
 

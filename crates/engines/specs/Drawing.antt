@@ -1,5 +1,6 @@
 -- What `draw` may write of a source text.
-use Rattle.std.specs.Prelude.{◌≡◌, ◌==◌, ◌+◌, ◌-◌, ◌≤◌, ◌<◌, ℕ, if◌then◌else◌, List, [], ◌∷◌, length, Option, None, Some, slice_get}
+use Rattle.std.specs.Prelude.{◌≡◌, ◌==◌, ◌+◌, ◌-◌, ◌≤◌, ◌<◌, ℕ, if◌then◌else◌}
+use Rattle.std.specs.Prelude.{List, [], ◌∷◌, length, Option, None, Some, slice_get}
 use Rattle.arrows.specs.declared.picture.LoopPicture.{LoopPicture}
 use Rattle.ast.specs.Program.{ProgramTree}
 use Rattle.codegen.specs.declared.reports.LoopReport.{LoopReport}
@@ -50,7 +51,8 @@ pub record IsTooDense (p : Portion) (r : LoopReport) (count : ℕ) : Type 0 wher
   pub is : count ≡ arrows_of r p.columns
   pub many : MOST_ARROWS < count
 
--- what drawing a loop comes to, by its report: its picture exactly where that has not too many arrows
+-- what drawing a loop comes to, by its report: its picture exactly where that
+-- has not too many arrows
 abbrev pub DrawsReport : Portion → LoopReport → Drawn → Type 0
 DrawsReport p r (Picture text) = IsLoopPicture p r text.items
 DrawsReport p r (TooDense count) = IsTooDense p r count
@@ -74,8 +76,8 @@ pub record LacksLoop (source : List ℕ) (number count : ℕ) : Type 0 where
   pub none : report_of reports number ≡ None
   pub loops : count ≡ length reports
 
--- what `draw` comes to: a picture for OUT, what standard output has, or that there is no such loop, or
--- one whose picture would have too many arrows
+-- what `draw` comes to: a picture for OUT, what standard output has, or that there is no such loop,
+-- or one whose picture would have too many arrows
 abbrev pub Draws : (source : List ℕ) → Portion → Drawn → Type 0
 Draws source p (Picture text) = IsDrawing source p (Picture text)
 Draws source p (Shown page) = IsUncoded source page.outcome page.text.items

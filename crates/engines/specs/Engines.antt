@@ -7,7 +7,7 @@ use Rattle.ast.specs.Program.{ProgramTree}
 use Rattle.ast.specs.ProgramView.{program as program_of}
 use Rattle.ast.specs.declared.fault.Fault.TheVariants as kinds
 use Rattle.ast.specs.declared.rule.Rule.{Rule}
-use Rattle.handing.specs.Handing.{AppendsPart, Begins, FallsShort}
+use Rattle.record_writer.specs.Written.{AppendsPart, Begins, FallsShort}
 use Rattle.profile_check.specs.Causes.{Refuses}
 use Rattle.profile_check.specs.Reads.{Reads}
 use Rattle.ast.specs.Symbols.{Symbol}
@@ -15,16 +15,19 @@ use Rattle.ast.specs.View.{cells}
 use Rattle.interpreter.specs.declared.run_end.RunEnd.{RunEnd}
 use Rattle.interpreter.specs.declared.run_end.RunFault.{RunFault}
 use Rattle.interpreter.specs.declared.run_end.RunFault.TheVariants as run_faults
-use Rattle.pages.specs.Outcomes.{outcome_of, status_of}
-use Rattle.pages.specs.Reading.{Gives, OfText}
-use Rattle.pages.specs.Shown.{accepted, refused, EndShown, Shown}
-use Rattle.pages.specs.Status.{number_of}
-use Rattle.pages.specs.View.{rows_from}
-use Rattle.pages.specs.declared.fault.EngineFault.{EngineFault}
-use Rattle.pages.specs.declared.fault.EngineFault.TheVariants.{Source, Input, Schedule, Writing, Memory, OutOfRange, NotStarted, Stuck}
-use Rattle.pages.specs.declared.fault.ReadFault.{ReadFault}
-use Rattle.pages.specs.declared.outcomes.Outcome.{Outcome}
-use Rattle.pages.specs.declared.outcomes.Outcome.TheVariants.{Completed, Refused, Faulted, NoSchedule}
+use Rattle.command_output.specs.Outcomes.{outcome_of, status_of}
+use Rattle.command_output.specs.Reading.{Gives, OfText}
+use Rattle.command_output.specs.Shown.{accepted, refused, EndShown, Shown}
+use Rattle.command_output.specs.Status.{number_of}
+use Rattle.command_output.specs.View.{rows_from}
+use Rattle.command_output.specs.declared.fault.EngineFault.{EngineFault}
+use Rattle.command_output.specs.declared.fault.EngineFault.TheVariants.{Source, Input, Schedule}
+use Rattle.command_output.specs.declared.fault.EngineFault.TheVariants.{Writing, Memory, OutOfRange}
+use Rattle.command_output.specs.declared.fault.EngineFault.TheVariants.{NotStarted, Stuck}
+use Rattle.command_output.specs.declared.fault.ReadFault.{ReadFault}
+use Rattle.command_output.specs.declared.outcomes.Outcome.{Outcome}
+use Rattle.command_output.specs.declared.outcomes.Outcome.TheVariants.{Completed, Refused}
+use Rattle.command_output.specs.declared.outcomes.Outcome.TheVariants.{Faulted, NoSchedule}
 use Rattle.engines.specs.declared.given.Given.{Given}
 use Rattle.engines.specs.declared.verdict.Verdict.{Verdict}
 use Rattle.engines.specs.declared.verdict.Verdict.TheVariants as verdict
@@ -52,7 +55,8 @@ IsJudged v = (source : List ℕ) × IsVerdict source v
 -- what `check` may write of a verdict
 abbrev pub Tells : Verdict → Outcome → List ℕ → Type 0
 Tells (verdict.Accepted program) Completed text = text ≡ accepted (program_of program)
-Tells (verdict.Refused rule line) (Refused r l) text = (r ≡ rule) × (l ≡ line) × (text ≡ refused rule line)
+Tells (verdict.Refused rule line) (Refused r l) text =
+    (r ≡ rule) × (l ≡ line) × (text ≡ refused rule line)
 Tells _ _ text = ⊥
 
 -- the source is refused so, and this is its line
@@ -68,12 +72,15 @@ Checks source (Faulted fault line) text = ⊥
 Checks source (NoSchedule flaw line) text = ⊥
 
 -- the program's run on the input has this outcome, and this is shown of it
-pub record ShowsRun (store : Bool) (tree : ProgramTree) (input : List ℕ) (outcome : Outcome) (text : List ℕ) : Type 0 where
+pub record ShowsRun (store : Bool) (tree : ProgramTree) (input : List ℕ) (outcome : Outcome)
+    (text : List ℕ) : Type 0 where
   pub ended : outcome ≡ outcome_of (seq tree input).end
-  pub shown : Shown store tree.symbols (seq tree input).output (seq tree input).end (seq tree input).store text
+  pub shown : Shown store tree.symbols (seq tree input).output (seq tree input).end
+      (seq tree input).store text
 
 -- the source reads as a program whose run on the input has this outcome, and this is shown of it
-pub record IsRun (store : Bool) (source input : List ℕ) (outcome : Outcome) (text : List ℕ) : Type 0 where
+pub record IsRun (store : Bool) (source input : List ℕ) (outcome : Outcome)
+    (text : List ℕ) : Type 0 where
   pub tree : ProgramTree
   pub reads : Reads source tree
   pub run : ShowsRun store tree input outcome text
@@ -82,17 +89,20 @@ pub record IsRun (store : Bool) (source input : List ℕ) (outcome : Outcome) (t
 abbrev pub Runs : Bool → List ℕ → List ℕ → Outcome → List ℕ → Type 0
 Runs store source input Completed text = IsRun store source input Completed text
 Runs store source input (Refused rule line) text = IsRefused source rule line text
-Runs store source input (Faulted fault line) text = IsRun store source input (Faulted fault line) text
+Runs store source input (Faulted fault line) text =
+    IsRun store source input (Faulted fault line) text
 Runs store source input (NoSchedule flaw line) text = ⊥
 
 -- the writer's bytes grew by a text that an outcome allows
-pub record Wrote (allows : Outcome → List ℕ → Type 0) (old new : Option (List ℕ)) (outcome : Outcome) : Type 0 where
+pub record Wrote (allows : Outcome → List ℕ → Type 0) (old new : Option (List ℕ))
+    (outcome : Outcome) : Type 0 where
   pub text : List ℕ
   pub allowed : allows outcome text
   pub grown : Appends old new text
 
 -- the same, of an outcome whose status has this number
-pub record WroteAs (allows : Outcome → List ℕ → Type 0) (old new : Option (List ℕ)) (status : ℕ) : Type 0 where
+pub record WroteAs (allows : Outcome → List ℕ → Type 0) (old new : Option (List ℕ))
+    (status : ℕ) : Type 0 where
   pub outcome : Outcome
   pub is : status ≡ number_of (status_of outcome)
   pub wrote : Wrote allows old new outcome
@@ -129,7 +139,8 @@ LeavesOfSource Stuck old new part = ⊥
 
 -- where a fault leaves the readers of a source and an input: that of the source has left the input
 -- alone, and any other but want of memory comes when the readers before it have given all
-abbrev pub LeavesReaders : EngineFault → Option (List ℕ) → Option (List ℕ) → Option (List ℕ) → Type 0
+abbrev pub LeavesReaders : EngineFault → Option (List ℕ) → Option (List ℕ)
+    → Option (List ℕ) → Type 0
 LeavesReaders (Source e) source old new = new ≡ old
 LeavesReaders (Input e) source old new = IsAtEnd source
 LeavesReaders (Schedule e) source old new = ⊥
@@ -146,7 +157,8 @@ LeavesReader fault source = ⊤
 
 -- what work on texts that were read comes to: an outcome with an allowed text written; part of one
 -- where writing failed; nothing where memory was refused. No fault of reading comes of it.
-abbrev pub Works : (Outcome → List ℕ → Type 0) → Option (List ℕ) → Option (List ℕ) → Result Outcome EngineFault → Type 0
+abbrev pub Works : (Outcome → List ℕ → Type 0) → Option (List ℕ) → Option (List ℕ)
+    → Result Outcome EngineFault → Type 0
 Works allows old new (Ok outcome) = Wrote allows old new outcome
 Works allows old new (Err (Writing e)) = WrotePart allows old new
 Works allows old new (Err Memory) = Keeps old new
@@ -155,7 +167,8 @@ Works allows old new (Err _) = ⊥
 -- what follows the records of a run with this ending
 abbrev pub FollowsRecords : Bool → List Symbol → RunEnd → Outcome → List ℕ → Type 0
 FollowsRecords store symbols ended outcome text =
-    (outcome ≡ outcome_of ended.end) × EndShown store (rows_from (cells ended.store) 0 symbols) ended.end text
+    (outcome ≡ outcome_of ended.end)
+    × EndShown store (rows_from (cells ended.store) 0 symbols) ended.end text
 
 -- the fault of a run that came to no end
 abbrev pub engine_fault : RunFault → EngineFault
@@ -164,7 +177,8 @@ engine_fault (run_faults.Writing e) = Writing e
 
 -- the source reads as a program, and the writer's bytes grew by what is so much of what its run on
 -- the input prints
-pub record Grew (So : List ℕ → List ℕ → Type 0) (source input : List ℕ) (old new : Option (List ℕ)) : Type 0 where
+pub record Grew (So : List ℕ → List ℕ → Type 0) (source input : List ℕ)
+    (old new : Option (List ℕ)) : Type 0 where
   pub tree : ProgramTree
   pub reads : Reads source tree
   pub got : List ℕ
@@ -182,20 +196,27 @@ FellShort = Grew FallsShort
 -- What `seq` comes to, whose records are written while the program runs: an outcome with an allowed
 -- text written; where writing failed part of one, or not all of the records; where memory was
 -- refused nothing, or a beginning of the records. No fault of reading comes of it.
-abbrev pub Streaming : Bool → List ℕ → List ℕ → Option (List ℕ) → Option (List ℕ) → Result Outcome EngineFault → Type 0
+abbrev pub Streaming : Bool → List ℕ → List ℕ → Option (List ℕ) → Option (List ℕ)
+    → Result Outcome EngineFault → Type 0
 Streaming store source input old new (Ok outcome) = Wrote (Runs store source input) old new outcome
-Streaming store source input old new (Err (Writing e)) = WrotePart (Runs store source input) old new ⊎ FellShort source input old new
+Streaming store source input old new (Err (Writing e)) =
+    WrotePart (Runs store source input) old new ⊎ FellShort source input old new
 Streaming store source input old new (Err Memory) = Keeps old new ⊎ Began source input old new
 Streaming store source input old new (Err _) = ⊥
 
 -- the same of `seq` that reads its input first, of which nothing is written where that fails
-abbrev pub StreamingWith : Option (List ℕ) → Bool → List ℕ → Option (List ℕ) → Option (List ℕ) → Result Outcome EngineFault → Type 0
-StreamingWith input store source old new (Ok outcome) = OfText input (λ given. Wrote (Runs store source given) old new outcome)
+abbrev pub StreamingWith : Option (List ℕ) → Bool → List ℕ → Option (List ℕ)
+    → Option (List ℕ) → Result Outcome EngineFault → Type 0
+StreamingWith input store source old new (Ok outcome) =
+    OfText input (λ given. Wrote (Runs store source given) old new outcome)
 StreamingWith input store source old new (Err (Source e)) = ⊥
 StreamingWith input store source old new (Err (Input e)) = Keeps old new
 StreamingWith input store source old new (Err (Schedule e)) = ⊥
-StreamingWith input store source old new (Err (Writing e)) = OfText input (λ given. WrotePart (Runs store source given) old new ⊎ FellShort source given old new)
-StreamingWith input store source old new (Err Memory) = Keeps old new ⊎ OfText input (λ given. Began source given old new)
+StreamingWith input store source old new (Err (Writing e)) =
+    OfText input
+    (λ given. WrotePart (Runs store source given) old new ⊎ FellShort source given old new)
+StreamingWith input store source old new (Err Memory) =
+    Keeps old new ⊎ OfText input (λ given. Began source given old new)
 StreamingWith input store source old new (Err OutOfRange) = ⊥
 StreamingWith input store source old new (Err NotStarted) = ⊥
 StreamingWith input store source old new (Err Stuck) = ⊥
@@ -203,7 +224,8 @@ StreamingWith input store source old new (Err Stuck) = ⊥
 -- what a fault of `seq` leaves: part of an allowed text or not all of the records where writing
 -- failed; nothing or a beginning of the records where memory was refused; nothing where reading
 -- failed
-abbrev pub LeavesSeq : EngineFault → Option (List ℕ) → Option (List ℕ) → (part began : Type 0) → Type 0
+abbrev pub LeavesSeq : EngineFault → Option (List ℕ) → Option (List ℕ)
+    → (part began : Type 0) → Type 0
 LeavesSeq (Source e) old new part began = Keeps old new
 LeavesSeq (Input e) old new part began = Keeps old new
 LeavesSeq (Schedule e) old new part began = ⊥
@@ -215,13 +237,16 @@ LeavesSeq Stuck old new part began = ⊥
 
 -- what comes after a read: where it failed its fault, with nothing written; otherwise what is made
 -- of its bytes
-abbrev pub AfterRead : Result (Vec ℕ Global) ReadFault → (ReadFault → EngineFault) → Option (List ℕ) → Option (List ℕ) → Result Outcome EngineFault → (List ℕ → Type 0) → Type 0
+abbrev pub AfterRead : Result (Vec ℕ Global) ReadFault → (ReadFault → EngineFault) → Option (List ℕ)
+    → Option (List ℕ) → Result Outcome EngineFault → (List ℕ → Type 0) → Type 0
 AfterRead (Err fault) comes_to old new result made = (result ≡ Err (comes_to fault)) × Keeps old new
 AfterRead (Ok bytes) comes_to old new result made = made bytes.items
 
 -- what reading an input comes to after a source: no fault is its
-abbrev pub AfterGiven : (source : List ℕ) (old new : Option (List ℕ)) → Result Given EngineFault → Type 0
-AfterGiven source old new (Ok given) = (given.source.items ≡ source) × Gives old given.input.items × IsAtEnd new
+abbrev pub AfterGiven : (source : List ℕ) (old new : Option (List ℕ))
+    → Result Given EngineFault → Type 0
+AfterGiven source old new (Ok given) =
+    (given.source.items ≡ source) × Gives old given.input.items × IsAtEnd new
 AfterGiven source old new (Err (Input e)) = ⊤
 AfterGiven source old new (Err Memory) = ⊤
 AfterGiven source old new (Err _) = ⊥
@@ -238,11 +263,14 @@ wants_run _ = false
 -- bytes left, and a writer's bytes go from `old` to `new`
 
 -- an engine of a source ends with this status: what is allowed of the text is written
-abbrev pub EndsOfSource : (List ℕ → Outcome → List ℕ → Type 0) → (source old new : Option (List ℕ)) → ℕ → Type 0
-EndsOfSource allows source old new status = OfText source (λ text. WroteAs (allows text) old new status)
+abbrev pub EndsOfSource : (List ℕ → Outcome → List ℕ → Type 0)
+    → (source old new : Option (List ℕ)) → ℕ → Type 0
+EndsOfSource allows source old new status =
+    OfText source (λ text. WroteAs (allows text) old new status)
 
 -- or with this fault
-abbrev pub FailsOfSource : (List ℕ → Outcome → List ℕ → Type 0) → (source old new : Option (List ℕ)) → EngineFault → Type 0
+abbrev pub FailsOfSource : (List ℕ → Outcome → List ℕ → Type 0) → (source old new : Option (List ℕ))
+    → EngineFault → Type 0
 FailsOfSource allows source old new fault =
     LeavesOfSource fault old new (OfText source (λ text. WrotePart (allows text) old new))
 
@@ -252,8 +280,10 @@ SeqEnds store source input old new status =
     OfText source (λ text. OfText input (λ given. WroteAs (Runs store text given) old new status))
 
 -- or with this fault
-abbrev pub SeqFails : (store : Bool) → (source input old new : Option (List ℕ)) → EngineFault → Type 0
+abbrev pub SeqFails : (store : Bool) → (source input old new : Option (List ℕ))
+    → EngineFault → Type 0
 SeqFails store source input old new fault =
     LeavesSeq fault old new
-    (OfText source (λ text. OfText input (λ given. WrotePart (Runs store text given) old new ⊎ FellShort text given old new)))
+    (OfText source (λ text. OfText input
+    (λ given. WrotePart (Runs store text given) old new ⊎ FellShort text given old new)))
     (OfText source (λ text. OfText input (λ given. Began text given old new)))

@@ -1,5 +1,6 @@
 -- What `list` writes of loops.
-use Rattle.std.specs.Prelude.{◌≡◌, ◌==◌, ◌&&◌, not, ℕ, ◌+◌, Bool, true, false, if◌then◌else◌, codes, decimal, List, [], ◌∷◌, ◌++◌, length, map}
+use Rattle.std.specs.Prelude.{◌≡◌, ◌==◌, ◌&&◌, not, ℕ, ◌+◌, Bool, true, false, if◌then◌else◌}
+use Rattle.std.specs.Prelude.{codes, decimal, List, [], ◌∷◌, ◌++◌, length, map}
 use Rattle.std.specs.List.Sorted.{IsPermutation, IsSorted}
 use Rattle.ast.specs.Name.{trimmed}
 use Rattle.ast.specs.View.{letters}
@@ -9,7 +10,7 @@ use Rattle.dependence.specs.Serial.{number_of}
 use Rattle.dependence.specs.declared.plan.LoopPlan.{LoopPlan}
 use Rattle.dependence.specs.declared.plan.LoopPlan.TheVariants.{Serial, Body}
 use Rattle.dependence.specs.declared.serial.SerialReason.{SerialReason}
-use Rattle.pages.specs.Shown.{at_line, byte_order}
+use Rattle.command_output.specs.Shown.{at_line, byte_order}
 use Rattle.engines.specs.Advanced.{is_behind, spots}
 use Rattle.engines.specs.declared.spots.Spot.{Spot}
 use Rattle.engines.specs.declared.spots.Spot.TheVariants.{Behind, Arm, Made}
@@ -20,11 +21,13 @@ loop_words n line = codes "LOOP " ++ decimal n ++ codes " LINE " ++ decimal line
 
 -- a loop that stays serial, and why
 abbrev pub serial_line : ℕ → ℕ → SerialReason → List ℕ
-serial_line n line reason = loop_words n line ++ codes " SERIAL " ++ decimal (number_of reason) ++ 10 ∷ []
+serial_line n line reason =
+    loop_words n line ++ codes " SERIAL " ++ decimal (number_of reason) ++ 10 ∷ []
 
 -- a loop that may be open, and how many events it has
 abbrev pub open_line : ℕ → ℕ → ℕ → List ℕ
-open_line n line events = loop_words n line ++ codes " DOACROSS EVENTS " ++ decimal events ++ 10 ∷ []
+open_line n line events =
+    loop_words n line ++ codes " DOACROSS EVENTS " ++ decimal events ++ 10 ∷ []
 
 -- its private names; where there is none, no line
 abbrev pub name_words : List (List ℕ) → List ℕ
@@ -45,7 +48,8 @@ event_lines e (line ∷ lines) = event_line e line ++ event_lines (e + 1) lines
 
 -- what is awaited: an event, a distance and the sink's line
 abbrev pub await_line : ℕ × ℕ × ℕ → List ℕ
-await_line k = codes " AWAIT " ++ decimal k.0 ++ 32 ∷ [] ++ decimal k.1 ++ codes " BEFORE" ++ at_line k.2
+await_line k =
+    codes " AWAIT " ++ decimal k.0 ++ 32 ∷ [] ++ decimal k.1 ++ codes " BEFORE" ++ at_line k.2
 
 abbrev pub await_lines : List (ℕ × ℕ × ℕ) → List ℕ
 await_lines [] = []
@@ -67,17 +71,20 @@ is_of e false x = (x.0 == e) && not (is_behind x.1)
 
 abbrev pub advance_lines : ℕ → Bool → List (ℕ × Spot) → List ℕ
 advance_lines e behind [] = []
-advance_lines e behind (x ∷ xs) = (if is_of e behind x then advance_line e x.1 else []) ++ advance_lines e behind xs
+advance_lines e behind (x ∷ xs) =
+    (if is_of e behind x then advance_line e x.1 else []) ++ advance_lines e behind xs
 
 -- by event, as many as there are sources: the advances behind statements, then the others
 abbrev pub advances_by_event : ℕ → List ℕ → List (ℕ × Spot) → List ℕ
 advances_by_event e [] xs = []
-advances_by_event e (line ∷ lines) xs = (advance_lines e true xs ++ advance_lines e false xs) ++ advances_by_event (e + 1) lines xs
+advances_by_event e (line ∷ lines) xs =
+    (advance_lines e true xs ++ advance_lines e false xs) ++ advances_by_event (e + 1) lines xs
 
 -- the lines of a loop that may be open
 abbrev pub open_lines : ℕ → ℕ → List (List ℕ) → List ℕ → List (ℕ × ℕ × ℕ) → List (ℕ × Spot) → List ℕ
 open_lines n line names sources kept advanced =
-    open_line n line (length sources) ++ private_line names ++ event_lines 1 sources ++ await_lines kept ++ advances_by_event 1 sources advanced
+    open_line n line (length sources) ++ private_line names ++ event_lines 1 sources
+    ++ await_lines kept ++ advances_by_event 1 sources advanced
 
 -- names in byte order
 pub record InByteOrder (names sorted : List (List ℕ)) : Type 0 where
@@ -89,7 +96,8 @@ abbrev pub LinesOf : ℕ → LoopReport → LoopPlan → List ℕ → Type 0
 LinesOf n r (Serial reason) text = text ≡ serial_line n r.line reason
 LinesOf n r (Body body privates relations) text =
     (names : List (List ℕ)) × InByteOrder (map letters privates.names.items) names
-    × (text ≡ open_lines n r.line names r.sources.items r.kept.items (spots (Behind r.line) (plan_block body.items)))
+    × (text ≡ open_lines n r.line names r.sources.items r.kept.items
+    (spots (Behind r.line) (plan_block body.items)))
 
 -- the lines of loop n, by its report
 abbrev pub Lines : ℕ → LoopReport → List ℕ → Type 0
@@ -103,7 +111,8 @@ LinesWhy n r text = (lines : List ℕ) × (why : List ℕ) × Lines n r lines ×
 abbrev pub ListingOf : (ℕ → LoopReport → List ℕ → Type 0) → ℕ → List LoopReport → List ℕ → Type 0
 ListingOf lines n [] text = text ≡ []
 ListingOf lines n (r ∷ rs) text =
-    (first : List ℕ) × (rest : List ℕ) × lines n r first × ListingOf lines (n + 1) rs rest × (text ≡ first ++ rest)
+    (first : List ℕ) × (rest : List ℕ) × lines n r first × ListingOf lines (n + 1) rs rest
+    × (text ≡ first ++ rest)
 
 -- the lines of loops, one after another, the first of which is loop n
 abbrev pub Listing : ℕ → List LoopReport → List ℕ → Type 0

@@ -5,13 +5,14 @@ use Rattle.ast.specs.Program.{ProgramTree}
 use Rattle.codegen.specs.Program.{IsCompiled}
 use Rattle.codegen.specs.Reports.{Reports}
 use Rattle.codegen.specs.declared.reports.LoopReport.{LoopReport}
-use Rattle.handing.specs.Handing.{Begins, FallsShort}
+use Rattle.record_writer.specs.Written.{Begins, FallsShort}
 use Rattle.machine.specs.Code.{Code}
 use Rattle.profile_check.specs.Reads.{Reads}
-use Rattle.pages.specs.declared.fault.EngineFault.{EngineFault}
-use Rattle.pages.specs.declared.fault.EngineFault.TheVariants.{Writing, Memory}
-use Rattle.pages.specs.declared.outcomes.Outcome.{Outcome}
-use Rattle.pages.specs.declared.outcomes.Outcome.TheVariants.{Completed, Refused, Faulted, NoSchedule}
+use Rattle.command_output.specs.declared.fault.EngineFault.{EngineFault}
+use Rattle.command_output.specs.declared.fault.EngineFault.TheVariants.{Writing, Memory}
+use Rattle.command_output.specs.declared.outcomes.Outcome.{Outcome}
+use Rattle.command_output.specs.declared.outcomes.Outcome.TheVariants.{Completed, Refused}
+use Rattle.command_output.specs.declared.outcomes.Outcome.TheVariants.{Faulted, NoSchedule}
 use Rattle.engines.specs.Engines.{Works, Wrote, WrotePart}
 use Rattle.engines.specs.Explained.{GrewBy, StreamsLoops}
 use Rattle.engines.specs.Listing.{Lines, LinesWhy, ListingOf}
@@ -20,7 +21,8 @@ use Rattle.engines.specs.declared.prepared.Prepared.{Prepared}
 use Rattle.engines.specs.declared.prepared.Prepared.TheVariants as prepared
 
 -- the source reads as a program that has code, and these are the reports of its loops
-pub record IsReported (source : List ℕ) (tree : ProgramTree) (reports : List LoopReport) : Type 0 where
+pub record IsReported (source : List ℕ) (tree : ProgramTree)
+    (reports : List LoopReport) : Type 0 where
   pub reads : Reads source tree
   pub code : Code
   pub compiled : IsCompiled tree code
@@ -30,10 +32,12 @@ pub record IsReported (source : List ℕ) (tree : ProgramTree) (reports : List L
 abbrev pub TellsBy : (ℕ → LoopReport → List ℕ → Type 0) → Prepared → Outcome → List ℕ → Type 0
 TellsBy lines (prepared.Coded x) Completed text = ListingOf lines 1 x.reports.items text
 TellsBy lines (prepared.Coded x) _ text = ⊥
-TellsBy lines (prepared.Refused page) outcome text = (outcome ≡ page.outcome) × (text ≡ page.text.items)
+TellsBy lines (prepared.Refused page) outcome text =
+    (outcome ≡ page.outcome) × (text ≡ page.text.items)
 
 -- the source reads as a program that has code, and this lists its loops
-pub record IsListedBy (lines : ℕ → LoopReport → List ℕ → Type 0) (source text : List ℕ) : Type 0 where
+pub record IsListedBy (lines : ℕ → LoopReport → List ℕ → Type 0)
+    (source text : List ℕ) : Type 0 where
   pub tree : ProgramTree
   pub reports : List LoopReport
   pub reported : IsReported source tree reports
@@ -60,11 +64,13 @@ Lists = ListsBy Lines
 -- was refused a beginning of the lines of some loops, or of a refusal's
 abbrev pub StreamsWhy : Prepared → (old new : Option (List ℕ)) → Result Outcome EngineFault → Type 0
 StreamsWhy (prepared.Coded x) old new result = StreamsLoops x.reports.items old new result
-StreamsWhy (prepared.Refused page) old new result = Works (TellsLoops (prepared.Refused page)) old new result
+StreamsWhy (prepared.Refused page) old new result =
+    Works (TellsLoops (prepared.Refused page)) old new result
 
 -- the source reads as a program that has code, and a writer's bytes grew by so much of the lines of
 -- some of its loops, from the first on
-pub record GrewOf (So : List ℕ → List ℕ → Type 0) (source : List ℕ) (old new : Option (List ℕ)) : Type 0 where
+pub record GrewOf (So : List ℕ → List ℕ → Type 0) (source : List ℕ)
+    (old new : Option (List ℕ)) : Type 0 where
   pub tree : ProgramTree
   pub reports : List LoopReport
   pub reported : IsReported source tree reports
@@ -75,16 +81,19 @@ pub record GrewOf (So : List ℕ → List ℕ → Type 0) (source : List ℕ) (o
 -- of such lines.
 abbrev pub StreamsList : List ℕ → (old new : Option (List ℕ)) → Result Outcome EngineFault → Type 0
 StreamsList source old new (Ok outcome) = Wrote (ListsBy LinesWhy source) old new outcome
-StreamsList source old new (Err (Writing e)) = WrotePart (ListsBy LinesWhy source) old new ⊎ GrewOf FallsShort source old new
+StreamsList source old new (Err (Writing e)) =
+    WrotePart (ListsBy LinesWhy source) old new ⊎ GrewOf FallsShort source old new
 StreamsList source old new (Err Memory) = Keeps old new ⊎ GrewOf Begins source old new
 StreamsList source old new (Err _) = ⊥
 
 -- what `list` writes of a prepared source, with `--why` or without
-abbrev pub WritesLoops : (why : Bool) → Prepared → (old new : Option (List ℕ)) → Result Outcome EngineFault → Type 0
+abbrev pub WritesLoops : (why : Bool) → Prepared → (old new : Option (List ℕ))
+    → Result Outcome EngineFault → Type 0
 WritesLoops true x old new result = StreamsWhy x old new result
 WritesLoops false x old new result = Works (TellsLoops x) old new result
 
 -- what `list` writes of a source text, with `--why` or without
-abbrev pub WritesList : (why : Bool) → List ℕ → (old new : Option (List ℕ)) → Result Outcome EngineFault → Type 0
+abbrev pub WritesList : (why : Bool) → List ℕ → (old new : Option (List ℕ))
+    → Result Outcome EngineFault → Type 0
 WritesList true source old new result = StreamsList source old new result
 WritesList false source old new result = Works (Lists source) old new result

@@ -14,9 +14,10 @@ use Rattle.profile_check.specs.Reads.{Reads}
 use Rattle.schedules.specs.Refusals.{Refuses}
 use Rattle.schedules.specs.Schedules.{SchedText, Schedule}
 use Rattle.schedules.specs.declared.flaw.Flaw.{Flaw}
-use Rattle.pages.specs.Shown.{no_schedule, refused}
-use Rattle.pages.specs.declared.outcomes.Outcome.{Outcome}
-use Rattle.pages.specs.declared.outcomes.Outcome.TheVariants.{Refused as RefusedWith, NoSchedule}
+use Rattle.command_output.specs.Shown.{no_schedule, refused}
+use Rattle.command_output.specs.declared.outcomes.Outcome.{Outcome}
+use Rattle.command_output.specs.declared.outcomes.Outcome.TheVariants.{Refused as RefusedWith}
+use Rattle.command_output.specs.declared.outcomes.Outcome.TheVariants.{NoSchedule}
 use Rattle.engines.specs.Engines.{IsRefused}
 use Rattle.engines.specs.declared.prepared.Coded.{Coded}
 use Rattle.engines.specs.declared.prepared.Described.{Described}

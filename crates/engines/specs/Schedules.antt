@@ -8,14 +8,14 @@ use Rattle.replay.specs.Replayed.{GivesNone, HasStop, IsUpgrade}
 use Rattle.activities.specs.Points.{Point}
 use Rattle.replay.specs.Replays.{Replays}
 use Rattle.schedules.specs.Schedules.{SchedText, Schedule}
-use Rattle.handing.specs.Handing.{AppendsPart}
-use Rattle.pages.specs.Outcomes.{status_of}
-use Rattle.pages.specs.Reading.{OfTexts}
-use Rattle.pages.specs.Status.{number_of}
-use Rattle.pages.specs.declared.fault.EngineFault.{EngineFault}
-use Rattle.pages.specs.declared.fault.EngineFault.TheVariants.{Memory, Writing}
-use Rattle.pages.specs.declared.outcomes.Outcome.{Outcome}
-use Rattle.pages.specs.declared.outcomes.Outcome.TheVariants.{Completed}
+use Rattle.record_writer.specs.Written.{AppendsPart}
+use Rattle.command_output.specs.Outcomes.{status_of}
+use Rattle.command_output.specs.Reading.{OfTexts}
+use Rattle.command_output.specs.Status.{number_of}
+use Rattle.command_output.specs.declared.fault.EngineFault.{EngineFault}
+use Rattle.command_output.specs.declared.fault.EngineFault.TheVariants.{Memory, Writing}
+use Rattle.command_output.specs.declared.outcomes.Outcome.{Outcome}
+use Rattle.command_output.specs.declared.outcomes.Outcome.TheVariants.{Completed}
 use Rattle.engines.specs.Engines.{Leaves, ShowsRun, WroteAs, WrotePart}
 pub use Rattle.engines.specs.Prepared.{IsLine, WithCode, WithRun}
 use Rattle.engines.specs.declared.made.Made.{Made}
@@ -23,7 +23,8 @@ use Rattle.engines.specs.declared.made.Made.TheVariants.{Text, Shown}
 
 -- The run of a schedule leads the code to its end on the input, and what is shown is what the
 -- sequential program prints and how it ends.
-pub record IsReplayed (tree : ProgramTree) (code : Code) (input : List ℕ) (x : Schedule) (outcome : Outcome) (text : List ℕ) : Type 0 where
+pub record IsReplayed (tree : ProgramTree) (code : Code) (input : List ℕ) (x : Schedule)
+    (outcome : Outcome) (text : List ℕ) : Type 0 where
   pub point : Point
   pub replays : Replays code input x point
   pub ended : point.machine.ended ≡ Some (seq tree input).end
@@ -59,15 +60,18 @@ upgrade_outcome (Shown page) = page.outcome
 -- other not.
 abbrev pub WritesUpgraded : Made → (old new before after : Option (List ℕ)) → Type 0
 WritesUpgraded (Text text) old new before after = (new ≡ old) × Appends before after text.items
-WritesUpgraded (Shown page) old new before after = Appends old new page.text.items × (after ≡ before)
+WritesUpgraded (Shown page) old new before after =
+    Appends old new page.text.items × (after ≡ before)
 
 -- the same of a beginning, of which something is missing
 abbrev pub WritesPart : Made → (old new before after : Option (List ℕ)) → Type 0
 WritesPart (Text text) old new before after = (new ≡ old) × AppendsPart before after text.items
-WritesPart (Shown page) old new before after = AppendsPart old new page.text.items × (after ≡ before)
+WritesPart (Shown page) old new before after =
+    AppendsPart old new page.text.items × (after ≡ before)
 
 -- the writers grew by what `upgrade` may come to, and this is its outcome
-pub record WroteUpgraded (allows : Made → Type 0) (old new before after : Option (List ℕ)) (outcome : Outcome) : Type 0 where
+pub record WroteUpgraded (allows : Made → Type 0) (old new before after : Option (List ℕ))
+    (outcome : Outcome) : Type 0 where
   pub upgraded : Made
   pub allowed : allows upgraded
   pub is : outcome ≡ upgrade_outcome upgraded
@@ -76,19 +80,24 @@ pub record WroteUpgraded (allows : Made → Type 0) (old new before after : Opti
 -- the same, with the number of an outcome's status
 abbrev pub WroteUpgradedAs : (Made → Type 0) → (old new before after : Option (List ℕ)) → ℕ → Type 0
 WroteUpgradedAs allows old new before after status =
-    (outcome : Outcome) × (status ≡ number_of (status_of outcome)) × WroteUpgraded allows old new before after outcome
+    (outcome : Outcome) × (status ≡ number_of (status_of outcome))
+    × WroteUpgraded allows old new before after outcome
 
 -- the writers grew by a beginning of what `upgrade` may come to
-pub record WroteUpgradedPart (allows : Made → Type 0) (old new before after : Option (List ℕ)) : Type 0 where
+pub record WroteUpgradedPart (allows : Made → Type 0)
+    (old new before after : Option (List ℕ)) : Type 0 where
   pub upgraded : Made
   pub allowed : allows upgraded
   pub written : WritesPart upgraded old new before after
 
 -- What upgrading texts that were read comes to: an outcome with what is allowed written; part of it
 -- where writing failed; nothing where memory was refused. No fault of reading comes of it.
-abbrev pub UpgradeWorks : (Made → Type 0) → (old new before after : Option (List ℕ)) → Result Outcome EngineFault → Type 0
-UpgradeWorks allows old new before after (Ok outcome) = WroteUpgraded allows old new before after outcome
-UpgradeWorks allows old new before after (Err (Writing e)) = WroteUpgradedPart allows old new before after
+abbrev pub UpgradeWorks : (Made → Type 0) → (old new before after : Option (List ℕ))
+    → Result Outcome EngineFault → Type 0
+UpgradeWorks allows old new before after (Ok outcome) =
+    WroteUpgraded allows old new before after outcome
+UpgradeWorks allows old new before after (Err (Writing e)) =
+    WroteUpgradedPart allows old new before after
 UpgradeWorks allows old new before after (Err Memory) = (new ≡ old) × (after ≡ before)
 UpgradeWorks allows old new before after (Err _) = ⊥
 
@@ -103,22 +112,26 @@ LeavesBoth fault old new before after part = (new ≡ old) × (after ≡ before)
 -- `replay` ends with this status
 abbrev pub ReplayEnds : (source input schedule old new : Option (List ℕ)) → ℕ → Type 0
 ReplayEnds source input schedule old new status =
-    OfTexts source input schedule (λ text given picks. WroteAs (Replaying text given picks) old new status)
+    OfTexts source input schedule
+    (λ text given picks. WroteAs (Replaying text given picks) old new status)
 
 -- or with this fault
 abbrev pub ReplayFails : (source input schedule old new : Option (List ℕ)) → EngineFault → Type 0
 ReplayFails source input schedule old new fault =
     Leaves fault old new
-    (OfTexts source input schedule (λ text given picks. WrotePart (Replaying text given picks) old new))
+    (OfTexts source input schedule
+    (λ text given picks. WrotePart (Replaying text given picks) old new))
 
--- `upgrade`, which has a writer more, whose bytes go from `before` to `after`, ends with this status
+-- `upgrade`, which has a writer more, whose bytes go from `before` to
+-- `after`, ends with this status
 abbrev pub UpgradeEnds : (source input schedule old new before after : Option (List ℕ)) → ℕ → Type 0
 UpgradeEnds source input schedule old new before after status =
     OfTexts source input schedule (λ text given picks.
     WroteUpgradedAs (Upgrading text given picks) old new before after status)
 
 -- or with this fault
-abbrev pub UpgradeFails : (source input schedule old new before after : Option (List ℕ)) → EngineFault → Type 0
+abbrev pub UpgradeFails : (source input schedule old new before after : Option (List ℕ))
+    → EngineFault → Type 0
 UpgradeFails source input schedule old new before after fault =
     LeavesBoth fault old new before after
     (OfTexts source input schedule (λ text given picks.

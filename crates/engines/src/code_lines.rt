@@ -6,9 +6,9 @@ ghost use Rattle.machine.specs.CodeView.{code_of, loop_of, part};
 ghost use Rattle.machine.specs.Next.{is_own};
 ghost use Rattle.engines.specs.CodeLines as spec;
 
+use command_output::append_line;
 use explanations::append_number;
 use machine::{Act, Await, Axis, Code, Instr, Loop, Piece, Variable};
-use pages::append_line;
 use std::alloc::{AllocError, Global};
 
 /// Whether an instruction touches nothing but the frame.

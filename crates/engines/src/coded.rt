@@ -5,7 +5,7 @@ ghost use Rattle.engines.specs.Coded.{ShowsCode};
 
 use crate::code_lines::code_lines;
 use crate::prepared::{Prepared, prepare};
-use pages::{Outcome, Page};
+use command_output::{Outcome, Page};
 use std::alloc::{AllocError, Global};
 
 /// The lines of the code of a source, or of its refusal.

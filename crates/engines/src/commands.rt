@@ -2,8 +2,8 @@
 //! what came of it.
 
 ghost use Rattle.std.specs.Prelude.{◌≡◌, IfOk, IfErr};
-ghost use Rattle.pages.specs.Outcomes.{of_input, of_source};
-ghost use Rattle.pages.specs.Reading.{LeavesThree};
+ghost use Rattle.command_output.specs.Outcomes.{of_input, of_source};
+ghost use Rattle.command_output.specs.Reading.{LeavesThree};
 ghost use Rattle.engines.specs.Coded.{ShowsCode};
 ghost use Rattle.engines.specs.Engines.{AfterRead, Checks, EndsOfSource, FailsOfSource, IsJudged};
 ghost use Rattle.engines.specs.Engines.{LeavesReader, LeavesReaders, SeqEnds, SeqFails, Streaming};
@@ -20,7 +20,7 @@ use crate::replays::{replayed, upgrade_texts};
 use crate::sequential::seq_texts;
 use crate::told::told;
 use crate::verdict::{Verdict, judged};
-use pages::{EngineFault, Outcome, ReadFault, read_all, read_three};
+use command_output::{EngineFault, Outcome, ReadFault, read_all, read_three};
 use std::alloc::Global;
 use std::io::{Read, Write};
 

@@ -1,6 +1,6 @@
 //! What drawing a loop comes to.
 
-use pages::Page;
+use command_output::Page;
 
 /// What drawing a loop comes to.
 #[derive(Drop)]

@@ -8,10 +8,10 @@ ghost use Rattle.engines.specs.Listing.{Lines};
 use crate::listing::append_report;
 use ast::Program;
 use codegen::LoopReport;
-use handing::hand_on;
+use command_output::{EngineFault, Outcome};
 use loop_tree::{LoopTree, loops};
-use pages::{EngineFault, Outcome};
 use reasons::{PairLines, Why, why_of};
+use record_writer::hand_on;
 use std::alloc::{AllocError, Global};
 use std::io::Write;
 

@@ -2,11 +2,11 @@
 
 ghost use Rattle.std.specs.Prelude.{◌≡◌, IfOk, IfErr, IsOkAnd, OnOk};
 ghost use Rattle.std.specs.Io.KnownBytes.{IsAtEnd};
-ghost use Rattle.pages.specs.Outcomes.{of_input, of_source};
-ghost use Rattle.pages.specs.Reading.{AfterText, Gives, IsReading};
+ghost use Rattle.command_output.specs.Outcomes.{of_input, of_source};
+ghost use Rattle.command_output.specs.Reading.{AfterText, Gives, IsReading};
 ghost use Rattle.engines.specs.Engines.{AfterGiven, LeavesReaders};
 
-use pages::{EngineFault, ReadFault, read_all};
+use command_output::{EngineFault, ReadFault, read_all};
 use std::alloc::Global;
 use std::io::Read;
 

@@ -3,7 +3,7 @@
 ghost use Rattle.std.specs.Prelude.{◌≡◌, ◌∷◌, ◌++◌, [], IfOk, OnOk, false, map, true};
 ghost use Rattle.ast.specs.View.{letters};
 ghost use Rattle.dependence.specs.PlanView.{plan_block};
-ghost use Rattle.pages.specs.Shown.{Extends};
+ghost use Rattle.command_output.specs.Shown.{Extends};
 ghost use Rattle.engines.specs.Advanced.{spots as spots_in};
 ghost use Rattle.engines.specs.Listing as spec;
 ghost use Rattle.engines.specs.Listing.{InByteOrder, Lines, Listing};
@@ -12,9 +12,9 @@ ghost use Rattle.engines.specs.declared.spots.Spot.TheVariants.{Behind};
 use crate::spots::{Spot, add_spots};
 use ast::{Line, Name};
 use codegen::LoopReport;
+use command_output::{Outcome, Page, append_line};
 use dependence::{LoopPlan, PlanStmt, SerialReason};
 use explanations::append_number;
-use pages::{Outcome, Page, append_line};
 use std::alloc::{AllocError, Global};
 
 /// Appends the beginning of a loop's line.

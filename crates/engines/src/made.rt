@@ -1,7 +1,7 @@
 //! What commands come to that make a text for a file.
 
-use handing::write_all;
-use pages::{EngineFault, Outcome, Page};
+use command_output::{EngineFault, Outcome, Page};
+use record_writer::write_all;
 use std::io::Write;
 
 /// What a command comes to that makes a text of a source, an input and a schedule for a file.
@@ -15,7 +15,7 @@ pub enum Made {
 
 impl Made {
     ghost use Rattle.std.specs.Prelude.{◌≡◌, IfOk, IfErr};
-    ghost use Rattle.pages.specs.Outcomes.{IsWriting};
+    ghost use Rattle.command_output.specs.Outcomes.{IsWriting};
     ghost use Rattle.engines.specs.Schedules.{WritesPart, WritesUpgraded, upgrade_outcome};
 
     /// Writes the text to `upgraded`, or the page to `out`.

@@ -4,15 +4,15 @@
 ghost use Rattle.std.specs.Prelude.{◌≡◌, IfOk, List, ℕ};
 ghost use Rattle.ast.specs.ProgramView.{program as program_of};
 ghost use Rattle.profile_check.specs.Reads.{Reads};
-ghost use Rattle.pages.specs.Shown.{no_schedule};
-ghost use Rattle.pages.specs.declared.outcomes.Outcome.TheVariants as outcomes;
+ghost use Rattle.command_output.specs.Shown.{no_schedule};
+ghost use Rattle.command_output.specs.declared.outcomes.Outcome.TheVariants as outcomes;
 ghost use Rattle.engines.specs.Prepared.{IsCoded, IsDescribed, IsPrepared};
 
 use crate::verdict::{Verdict, judged};
 use ast::Program;
 use codegen::{CompileRefusal, Compiled, LoopReport, compile};
+use command_output::{Outcome, Page, append_no_schedule, refused};
 use machine::Code;
-use pages::{Outcome, Page, append_no_schedule, refused};
 use schedules::{Flaw, ReplayRefusal, Schedule};
 use std::alloc::{AllocError, Global};
 

@@ -1,14 +1,14 @@
 //! What is written of replays and upgrades.
 
 ghost use Rattle.std.specs.Prelude.{◌≡◌, [], IfOk, false};
-ghost use Rattle.pages.specs.Outcomes.{outcome_of};
-ghost use Rattle.pages.specs.Shown.{EndShown, Extends};
+ghost use Rattle.command_output.specs.Outcomes.{outcome_of};
+ghost use Rattle.command_output.specs.Shown.{EndShown, Extends};
 ghost use Rattle.engines.specs.Schedules.{Replaying, Upgrading};
 
 use crate::made::Made;
 use crate::prepared::{Described, describe, unscheduled};
 use ast::Answer;
-use pages::{Page, append_end, outcome};
+use command_output::{Page, append_end, outcome};
 use replay::{replay, upgrade};
 use schedules::ReplayRefusal;
 use std::alloc::{AllocError, Global};

@@ -4,16 +4,16 @@ ghost use Rattle.std.specs.Prelude.{◌≡◌, IfOk, List, false, length, map, �
 ghost use Rattle.ast.specs.ProgramView.{program as program_of};
 ghost use Rattle.ast.specs.View.{cells, symbol as symbol_of};
 ghost use Rattle.profile_check.specs.Reads.{Reads};
-ghost use Rattle.pages.specs.Outcomes.{outcome_of};
-ghost use Rattle.pages.specs.Shown.{EndShown, refused};
-ghost use Rattle.pages.specs.View.{rows_from};
+ghost use Rattle.command_output.specs.Outcomes.{outcome_of};
+ghost use Rattle.command_output.specs.Shown.{EndShown, refused};
+ghost use Rattle.command_output.specs.View.{rows_from};
 ghost use Rattle.engines.specs.Engines.{FollowsRecords, Streaming, Works, engine_fault, wants_run};
 
 use crate::note::Note;
 use crate::verdict::{Verdict, judged};
 use ast::{End, Fault, Line, Program, Rule, Store};
+use command_output::{EngineFault, Outcome, Page, append_end, outcome, refused, rows};
 use interpreter::{RunEnd, RunFault, run_onto};
-use pages::{EngineFault, Outcome, Page, append_end, outcome, refused, rows};
 use places::Beyond;
 use std::alloc::{AllocError, Global};
 use std::io::Write;

@@ -9,7 +9,7 @@ use crate::prepared::{Described, Run, describe, unscheduled};
 use crate::watching::watched;
 use ast::End;
 use bstr::ByteSlice;
-use pages::append_end;
+use command_output::append_end;
 use pictures::{Ending, Gathered, timeline as draw_run};
 use replay::replay;
 use schedules::{Flaw, ReplayRefusal};

@@ -3,13 +3,13 @@
 ghost use Rattle.std.specs.Prelude.{◌≡◌, ◌≤◌, IfOk};
 ghost use Rattle.ast.specs.Program.{loops_in};
 ghost use Rattle.ast.specs.ProgramView.{program as program_of};
-ghost use Rattle.pages.specs.Shown.{accepted};
+ghost use Rattle.command_output.specs.Shown.{accepted};
 ghost use Rattle.engines.specs.Engines.{IsJudged, Tells};
 
 use crate::loops::loops_in;
 use crate::verdict::Verdict;
 use ast::Program;
-use pages::{Outcome, Page, append_accepted, refused};
+use command_output::{Outcome, Page, append_accepted, refused};
 use std::alloc::{AllocError, Global};
 
 /// What `check` writes of a verdict.

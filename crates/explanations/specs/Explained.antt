@@ -9,4 +9,6 @@ is_within least most n = nat_le least n && nat_le n most
 -- those for schedules and for runs in threads, and of code that is too long; those of the faults,
 -- 1 to 6, are among them
 abbrev pub is_explained : ℕ → Bool
-is_explained n = is_within 1 8 n || is_within 20 27 n || is_within 30 43 n || is_within 51 59 n || is_within 61 61 n
+is_explained n =
+    is_within 1 8 n || is_within 20 27 n || is_within 30 43 n || is_within 51 59 n
+    || is_within 61 61 n

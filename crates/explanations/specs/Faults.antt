@@ -1,7 +1,8 @@
 -- The numbers and the names of the faults: the names are the profile's.
 use Rattle.std.specs.Prelude.{ℕ, List, codes}
 use Rattle.ast.specs.declared.fault.Fault.{Fault}
-use Rattle.ast.specs.declared.fault.Fault.TheVariants.{Overflow, Index, ZeroDivisor, ZeroStep, EndOfInput, BadInput}
+use Rattle.ast.specs.declared.fault.Fault.TheVariants.{Overflow, Index, ZeroDivisor}
+use Rattle.ast.specs.declared.fault.Fault.TheVariants.{ZeroStep, EndOfInput, BadInput}
 
 -- the number of a fault
 abbrev pub fault_number : Fault → ℕ

@@ -1,12 +1,14 @@
 -- What code of an expression does, in the machine's terms.
-use Rattle.std.specs.Prelude.{◌≡◌, ◌≤◌, ◌+◌, ◌^◌, ℕ, ℤ, pos, max, true, List, [], ◌∷◌, ◌++◌, length, map, Some, None, Result, Ok, Err}
+use Rattle.std.specs.Prelude.{◌≡◌, ◌≤◌, ◌+◌, ◌^◌, ℕ, ℤ, pos, max, true, List, []}
+use Rattle.std.specs.Prelude.{◌∷◌, ◌++◌, length, map, Some, None, Result, Ok, Err}
 use Rattle.std.specs.List.{list_all}
 use Rattle.ast.specs.Meaning.{looked_up, target, value}
 use Rattle.ast.specs.Program.{is_placed}
 use Rattle.ast.specs.References.{term_references}
 use Rattle.ast.specs.Store.{StoreOf}
 use Rattle.ast.specs.Symbols.{Extent, Symbol, dimensions_in, size}
-use Rattle.ast.specs.Tree.{Access, accessed, Term, element, call, parentheses, unary, binary, Terms, no_terms, then_term}
+use Rattle.ast.specs.Tree.{Access, accessed, Term, element, call, parentheses}
+use Rattle.ast.specs.Tree.{unary, binary, Terms, no_terms, then_term}
 use Rattle.ast.specs.declared.expression.Intrinsic.TheVariants.{Max, Max0, Min, Min0}
 use Rattle.ast.specs.declared.fault.Fault.{Fault}
 use Rattle.machine.specs.Code.{Code}
@@ -68,9 +70,14 @@ pub record Fits (p : Places) (e : Term) (f : Frame) : Type 0 where
 
 -- Alone, the frame comes after n instructions to what is put onto its operands, and has changed in
 -- nothing else; or, after some of them, to a fault of that line.
-abbrev pub Leaves : {X : Type 0} → (X → List ℤ → List ℤ) → ℕ → Code → StoreOf → Frame → ℕ → Result X Fault → Type 0
-Leaves put line code store f n (Ok v) = alone code store n f ≡ Some (record f { place = f.place + n; operands = with_items (put v f.operands.items) f.operands })
-Leaves put line code store f n (Err e) = (k : ℕ) × (g : Frame) × (k ≤ n) × (alone code store k f ≡ Some g) × (g.fault ≡ Some (e, line))
+abbrev pub Leaves : {X : Type 0} → (X → List ℤ → List ℤ) → ℕ → Code → StoreOf
+    → Frame → ℕ → Result X Fault → Type 0
+Leaves put line code store f n (Ok v) = alone code store n f ≡ Some (record f {
+  place = f.place + n;
+  operands = with_items (put v f.operands.items) f.operands;
+})
+Leaves put line code store f n (Err e) =
+    (k : ℕ) × (g : Frame) × (k ≤ n) × (alone code store k f ≡ Some g) × (g.fault ≡ Some (e, line))
 
 -- Wherever these instructions stand in a program's code, run alone from their beginning they leave
 -- the expression's value on the operands, or its fault, with the frame's private scalars and its
@@ -78,8 +85,10 @@ Leaves put line code store f n (Err e) = (k : ℕ) × (g : Frame) × (k ≤ n) �
 abbrev pub Computes : Places → Term → List Instr → Type 0
 Computes p e is =
     Encodable p e → (code : Code) (before after : List Instr) (f : Frame) (store : StoreOf)
-    → HasVariables code p.symbols → code.instructions ≡ before ++ (is ++ after) → f.place ≡ length before → Fits p e f
-    → Leaves (λ v xs. v ∷ xs) p.line code store f (length is) (value (looked_up p.symbols (seen_from p f store)) e)
+    → HasVariables code p.symbols → code.instructions ≡ before ++ (is ++ after)
+    → f.place ≡ length before → Fits p e f
+    → Leaves (λ v xs. v ∷ xs) p.line code store f (length is)
+    (value (looked_up p.symbols (seen_from p f store)) e)
 
 -- the place of a variable with these dimensions on top of operands; of a scalar nothing is there
 abbrev pub with_place : List Extent → ℕ → List ℤ → List ℤ
@@ -89,9 +98,12 @@ with_place (d ∷ ds) n xs = pos n ∷ xs
 -- The same of the place of a variable that is given a value.
 abbrev pub Locates : Places → Access → List Instr → Type 0
 Locates p a is =
-    Encodable p (accessed a) → (code : Code) (before after : List Instr) (f : Frame) (store : StoreOf)
-    → HasVariables code p.symbols → code.instructions ≡ before ++ (is ++ after) → f.place ≡ length before → Fits p (accessed a) f
-    → Leaves (with_place (dimensions_in p.symbols a.ref.name)) p.line code store f (length is) (target p.symbols (seen_from p f store) a)
+    Encodable p (accessed a)
+    → (code : Code) (before after : List Instr) (f : Frame) (store : StoreOf)
+    → HasVariables code p.symbols → code.instructions ≡ before ++ (is ++ after)
+    → f.place ≡ length before → Fits p (accessed a) f
+    → Leaves (with_place (dimensions_in p.symbols a.ref.name)) p.line code store f
+    (length is) (target p.symbols (seen_from p f store) a)
 
 -- Code that computes the expression was appended.
 pub record Appended (p : Places) (e : Term) (old new : List Instr) : Type 0 where

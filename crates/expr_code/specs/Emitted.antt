@@ -1,15 +1,21 @@
 -- An account of the code: what is emitted for an expression, by recursion on its tree.
-use Rattle.std.specs.Prelude.{◌≡◌, ℕ, zero, suc, pos, ◌+◌, ◌*◌, ◌-ℤ◌, unsigned_abs, nat_lt, if◌then◌else◌, List, [], ◌∷◌, ◌++◌, length}
+use Rattle.std.specs.Prelude.{◌≡◌, ℕ, zero, suc, pos, ◌+◌, ◌*◌, ◌-ℤ◌, unsigned_abs}
+use Rattle.std.specs.Prelude.{nat_lt, if◌then◌else◌, List, [], ◌∷◌, ◌++◌, length}
 use Rattle.ast.specs.Exact.{truth_value}
 use Rattle.ast.specs.Symbols.{Extent}
-use Rattle.ast.specs.Tree.{Ref, Term, constant, truth, parameter, element, call, parentheses, unary, binary, Terms, no_terms, then_term}
+use Rattle.ast.specs.Tree.{Ref, Term, constant, truth, parameter, element, call}
+use Rattle.ast.specs.Tree.{parentheses, unary, binary, Terms, no_terms, then_term}
 use Rattle.ast.specs.declared.expression.Intrinsic.TheVariants as intrinsics
 use Rattle.ast.specs.declared.expression.Operator.TheVariants.{Add}
 use Rattle.machine.specs.declared.instr.Act.{Act}
-use Rattle.machine.specs.declared.instr.Act.TheVariants.{Constant, Private, Index, Binary, Modulo, Greatest, Least, Unary, Absolute, Check, SetPrivate, SkipUnless, Load, LoadElement, Store, StoreElement}
+use Rattle.machine.specs.declared.instr.Act.TheVariants.{Constant, Private, Index, Binary, Modulo}
+use Rattle.machine.specs.declared.instr.Act.TheVariants.{Greatest, Least, Unary, Absolute}
+use Rattle.machine.specs.declared.instr.Act.TheVariants.{Check, SetPrivate, SkipUnless, Load}
+use Rattle.machine.specs.declared.instr.Act.TheVariants.{LoadElement, Store, StoreElement}
 use Rattle.machine.specs.declared.instr.Axis.{Axis}
 use Rattle.machine.specs.declared.instr.Instr.{Instr}
-use Rattle.expr_code.specs.Places.{Places, Home, loop_index, private_scalar, in_store, home, dimensions_at}
+use Rattle.expr_code.specs.Places.{Places, Home, loop_index, private_scalar}
+use Rattle.expr_code.specs.Places.{in_store, home, dimensions_at}
 use Rattle.expr_code.specs.Process.{count, fewer, just}
 
 -- a list begins with another
@@ -25,7 +31,11 @@ capped n = if nat_lt n 2147483648 then n else 2147483648
 
 -- a dimension whose neighbours lie so far apart
 abbrev pub axis : ℕ → Extent → Axis
-axis stride d = record { lower = d.lower; width = capped (unsigned_abs (d.upper -ℤ d.lower)) + 1; stride = stride }
+axis stride d = record {
+  lower = d.lower;
+  width = capped (unsigned_abs (d.upper -ℤ d.lower)) + 1;
+  stride = stride;
+}
 
 abbrev pub next_stride : ℕ → Extent → ℕ
 next_stride stride d = capped (stride * (capped (unsigned_abs (d.upper -ℤ d.lower)) + 1))
@@ -48,7 +58,8 @@ missing_code line = instr line (Check 0 nowhere) ∷ []
 abbrev pub checks_code : ℕ → ℕ → List Extent → ℕ → List Instr
 checks_code line stride [] m = []
 checks_code line stride (d ∷ ds) zero = missing_code line
-checks_code line stride (d ∷ ds) (suc m) = instr line (Check (short m) (axis stride d)) ∷ checks_code line (next_stride stride d) ds m
+checks_code line stride (d ∷ ds) (suc m) =
+    instr line (Check (short m) (axis stride d)) ∷ checks_code line (next_stride stride d) ds m
 
 abbrev pub sums_code : ℕ → ℕ → List Instr
 sums_code line zero = []
@@ -72,7 +83,8 @@ scalar_act in_store c = Load (short c)
 -- a variable with these dimensions, by so many subscripts
 abbrev pub reached_code : Places → Ref → List Extent → ℕ → List Instr
 reached_code p r [] m = instr p.line (scalar_act (home p [] r.name) r.cell) ∷ []
-reached_code p r (d ∷ ds) m = place_code p.line d ds m ++ instr p.line (LoadElement (short r.cell)) ∷ []
+reached_code p r (d ∷ ds) m =
+    place_code p.line d ds m ++ instr p.line (LoadElement (short r.cell)) ∷ []
 
 -- the new value of a variable is popped, above it the place of an element
 abbrev pub given_act : List Extent → Home → ℕ → Act
@@ -95,10 +107,15 @@ abbrev mutual
   term_code p (constant n) = instr p.line (Constant n) ∷ []
   term_code p (truth b) = instr p.line (Constant (truth_value b)) ∷ []
   term_code p (parameter x n) = instr p.line (Constant n) ∷ []
-  term_code p (element r es) = terms_code p es (length (dimensions_at p.symbols r.cell)) ++ reached_code p r (dimensions_at p.symbols r.cell) (fewer (count es) (length (dimensions_at p.symbols r.cell)))
-  term_code p (call intrinsics.Mod es) = terms_code p es (just 2 (count es)) ++ applied_to p.line Modulo (just 2 (count es))
-  term_code p (call intrinsics.Abs es) = terms_code p es (just 1 (count es)) ++ applied_to p.line Absolute (just 1 (count es))
-  term_code p (call intrinsics.Iabs es) = terms_code p es (just 1 (count es)) ++ applied_to p.line Absolute (just 1 (count es))
+  term_code p (element r es) =
+      terms_code p es (length (dimensions_at p.symbols r.cell)) ++ reached_code p r
+      (dimensions_at p.symbols r.cell) (fewer (count es) (length (dimensions_at p.symbols r.cell)))
+  term_code p (call intrinsics.Mod es) =
+      terms_code p es (just 2 (count es)) ++ applied_to p.line Modulo (just 2 (count es))
+  term_code p (call intrinsics.Abs es) =
+      terms_code p es (just 1 (count es)) ++ applied_to p.line Absolute (just 1 (count es))
+  term_code p (call intrinsics.Iabs es) =
+      terms_code p es (just 1 (count es)) ++ applied_to p.line Absolute (just 1 (count es))
   term_code p (call intrinsics.Max es) = chosen_code p es Greatest
   term_code p (call intrinsics.Max0 es) = chosen_code p es Greatest
   term_code p (call intrinsics.Min es) = chosen_code p es Least
@@ -110,7 +127,8 @@ abbrev mutual
   -- the first n stay, each other one is dropped
   pub terms_code : Places → Terms → ℕ → List Instr
   terms_code p no_terms n = []
-  terms_code p (then_term e es) zero = term_code p e ++ (instr p.line dropping ∷ terms_code p es zero)
+  terms_code p (then_term e es) zero =
+      term_code p e ++ (instr p.line dropping ∷ terms_code p es zero)
   terms_code p (then_term e es) (suc n) = term_code p e ++ terms_code p es n
 
   pub chosen_code : Places → Terms → Act → List Instr
@@ -123,11 +141,16 @@ abbrev mutual
 
 -- an instruction on all arguments
 abbrev pub applied_code : Places → Terms → ℕ → Act → List Instr
-applied_code p es n act = terms_code p es (just n (count es)) ++ applied_to p.line act (just n (count es))
+applied_code p es n act =
+    terms_code p es (just n (count es)) ++ applied_to p.line act (just n (count es))
 
 abbrev pub element_code : Places → Ref → Terms → List Instr
-element_code p r es = terms_code p es (length (dimensions_at p.symbols r.cell)) ++ reached_code p r (dimensions_at p.symbols r.cell) (fewer (count es) (length (dimensions_at p.symbols r.cell)))
+element_code p r es =
+    terms_code p es (length (dimensions_at p.symbols r.cell)) ++ reached_code p r
+    (dimensions_at p.symbols r.cell) (fewer (count es) (length (dimensions_at p.symbols r.cell)))
 
 -- the place of a variable that is given a value
 abbrev pub target_code : Places → Ref → Terms → List Instr
-target_code p r es = terms_code p es (length (dimensions_at p.symbols r.cell)) ++ located_code p.line (dimensions_at p.symbols r.cell) (fewer (count es) (length (dimensions_at p.symbols r.cell)))
+target_code p r es =
+    terms_code p es (length (dimensions_at p.symbols r.cell)) ++ located_code p.line
+    (dimensions_at p.symbols r.cell) (fewer (count es) (length (dimensions_at p.symbols r.cell)))

@@ -1,5 +1,6 @@
 -- Where the code of an expression finds its variables.
-use Rattle.std.specs.Prelude.{ℕ, ℤ, ◌+◌, Bool, false, if◌then◌else◌, List, [], ◌∷◌, get_or, Option, Some, None, slice_get}
+use Rattle.std.specs.Prelude.{ℕ, ℤ, ◌+◌, Bool, false, if◌then◌else◌, List}
+use Rattle.std.specs.Prelude.{[], ◌∷◌, get_or, Option, Some, None, slice_get}
 use Rattle.ast.specs.Store.{StoreOf, same_name}
 use Rattle.ast.specs.Symbols.{Extent, Symbol, dimensions_in, dimensions_of}
 use Rattle.machine.specs.Frame.{Frame}
@@ -36,7 +37,9 @@ private_or_stored (Some x) = private_scalar x
 -- the home of a name with these dimensions; an array is in the store
 abbrev pub home : Places → List Extent → List ℕ → Home
 home p (d ∷ ds) name = in_store
-home p [] name = if is_loop_name p.loop_name name then loop_index else private_or_stored (number_in 0 name p.privates)
+home p [] name =
+    if is_loop_name p.loop_name name then loop_index
+    else private_or_stored (number_in 0 name p.privates)
 
 abbrev pub home_of : Places → List ℕ → Home
 home_of p name = home p (dimensions_in p.symbols name) name

@@ -2,7 +2,8 @@
 -- stands.
 use Rattle.std.specs.Prelude.{ℕ, List, Bool, true, false, codes}
 use Rattle.ast.specs.declared.expression.Operator.{Operator}
-use Rattle.ast.specs.declared.expression.Operator.TheVariants.{Add, Subtract, Multiply, Divide, And, Or, Equivalent, NotEquivalent}
+use Rattle.ast.specs.declared.expression.Operator.TheVariants.{Add, Subtract, Multiply, Divide}
+use Rattle.ast.specs.declared.expression.Operator.TheVariants.{And, Or, Equivalent, NotEquivalent}
 use Rattle.ast.specs.declared.expression.Prefix.{Prefix}
 use Rattle.ast.specs.declared.expression.Prefix.TheVariants.{Plus, Minus, Not}
 

@@ -2,7 +2,9 @@
 use Rattle.std.specs.Prelude.{ℕ}
 use Rattle.expressions.specs.Levels as levels
 use Rattle.expressions.specs.declared.level.Level.{Level}
-use Rattle.expressions.specs.declared.level.Level.TheVariants.{Equivalence, Disjunction, Conjunction, Factor, Relation, Sum, Product, Primary}
+use Rattle.expressions.specs.declared.level.Level.TheVariants.{Equivalence, Disjunction}
+use Rattle.expressions.specs.declared.level.Level.TheVariants.{Conjunction, Factor, Relation}
+use Rattle.expressions.specs.declared.level.Level.TheVariants.{Sum, Product, Primary}
 
 abbrev pub rank : Level → ℕ
 rank Equivalence = levels.equivalence

@@ -1,6 +1,7 @@
 -- Real constants, which the language lacks. Digits are one where a full stop follows that begins
 -- no operator, or E or D, an optional sign and a digit; a full stop and a digit are one too.
-use Rattle.std.specs.Prelude.{ℕ, Bool, false, not, ◌&&◌, ◌||◌, ◌==◌, nat_eq, if◌then◌else◌, List, [], ◌∷◌, drop, codes}
+use Rattle.std.specs.Prelude.{ℕ, Bool, false, not, ◌&&◌, ◌||◌, ◌==◌, nat_eq}
+use Rattle.std.specs.Prelude.{if◌then◌else◌, List, [], ◌∷◌, drop, codes}
 use Rattle.std.specs.List.{prefix_len, starts_with, list_any}
 use Rattle.expressions.specs.Characters.{is_digit, begins_with, begins_digit}
 
@@ -34,4 +35,5 @@ begins_fraction (c ∷ cs) = (c == 46) && begins_digit cs
 
 -- whether a real constant stands at the beginning
 abbrev pub begins_real : List ℕ → Bool
-begins_real t = begins_fraction t || (begins_digit t && continues_real (drop (prefix_len is_digit t) t))
+begins_real t =
+    begins_fraction t || (begins_digit t && continues_real (drop (prefix_len is_digit t) t))

@@ -1,11 +1,14 @@
 -- One line of a source: its columns, and what they say. By the standard (ANSI X3.9-1978, 3.1 to
 -- 3.4) where nothing else is said.
-use Rattle.std.specs.Prelude.{ℕ, zero, suc, ◌+◌, ◌-◌, Bool, true, false, not, ◌&&◌, ◌||◌, nat_eq, nat_lt, nat_le, ◌==◌, if◌then◌else◌, List, [], ◌∷◌, Option, Some, None, drop, map, slice_index_or, codes}
+use Rattle.std.specs.Prelude.{ℕ, zero, suc, ◌+◌, ◌-◌, Bool, true, false, not, ◌&&◌, ◌||◌}
+use Rattle.std.specs.Prelude.{nat_eq, nat_lt, nat_le, ◌==◌, if◌then◌else◌, List, []}
+use Rattle.std.specs.Prelude.{◌∷◌, Option, Some, None, drop, map, slice_index_or, codes}
 use Rattle.std.specs.List.{filter, list_all, list_any}
 use Rattle.std.specs.Char.{is_ascii_digit, to_ascii_uppercase}
 use Rattle.std.specs.Cmp.Lexicographic.{pointwise}
 use Rattle.std.specs.Str.Parse.{digits_value}
-use Rattle.fixed_form.specs.Limits.{last_label_column, continuation_column, first_column, last_column}
+use Rattle.fixed_form.specs.Limits.{last_label_column, continuation_column}
+use Rattle.fixed_form.specs.Limits.{first_column, last_column}
 
 -- the code of the blank
 abbrev pub blank : ℕ
@@ -37,7 +40,8 @@ without_blanks cs = filter (λ c. not (is_blank c)) cs
 
 -- A comment has C, c (by the profile) or * in column 1, or blanks alone in columns 1 to 72.
 abbrev pub is_comment : List ℕ → Bool
-is_comment line = is_among (codes "Cc*") (column 1 line) || list_all is_blank (columns 1 last_column line)
+is_comment line =
+    is_among (codes "Cc*") (column 1 line) || list_all is_blank (columns 1 last_column line)
 
 -- The profile's characters are those of ASCII that print.
 abbrev pub is_printable : ℕ → Bool
@@ -69,7 +73,8 @@ is_label field = list_all is_ascii_digit field && nat_lt 0 (digits_value 10 fiel
 
 -- the label of a line, if its label field has one
 abbrev pub label_of : List ℕ → Option ℕ
-label_of line = if is_label (label_field line) then Some (digits_value 10 (label_field line)) else None
+label_of line =
+    if is_label (label_field line) then Some (digits_value 10 (label_field line)) else None
 
 -- The letters END, blanks and case aside (case by the profile).
 abbrev pub is_end : List ℕ → Bool

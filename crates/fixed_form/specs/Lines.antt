@@ -1,12 +1,17 @@
 -- The labelled statements of a source text, and the rules of its lines, by the standard (ANSI
 -- X3.9-1978, 3.2 to 3.5) and the profile.
-use Rattle.std.specs.Prelude.{◌≡◌, ◌⊎◌, ⊤, ℕ, ◌+◌, ◌<◌, Bool, true, false, not, ◌&&◌, nat_lt, nat_le, if◌then◌else◌, List, [], ◌∷◌, ◌++◌, Option, Some, None, length, take, reverse, map}
+use Rattle.std.specs.Prelude.{◌≡◌, ◌⊎◌, ⊤, ℕ, ◌+◌, ◌<◌, Bool, true, false, not}
+use Rattle.std.specs.Prelude.{◌&&◌, nat_lt, nat_le, if◌then◌else◌, List, [], ◌∷◌}
+use Rattle.std.specs.Prelude.{◌++◌, Option, Some, None, length, take, reverse, map}
 use Rattle.std.specs.List.{list_any, list_all, flat_map, prefix_len}
 use Rattle.ast.specs.declared.rule.Rule.{Rule}
-use Rattle.ast.specs.declared.rule.Rule.TheVariants.{StrangeByte, MalformedLabel, LooseContinuation, ManyContinuations, LabelledContinuation, ManyLines, NoEnd, LineBehindEnd}
+use Rattle.ast.specs.declared.rule.Rule.TheVariants.{StrangeByte, MalformedLabel, LooseContinuation}
+use Rattle.ast.specs.declared.rule.Rule.TheVariants.{ManyContinuations, LabelledContinuation}
+use Rattle.ast.specs.declared.rule.Rule.TheVariants.{ManyLines, NoEnd, LineBehindEnd}
 use Rattle.bstr.specs.Text.{lines_of, without_terminator}
 use Rattle.fixed_form.specs.Limits.{text_width, most_continuations, greatest_line}
-use Rattle.fixed_form.specs.Line.{part_of, is_comment, is_readable, is_continuation, is_empty, is_label, label_field, label_of, is_end, is_end_line}
+use Rattle.fixed_form.specs.Line.{part_of, is_comment, is_readable, is_continuation, is_empty}
+use Rattle.fixed_form.specs.Line.{is_label, label_field, label_of, is_end, is_end_line}
 
 -- The lines of a text are cut at LF, and one CR before an LF is left out; what stands after the
 -- last LF is a line if it isn't empty.
@@ -21,7 +26,9 @@ pub record Card : Type 0 where
 -- The cards among lines of which the first has number n.
 abbrev pub cards_from : ℕ → List (List ℕ) → List Card
 cards_from n [] = []
-cards_from n (line ∷ lines) = if is_comment line then cards_from (n + 1) lines else record { number = n; line = line } ∷ cards_from (n + 1) lines
+cards_from n (line ∷ lines) =
+    if is_comment line then cards_from (n + 1) lines
+    else record { number = n; line = line } ∷ cards_from (n + 1) lines
 
 abbrev pub cards : List (List ℕ) → List Card
 cards lines = cards_from 1 lines
@@ -48,19 +55,25 @@ is_unreadable front line = not (is_comment line) && not (is_readable line)
 
 -- Columns 1 to 5 of a continuation line are blank.
 abbrev pub is_labelled_continuation : List (List ℕ) → List ℕ → Bool
-is_labelled_continuation front line = not (is_comment line) && (is_continuation line && not (is_empty (label_field line)))
+is_labelled_continuation front line =
+    not (is_comment line) && (is_continuation line && not (is_empty (label_field line)))
 
 -- A continuation line has an initial line before it.
 abbrev pub is_lone_continuation : List (List ℕ) → List ℕ → Bool
-is_lone_continuation front line = not (is_comment line) && (is_continuation line && list_all continues (cards front))
+is_lone_continuation front line =
+    not (is_comment line) && (is_continuation line && list_all continues (cards front))
 
 -- An initial line has at most 19 continuation lines: they are counted back to it, comments aside.
 abbrev pub is_twentieth_continuation : List (List ℕ) → List ℕ → Bool
-is_twentieth_continuation front line = not (is_comment line) && (is_continuation line && nat_le most_continuations (prefix_len continues (reverse (cards front))))
+is_twentieth_continuation front line =
+    not (is_comment line) && (is_continuation line
+    && nat_le most_continuations (prefix_len continues (reverse (cards front))))
 
 -- Columns 1 to 5 of an initial line are blank or hold a label.
 abbrev pub is_badly_labelled : List (List ℕ) → List ℕ → Bool
-is_badly_labelled front line = not (is_comment line) && (not (is_continuation line) && (not (is_empty (label_field line)) && not (is_label (label_field line))))
+is_badly_labelled front line =
+    not (is_comment line) && (not (is_continuation line)
+    && (not (is_empty (label_field line)) && not (is_label (label_field line))))
 
 -- The checks in the order in which they count on one line.
 abbrev pub checks : List Check
@@ -76,11 +89,13 @@ checks = record { rule = ManyLines; is_broken = is_past_limit }
 -- The first of the rules that a line breaks, if it breaks one.
 abbrev pub first_broken : List Check → List (List ℕ) → List ℕ → Option Rule
 first_broken [] front line = None
-first_broken (c ∷ cs) front line = if c.is_broken front line then Some c.rule else first_broken cs front line
+first_broken (c ∷ cs) front line =
+    if c.is_broken front line then Some c.rule else first_broken cs front line
 
 -- No line breaks a rule.
 pub record AreUnbroken (lines : List (List ℕ)) : Type 0 where
-  pub each : (front : List (List ℕ)) (line : List ℕ) (back : List (List ℕ)) → lines ≡ front ++ line ∷ back → first_broken checks front line ≡ None
+  pub each : (front : List (List ℕ)) (line : List ℕ) (back : List (List ℕ))
+      → lines ≡ front ++ line ∷ back → first_broken checks front line ≡ None
 
 -- The cards of a statement: an initial line, and the continuation lines that follow it.
 pub record Group : Type 0 where
@@ -106,7 +121,11 @@ pub record Entry : Type 0 where
 
 -- The text of a statement is columns 7 to 72 of its lines, joined.
 abbrev pub statement_of : Group → Entry
-statement_of g = record { label = label_of g.head.line; line = g.head.number; text = flat_map (λ c. part_of c.line) (cards_of g) }
+statement_of g = record {
+  label = label_of g.head.line;
+  line = g.head.number;
+  text = flat_map (λ c. part_of c.line) (cards_of g);
+}
 
 -- Lines that break no rule and have an END line, with their statements.
 pub record HaveStatements (lines : List (List ℕ)) (statements : List Entry) : Type 0 where

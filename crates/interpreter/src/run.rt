@@ -8,7 +8,7 @@ ghost use Rattle.interpreter.specs.Answers.{ended, HoldsValues, Streams};
 use crate::fast::run_lowered;
 use crate::run_end::{RunEnd, RunFault};
 use ast::{Answer, End, Program};
-use handing::write_all;
+use record_writer::write_all;
 use std::alloc::{AllocError, Global};
 use std::io::Write;
 use tree_run::machine::Machine;

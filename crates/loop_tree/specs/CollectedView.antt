@@ -25,7 +25,11 @@ span i = record {
 }
 
 abbrev pub collected : Collected → spec.Collected
-collected c = record { lines = c.lines.items; references = map occurrence c.references.items; spans = map span c.loops.items }
+collected c = record {
+  lines = c.lines.items;
+  references = map occurrence c.references.items;
+  spans = map span c.loops.items;
+}
 
 -- the loop of which this is known, with the references of its range
 abbrev pub loop_shown : Info → List Occurrence → Loop

@@ -37,4 +37,6 @@ trips_by m1 m2 m3 = if int_eq m3 (pos 0) then None else Some (trips m1 m2 m3)
 -- How often a loop's range is gone through, where that is known: all parameters are constant, and
 -- the step isn't 0.
 abbrev pub trips_of : DoHead → Option ℕ
-trips_of h = if_some (constant_value h.first) (λ m1. if_some (constant_value h.last) (λ m2. if_some (step_of h) (λ m3. trips_by m1 m2 m3)))
+trips_of h =
+    if_some (constant_value h.first)
+    (λ m1. if_some (constant_value h.last) (λ m2. if_some (step_of h) (λ m3. trips_by m1 m2 m3)))

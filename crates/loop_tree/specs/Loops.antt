@@ -1,7 +1,10 @@
 -- The loops of a program in the order of the text, numbered from 1.
-use Rattle.std.specs.Prelude.{◌≡◌, ℕ, ℤ, zero, suc, ◌+◌, Bool, ◌==◌, if◌then◌else◌, List, [], ◌∷◌, ◌++◌, length, Option, Some, None, slice_get}
+use Rattle.std.specs.Prelude.{◌≡◌, ℕ, ℤ, zero, suc, ◌+◌, Bool, ◌==◌, if◌then◌else◌, List}
+use Rattle.std.specs.Prelude.{[], ◌∷◌, ◌++◌, length, Option, Some, None, slice_get}
 use Rattle.std.specs.List.{list_any}
-use Rattle.ast.specs.Tree.{Ref, Terms, no_terms, then_term, DoHead, Kind, assign, read, Access, Node, plain, loop, choose, Block, no_nodes, then_node, Arms, no_arms, then_arm}
+use Rattle.ast.specs.Tree.{Ref, Terms, no_terms, then_term, DoHead, Kind}
+use Rattle.ast.specs.Tree.{assign, read, Access, Node, plain, loop, choose}
+use Rattle.ast.specs.Tree.{Block, no_nodes, then_node, Arms, no_arms, then_arm}
 use Rattle.loop_tree.specs.Constants.{step_of, trips_of}
 use Rattle.loop_tree.specs.Occurrences.{Occurrence, node_lines, block_lines, block_occurrences}
 
@@ -85,18 +88,21 @@ IsWhole l = l ≡ loop_at l.around l.statement l.line l.head l.body
 abbrev mutual
   pub node_loops : Option ℕ → ℕ → ℕ → Node → List Loop
   node_loops around k n (plain s) = []
-  node_loops around k n (loop l h b) = loop_at around n l h b ∷ block_loops (Some (k + 1)) (k + 1) (n + 1) b
+  node_loops around k n (loop l h b) =
+      loop_at around n l h b ∷ block_loops (Some (k + 1)) (k + 1) (n + 1) b
   node_loops around k n (choose a) = arms_loops around k (n + 1) a
 
   pub block_loops : Option ℕ → ℕ → ℕ → Block → List Loop
   block_loops around k n no_nodes = []
   block_loops around k n (then_node x b) =
-      node_loops around k n x ++ block_loops around (k + length (node_loops around k n x)) (n + length (node_lines x)) b
+      node_loops around k n x
+      ++ block_loops around (k + length (node_loops around k n x)) (n + length (node_lines x)) b
 
   pub arms_loops : Option ℕ → ℕ → ℕ → Arms → List Loop
   arms_loops around k n no_arms = []
   arms_loops around k n (then_arm l c b more) =
-      block_loops around k n b ++ arms_loops around (k + length (block_loops around k n b)) (n + length (block_lines b)) more
+      block_loops around k n b
+      ++ arms_loops around (k + length (block_loops around k n b)) (n + length (block_lines b)) more
 
 -- the loops of a program, in the order of the text
 abbrev pub loops_of : Block → List Loop

@@ -2,8 +2,12 @@
 -- program's nodes, numbered from 0 as the text has them: a DO with its parameters and its variable,
 -- an IF with the conditions of all its arms; what stands in a range or in an arm is a statement of
 -- its own, so also the statement of a logical IF.
-use Rattle.std.specs.Prelude.{ℕ, ◌+◌, ◌-◌, nat_le, slice_get, if◌then◌else◌, Bool, true, false, List, [], ◌∷◌, ◌++◌, length, Option, Some, None}
-use Rattle.ast.specs.Tree.{Ref, Term, Terms, element, call, parentheses, unary, binary, no_terms, then_term, Access, PrintItem, value_item, text_item, DoHead, Kind, assign, print, read, Node, plain, loop, choose, Block, no_nodes, then_node, Arms, no_arms, then_arm}
+use Rattle.std.specs.Prelude.{ℕ, ◌+◌, ◌-◌, nat_le, slice_get, if◌then◌else◌, Bool, true}
+use Rattle.std.specs.Prelude.{false, List, [], ◌∷◌, ◌++◌, length, Option, Some, None}
+use Rattle.ast.specs.Tree.{Ref, Term, Terms, element, call, parentheses, unary, binary}
+use Rattle.ast.specs.Tree.{no_terms, then_term, Access, PrintItem, value_item, text_item}
+use Rattle.ast.specs.Tree.{DoHead, Kind, assign, print, read, Node, plain, loop}
+use Rattle.ast.specs.Tree.{choose, Block, no_nodes, then_node, Arms, no_arms, then_arm}
 
 -- a place where a variable is read or assigned: its subscripts, none of a scalar, and the number of
 -- the statement
@@ -69,7 +73,8 @@ kind_occurrences n _ = []
 -- the parameters of a DO, then its variable
 abbrev pub head_occurrences : ℕ → DoHead → List Occurrence
 head_occurrences n h =
-    term_occurrences n h.first ++ term_occurrences n h.last ++ optional_occurrences n h.step ++ defined_at n h.variable no_terms ∷ []
+    term_occurrences n h.first ++ term_occurrences n h.last ++ optional_occurrences n h.step
+    ++ defined_at n h.variable no_terms ∷ []
 
 -- the line of an IF, which its first arm has
 abbrev pub first_line : Arms → ℕ
@@ -105,9 +110,11 @@ abbrev mutual
 
   pub block_occurrences : ℕ → Block → List Occurrence
   block_occurrences n no_nodes = []
-  block_occurrences n (then_node x b) = node_occurrences n x ++ block_occurrences (n + length (node_lines x)) b
+  block_occurrences n (then_node x b) =
+      node_occurrences n x ++ block_occurrences (n + length (node_lines x)) b
 
   pub arms_occurrences : ℕ → ℕ → Arms → List Occurrence
   arms_occurrences i n no_arms = []
   arms_occurrences i n (then_arm l c b more) =
-      optional_occurrences i c ++ block_occurrences n b ++ arms_occurrences i (n + length (block_lines b)) more
+      optional_occurrences i c ++ block_occurrences n b
+      ++ arms_occurrences i (n + length (block_lines b)) more

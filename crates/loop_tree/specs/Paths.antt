@@ -1,8 +1,10 @@
 -- The ways that a part of a program may be gone through, told by what they use and define in order
 -- of evaluation.
 use Rattle.std.specs.Prelude.{◌≡◌, ◌⊎◌, ℕ, zero, suc, List, [], ◌∷◌, ◌++◌, map, Some, None}
-use Rattle.ast.specs.References.{term_references, terms_references, optional, expressions_references, items_expressions}
-use Rattle.ast.specs.Tree.{Ref, Term, Access, DoHead, Kind, assign, print, read, stop, Node, plain, loop, choose, Block, no_nodes, then_node, Arms, no_arms, then_arm}
+use Rattle.ast.specs.References.{term_references, terms_references, optional}
+use Rattle.ast.specs.References.{expressions_references, items_expressions}
+use Rattle.ast.specs.Tree.{Ref, Term, Access, DoHead, Kind, assign, print, read, stop, Node, plain}
+use Rattle.ast.specs.Tree.{loop, choose, Block, no_nodes, then_node, Arms, no_arms, then_arm}
 
 -- what a path says of one step: a reference is read, or is given a value; an event is awaited, so
 -- many iterations back, or advanced
@@ -72,7 +74,8 @@ targets_tokens (a ∷ more) = target_tokens a ++ targets_tokens more
 
 -- the parameters of a DO, then its variable, which gets the first of them
 abbrev pub head_tokens : DoHead → List Token
-head_tokens h = used (expressions_references (h.first ∷ h.last ∷ optional h.step)) ++ defines h.variable ∷ []
+head_tokens h =
+    used (expressions_references (h.first ∷ h.last ∷ optional h.step)) ++ defines h.variable ∷ []
 
 -- the paths of a statement that holds no others
 abbrev pub KindPaths : Kind → PathSet
@@ -96,4 +99,5 @@ abbrev mutual
   pub ArmsPaths : Arms → PathSet
   ArmsPaths no_arms = Just []
   ArmsPaths (then_arm l None b more) = Paths b
-  ArmsPaths (then_arm l (Some c) b more) = Then (Just (term_tokens c)) (Either (Paths b) (ArmsPaths more))
+  ArmsPaths (then_arm l (Some c) b more) =
+      Then (Just (term_tokens c)) (Either (Paths b) (ArmsPaths more))

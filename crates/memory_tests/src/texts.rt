@@ -1,8 +1,8 @@
 //! The engines, over texts.
 
 use crate::rows::{AGAIN, OTHERWISE, Row, rows};
+use command_output::{EngineFault, Status};
 use engines::{Wants, check, list, replay, seq, upgrade};
-use pages::{EngineFault, Status};
 use std::alloc::{AllocError, Global};
 use std::process::Abort;
 use std::sync::Wait;

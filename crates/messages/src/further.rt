@@ -3,11 +3,11 @@
 use crate::message::Message;
 use ast::{Label, Line, Name, Rule};
 use bstr::ByteSlice;
+use command_output::Outcome;
 use engines::{Verdict, judged};
 use fixed_form::LAST_LABEL_COLUMN;
-use pages::Outcome;
 use places::line_at;
-use remarks::{
+use source_hints::{
     Squeezed, cause_of, is_blank, is_comment, is_continuation, is_of_profile, is_of_text,
 };
 use std::alloc::{AllocError, Global};

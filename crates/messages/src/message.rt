@@ -2,12 +2,12 @@
 
 use ast::{Line, Rule};
 use bstr::ByteSlice;
+use command_output::Outcome;
 use engines::Note;
 use explanations::explain::{Explanation, fault, refusal};
 use explanations::fault_number;
-use pages::Outcome;
 use places::{Place, Visible};
-use remarks::{
+use source_hints::{
     Caret, Cause, Squeezed, break_place, cause_of, hint, hint_of_fault, hint_of_schedule,
 };
 use std::alloc::Global;

@@ -2,7 +2,7 @@
 
 use ast::{Fault, Line};
 use bstr::ByteSlice;
-use pages::{EngineFault, Outcome};
+use command_output::{EngineFault, Outcome};
 use places::{Place, Visible};
 use std::fmt::{Display, Formatter, Result as FmtResult, Write};
 

@@ -1,5 +1,6 @@
 -- Schedules of runs in model time.
-use Rattle.std.specs.Prelude.{◌≡◌, ⊤, ℕ, Bool, true, false, List, [], ◌∷◌, Option, Some, None, IfSome, is_some}
+use Rattle.std.specs.Prelude.{◌≡◌, ⊤, ℕ, Bool, true, false, List, []}
+use Rattle.std.specs.Prelude.{◌∷◌, Option, Some, None, IfSome, is_some}
 use Rattle.machine.specs.Code.{Code}
 use Rattle.activities.specs.Activities.{chosen}
 use Rattle.activities.specs.Points.{Point}
@@ -32,7 +33,8 @@ new_schedule false p s = None
 new_schedule true p s = Some (record { version = Second; processors = p; slots = s; entries = [] })
 
 -- The schedule, of so many processors and slots, can be written, and leads to this point.
-pub record IsRecord (code : Code) (input : List ℕ) (p s : ℕ) (x : Schedule) (b : Point) : Type 0 where
+pub record IsRecord (code : Code) (input : List ℕ) (p s : ℕ) (x : Schedule)
+    (b : Point) : Type 0 where
   pub version : x.version ≡ Second
   pub processors : x.processors ≡ p
   pub slots : x.slots ≡ s
@@ -41,7 +43,8 @@ pub record IsRecord (code : Code) (input : List ℕ) (p s : ℕ) (x : Schedule) 
 
 -- a schedule is there exactly where it is wanted, and leads to this point
 abbrev pub RecordsWanted : Bool → Code → List ℕ → ℕ → ℕ → Option Schedule → Point → Type 0
-RecordsWanted wanted code input p s kept b = (is_some kept ≡ wanted) × IfSome kept (λ x. IsRecord code input p s x b)
+RecordsWanted wanted code input p s kept b =
+    (is_some kept ≡ wanted) × IfSome kept (λ x. IsRecord code input p s x b)
 
 -- ---- the same of a run
 

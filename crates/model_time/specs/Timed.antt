@@ -24,7 +24,8 @@ pub record IsTimed (code : Code) (input : List ℕ) (pace : Pace) (x : Timed) : 
   pub sizes : AreSizes pace.processors pace.slots
   pub units : ℕ
   pub point : Point
-  pub counted : Units code pace.slots pace.processors units (beginning code input pace.slots) no_figures (no_figures_of (length code.loops)) point x.program x.loops.items
+  pub counted : Units code pace.slots pace.processors units (beginning code input pace.slots)
+      no_figures (no_figures_of (length code.loops)) point x.program x.loops.items
   pub time : x.program.time ≡ min units (2 ^ 64 - 1)
   pub reached : IsReached code input pace.processors pace.slots point.machine
   pub answers : Answers code point.machine x.answer

@@ -15,10 +15,12 @@ use Rattle.model_time.specs.declared.turned.Turned.TheVariants.{Local, Shared, P
 abbrev pub open_in : Point → ℕ
 open_in x = x.machine.ticket - x.machine.retired
 
--- Where a step leaves what processor q held, before which so many iterations were open: it holds it;
--- or it doesn't, and as many are open, or fewer.
+-- Where a step leaves what processor q held, before which so many iterations were open: it holds
+-- it; or it doesn't, and as many are open, or fewer.
 abbrev pub left : ℕ → ℕ → Point → Left
-left before q b = if is_some (frame_at q b) then Held else if open_in b == before then Parked else Retired
+left before q b =
+    if is_some (frame_at q b) then Held
+    else if open_in b == before then Parked else Retired
 
 -- Processor q can make no step of what it holds, and can't take up what is least.
 abbrev pub HasNoTurn : Code → ℕ → Point → ℕ → Type 0

@@ -1,5 +1,6 @@
 -- The lines of figures.
-use Rattle.std.specs.Prelude.{ℕ, ◌+◌, ◌*◌, ◌/◌, ◌%◌, ◌==◌, if◌then◌else◌, List, [], ◌∷◌, ◌++◌, codes, decimal}
+use Rattle.std.specs.Prelude.{ℕ, ◌+◌, ◌*◌, ◌/◌, ◌%◌, ◌==◌, if◌then◌else◌}
+use Rattle.std.specs.Prelude.{List, [], ◌∷◌, ◌++◌, codes, decimal}
 use Rattle.model_time.specs.declared.figures.Figures.{Figures}
 use Rattle.modelled.specs.declared.heads.Head.{Head}
 
@@ -13,11 +14,14 @@ tenths n = decimal (n / 10) ++ 46 ∷ decimal (n % 10)
 
 -- how many steps were made in which time, and the one by the other
 abbrev pub paced : Figures → List ℕ
-paced f = codes " STEPS " ++ decimal f.steps ++ codes " TIME " ++ decimal f.time ++ codes " SPEEDUP " ++ tenths (rounded 10 f.steps f.time)
+paced f =
+    codes " STEPS " ++ decimal f.steps ++ codes " TIME " ++ decimal f.time ++ codes " SPEEDUP "
+    ++ tenths (rounded 10 f.steps f.time)
 
 -- in how many of a hundred turns no step was made
 abbrev pub waiting_words : Figures → List ℕ
-waiting_words f = codes " WAITING " ++ decimal (rounded 100 f.waits (f.steps + f.again + f.waits)) ++ codes "%\n"
+waiting_words f =
+    codes " WAITING " ++ decimal (rounded 100 f.waits (f.steps + f.again + f.waits)) ++ codes "%\n"
 
 abbrev pub program_line : Figures → List ℕ
 program_line f = codes "PROGRAM" ++ paced f ++ waiting_words f
@@ -35,7 +39,9 @@ abbrev pub overlap_words : ℕ → List ℕ
 overlap_words n = codes " OPEN " ++ decimal n
 
 abbrev pub loop_line : ℕ → ℕ → Figures → List ℕ
-loop_line number line f = head_words number line ++ retired_words f.retired ++ paced f ++ overlap_words f.overlap ++ waiting_words f
+loop_line number line f =
+    head_words number line ++ retired_words f.retired ++ paced f ++ overlap_words f.overlap
+    ++ waiting_words f
 
 -- the line of a loop, where it was open for a time
 abbrev pub loop_shown : Head → Figures → List ℕ

@@ -1,5 +1,6 @@
 -- What `model` shows of a source and an input.
-use Rattle.std.specs.Prelude.{◌≡◌, ◌≤◌, ◌+◌, ◌⊎◌, ⊤, ℕ, suc, false, if◌then◌else◌, is_some, codes, List, [], ◌∷◌, ◌++◌, Option, Some, None, IfSome, Vec, option_map}
+use Rattle.std.specs.Prelude.{◌≡◌, ◌≤◌, ◌+◌, ◌⊎◌, ⊤, ℕ, suc, false, if◌then◌else◌, is_some, codes}
+use Rattle.std.specs.Prelude.{List, [], ◌∷◌, ◌++◌, Option, Some, None, IfSome, Vec, option_map}
 use Rattle.std.specs.Global.{Global}
 use Rattle.ast.specs.Meaning.{seq}
 use Rattle.ast.specs.Program.{ProgramTree}
@@ -12,12 +13,12 @@ use Rattle.machine.specs.Code.{Code}
 use Rattle.model_time.specs.Timed.{IsTimed}
 use Rattle.model_time.specs.declared.pace.Pace.{Pace}
 use Rattle.model_time.specs.declared.timed.Timed.{Timed}
-use Rattle.pages.specs.Outcomes.{outcome_of}
-use Rattle.pages.specs.Shown.{EndShown, Extends}
-use Rattle.pages.specs.declared.fault.EngineFault.{EngineFault}
-use Rattle.pages.specs.declared.fault.EngineFault.TheVariants as faults
-use Rattle.pages.specs.declared.outcomes.Outcome.{Outcome}
-use Rattle.pages.specs.declared.outcomes.Outcome.TheVariants.{Completed}
+use Rattle.command_output.specs.Outcomes.{outcome_of}
+use Rattle.command_output.specs.Shown.{EndShown, Extends}
+use Rattle.command_output.specs.declared.fault.EngineFault.{EngineFault}
+use Rattle.command_output.specs.declared.fault.EngineFault.TheVariants as faults
+use Rattle.command_output.specs.declared.outcomes.Outcome.{Outcome}
+use Rattle.command_output.specs.declared.outcomes.Outcome.TheVariants.{Completed}
 use Rattle.schedules.specs.Schedules.{SchedText, Schedule}
 use Rattle.engines.specs.Prepared.{IsUncoded, WithCode}
 use Rattle.modelled.specs.Lines.{loop_lines, program_line}
@@ -27,7 +28,9 @@ use Rattle.modelled.specs.declared.modelling.Timing.{Timing}
 -- the loops that the code opens, of which the first has this number
 abbrev pub heads_from : ℕ → List LoopReport → List Head
 heads_from n [] = []
-heads_from n (r ∷ rs) = if is_some (plan_of r.plan) then record { number = n; line = r.line } ∷ heads_from (suc n) rs else heads_from (suc n) rs
+heads_from n (r ∷ rs) =
+    if is_some (plan_of r.plan) then record { number = n; line = r.line } ∷ heads_from (suc n) rs
+    else heads_from (suc n) rs
 
 -- what follows the figures: what follows the records of a run that has ended, or that it hasn't
 abbrev pub EndsSo : Option Answer → List ℕ → Type 0
@@ -40,9 +43,11 @@ outcome_with None = Completed
 outcome_with (Some answer) = outcome_of answer.end
 
 -- The figures of a run are shown, those of the whole first, and then those of its loops.
-pub record IsShown (heads : List Head) (x : Timed) (outcome : Outcome) (text : List ℕ) : Type 0 where
+pub record IsShown (heads : List Head) (x : Timed) (outcome : Outcome)
+    (text : List ℕ) : Type 0 where
   pub ended : outcome ≡ outcome_with x.answer
-  pub shown : Extends (EndsSo x.answer) (program_line x.program ++ loop_lines heads x.loops.items) text
+  pub shown :
+      Extends (EndsSo x.answer) (program_line x.program ++ loop_lines heads x.loops.items) text
 
 abbrev pub text_of : Option (Vec ℕ Global) → Option (List ℕ)
 text_of = option_map (λ v. v.items)
@@ -55,12 +60,14 @@ IsTextOf _ _ = ⊥
 
 -- a run is shown, and its schedule is there as it is written, if it was kept
 abbrev pub AreTexts : List Head → Timed → Timing → Type 0
-AreTexts heads x t = IsShown heads x t.page.outcome t.page.text.items × IsTextOf x.schedule (text_of t.schedule)
+AreTexts heads x t =
+    IsShown heads x t.page.outcome t.page.text.items × IsTextOf x.schedule (text_of t.schedule)
 
 -- A run of code in model time is shown, of the loops that the program's reports say are opened. The
 -- state to which it and its schedule lead agrees with the sequential program: where it has ended it
 -- has as that does, and where it hasn't, at least as many steps were made as were to be.
-pub record ShowsModel (tree : ProgramTree) (code : Code) (input : List ℕ) (pace : Pace) (t : Timing) : Type 0 where
+pub record ShowsModel (tree : ProgramTree) (code : Code) (input : List ℕ) (pace : Pace)
+    (t : Timing) : Type 0 where
   pub reports : List LoopReport
   pub are : Reports tree reports
   pub timed : Timed

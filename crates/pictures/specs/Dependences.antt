@@ -12,6 +12,7 @@ source_line sources event = get_or sources (event - 1) 0
 
 -- These are the arrows of dependences that are kept, one of each, in order, from the lines of their
 -- sources.
-pub record AreArrows (sources : List ℕ) (kept : List (ℕ × ℕ × ℕ)) (arrows : List Arrow) : Type 0 where
+pub record AreArrows (sources : List ℕ) (kept : List (ℕ × ℕ × ℕ))
+    (arrows : List Arrow) : Type 0 where
   pub are : map dependence arrows ≡ kept
   pub from : map (λ a. a.source_line) arrows ≡ map (λ k. source_line sources k.0) kept

@@ -15,4 +15,5 @@ pub record IsDrawn (p : LoopPicture) (text : List ℕ) : Type 0 where
   pub sheet : List ℕ
   pub front : List Mark
   pub back : List Mark
-  pub is : text ≡ opening size sheet ++ (marks front ++ (arrows p ++ vectors p) ++ marks back) ++ codes "</svg>\n"
+  pub is : text ≡ opening size sheet ++ (marks front ++ (arrows p ++ vectors p) ++ marks back)
+      ++ codes "</svg>\n"

@@ -1,5 +1,6 @@
 -- What is marked in the picture of a loop that stays serial.
-use Rattle.std.specs.Prelude.{◌≡◌, ◌==◌, ◌+◌, ℕ, if◌then◌else◌, List, [], ◌∷◌, Option, Some, None, option_map}
+use Rattle.std.specs.Prelude.{◌≡◌, ◌==◌, ◌+◌, ℕ, if◌then◌else◌, List}
+use Rattle.std.specs.Prelude.{[], ◌∷◌, Option, Some, None, option_map}
 use Rattle.std.specs.List.{All}
 use Rattle.arrows.specs.declared.picture.Counted.{Counted}
 use Rattle.arrows.specs.declared.picture.Look.{Look}

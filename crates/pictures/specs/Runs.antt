@@ -1,10 +1,12 @@
 -- What is gathered of a run's processors, and said below its picture.
-use Rattle.std.specs.Prelude.{◌≡◌, ◌+◌, ◌-◌, ◌^◌, ℕ, min, nat_lt, if◌then◌else◌, codes, decimal, List, [], ◌∷◌, ◌++◌, get_or, length, set}
+use Rattle.std.specs.Prelude.{◌≡◌, ◌+◌, ◌-◌, ◌^◌, ℕ, min, nat_lt, if◌then◌else◌, codes}
+use Rattle.std.specs.Prelude.{decimal, List, [], ◌∷◌, ◌++◌, get_or, length, set}
 use Rattle.arrows.specs.Markup.{words}
 use Rattle.arrows.specs.declared.mark.Class.{Class}
 use Rattle.arrows.specs.declared.svg.Point.{Point}
 use Rattle.pictures.specs.declared.gathering.Came.{Came}
-use Rattle.pictures.specs.declared.gathering.Came.TheVariants.{Nothing, Advanced, Parked, Retired, Ended}
+use Rattle.pictures.specs.declared.gathering.Came.TheVariants.{Nothing, Advanced}
+use Rattle.pictures.specs.declared.gathering.Came.TheVariants.{Parked, Retired, Ended}
 use Rattle.pictures.specs.declared.gathering.Gathered.{Gathered}
 use Rattle.pictures.specs.declared.gathering.Lane.{Lane}
 use Rattle.pictures.specs.declared.gathering.Turn.{Turn}
@@ -28,11 +30,15 @@ counted_on sum more = min (sum + more) (2 ^ 64 - 1)
 
 -- with the steps of one entry more, and whether it parked
 abbrev pub counted : Turn → Lane → Lane
-counted t lane = record { steps = counted_on lane.steps t.steps; parked = counted_on lane.parked (parks t.came) }
+counted t lane =
+    record { steps = counted_on lane.steps t.steps; parked = counted_on lane.parked (parks t.came) }
 
 -- the lane of an entry's processor has it, and the others stay
 abbrev pub with_turn : Turn → List Lane → List Lane
-with_turn t lanes = if nat_lt t.processor (length lanes) then set lanes t.processor (counted t (get_or lanes t.processor nothing)) else lanes
+with_turn t lanes =
+    if nat_lt t.processor (length lanes)
+    then set lanes t.processor (counted t (get_or lanes t.processor nothing))
+    else lanes
 
 -- ---- what is said of it
 

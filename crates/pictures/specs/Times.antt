@@ -11,7 +11,9 @@ in_order c q = if nat_le c.least q then c.unit else counted_on c.unit 1
 
 -- An entry begins when its processor is free; one that touches what they share not before its turn.
 abbrev pub begins : Clocks → Duty → ℕ
-begins c d = if d.shared then max (get_or c.free.items d.processor 0) (in_order c d.processor) else get_or c.free.items d.processor 0
+begins c d =
+    if d.shared then max (get_or c.free.items d.processor 0) (in_order c d.processor)
+    else get_or c.free.items d.processor 0
 
 -- when processors are free, where one is from a unit on
 abbrev pub freed : List ℕ → (processor unit : ℕ) → List ℕ

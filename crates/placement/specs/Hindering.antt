@@ -1,6 +1,8 @@
 -- What is in the way of opening a loop that doesn't suit.
-use Rattle.std.specs.Prelude.{◌≡◌, ◌+◌, ℕ, List, map, take, get_or, Option, Some, None, if◌then◌else◌, option_map}
-use Rattle.ast.specs.Tree.{Statement, Node, plain, loop, choose, Block, no_nodes, then_node, Arms, no_arms, then_arm}
+use Rattle.std.specs.Prelude.{◌≡◌, ◌+◌, ℕ, List, map, take, get_or, Option}
+use Rattle.std.specs.Prelude.{Some, None, if◌then◌else◌, option_map}
+use Rattle.ast.specs.Tree.{Statement, Node, plain, loop, choose, Block}
+use Rattle.ast.specs.Tree.{no_nodes, then_node, Arms, no_arms, then_arm}
 use Rattle.ast.specs.declared.name.Name.{Name}
 use Rattle.dependence.specs.Hiding.{has_name}
 use Rattle.dependence.specs.Kept.{is_read, most_events}

@@ -7,7 +7,8 @@ use Rattle.dependence.specs.Plan.{PlanTree}
 use Rattle.dependence.specs.PlanView.{plan_of}
 use Rattle.dependence.specs.declared.plan.LoopPlan.TheVariants.{Serial}
 use Rattle.dependence.specs.declared.serial.SerialReason.{SerialReason}
-use Rattle.dependence.specs.declared.serial.SerialReason.TheVariants.{NoStep, Reads, SharedVariable, ManySources, Inside, Refused}
+use Rattle.dependence.specs.declared.serial.SerialReason.TheVariants.{NoStep, Reads, SharedVariable}
+use Rattle.dependence.specs.declared.serial.SerialReason.TheVariants.{ManySources, Inside, Refused}
 use Rattle.loop_tree.specs.Loops.{Loop}
 use Rattle.placement.specs.Analysed.{AreAnalysed, AreTriples, HasManySources, triple}
 use Rattle.placement.specs.Opening.{NoneSuits}
@@ -28,7 +29,8 @@ abbrev pub IsHindered : Loop → SerialReason → Type 0
 IsHindered l NoStep = IsNonzero l.step → ⊥
 IsHindered l Reads = IsNonzero l.step × (block_reads l.body ≡ true)
 IsHindered l SharedVariable = (names : List (List ℕ)) × IsPlain l names × (hides names l ≡ false)
-IsHindered l ManySources = (names : List (List ℕ)) × IsPlain l names × (hides names l ≡ true) × HasManySources l
+IsHindered l ManySources =
+    (names : List (List ℕ)) × IsPlain l names × (hides names l ≡ true) × HasManySources l
 IsHindered l Inside = ⊥
 IsHindered l Refused = ⊥
 
@@ -36,7 +38,9 @@ IsHindered l Refused = ⊥
 abbrev pub IsJudged : Loop → Judged → Type 0
 IsJudged l (judged.Serial reason) = IsHindered l reason
 IsJudged l (judged.Suits privates analysis) =
-    IsPlain l (map letters privates.names.items) × (hides (map letters privates.names.items) l ≡ true) × AreAnalysed l (map letters privates.names.items) analysis
+    IsPlain l (map letters privates.names.items)
+    × (hides (map letters privates.names.items) l ≡ true)
+    × AreAnalysed l (map letters privates.names.items) analysis
 
 -- the answer says that the loop suits
 abbrev pub suits_by : Judged → Bool
@@ -74,7 +78,8 @@ IsOpenedUnless false l placed = IsOpened l placed
 abbrev pub IsPlaced : Loop → Bool → Placed → Type 0
 IsPlaced l inside placed =
     ((placed.suits ≡ true) × Suits l × IsOpenedUnless inside l placed)
-    ⊎ ((placed.suits ≡ false) × (Suits l → ⊥) × ((r : SerialReason) × IsSerial r placed × IsLowest l [] r))
+    ⊎ ((placed.suits ≡ false) × (Suits l → ⊥)
+    × ((r : SerialReason) × IsSerial r placed × IsLowest l [] r))
 
 -- whether one of the loops around a loop may be open
 abbrev pub IsInside : List Loop → Bool → Type 0

@@ -1,5 +1,6 @@
 -- An account of the code: what is placed, in lists.
-use Rattle.std.specs.Prelude.{◌+◌, nat_le, nat_lt, ℕ, Bool, true, false, not, ◌&&◌, ◌||◌, List, [], ◌∷◌, ◌++◌, Option, Some, None, Vec, if◌then◌else◌, slice_get}
+use Rattle.std.specs.Prelude.{◌+◌, nat_le, nat_lt, ℕ, Bool, true, false, not, ◌&&◌, ◌||◌, List}
+use Rattle.std.specs.Prelude.{[], ◌∷◌, ◌++◌, Option, Some, None, Vec, if◌then◌else◌, slice_get}
 use Rattle.std.specs.Global.{Global}
 use Rattle.ast.specs.Tree as tree
 use Rattle.ast.specs.Tree.{Node, Block, Arms, Term}
@@ -32,7 +33,9 @@ advance_nodes_of e = awaits e 1 ∷ advances e ∷ []
 -- event k
 abbrev pub advance_nodes : ℕ → List ℕ → ℕ → ℕ → List PlanNode
 advance_nodes k [] low high = []
-advance_nodes k (s ∷ ss) low high = (if nat_le low s && nat_lt s high then advance_nodes_of k else []) ++ advance_nodes (k + 1) ss low high
+advance_nodes k (s ∷ ss) low high =
+    (if nat_le low s && nat_lt s high then advance_nodes_of k else [])
+    ++ advance_nodes (k + 1) ss low high
 
 abbrev pub is_some : Option Term → Bool
 is_some None = false
@@ -54,7 +57,8 @@ module _ (sources : List ℕ) where
 
   -- the beginning of an arm from number o on: the advances of the other arms' events
   abbrev pub opening : ℕ → ℕ → ℕ → Block → List PlanNode
-  opening low high o b = advance_nodes 1 sources low o ++ advance_nodes 1 sources (o + block_size b) high
+  opening low high o b =
+      advance_nodes 1 sources low o ++ advance_nodes 1 sources (o + block_size b) high
 
   abbrev pub listed_else : Bool → ℕ → ℕ → Option (List PlanNode)
   listed_else true low high = None
@@ -63,11 +67,14 @@ module _ (sources : List ℕ) where
 module _ (sources : List ℕ) (before : ℕ → List (ℕ × ℕ)) where
   abbrev pub inner_nodes : ℕ → Block → List PlanNode
   inner_nodes o tree.no_nodes = []
-  inner_nodes o (tree.then_node n b) = await_nodes (before o) ++ (inner_node sources before o n ∷ inner_nodes (o + node_size n) b)
+  inner_nodes o (tree.then_node n b) =
+      await_nodes (before o) ++ (inner_node sources before o n ∷ inner_nodes (o + node_size n) b)
 
   abbrev pub placed_nodes : ℕ → Block → List PlanNode
   placed_nodes o tree.no_nodes = []
-  placed_nodes o (tree.then_node n b) = await_nodes (before o) ++ (placed_node sources before o n ∷ (anchors sources o n ++ placed_nodes (o + node_size n) b))
+  placed_nodes o (tree.then_node n b) =
+      await_nodes (before o) ++ (placed_node sources before o n
+      ∷ (anchors sources o n ++ placed_nodes (o + node_size n) b))
 
   -- an arm of an IF of an inner loop, from number o on
   abbrev pub inner_arm : ℕ → ℕ → Option Term → Block → ArmOf
@@ -75,14 +82,21 @@ module _ (sources : List ℕ) (before : ℕ → List (ℕ × ℕ)) where
 
   abbrev pub inner_listed_arms : ℕ → Arms → List ArmOf
   inner_listed_arms o tree.no_arms = []
-  inner_listed_arms o (tree.then_arm l c b more) = inner_arm o l c b ∷ inner_listed_arms (o + block_size b) more
+  inner_listed_arms o (tree.then_arm l c b more) =
+      inner_arm o l c b ∷ inner_listed_arms (o + block_size b) more
 
   -- an arm of an IF whose arms stand between low and high: its events and those of the other arms
   -- are advanced in it, unless it stands behind an ELSE
   abbrev pub listed_arm : Bool → ℕ → ℕ → ℕ → ℕ → Option Term → Block → ArmOf
-  listed_arm true low high o l c b = record { line = l; condition = c; body = plan_view.block (opening sources low high o b ++ placed_nodes o b) }
+  listed_arm true low high o l c b = record {
+    line = l;
+    condition = c;
+    body = plan_view.block (opening sources low high o b ++ placed_nodes o b);
+  }
   listed_arm false low high o l c b = inner_arm o l c b
 
   abbrev pub listed_arms : Bool → ℕ → ℕ → ℕ → Arms → List ArmOf
   listed_arms is_open low high o tree.no_arms = []
-  listed_arms is_open low high o (tree.then_arm l c b more) = listed_arm is_open low high o l c b ∷ listed_arms (is_open && is_some c) low high (o + block_size b) more
+  listed_arms is_open low high o (tree.then_arm l c b more) =
+      listed_arm is_open low high o l c b
+      ∷ listed_arms (is_open && is_some c) low high (o + block_size b) more

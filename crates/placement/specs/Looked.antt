@@ -1,5 +1,7 @@
 -- An account of the code: what is found by looking at a reference with its partners, in order.
-use Rattle.std.specs.Prelude.{◌≡◌, ◌<◌, ◌≤◌, ◌==◌, Vec, ◌+◌, nat_lt, ℕ, Bool, true, false, ◌&&◌, ◌||◌, List, [], ◌∷◌, ◌++◌, length, map, Option, Some, None, is_some, if◌then◌else◌, slice_get, IfSome}
+use Rattle.std.specs.Prelude.{◌≡◌, ◌<◌, ◌≤◌, ◌==◌, Vec, ◌+◌, nat_lt, ℕ, Bool, true, false}
+use Rattle.std.specs.Prelude.{◌&&◌, ◌||◌, List, [], ◌∷◌, ◌++◌, length, map, Option}
+use Rattle.std.specs.Prelude.{Some, None, is_some, if◌then◌else◌, slice_get, IfSome}
 use Rattle.std.specs.Global.{Global}
 use Rattle.std.specs.List.{All}
 use Rattle.ast.specs.Store.{same_name}
@@ -35,7 +37,8 @@ is_own l privates r = same_name r.name l.head.variable.name || has_name privates
 -- the others among references, in order
 abbrev pub shared_of : Loop → List (List ℕ) → List Occurrence → List Occurrence
 shared_of l privates [] = []
-shared_of l privates (o ∷ os) = if is_own l privates o.ref then shared_of l privates os else o ∷ shared_of l privates os
+shared_of l privates (o ∷ os) =
+    if is_own l privates o.ref then shared_of l privates os else o ∷ shared_of l privates os
 
 -- the reference that is kept so
 abbrev pub occurrence_in : Shared → Occurrence
@@ -51,7 +54,8 @@ forms_at kinds n = map form_in (list_at kinds n)
 
 -- its kind is that of the forms of its subscripts
 abbrev pub HasForms : Loop → Kinds → Shared → Type 0
-HasForms l kinds s = (s.kind < length kinds) × (forms_at kinds s.kind ≡ forms_of l (occurrence_in s).subscripts)
+HasForms l kinds s =
+    (s.kind < length kinds) × (forms_at kinds s.kind ≡ forms_of l (occurrence_in s).subscripts)
 
 -- so are those of all that are kept
 abbrev pub HaveForms : Loop → Pairs → Type 0
@@ -93,7 +97,9 @@ pub record AreGrouped (p : Pairs) : Type 0 where
 
 -- a reference is considered before others
 abbrev pub HasOneMore : Loop → List (List ℕ) → Occurrence → Pairs → Pairs → Type 0
-HasOneMore l privates o old new = (more : List Occurrence) → shared_in new ++ shared_of l privates more ≡ shared_in old ++ shared_of l privates (o ∷ more)
+HasOneMore l privates o old new =
+    (more : List Occurrence)
+    → shared_in new ++ shared_of l privates more ≡ shared_in old ++ shared_of l privates (o ∷ more)
 
 -- What is kept of a loop's references before pairs are looked at.
 pub record ArePairs (l : Loop) (privates : List (List ℕ)) (p : Pairs) : Type 0 where
@@ -139,10 +145,13 @@ triple_of a b (Some d) = (b.statement, a.statement, d) ∷ []
 
 -- the relation that was found is that to each reference of this kind
 abbrev pub Relates : Loop → Kinds → Occurrence → Earlier → Type 0
-Relates l kinds a earlier = (b : Occurrence) → forms_at kinds earlier.kind ≡ forms_of l b.subscripts → earlier.relation ≡ relation l a b
+Relates l kinds a earlier =
+    (b : Occurrence) → forms_at kinds earlier.kind ≡ forms_of l b.subscripts
+    → earlier.relation ≡ relation l a b
 
 -- so are the newest of what was found
-pub record AllRelate (l : Loop) (kinds : Kinds) (a : Occurrence) (recent : Recent Earlier) : Type 0 where
+pub record AllRelate (l : Loop) (kinds : Kinds) (a : Occurrence)
+    (recent : Recent Earlier) : Type 0 where
   pub newest : IfSome recent.newest (Relates l kinds a)
   pub older : IfSome recent.older (Relates l kinds a)
 
@@ -156,7 +165,11 @@ relation_by l a b = (a.ref.id, b.ref.id, relation l a b)
 
 -- with the relation of one more pair
 abbrev pub with_relation : Occurrence → Occurrence → Relation → Found → Found
-with_relation a b r f = record { sources = f.sources; kept = f.kept ++ triple_of a b (kept_distance r); relations = f.relations ++ (a.ref.id, b.ref.id, r) ∷ [] }
+with_relation a b r f = record {
+  sources = f.sources;
+  kept = f.kept ++ triple_of a b (kept_distance r);
+  relations = f.relations ++ (a.ref.id, b.ref.id, r) ∷ [];
+}
 
 -- with one more pair
 abbrev pub after_pair : Loop → Occurrence → Occurrence → Found → Found
@@ -175,16 +188,25 @@ after_places l os a (n ∷ ns) f = after_places l os a ns (after_some l a (slice
 -- sources with one more, each once, in order
 abbrev pub with_source : ℕ → List ℕ → List ℕ
 with_source s [] = s ∷ []
-with_source s (x ∷ xs) = if nat_lt s x then s ∷ x ∷ xs else if s == x then x ∷ xs else x ∷ with_source s xs
+with_source s (x ∷ xs) =
+    if nat_lt s x then s ∷ x ∷ xs
+    else if s == x then x ∷ xs else x ∷ with_source s xs
 
 -- where more is kept than before, the statement is a source
 abbrev pub with_new_source : ℕ → Found → Found → Found
 with_new_source s old new =
-    record { sources = if nat_lt (length old.kept) (length new.kept) then with_source s new.sources else new.sources; kept = new.kept; relations = new.relations }
+    record {
+      sources =
+          if nat_lt (length old.kept) (length new.kept) then with_source s new.sources
+          else new.sources;
+      kept = new.kept;
+      relations = new.relations;
+    }
 
 -- with all pairs of one more reference and its partners
 abbrev pub after_first : Loop → Pairs → Occurrence → Found → Found
-after_first l p a f = with_new_source a.statement f (after_places l (shared_in p) a (partners_of p a) f)
+after_first l p a f =
+    with_new_source a.statement f (after_places l (shared_in p) a (partners_of p a) f)
 
 -- with those of several references, one after another
 abbrev pub after_all : Loop → Pairs → List Occurrence → Found → Found
@@ -218,7 +240,8 @@ keeps l os a (n ∷ ns) = keeps_at l a (slice_get os n) || keeps l os a ns
 
 -- sources with the statement of a reference, where something is kept of that
 abbrev pub sources_with : Loop → Pairs → Occurrence → List ℕ → List ℕ
-sources_with l p a ss = if keeps l (shared_in p) a (partners_of p a) then with_source a.statement ss else ss
+sources_with l p a ss =
+    if keeps l (shared_in p) a (partners_of p a) then with_source a.statement ss else ss
 
 -- with those of several references
 abbrev pub sources_after : Loop → Pairs → List Occurrence → List ℕ → List ℕ

@@ -1,9 +1,11 @@
 -- The plan of a loop, by what is kept of its dependences.
-use Rattle.std.specs.Prelude.{◌≡◌, ◌<◌, ◌⊎◌, ◌==◌, ◌+◌, nat_lt, ℕ, zero, suc, Bool, true, not, ◌&&◌, ◌||◌, List, [], ◌∷◌, ◌++◌, length, Option, Some, None, if◌then◌else◌}
+use Rattle.std.specs.Prelude.{◌≡◌, ◌<◌, ◌⊎◌, ◌==◌, ◌+◌, nat_lt, ℕ, zero, suc, Bool, true, not, ◌&&◌}
+use Rattle.std.specs.Prelude.{◌||◌, List, [], ◌∷◌, ◌++◌, length, Option, Some, None, if◌then◌else◌}
 use Rattle.std.specs.List.{Contains, list_any}
 use Rattle.ast.specs.Store.{same_name}
 use Rattle.ast.specs.Tree.{Ref}
-use Rattle.dependence.specs.Kept.{EligibleIn, IsNonzero, Kept, block_reads, block_variables, most_events}
+use Rattle.dependence.specs.Kept.{EligibleIn, IsNonzero, Kept, block_reads}
+use Rattle.dependence.specs.Kept.{block_variables, most_events}
 use Rattle.dependence.specs.Plan.{PlanTree}
 use Rattle.dependence.specs.PlanView.{plan_of}
 use Rattle.dependence.specs.Serial.{number_of}
@@ -12,7 +14,8 @@ use Rattle.dependence.specs.declared.plan.LoopPlan.{LoopPlan}
 use Rattle.dependence.specs.declared.plan.LoopPlan.TheVariants.{Serial, Body}
 use Rattle.dependence.specs.declared.relation.Relation.{Relation}
 use Rattle.dependence.specs.declared.serial.SerialReason.{SerialReason}
-use Rattle.dependence.specs.declared.serial.SerialReason.TheVariants.{NoStep, Reads, SharedVariable, ManySources, Inside, Refused}
+use Rattle.dependence.specs.declared.serial.SerialReason.TheVariants.{NoStep, Reads, SharedVariable}
+use Rattle.dependence.specs.declared.serial.SerialReason.TheVariants.{ManySources, Inside, Refused}
 use Rattle.loop_tree.specs.Loops.{Loop, loop_around}
 use Rattle.loop_tree.specs.Occurrences.{Occurrence}
 use Rattle.loop_tree.specs.Private.{Private}
@@ -62,18 +65,23 @@ abbrev pub is_looked_at : Loop → List (List ℕ) → Occurrence → Occurrence
 is_looked_at l privates a b =
     same_name a.ref.name b.ref.name
     && (not (same_name a.ref.name l.head.variable.name)
-    && (not (list_any (λ (n : List ℕ). same_name n a.ref.name) privates) && (a.defines || b.defines)))
+    && (not (list_any (λ (n : List ℕ). same_name n a.ref.name) privates)
+    && (a.defines || b.defines)))
 
 -- the relations of a reference to others, in order
-abbrev pub relations_with : Loop → List (List ℕ) → Occurrence → List Occurrence → List (ℕ × ℕ × Relation)
+abbrev pub relations_with : Loop → List (List ℕ) → Occurrence → List Occurrence
+    → List (ℕ × ℕ × Relation)
 relations_with l privates a [] = []
 relations_with l privates a (b ∷ bs) =
-    (if is_looked_at l privates a b then (a.ref.id, b.ref.id, relation l a b) ∷ [] else []) ++ relations_with l privates a bs
+    (if is_looked_at l privates a b then (a.ref.id, b.ref.id, relation l a b) ∷ [] else [])
+    ++ relations_with l privates a bs
 
 -- of each pair that is looked at, in the order of the references
-abbrev pub relations_of : Loop → List (List ℕ) → List Occurrence → List Occurrence → List (ℕ × ℕ × Relation)
+abbrev pub relations_of : Loop → List (List ℕ) → List Occurrence → List Occurrence
+    → List (ℕ × ℕ × Relation)
 relations_of l privates [] os = []
-relations_of l privates (a ∷ more) os = relations_with l privates a os ++ relations_of l privates more os
+relations_of l privates (a ∷ more) os =
+    relations_with l privates a os ++ relations_of l privates more os
 
 -- ---- the plan
 
@@ -99,14 +107,16 @@ SomeEligible (m ∷ around) = EligibleIn m around ⊎ SomeEligible around
 abbrev pub Reason : Loop → List Loop → SerialReason → Type 0
 Reason l around NoStep = IsNonzero l.step → ⊥
 Reason l around Reads = block_reads l.body ≡ true
-Reason l around SharedVariable = (r : Ref) × Contains (block_variables l.body) r × (Private l r.cell → ⊥)
+Reason l around SharedVariable =
+    (r : Ref) × Contains (block_variables l.body) r × (Private l r.cell → ⊥)
 Reason l around ManySources = (ss : List ℕ) × AreSources l ss × (most_events < length ss)
 Reason l around Inside = SomeEligible around
 Reason l around Refused = ⊥
 
 -- the lowest that holds
 abbrev pub IsLowest : Loop → List Loop → SerialReason → Type 0
-IsLowest l around r = Reason l around r × ((q : SerialReason) → number_of q < number_of r → Reason l around q → ⊥)
+IsLowest l around r =
+    Reason l around r × ((q : SerialReason) → number_of q < number_of r → Reason l around q → ⊥)
 
 -- a loop around, if there is one, and those around that
 abbrev pub with_outer : (Loop → List Loop) → Option Loop → List Loop
@@ -125,4 +135,6 @@ loops_around all l = around_in (length all) all l
 -- What placement gives for a loop of a program with these loops.
 abbrev pub IsPlacement : List Loop → Loop → LoopPlan → Type 0
 IsPlacement all l (Serial reason) = IsLowest l (loops_around all l) reason
-IsPlacement all l (Body b privates relations) = EligibleIn l (loops_around all l) × ((p : PlanTree) × (plan_of (Body b privates relations) ≡ Some p) × IsPlacedBody l p)
+IsPlacement all l (Body b privates relations) =
+    EligibleIn l (loops_around all l)
+    × ((p : PlanTree) × (plan_of (Body b privates relations) ≡ Some p) × IsPlacedBody l p)

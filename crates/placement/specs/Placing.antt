@@ -1,10 +1,12 @@
 -- Where awaits and advances are put in the range of a loop (placement for known distances, after
 -- Midkiff and Padua): statements have numbers, those of the range from one on.
-use Rattle.std.specs.Prelude.{◌+◌, nat_le, nat_lt, ℕ, ◌&&◌, List, [], ◌∷◌, length, Some, None, if◌then◌else◌}
+use Rattle.std.specs.Prelude.{◌+◌, nat_le, nat_lt, ℕ, ◌&&◌, List, []}
+use Rattle.std.specs.Prelude.{◌∷◌, length, Some, None, if◌then◌else◌}
 use Rattle.ast.specs.Tree as tree
 use Rattle.ast.specs.Tree.{Node, Block, Arms}
 use Rattle.loop_tree.specs.Occurrences.{node_lines, block_lines, arms_lines}
-use Rattle.dependence.specs.Plan.{PlanNode, awaits, advances, plain, loop, choose, PlanBlock, no_nodes, then_node, PlanArms, no_arms, made_else, then_arm}
+use Rattle.dependence.specs.Plan.{PlanNode, awaits, advances, plain, loop, choose, PlanBlock}
+use Rattle.dependence.specs.Plan.{no_nodes, then_node, PlanArms, no_arms, made_else, then_arm}
 
 -- how many statements a node is, with those that it holds
 abbrev pub node_size : Node → ℕ
@@ -22,7 +24,9 @@ arms_size a = length (arms_lines a)
 -- of those that are left has event k
 abbrev pub events_from : ℕ → List ℕ → ℕ → ℕ → List ℕ
 events_from k [] low high = []
-events_from k (s ∷ ss) low high = if nat_le low s && nat_lt s high then k ∷ events_from (k + 1) ss low high else events_from (k + 1) ss low high
+events_from k (s ∷ ss) low high =
+    if nat_le low s && nat_lt s high then k ∷ events_from (k + 1) ss low high
+    else events_from (k + 1) ss low high
 
 -- awaits in front of statements
 abbrev pub with_awaits : List (ℕ × ℕ) → PlanBlock → PlanBlock
@@ -60,11 +64,13 @@ module _ (sources : List ℕ) (before : ℕ → List (ℕ × ℕ)) where
 
     pub inner_block : ℕ → Block → PlanBlock
     inner_block o tree.no_nodes = no_nodes
-    inner_block o (tree.then_node n b) = with_awaits (before o) (then_node (inner_node o n) (inner_block (o + node_size n) b))
+    inner_block o (tree.then_node n b) =
+        with_awaits (before o) (then_node (inner_node o n) (inner_block (o + node_size n) b))
 
     pub inner_arms : ℕ → Arms → PlanArms
     inner_arms o tree.no_arms = no_arms
-    inner_arms o (tree.then_arm l c b more) = then_arm l c (inner_block o b) (inner_arms (o + block_size b) more)
+    inner_arms o (tree.then_arm l c b more) =
+        then_arm l c (inner_block o b) (inner_arms (o + block_size b) more)
 
   abbrev mutual
     pub placed_node : ℕ → Node → PlanNode
@@ -76,10 +82,18 @@ module _ (sources : List ℕ) (before : ℕ → List (ℕ × ℕ)) where
     -- advances of the events that are anchored there
     pub placed_block : ℕ → Block → PlanBlock
     placed_block o tree.no_nodes = no_nodes
-    placed_block o (tree.then_node n b) = with_awaits (before o) (then_node (placed_node o n) (with_advances (anchored o n) (placed_block (o + node_size n) b)))
+    placed_block o (tree.then_node n b) =
+        with_awaits (before o) (then_node (placed_node o n)
+        (with_advances (anchored o n) (placed_block (o + node_size n) b)))
 
     -- low and high: the numbers between which the arms of the IF stand
     pub placed_arms : ℕ → ℕ → ℕ → Arms → PlanArms
     placed_arms low high o tree.no_arms = made_for (events low high)
-    placed_arms low high o (tree.then_arm l None b more) = then_arm l None (with_advances (events low o) (with_advances (events (o + block_size b) high) (placed_block o b))) (inner_arms (o + block_size b) more)
-    placed_arms low high o (tree.then_arm l (Some c) b more) = then_arm l (Some c) (with_advances (events low o) (with_advances (events (o + block_size b) high) (placed_block o b))) (placed_arms low high (o + block_size b) more)
+    placed_arms low high o (tree.then_arm l None b more) =
+        then_arm l None (with_advances (events low o)
+        (with_advances (events (o + block_size b) high) (placed_block o b)))
+        (inner_arms (o + block_size b) more)
+    placed_arms low high o (tree.then_arm l (Some c) b more) =
+        then_arm l (Some c) (with_advances (events low o)
+        (with_advances (events (o + block_size b) high) (placed_block o b)))
+        (placed_arms low high (o + block_size b) more)

@@ -10,4 +10,5 @@ event_of k (x ∷ xs) s = if nat_lt x s then event_of (k + 1) xs s else k
 -- what statement t awaits, of what is kept: events with distances
 abbrev pub awaits_of : List ℕ → ℕ → List Triple → List (ℕ × ℕ)
 awaits_of sources t [] = []
-awaits_of sources t (k ∷ ks) = (if k.0 == t then (event_of 1 sources k.1, k.2) ∷ [] else []) ++ awaits_of sources t ks
+awaits_of sources t (k ∷ ks) =
+    (if k.0 == t then (event_of 1 sources k.1, k.2) ∷ [] else []) ++ awaits_of sources t ks

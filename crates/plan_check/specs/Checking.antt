@@ -1,6 +1,7 @@
 -- What the check accepts: conditions on what is known at the places of a plan's body, and on what
 -- is claimed of each pair of references.
-use Rattle.std.specs.Prelude.{◌≡◌, ◌==◌, ◌+◌, nat_le, max, ℕ, ℤ, pos, Bool, true, false, not, ◌&&◌, ◌||◌, List, [], ◌∷◌, map, Option, Some, None, if◌then◌else◌}
+use Rattle.std.specs.Prelude.{◌≡◌, ◌==◌, ◌+◌, nat_le, max, ℕ, ℤ, pos, Bool, true, false, not}
+use Rattle.std.specs.Prelude.{◌&&◌, ◌||◌, List, [], ◌∷◌, map, Option, Some, None, if◌then◌else◌}
 use Rattle.std.specs.List.{list_all, list_any}
 use Rattle.std.specs.Ordering.{int_eq}
 use Rattle.ast.specs.Store.{same_name}
@@ -14,7 +15,8 @@ use Rattle.dependence.specs.Plan.{PlanTree}
 use Rattle.dependence.specs.Tests.{is_verified}
 use Rattle.dependence.specs.declared.relation.Relation.{Relation}
 use Rattle.dependence.specs.declared.relation.Relation.TheVariants.{Apart, Distance, Any}
-use Rattle.plan_check.specs.Flow.{Known, Point, after_block, beginning, block_points, has_advanced, has_awaited, is_defined, is_free, outside}
+use Rattle.plan_check.specs.Flow.{Known, Point, after_block, beginning, block_points}
+use Rattle.plan_check.specs.Flow.{has_advanced, has_awaited, is_defined, is_free, outside}
 use Rattle.plan_check.specs.GoodPlan.{SameBody, named, token_of}
 
 -- ---- what the loop and the plan are by themselves
@@ -121,7 +123,8 @@ claimed (c ∷ cs) a b = if (c.0 == a) && (c.1 == b) then Some c.2 else claimed 
 abbrev pub is_looked_at : Loop → PlanTree → Occurrence → Occurrence → Bool
 is_looked_at l p a b =
     same_name a.ref.name b.ref.name
-    && (not (same_name a.ref.name l.head.variable.name) && (not (has_name p.privates a.ref.name) && (a.defines || b.defines)))
+    && (not (same_name a.ref.name l.head.variable.name)
+    && (not (has_name p.privates a.ref.name) && (a.defines || b.defines)))
 
 -- a relation is given, and it is true
 abbrev pub is_true_claim : Loop → Occurrence → Occurrence → Option Relation → Bool
@@ -155,7 +158,9 @@ is_held_if ns s t (Some d) = is_held ns s t d
 
 -- of each pair that is looked at
 abbrev pub each_pair : Loop → PlanTree → List Entry → (Entry → Entry → Bool) → Bool
-each_pair l p es test = list_all (λ (x : Entry). list_all (λ (y : Entry). not (is_looked_at l p x.0 y.0) || test x y) es) es
+each_pair l p es test =
+    list_all
+    (λ (x : Entry). list_all (λ (y : Entry). not (is_looked_at l p x.0 y.0) || test x y) es) es
 
 -- the relation that the plan claims of two references, if it claims one
 abbrev pub claim_of : PlanTree → Entry → Entry → Option Relation
@@ -164,16 +169,21 @@ claim_of p x y = claimed p.relations x.0.ref.id y.0.ref.id
 -- Otherwise 72. For each pair that is to be kept, some event of the plan has been advanced on no
 -- path before the source.
 abbrev pub all_ahead : ℕ → Loop → PlanTree → Bool
-all_ahead cells l p = each_pair l p (entries_of cells l p) (λ x y. is_ahead_if (named p.body) x.1 (distance_of (claim_of p x y)))
+all_ahead cells l p =
+    each_pair l p (entries_of cells l p)
+    (λ x y. is_ahead_if (named p.body) x.1 (distance_of (claim_of p x y)))
 
 -- Otherwise 73. For each such pair, such an event has been awaited on each path before the sink, no
 -- further back than the distance.
 abbrev pub all_held : ℕ → Loop → PlanTree → Bool
-all_held cells l p = each_pair l p (entries_of cells l p) (λ x y. is_held_if (named p.body) x.1 y.1 (distance_of (claim_of p x y)))
+all_held cells l p =
+    each_pair l p (entries_of cells l p)
+    (λ x y. is_held_if (named p.body) x.1 y.1 (distance_of (claim_of p x y)))
 
 -- Otherwise 74. Of each pair that is looked at a relation is claimed, and its test gives it.
 abbrev pub all_true : ℕ → Loop → PlanTree → Bool
-all_true cells l p = each_pair l p (entries_of cells l p) (λ x y. is_true_claim l x.0 y.0 (claim_of p x y))
+all_true cells l p =
+    each_pair l p (entries_of cells l p) (λ x y. is_true_claim l x.0 y.0 (claim_of p x y))
 
 -- The plan's body is the loop's, with awaits, advances and made ELSEs, and its references are those
 -- that the loop shows.

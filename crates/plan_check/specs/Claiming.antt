@@ -1,5 +1,6 @@
 -- Relations in order, run by run.
-use Rattle.std.specs.Prelude.{◌==◌, ◌+◌, ◌-◌, ◌*◌, nat_le, nat_lt, ℕ, Bool, true, ◌&&◌, ◌||◌, if◌then◌else◌, List, [], ◌∷◌}
+use Rattle.std.specs.Prelude.{◌==◌, ◌+◌, ◌-◌, ◌*◌, nat_le, nat_lt, ℕ, Bool}
+use Rattle.std.specs.Prelude.{true, ◌&&◌, ◌||◌, if◌then◌else◌, List, [], ◌∷◌}
 use Rattle.dependence.specs.declared.run.Run.{Run}
 
 -- the number behind the last of the others of a run

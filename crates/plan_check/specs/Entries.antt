@@ -8,11 +8,13 @@ use Rattle.plan_check.specs.Judging.{Entry}
 use Rattle.plan_check.specs.Walking.{Note}
 
 abbrev pub entry_by : Loop → Occurrence → Note → Entry
-entry_by l o n = record { occurrence = o; near = n.near; free = n.free; forms = forms_of l o.subscripts }
+entry_by l o n =
+    record { occurrence = o; near = n.near; free = n.free; forms = forms_of l o.subscripts }
 
 -- the same, by what is known before the reference
 abbrev pub joined_entry : Loop → checking.Entry → Entry
-joined_entry l x = record { occurrence = x.0; near = x.1.near; free = x.1.free; forms = forms_of l x.0.subscripts }
+joined_entry l x =
+    record { occurrence = x.0; near = x.1.near; free = x.1.free; forms = forms_of l x.0.subscripts }
 
 abbrev pub entries_by : Loop → List Occurrence → List Note → List Entry
 entries_by l [] ns = []

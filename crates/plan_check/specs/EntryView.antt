@@ -22,7 +22,9 @@ verdict v = record { ahead = v.ahead; held = v.held; claims = v.claims }
 
 -- what was found of a claim is so of each reference with these forms
 abbrev pub Tells : Loop → spec.Entry → Earlier → Type 0
-Tells l x earlier = (y : spec.Entry) → map form_in earlier.forms.now ≡ y.forms → earlier.is_true ≡ spec.is_given l x y earlier.claim
+Tells l x earlier =
+    (y : spec.Entry) → map form_in earlier.forms.now ≡ y.forms
+    → earlier.is_true ≡ spec.is_given l x y earlier.claim
 
 -- so are the newest of what was found
 pub record AllTell (l : Loop) (x : spec.Entry) (recent : Recent Earlier) : Type 0 where

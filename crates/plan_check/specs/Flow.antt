@@ -1,9 +1,12 @@
 -- What is known of all paths that come to a place of a plan: an account of the code.
-use Rattle.std.specs.Prelude.{nat_le, ℕ, min, max, Bool, true, false, ◌&&◌, List, [], ◌∷◌, ◌++◌, replicate, Option, Some, None, get_or, slice_set}
+use Rattle.std.specs.Prelude.{nat_le, ℕ, min, max, Bool, true, false, ◌&&◌, List, [], ◌∷◌}
+use Rattle.std.specs.Prelude.{◌++◌, replicate, Option, Some, None, get_or, slice_set}
 use Rattle.ast.specs.References.{expressions_references, items_expressions}
 use Rattle.ast.specs.Tree.{Kind, assign, print, read, stop}
-use Rattle.loop_tree.specs.Paths.{Token, uses, defines, await, advance, used, term_tokens, target_tokens, targets_tokens, head_tokens}
-use Rattle.dependence.specs.Plan.{PlanNode, awaits, advances, plain, loop, choose, PlanBlock, no_nodes, then_node, PlanArms, no_arms, made_else, then_arm}
+use Rattle.loop_tree.specs.Paths.{Token, uses, defines, await, advance, used, term_tokens}
+use Rattle.loop_tree.specs.Paths.{target_tokens, targets_tokens, head_tokens}
+use Rattle.dependence.specs.Plan.{PlanNode, awaits, advances, plain, loop, choose, PlanBlock}
+use Rattle.dependence.specs.Plan.{no_nodes, then_node, PlanArms, no_arms, made_else, then_arm}
 
 -- the least distance at which an event was awaited; None where one path hasn't
 abbrev pub Near : Type 0
@@ -146,8 +149,11 @@ abbrev mutual
   pub after_arms : PlanArms → Known → Known → Known
   after_arms no_arms ended s = joined s ended
   after_arms (made_else b) ended s = joined (after_block b s) ended
-  after_arms (then_arm l None b more) ended s = after_arms more (joined ended (after_block b s)) (nowhere s)
-  after_arms (then_arm l (Some c) b more) ended s = after_arms more (joined ended (after_block b (after (term_tokens c) s))) (after (term_tokens c) s)
+  after_arms (then_arm l None b more) ended s =
+      after_arms more (joined ended (after_block b s)) (nowhere s)
+  after_arms (then_arm l (Some c) b more) ended s =
+      after_arms more (joined ended (after_block b (after (term_tokens c) s)))
+      (after (term_tokens c) s)
 
 abbrev mutual
   -- each token of a body, in the order of the text, with what is known before it
@@ -167,7 +173,9 @@ abbrev mutual
   arms_points no_arms s = []
   arms_points (made_else b) s = block_points b s
   arms_points (then_arm l None b more) s = block_points b s ++ arms_points more (nowhere s)
-  arms_points (then_arm l (Some c) b more) s = points (term_tokens c) s ++ (block_points b (after (term_tokens c) s) ++ arms_points more (after (term_tokens c) s))
+  arms_points (then_arm l (Some c) b more) s =
+      points (term_tokens c) s
+      ++ (block_points b (after (term_tokens c) s) ++ arms_points more (after (term_tokens c) s))
 
 -- no event is advanced
 abbrev mutual

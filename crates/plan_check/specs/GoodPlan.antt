@@ -1,5 +1,6 @@
 -- When iterations of a loop may be run at once by a plan.
-use Rattle.std.specs.Prelude.{◌≡◌, ◌+◌, ◌<◌, ◌≤◌, ℕ, Bool, true, false, ◌&&◌, ◌||◌, List, [], ◌∷◌, ◌++◌, if◌then◌else◌}
+use Rattle.std.specs.Prelude.{◌≡◌, ◌+◌, ◌<◌, ◌≤◌, ℕ, Bool, true, false, ◌&&◌}
+use Rattle.std.specs.Prelude.{◌||◌, List, [], ◌∷◌, ◌++◌, if◌then◌else◌}
 use Rattle.std.specs.List.{Contains}
 use Rattle.ast.specs.Tree as tree
 use Rattle.ast.specs.Tree.{Ref, Block, Arms}
@@ -8,7 +9,9 @@ use Rattle.loop_tree.specs.Occurrences.{Occurrence}
 use Rattle.loop_tree.specs.Paths.{Token, uses, defines, await, advance, Ending, at_end}
 use Rattle.dependence.specs.Kept.{IsNonzero, block_reads, block_variables, most_events}
 use Rattle.dependence.specs.Meets.{Meets, IsWithin}
-use Rattle.dependence.specs.Plan.{awaits, advances, plain, loop, choose, PlanBlock, no_nodes, then_node, PlanArms, no_arms, made_else, then_arm, PlanPaths, PlanTree}
+use Rattle.dependence.specs.Plan.{awaits, advances, plain, loop, choose, PlanBlock}
+use Rattle.dependence.specs.Plan.{no_nodes, then_node, PlanArms, no_arms}
+use Rattle.dependence.specs.Plan.{made_else, then_arm, PlanPaths, PlanTree}
 
 -- ---- the plan's body without awaits, advances and made ELSEs
 
@@ -99,7 +102,8 @@ pub record Together (l : Loop) (p : PlanTree) (a b : Occurrence) : Type 0 where
 -- advance of it, and each path that comes to b has awaited it, no further back than that.
 pub record Keeps (p : PlanTree) (a b : Occurrence) (k j e : ℕ) : Type 0 where
   pub source : (u : List Token) → Begins p (u ++ token_of a ∷ []) → Contains u (advance e) → ⊥
-  pub sink : (u : List Token) → Begins p (u ++ token_of b ∷ []) → (d : ℕ) × (k + d ≤ j) × Contains u (await e d)
+  pub sink : (u : List Token) → Begins p (u ++ token_of b ∷ [])
+      → (d : ℕ) × (k + d ≤ j) × Contains u (await e d)
 
 -- What a plan must be, on all paths of its body, for iterations of the loop to run at once. The
 -- loop's step is a constant other than 0; its range has no READ; the variables of the loops inside
@@ -109,14 +113,18 @@ pub record GoodPlan (l : Loop) (p : PlanTree) : Type 0 where
   pub step : IsNonzero l.step
   pub no_read : block_reads l.body ≡ false
   pub inner : (r : Ref) → Contains (block_variables l.body) r → IsPrivate p r.name
-  pub scalars : (name : List ℕ) → IsPrivate p name → (r : Ref) × Contains l.assigned r × (r.name ≡ name)
+  pub scalars : (name : List ℕ) → IsPrivate p name
+      → (r : Ref) × Contains l.assigned r × (r.name ≡ name)
   pub events : (e d : ℕ) → Names p e d → (1 ≤ e) × (e ≤ most_events) × (1 ≤ d)
   -- 1: a private scalar is defined before it is used
-  pub defined : (u : List Token) (r : Ref) → IsPrivate p r.name → Begins p (u ++ uses r ∷ []) → (q : Ref) × (q.name ≡ r.name) × Contains u (defines q)
+  pub defined : (u : List Token) (r : Ref) → IsPrivate p r.name → Begins p (u ++ uses r ∷ [])
+      → (q : Ref) × (q.name ≡ r.name) × Contains u (defines q)
   -- 2: an event is advanced once, behind an await of the iteration before; at least where the end
   -- is reached
   pub once : (u : List Token) (e : ℕ) → Begins p (u ++ advance e ∷ []) → Contains u (advance e) → ⊥
   pub behind : (u : List Token) (e : ℕ) → Begins p (u ++ advance e ∷ []) → Contains u (await e 1)
-  pub each : (t : List Token) (e d : ℕ) → Names p e d → PlanPaths p.body at_end t → Contains t (advance e)
+  pub each : (t : List Token) (e d : ℕ) → Names p e d → PlanPaths p.body at_end t
+      → Contains t (advance e)
   -- 3 and 4
-  pub kept : (a b : Occurrence) (k j : ℕ) → Together l p a b → k < j → IsWithin l.trips j → Meets l a b k j → (e : ℕ) × Keeps p a b k j e
+  pub kept : (a b : Occurrence) (k j : ℕ) → Together l p a b → k < j → IsWithin l.trips j
+      → Meets l a b k j → (e : ℕ) × Keeps p a b k j e

@@ -1,5 +1,6 @@
 -- An account of the code: references by the cells of their variables.
-use Rattle.std.specs.Prelude.{◌==◌, ◌&&◌, ◌||◌, ℕ, Bool, List, [], ◌∷◌, ◌++◌, get_or, if◌then◌else◌, slice_get, Option, Some, None}
+use Rattle.std.specs.Prelude.{◌==◌, ◌&&◌, ◌||◌, ℕ, Bool, List, [], ◌∷◌, ◌++◌}
+use Rattle.std.specs.Prelude.{get_or, if◌then◌else◌, slice_get, Option, Some, None}
 use Rattle.dependence.specs.declared.relation.Relation.{Relation}
 use Rattle.loop_tree.specs.Loops.{Loop}
 use Rattle.loop_tree.specs.Occurrences.{Occurrence}
@@ -15,7 +16,8 @@ is_wanted all e = all || e.occurrence.defines
 -- those of a cell that are wanted, in order
 abbrev pub at_cell : Bool → ℕ → List Entry → List Entry
 at_cell all c [] = []
-at_cell all c (e ∷ es) = if is_wanted all e && (c == cell_of e) then e ∷ at_cell all c es else at_cell all c es
+at_cell all c (e ∷ es) =
+    if is_wanted all e && (c == cell_of e) then e ∷ at_cell all c es else at_cell all c es
 
 -- a place more in the row of a cell
 abbrev pub with_place : Bool → ℕ → List ℕ → List ℕ
@@ -53,6 +55,9 @@ module _ (l : Loop) (events : List ℕ) (claim : ℕ → ℕ → Option Relation
   abbrev pub with_row : List (List ℕ) → Entry → List Entry → List ℕ → Verdict → Verdict
   with_row privates x es ns v = if is_own l privates x.occurrence then v else with_places x es ns v
 
-  abbrev pub with_groups : List (List ℕ) → (all defining : List (List ℕ)) → List Entry → List Entry → Verdict → Verdict
+  abbrev pub with_groups : List (List ℕ) → (all defining : List (List ℕ)) → List Entry
+      → List Entry → Verdict → Verdict
   with_groups privates all defining es [] v = v
-  with_groups privates all defining es (x ∷ xs) v = with_groups privates all defining es xs (with_row privates x es (row_for all defining x.occurrence) v)
+  with_groups privates all defining es (x ∷ xs) v =
+      with_groups privates all defining es xs
+      (with_row privates x es (row_for all defining x.occurrence) v)

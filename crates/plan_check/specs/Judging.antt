@@ -1,5 +1,6 @@
 -- An account of the code: one pass over pairs of references.
-use Rattle.std.specs.Prelude.{◌==◌, ℕ, Bool, true, false, ◌&&◌, ◌||◌, List, [], ◌∷◌, Option, Some, None, if◌then◌else◌}
+use Rattle.std.specs.Prelude.{◌==◌, ℕ, Bool, true, false, ◌&&◌, ◌||◌, List}
+use Rattle.std.specs.Prelude.{[], ◌∷◌, Option, Some, None, if◌then◌else◌}
 use Rattle.std.specs.List.{list_any}
 use Rattle.ast.specs.Store.{same_name}
 use Rattle.dependence.specs.Formed.{verified_by}
@@ -75,7 +76,10 @@ module _ (l : Loop) (events : List ℕ) (claim : ℕ → ℕ → Option Relation
 
   -- the same, where the two are looked at
   abbrev pub with_pair : Entry → Entry → Verdict → Verdict
-  with_pair x y v = if is_pair x.occurrence y.occurrence then by_claim x y (claim x.occurrence.ref.id y.occurrence.ref.id) v else v
+  with_pair x y v =
+      if is_pair x.occurrence y.occurrence
+      then by_claim x y (claim x.occurrence.ref.id y.occurrence.ref.id) v
+      else v
 
   -- with the pairs of a reference and several others
   abbrev pub with_partners : Entry → List Entry → Verdict → Verdict

@@ -4,4 +4,9 @@ use Rattle.plan_check.specs.declared.known.Known.{Known}
 
 -- what is known, as lists
 abbrev pub known : Known → spec.Known
-known k = record { defined = k.defined.items; near = k.near.items; free = k.free.items; advanced = k.advanced.items }
+known k = record {
+  defined = k.defined.items;
+  near = k.near.items;
+  free = k.free.items;
+  advanced = k.advanced.items;
+}

@@ -2,9 +2,11 @@
 use Rattle.std.specs.Prelude.{◌≡◌, ◌<◌, ℕ, false, Option, Some, None, ⊤}
 use Rattle.dependence.specs.Plan.{PlanTree}
 use Rattle.loop_tree.specs.Loops.{Loop}
-use Rattle.plan_check.specs.Checking.{IsBody, all_ahead, all_held, all_true, cells_of, fits, in_order, never_early}
+use Rattle.plan_check.specs.Checking.{IsBody, all_ahead, all_held, all_true}
+use Rattle.plan_check.specs.Checking.{cells_of, fits, in_order, never_early}
 use Rattle.plan_check.specs.declared.fault.Mistake.{Mistake}
-use Rattle.plan_check.specs.declared.fault.Mistake.TheVariants.{Early, Disorder, Behind, Unawaited, Untrue, OtherBody, Unfit}
+use Rattle.plan_check.specs.declared.fault.Mistake.TheVariants.{Early, Disorder, Behind, Unawaited}
+use Rattle.plan_check.specs.declared.fault.Mistake.TheVariants.{Untrue, OtherBody, Unfit}
 use Rattle.plan_check.specs.declared.fault.PlanFault.{PlanFault}
 use Rattle.plan_check.specs.declared.fault.PlanFault.TheVariants.{Memory, Refused}
 

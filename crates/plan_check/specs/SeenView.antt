@@ -7,7 +7,8 @@ use Rattle.plan_check.specs.declared.seen.Seen.{Seen}
 
 -- a reference, and what is known of the events before it
 abbrev pub note : Note → spec.Note
-note n = record { ref = ref n.reference; defines = n.defines; near = n.near.items; free = n.free.items }
+note n =
+    record { ref = ref n.reference; defines = n.defines; near = n.near.items; free = n.free.items }
 
 -- what a walk has noted so far
 abbrev pub seen : Seen → spec.Seen

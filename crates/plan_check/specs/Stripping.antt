@@ -11,4 +11,8 @@ abbrev pub IsNode : PlanNode → tree.Node → Type 0
 IsNode n m = stripped (then_node n no_nodes) ≡ tree.then_node m tree.no_nodes
 
 abbrev pub stripped_arm : PlanArm → tree.Arm
-stripped_arm a = record { line = (arm_view a).line; condition = (arm_view a).condition; body = stripped (arm_view a).body }
+stripped_arm a = record {
+  line = (arm_view a).line;
+  condition = (arm_view a).condition;
+  body = stripped (arm_view a).body;
+}

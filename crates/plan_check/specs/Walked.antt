@@ -4,7 +4,9 @@ use Rattle.std.specs.List.{list_all}
 use Rattle.dependence.specs.Plan.{PlanTree}
 use Rattle.loop_tree.specs.Loops.{Loop}
 use Rattle.loop_tree.specs.Occurrences.{Occurrence}
-use Rattle.plan_check.specs.Checking.{IsBody, all_ahead, all_held, all_true, at_references, cells_of, entries, first, fits, in_order, is_in_order, never_early, reference_tokens}
+use Rattle.plan_check.specs.Checking.{IsBody, all_ahead, all_held, all_true, at_references}
+use Rattle.plan_check.specs.Checking.{cells_of, entries, first, fits, in_order}
+use Rattle.plan_check.specs.Checking.{is_in_order, never_early, reference_tokens}
 use Rattle.plan_check.specs.Entries.{entries_by, joined_entry}
 use Rattle.plan_check.specs.Flow.{Known, Point, after_block, block_points}
 use Rattle.plan_check.specs.Judging.{Verdict}
@@ -28,7 +30,8 @@ pub record IsWalked (l : Loop) (p : PlanTree) (k : Known) (s : Seen) : Type 0 wh
   pub early : s.early ≡ not (never_early (cells_of l) p)
   pub disorder : s.disorder ≡ not (list_all (λ (x : Point). is_in_order x) (points_of l p))
   pub tokens : map token_noted s.notes ≡ reference_tokens (points_of l p)
-  pub entries : (os : List Occurrence) → entries_by l os s.notes ≡ map (joined_entry l) (entries os (at_references (points_of l p)))
+  pub entries : (os : List Occurrence)
+      → entries_by l os s.notes ≡ map (joined_entry l) (entries os (at_references (points_of l p)))
 
 -- what the pass over pairs answers
 pub record IsJudged (l : Loop) (p : PlanTree) (v : Verdict) : Type 0 where

@@ -10,4 +10,5 @@ use Rattle.plan_check.specs.declared.start.Walked.{Walked}
 
 -- it is that of a walk over the plan's body
 abbrev pub Answers : LoopView → Given → Walked → Type 0
-Answers view plan walked = IsWalked (shown view) (given plan) (known walked.known) (seen walked.seen)
+Answers view plan walked =
+    IsWalked (shown view) (given plan) (known walked.known) (seen walked.seen)

@@ -1,10 +1,15 @@
 -- An account of the code: one walk over a plan's body, and what it notes.
-use Rattle.std.specs.Prelude.{if◌then◌else◌, ℕ, Bool, true, false, not, ◌&&◌, ◌||◌, List, [], ◌∷◌, ◌++◌, Option, Some, None}
-use Rattle.ast.specs.Tree.{Ref, Term, Terms, element, call, parentheses, unary, binary, no_terms, then_term, Access, PrintItem, value_item, text_item, DoHead, Kind, assign, print, stop}
+use Rattle.std.specs.Prelude.{if◌then◌else◌, ℕ, Bool, true, false, not, ◌&&◌}
+use Rattle.std.specs.Prelude.{◌||◌, List, [], ◌∷◌, ◌++◌, Option, Some, None}
+use Rattle.ast.specs.Tree.{Ref, Term, Terms, element, call, parentheses, unary}
+use Rattle.ast.specs.Tree.{binary, no_terms, then_term, Access, PrintItem}
+use Rattle.ast.specs.Tree.{value_item, text_item, DoHead, Kind, assign, print, stop}
 use Rattle.loop_tree.specs.Paths.{Token, uses, defines, await, advance}
-use Rattle.dependence.specs.Plan.{PlanNode, awaits, advances, plain, loop, choose, PlanBlock, no_nodes, then_node, PlanArms, no_arms, made_else, then_arm}
+use Rattle.dependence.specs.Plan.{PlanNode, awaits, advances, plain, loop, choose, PlanBlock}
+use Rattle.dependence.specs.Plan.{no_nodes, then_node, PlanArms, no_arms, made_else, then_arm}
 use Rattle.plan_check.specs.Checking.{has_name}
-use Rattle.plan_check.specs.Flow.{Known, Near, defined_too, has_awaited, is_defined, is_free, joined, nowhere, step}
+use Rattle.plan_check.specs.Flow.{Known, Near, defined_too, has_awaited}
+use Rattle.plan_check.specs.Flow.{is_defined, is_free, joined, nowhere, step}
 
 -- a reference, and what is known of the events before it
 pub record Note : Type 0 where
@@ -29,7 +34,9 @@ nothing_seen = record { early = false; disorder = false; notes = [] }
 
 -- with one more reference, and what is known before it
 abbrev pub noted : Ref → Bool → Known → Seen → Seen
-noted r d k s = record s { notes = s.notes ++ record { ref = r; defines = d; near = k.near; free = k.free } ∷ [] }
+noted r d k s = record s {
+  notes = s.notes ++ record { ref = r; defines = d; near = k.near; free = k.free } ∷ [];
+}
 
 module _ (privates : List (List ℕ)) where
   -- a private scalar that some path hasn't defined
@@ -98,7 +105,8 @@ module _ (privates : List (List ℕ)) where
 
   -- with the references of a DO
   abbrev pub seen_head : DoHead → Known → Seen → Seen
-  seen_head h k s = given h.variable k (seen_optional h.step k (seen_term h.last k (seen_term h.first k s)))
+  seen_head h k s =
+      given h.variable k (seen_optional h.step k (seen_term h.last k (seen_term h.first k s)))
 
   -- what is known behind it
   abbrev pub known_head : DoHead → Known → Known
@@ -124,7 +132,8 @@ module _ (privates : List (List ℕ)) where
     pub known_arms : PlanArms → Known → Known → Known
     known_arms no_arms ended k = joined k ended
     known_arms (made_else b) ended k = joined (known_block b k) ended
-    known_arms (then_arm l c b more) ended k = known_arms more (joined ended (known_block b k)) (behind c k)
+    known_arms (then_arm l c b more) ended k =
+        known_arms more (joined ended (known_block b k)) (behind c k)
 
   abbrev mutual
     pub seen_node : PlanNode → Known → Seen → Seen
@@ -141,4 +150,5 @@ module _ (privates : List (List ℕ)) where
     pub seen_arms : PlanArms → Known → Seen → Seen
     seen_arms no_arms k s = s
     seen_arms (made_else b) k s = seen_block b k s
-    seen_arms (then_arm l c b more) k s = seen_arms more (behind c k) (seen_block b k (seen_optional c k s))
+    seen_arms (then_arm l c b more) k s =
+        seen_arms more (behind c k) (seen_block b k (seen_optional c k s))

@@ -1,7 +1,11 @@
 -- An account of the code: what paths have done with scalars when they come out of a part of a
 -- program, by what they had done when they came to it.
-use Rattle.std.specs.Prelude.{ℕ, Bool, true, false, List, [], ◌∷◌, length, replicate, Option, Some, None}
-use Rattle.ast.specs.Tree.{Term, Terms, element, call, parentheses, unary, binary, no_terms, then_term, Access, PrintItem, value_item, text_item, DoHead, Kind, assign, print, read, stop, Node, plain, loop, choose, Block, no_nodes, then_node, Arms, no_arms, then_arm}
+use Rattle.std.specs.Prelude.{ℕ, Bool, true, false, List, [], ◌∷◌}
+use Rattle.std.specs.Prelude.{length, replicate, Option, Some, None}
+use Rattle.ast.specs.Tree.{Term, Terms, element, call, parentheses, unary, binary}
+use Rattle.ast.specs.Tree.{no_terms, then_term, Access, PrintItem, value_item, text_item}
+use Rattle.ast.specs.Tree.{DoHead, Kind, assign, print, read, stop, Node, plain, loop}
+use Rattle.ast.specs.Tree.{choose, Block, no_nodes, then_node, Arms, no_arms, then_arm}
 use Rattle.privatise.specs.Cells.{walk_at, gone_on, stopped, joined}
 use Rattle.privatise.specs.declared.walk.Walk.{Walk}
 use Rattle.privatise.specs.declared.walk.Walk.TheVariants.{Defined, Early}
@@ -53,7 +57,9 @@ after_kind _ ws = ws
 
 -- behind a DO, whose variable has a value then
 abbrev pub after_head : DoHead → List Walk → List Walk
-after_head h ws = gone_on (after_optional h.step (after_term h.last (after_term h.first ws))) h.variable.cell Defined
+after_head h ws =
+    gone_on
+    (after_optional h.step (after_term h.last (after_term h.first ws))) h.variable.cell Defined
 
 abbrev mutual
   pub after_node : Node → List Walk → List Walk
@@ -69,7 +75,8 @@ abbrev mutual
   pub after_arms : Arms → List Walk → List Walk → List Walk
   after_arms no_arms ended ws = joined ws ended
   after_arms (then_arm l None b more) ended ws = joined (after_block b ws) ended
-  after_arms (then_arm l (Some e) b more) ended ws = after_arms more (joined ended (after_block b (after_term e ws))) (after_term e ws)
+  after_arms (then_arm l (Some e) b more) ended ws =
+      after_arms more (joined ended (after_block b (after_term e ws))) (after_term e ws)
 
 -- no path has used the scalar before its definition
 abbrev pub is_never_early : Walk → Bool

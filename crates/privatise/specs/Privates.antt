@@ -9,7 +9,8 @@ use Rattle.privatise.specs.declared.walk.Walk.{Walk}
 -- Those of a list for which a claim holds, in order.
 abbrev pub Picked : (Ref → Type 0) → List Ref → List Ref → Type 0
 Picked P [] ps = ps ≡ []
-Picked P (r ∷ rs) ps = (P r × (qs : List Ref) × (ps ≡ r ∷ qs) × Picked P rs qs) ⊎ ((P r → ⊥) × Picked P rs ps)
+Picked P (r ∷ rs) ps =
+    (P r × (qs : List Ref) × (ps ≡ r ∷ qs) × Picked P rs qs) ⊎ ((P r → ⊥) × Picked P rs ps)
 
 -- The names are those of the private scalars among those that the range gives values.
 pub record ArePrivate (l : Loop) (names : List (List ℕ)) : Type 0 where

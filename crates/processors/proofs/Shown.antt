@@ -6,8 +6,8 @@ use Rattle.std.proofs.KnownBytes.{Appends-trans}
 use Rattle.std.proofs.Math.Seq.{take-add, take-append_seam}
 use Rattle.std.proofs.lemmas.List.{drop-append-le, drop-drop, length-append, length-drop, take-append-drop}
 use Rattle.std.specs.Io.KnownBytes.{Appends}
-use Rattle.handing.proofs.Onward.{part_got}
-use Rattle.handing.specs.Handing.{AppendsPart, Begins}
+use Rattle.record_writer.proofs.Onward.{part_got}
+use Rattle.record_writer.specs.Written.{AppendsPart, Begins}
 use Rattle.processors.specs.Telling.{BreaksOn, ShowsOn, Waits}
 use Rattle.processors.specs.declared.report.RunRefusal.{RunRefusal}
 

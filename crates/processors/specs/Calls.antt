@@ -21,7 +21,8 @@ pub record IsCoreOf (code : Code) (input : List ℕ) (p s : ℕ) (x : CoreView) 
 
 -- The schedule, of so many processors and slots, can be written, and leads to a state that has
 -- ended with this answer.
-pub record IsRunOf (code : Code) (input : List ℕ) (p s : ℕ) (answer : Answer) (x : Schedule) : Type 0 where
+pub record IsRunOf (code : Code) (input : List ℕ) (p s : ℕ) (answer : Answer)
+    (x : Schedule) : Type 0 where
   pub sizes : AreSizes p s
   pub processors : x.processors ≡ p
   pub slots : x.slots ≡ s
@@ -46,4 +47,5 @@ IsOutputOf code input p s output = IsStateOf code input p s (λ m. output ≡ m.
 -- The entries of a schedule lead somewhere by so many steps, of which so many park an activity or
 -- take up a parked one.
 abbrev pub HasTally : Code → List ℕ → (s : ℕ) → Schedule → (made again : ℕ) → Type 0
-HasTally code input s x made again = (b : Point) × Tallies Second code s (beginning code input s) x.entries b made again
+HasTally code input s x made again =
+    (b : Point) × Tallies Second code s (beginning code input s) x.entries b made again

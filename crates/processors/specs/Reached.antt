@@ -7,7 +7,8 @@ use Rattle.replay.specs.Replayed.{IsAnswer}
 use Rattle.unrecorded.specs.View.{IsReached, RunView}
 use Rattle.processors.specs.Refused.{IsOutOfRange, IsStuckAt}
 use Rattle.processors.specs.declared.report.RunRefusal.{RunRefusal}
-use Rattle.processors.specs.declared.report.RunRefusal.TheVariants.{Memory, OutOfRange, NotStarted, Stuck}
+use Rattle.processors.specs.declared.report.RunRefusal.TheVariants.{Memory, OutOfRange}
+use Rattle.processors.specs.declared.report.RunRefusal.TheVariants.{NotStarted, Stuck}
 
 -- a run of this code on this input, of so many processors and slots
 pub record IsRunIn (code : Code) (input : List ℕ) (p s : ℕ) (x : RunView) : Type 0 where
@@ -38,4 +39,5 @@ IsLeftAt code input p s Stuck = Reaches code input p s (IsStuckAt code p s)
 
 -- The numbers are out of range, or the run was begun.
 abbrev pub IsUnanswered : Code → List ℕ → (p s : ℕ) → RunRefusal → Type 0
-IsUnanswered code input p s why = IsOutOfRange p s why ⊎ (AreSizes p s × IsLeftAt code input p s why)
+IsUnanswered code input p s why =
+    IsOutOfRange p s why ⊎ (AreSizes p s × IsLeftAt code input p s why)

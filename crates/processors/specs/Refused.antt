@@ -4,7 +4,8 @@ use Rattle.machine.specs.Code.{Code}
 use Rattle.machine.specs.State.{AreSizes, CodeStep, Machine}
 use Rattle.processors.specs.Calls.{IsOutputOf, IsStateOf}
 use Rattle.processors.specs.declared.report.RunRefusal.{RunRefusal}
-use Rattle.processors.specs.declared.report.RunRefusal.TheVariants.{Memory, OutOfRange, NotStarted, Stuck}
+use Rattle.processors.specs.declared.report.RunRefusal.TheVariants.{Memory, OutOfRange}
+use Rattle.processors.specs.declared.report.RunRefusal.TheVariants.{NotStarted, Stuck}
 
 -- the number of a refusal
 abbrev pub refusal_number : RunRefusal → Option ℕ
@@ -15,7 +16,8 @@ refusal_number Stuck = Some 59
 
 -- The run hasn't ended, and no processor has a step.
 abbrev pub IsStuckAt : Code → (p s : ℕ) → Machine → Type 0
-IsStuckAt code p s m = (m.ended ≡ None) × ((q : ℕ) (n : Machine) → q < p → CodeStep code s m q n → ⊥)
+IsStuckAt code p s m =
+    (m.ended ≡ None) × ((q : ℕ) (n : Machine) → q < p → CodeStep code s m q n → ⊥)
 
 -- A run that was begun was given up: for want of memory, with the output of a state to which it
 -- leads, or of a thread; or it leads to a state from which no step leads, and which hasn't ended.

@@ -5,7 +5,7 @@ ghost use Rattle.std.specs.Prelude.{◌≡◌, ◌<◌, ◌+◌, ◌^◌, length
 ghost use Rattle.processors.specs.Telling.{Waits};
 
 use crate::call::Call;
-use handing::hand_on;
+use record_writer::hand_on;
 use std::alloc::Global;
 use std::io;
 use std::io::Write;
@@ -28,7 +28,7 @@ pub struct Told<C: Call> {
 
 impl<C: Call> Told<C> {
     ghost use Rattle.std.specs.Prelude.{◌≡◌, OnErr, OnOk, true};
-    ghost use Rattle.handing.specs.Handing.{Begins};
+    ghost use Rattle.record_writer.specs.Written.{Begins};
     ghost use Rattle.processors.specs.Telling.{BreaksOn, ShowsOn};
 
     /// Nothing yet. Where `streams` is false nothing will ever be taken.

@@ -14,7 +14,9 @@ use Rattle.profile_check.specs.Rules.{BreaksFirst}
 -- the first fault of an entry's text, read from the left; `UnendedText` where a character constant
 -- is unfinished
 pub record IsFault (e : Entry) (rule : Rule) : Type 0 where
-  pub read : (ps : List Piece) → Cut ps e.text → statement_at e.line e.label e.text (marks ps) (constants ps) ≡ Err (record { rule = rule; line = e.line })
+  pub read : (ps : List Piece) → Cut ps e.text
+      → statement_at e.line e.label e.text (marks ps) (constants ps)
+      ≡ Err (record { rule = rule; line = e.line })
   pub unfinished : ((ps : List Piece) → Cut ps e.text → ⊥) → rule ≡ UnendedText
 
 -- the text of an entry is no statement, and its first fault is of the rule
@@ -50,4 +52,5 @@ pub record IsOutOfProfile (text : List ℕ) (rule : Rule) (line : ℕ) : Type 0 
 
 -- the refusal has its cause: in the lines, in a statement, or in the profile
 abbrev pub Refuses : List ℕ → Rule → ℕ → Type 0
-Refuses text rule line = Broken text rule line ⊎ (IsUnread text rule line ⊎ IsOutOfProfile text rule line)
+Refuses text rule line =
+    Broken text rule line ⊎ (IsUnread text rule line ⊎ IsOutOfProfile text rule line)

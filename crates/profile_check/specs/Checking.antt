@@ -1,5 +1,6 @@
 -- What the check keeps of the statements before, and the rules by that.
-use Rattle.std.specs.Prelude.{◌≡◌, ℕ, ◌+◌, List, [], ◌∷◌, length, Option, Some, None, Result, Ok, Err}
+use Rattle.std.specs.Prelude.{◌≡◌, ℕ, ◌+◌, List, [], ◌∷◌, length}
+use Rattle.std.specs.Prelude.{Option, Some, None, Result, Ok, Err}
 use Rattle.indexmap.specs.IndexSet.{insert_all}
 use Rattle.ast.specs.Answers.{Break}
 use Rattle.ast.specs.Store.{same_name}
@@ -9,12 +10,15 @@ use Rattle.ast.specs.declared.refusal.Refusal.TheVariants.{Memory, Refused}
 use Rattle.ast.specs.declared.rule.Rule.{Rule}
 use Rattle.structure.specs.Standing.{Standing, standing_after, next, rule_by as order_by}
 use Rattle.profile_check.specs.Counted.{few_or_more, counted}
-use Rattle.profile_check.specs.Declarations.{Declared, declared_in, newer, objects_by, with_arrays, with_constants, arrays_by, total_elements}
+use Rattle.profile_check.specs.Declarations.{Declared, declared_in, newer, objects_by, with_arrays}
+use Rattle.profile_check.specs.Declarations.{with_constants, arrays_by, total_elements}
 use Rattle.profile_check.specs.Rules.{Context, lower, lowest_of, checks}
-use Rattle.profile_check.specs.Uses.{typed_by, bounded_by, defined_by, declarator_names, names_mentioned, program_named_by}
+use Rattle.profile_check.specs.Uses.{typed_by, bounded_by, defined_by, declarator_names}
+use Rattle.profile_check.specs.Uses.{names_mentioned, program_named_by}
 
 abbrev pub nothing : Declared
-nothing = record { program = None; typed = []; objects = []; arrays = []; constants = []; names = [] }
+nothing =
+    record { program = None; typed = []; objects = []; arrays = []; constants = []; names = [] }
 
 -- what is declared with one statement more
 abbrev pub and_then_declared : Declared → Statement → Declared
@@ -36,7 +40,12 @@ pub record Before : Type 0 where
   pub count : ℕ
 
 abbrev pub before_of : List Statement → Before
-before_of front = record { order = standing_after front; declared = declared_in front; elements = few_or_more (total_elements (declared_in front).arrays); count = length front }
+before_of front = record {
+  order = standing_after front;
+  declared = declared_in front;
+  elements = few_or_more (total_elements (declared_in front).arrays);
+  count = length front;
+}
 
 abbrev pub and_one : Before → Statement → Before
 and_one b s = record {
@@ -47,7 +56,13 @@ and_one b s = record {
 }
 
 abbrev pub context_by : List (List ℕ) → Before → Context
-context_by typed b = record { typed = typed; statements = b.count; opened = b.order.opened; declared = b.declared; elements = b.elements }
+context_by typed b = record {
+  typed = typed;
+  statements = b.count;
+  opened = b.order.opened;
+  declared = b.declared;
+  elements = b.elements;
+}
 
 -- the lowest rule that a statement breaks, by the table of names with a type
 abbrev pub rule_by : List (List ℕ) → Before → Statement → Option Rule

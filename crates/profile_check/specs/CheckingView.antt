@@ -5,4 +5,9 @@ use Rattle.profile_check.specs.DeclarationsView.{declared}
 use Rattle.profile_check.specs.declared.check.Seen.{Seen}
 
 abbrev pub before : Seen → Before
-before s = record { order = standing s.structure; declared = declared s.declarations; elements = s.declarations.elements; count = s.count }
+before s = record {
+  order = standing s.structure;
+  declared = declared s.declarations;
+  elements = s.declarations.elements;
+  count = s.count;
+}

@@ -1,5 +1,6 @@
 -- What is declared after some statements of a text.
-use Rattle.std.specs.Prelude.{ℕ, ℤ, ◌+◌, pos, if◌then◌else◌, List, [], ◌∷◌, ◌++◌, map, flat_map, Option, Some, None, option_map, Result, Ok, Err}
+use Rattle.std.specs.Prelude.{ℕ, ℤ, ◌+◌, pos, if◌then◌else◌, List, [], ◌∷◌, ◌++◌, map}
+use Rattle.std.specs.Prelude.{flat_map, Option, Some, None, option_map, Result, Ok, Err}
 use Rattle.std.specs.Result.{result_ok}
 use Rattle.indexmap.specs.IndexMap.{insert_entry}
 use Rattle.indexmap.specs.IndexSet.{insert_all}
@@ -11,7 +12,8 @@ use Rattle.ast.specs.declared.fault.Fault.{Fault}
 use Rattle.ast.specs.declared.fault.Fault.TheVariants.{Index}
 use Rattle.profile_check.specs.Erasure.{erased}
 use Rattle.profile_check.specs.Kinds.{integral, is_of}
-use Rattle.profile_check.specs.Uses.{typed_by, bounded_by, defined_by, declarator_names, definition_names, names_mentioned, program_named_by}
+use Rattle.profile_check.specs.Uses.{typed_by, bounded_by, defined_by, declarator_names}
+use Rattle.profile_check.specs.Uses.{definition_names, names_mentioned, program_named_by}
 
 -- the constants that PARAMETER statements have defined
 abbrev pub Constants : Type 0
@@ -109,7 +111,8 @@ total_elements (a ∷ more) = array_elements a.1 + total_elements more
 -- the arrays that statements give bounds, by the constants before each statement
 abbrev pub arrays_from : Constants → List Statement → Arrays
 arrays_from cs [] = []
-arrays_from cs (s ∷ ss) = arrays_by cs (bounded_by s.kind) ++ arrays_from (with_constants cs (defined_by s.kind)) ss
+arrays_from cs (s ∷ ss) =
+    arrays_by cs (bounded_by s.kind) ++ arrays_from (with_constants cs (defined_by s.kind)) ss
 
 abbrev pub newer : {X : Type 0} → Option X → Option X → Option X
 newer (Some x) before = Some x
@@ -156,7 +159,8 @@ constant_or other None = other
 
 -- a constant, an array or a scalar, by what is declared of the name
 abbrev pub sort_of : Declared → List ℕ → Sort
-sort_of d name = constant_or (variable (dimensions_named d.arrays name)) (constant_named d.constants name)
+sort_of d name =
+    constant_or (variable (dimensions_named d.arrays name)) (constant_named d.constants name)
 
 abbrev pub symbol_of : Declared → List ℕ → Symbol
 symbol_of d name = record { name = name; sort = sort_of d name }

@@ -2,7 +2,10 @@
 -- constants, and what tells a call from an element.
 use Rattle.std.specs.Prelude.{ℕ, List, map, option_map}
 use Rattle.ast.specs.Spelling.{intrinsic_name}
-use Rattle.ast.specs.Tree.{Ref, Term, Terms, parameter, element, call, parentheses, unary, binary, no_terms, then_term, Access, PrintItem, value_item, text_item, DoHead, Kind, assign, print, read, Node, plain, loop, choose, Block, no_nodes, then_node, Arms, no_arms, then_arm}
+use Rattle.ast.specs.Tree.{Ref, Term, Terms, parameter, element, call, parentheses, unary}
+use Rattle.ast.specs.Tree.{binary, no_terms, then_term, Access, PrintItem, value_item}
+use Rattle.ast.specs.Tree.{text_item, DoHead, Kind, assign, print, read, Node, plain, loop}
+use Rattle.ast.specs.Tree.{choose, Block, no_nodes, then_node, Arms, no_arms, then_arm}
 
 -- a reference by its name alone
 abbrev pub ref_to : List ℕ → Ref
@@ -37,11 +40,18 @@ kind_erased k = k
 
 -- a DO as its text has it
 abbrev pub head_erased : DoHead → DoHead
-head_erased h = record { terminal = h.terminal; variable = ref_to h.variable.name; first = erased h.first; last = erased h.last; step = option_map erased h.step }
+head_erased h = record {
+  terminal = h.terminal;
+  variable = ref_to h.variable.name;
+  first = erased h.first;
+  last = erased h.last;
+  step = option_map erased h.step;
+}
 
 abbrev mutual
   pub node_erased : Node → Node
-  node_erased (plain s) = plain (record { line = s.line; label = s.label; kind = kind_erased s.kind })
+  node_erased (plain s) =
+      plain (record { line = s.line; label = s.label; kind = kind_erased s.kind })
   node_erased (loop l h b) = loop l (head_erased h) (block_erased b)
   node_erased (choose a) = choose (arms_erased a)
 
@@ -52,4 +62,5 @@ abbrev mutual
 
   pub arms_erased : Arms → Arms
   arms_erased no_arms = no_arms
-  arms_erased (then_arm l c b more) = then_arm l (option_map erased c) (block_erased b) (arms_erased more)
+  arms_erased (then_arm l c b more) =
+      then_arm l (option_map erased c) (block_erased b) (arms_erased more)

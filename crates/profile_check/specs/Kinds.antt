@@ -1,9 +1,11 @@
 -- Whether an expression of a text is integer or logical. Names are integer, in the profile, and so
 -- are elements and calls with integer subscripts and arguments.
 use Rattle.std.specs.Prelude.{Bool, true, false, ◌&&◌}
-use Rattle.ast.specs.Tree.{Term, constant, truth, parameter, element, call, parentheses, unary, binary, Terms, no_terms, then_term}
+use Rattle.ast.specs.Tree.{Term, constant, truth, parameter, element, call}
+use Rattle.ast.specs.Tree.{parentheses, unary, binary, Terms, no_terms, then_term}
 use Rattle.ast.specs.declared.expression.Operator.{Operator}
-use Rattle.ast.specs.declared.expression.Operator.TheVariants.{Add, Subtract, Multiply, Divide, And, Or, Equivalent, NotEquivalent}
+use Rattle.ast.specs.declared.expression.Operator.TheVariants.{Add, Subtract, Multiply, Divide}
+use Rattle.ast.specs.declared.expression.Operator.TheVariants.{And, Or, Equivalent, NotEquivalent}
 use Rattle.ast.specs.declared.expression.Prefix.{Prefix}
 use Rattle.ast.specs.declared.expression.Prefix.TheVariants.{Not}
 

@@ -1,6 +1,9 @@
 -- Nesting statement by statement: an account of the code, which the laws of proofs/ join to `Lays`.
-use Rattle.std.specs.Prelude.{ℕ, Bool, true, false, ◌==◌, if◌then◌else◌, List, [], ◌∷◌, ◌++◌, Option, Some, None}
-use Rattle.ast.specs.Tree.{Term, Statement, Kind, DoHead, do_loop, block_if, else_if, else_arm, end_if, logical_if, Node, plain, loop, choose, no_nodes, then_node, block, Arm, arms, no_arms, then_arm}
+use Rattle.std.specs.Prelude.{ℕ, Bool, true, false, ◌==◌, if◌then◌else◌}
+use Rattle.std.specs.Prelude.{List, [], ◌∷◌, ◌++◌, Option, Some, None}
+use Rattle.ast.specs.Tree.{Term, Statement, Kind, DoHead, do_loop, block_if, else_if}
+use Rattle.ast.specs.Tree.{else_arm, end_if, logical_if, Node, plain, loop, choose}
+use Rattle.ast.specs.Tree.{no_nodes, then_node, block, Arm, arms, no_arms, then_arm}
 
 -- An open structure with the nodes that stand before it: a range with the line of its DO and what
 -- that says; or a block with the arms that are done, and the line and the condition of the arm that
@@ -26,12 +29,14 @@ begins_with_block frames = false
 
 -- another arm of the innermost block
 abbrev pub next_arm : ℕ → Option Term → List Frame → List Node → Nest
-next_arm line condition (in_block done l c before ∷ frames) nodes = nest (in_block (done ++ arm_of l c nodes ∷ []) line condition before ∷ frames) []
+next_arm line condition (in_block done l c before ∷ frames) nodes =
+    nest (in_block (done ++ arm_of l c nodes ∷ []) line condition before ∷ frames) []
 next_arm line condition frames nodes = nest frames nodes
 
 -- the end of the innermost block
 abbrev pub end_block : List Frame → List Node → Nest
-end_block (in_block done l c before ∷ frames) nodes = nest frames (before ++ choose (arms (done ++ arm_of l c nodes ∷ [])) ∷ [])
+end_block (in_block done l c before ∷ frames) nodes =
+    nest frames (before ++ choose (arms (done ++ arm_of l c nodes ∷ [])) ∷ [])
 end_block frames nodes = nest frames nodes
 
 abbrev pub begins_with_range_of : ℕ → List Frame → Bool
@@ -44,7 +49,8 @@ end_ranges label [] nodes = nest [] nodes
 end_ranges label (in_range l h before ∷ frames) nodes =
     if h.terminal == label then end_ranges label frames (before ++ loop l h (block nodes) ∷ [])
     else nest (in_range l h before ∷ frames) nodes
-end_ranges label (in_block done l c before ∷ frames) nodes = nest (in_block done l c before ∷ frames) nodes
+end_ranges label (in_block done l c before ∷ frames) nodes =
+    nest (in_block done l c before ∷ frames) nodes
 
 abbrev pub ended : Option ℕ → List Frame → List Node → Nest
 ended None frames nodes = nest frames nodes
@@ -52,7 +58,9 @@ ended (Some label) frames nodes = end_ranges label frames nodes
 
 -- the node of a logical IF, and of a statement that holds no others
 abbrev pub logical_node : ℕ → Term → Kind → Node
-logical_node line c k = choose (then_arm line (Some c) (then_node (plain (record { line = line; label = None; kind = k })) no_nodes) no_arms)
+logical_node line c k =
+    choose (then_arm line (Some c)
+    (then_node (plain (record { line = line; label = None; kind = k })) no_nodes) no_arms)
 
 abbrev pub own_node : Statement → Kind → Node
 own_node s (logical_if c k) = logical_node s.line c k

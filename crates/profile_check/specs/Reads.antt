@@ -1,13 +1,15 @@
 -- What a program in the profile is: the lines of its text, the statement of each, the rules of the
 -- profile, and the tree.
-use Rattle.std.specs.Prelude.{◌≡◌, ℕ, ℤ, Bool, true, false, ◌&&◌, if◌then◌else◌, List, [], ◌∷◌, length, ⊤}
+use Rattle.std.specs.Prelude.{◌≡◌, ℕ, ℤ, Bool, true, false, ◌&&◌}
+use Rattle.std.specs.Prelude.{if◌then◌else◌, List, [], ◌∷◌, length, ⊤}
 use Rattle.std.specs.List.{list_all}
 use Rattle.ast.specs.Program.{ProgramTree, are_placed}
 use Rattle.ast.specs.References.{block_expressions, block_references, are_numbered}
 use Rattle.ast.specs.Symbols.{Symbol, Sort, variable, fixed}
 use Rattle.ast.specs.Store.{same_name}
 use Rattle.std.specs.Ordering.{int_eq}
-use Rattle.ast.specs.Tree.{Term, Terms, parameter, element, call, parentheses, unary, binary, no_terms, then_term, Statement}
+use Rattle.ast.specs.Tree.{Term, Terms, parameter, element, call, parentheses}
+use Rattle.ast.specs.Tree.{unary, binary, no_terms, then_term, Statement}
 use Rattle.fixed_form.specs.Lines.{Entry, Lines}
 use Rattle.profile_check.specs.Declarations.{declared_in, symbols_of}
 use Rattle.profile_check.specs.Erasure.{block_erased}
@@ -22,7 +24,8 @@ is_fixed (fixed m) n = int_eq m n
 
 abbrev pub is_constant : List Symbol → List ℕ → ℤ → Bool
 is_constant [] name n = false
-is_constant (s ∷ symbols) name n = if same_name s.name name then is_fixed s.sort n else is_constant symbols name n
+is_constant (s ∷ symbols) name n =
+    if same_name s.name name then is_fixed s.sort n else is_constant symbols name n
 
 -- each constant of an expression has its value
 abbrev mutual

@@ -1,9 +1,13 @@
 -- What the names of a statement stand for, and the numbers of its references: an account of the
 -- code.
-use Rattle.std.specs.Prelude.{ℕ, ℤ, ◌+◌, List, [], ◌∷◌, Option, Some, None, position, unwrap_or, option_map}
+use Rattle.std.specs.Prelude.{ℕ, ℤ, ◌+◌, List, [], ◌∷◌, Option, Some}
+use Rattle.std.specs.Prelude.{None, position, unwrap_or, option_map}
 use Rattle.ast.specs.Spelling.{intrinsic_named}
 use Rattle.ast.specs.Store.{same_name}
-use Rattle.ast.specs.Tree.{Ref, Term, Terms, parameter, element, call, parentheses, unary, binary, no_terms, then_term, Access, PrintItem, value_item, text_item, DoHead, Kind, assign, do_loop, block_if, else_if, logical_if, print, read, Statement}
+use Rattle.ast.specs.Tree.{Ref, Term, Terms, parameter, element, call, parentheses}
+use Rattle.ast.specs.Tree.{unary, binary, no_terms, then_term, Access, PrintItem}
+use Rattle.ast.specs.Tree.{value_item, text_item, DoHead, Kind, assign, do_loop}
+use Rattle.ast.specs.Tree.{block_if, else_if, logical_if, print, read, Statement}
 use Rattle.ast.specs.declared.expression.Intrinsic.{Intrinsic}
 use Rattle.profile_check.specs.Declarations.{Constants, constant_named}
 
@@ -60,23 +64,30 @@ with_list t n r es f = list_at t (n + count_terms es) r es f
 abbrev mutual
   pub resolved : Table → ℕ → Term → Term
   resolved t n (element r no_terms) = alone t n r (constant_named t.constants r.name)
-  resolved t n (element r (then_term e es)) = with_list t n r (then_term (resolved t n e) (all_resolved t (n + count (resolved t n e)) es)) (intrinsic_named r.name)
+  resolved t n (element r (then_term e es)) =
+      with_list t n r (then_term (resolved t n e) (all_resolved t (n + count (resolved t n e)) es))
+      (intrinsic_named r.name)
   resolved t n (call f es) = call f (all_resolved t n es)
   resolved t n (parentheses e) = parentheses (resolved t n e)
   resolved t n (unary p e) = unary p (resolved t n e)
-  resolved t n (binary o a b) = binary o (resolved t n a) (resolved t (n + count (resolved t n a)) b)
+  resolved t n (binary o a b) =
+      binary o (resolved t n a) (resolved t (n + count (resolved t n a)) b)
   resolved t n e = e
 
   pub all_resolved : Table → ℕ → Terms → Terms
   all_resolved t n no_terms = no_terms
-  all_resolved t n (then_term e es) = then_term (resolved t n e) (all_resolved t (n + count (resolved t n e)) es)
+  all_resolved t n (then_term e es) =
+      then_term (resolved t n e) (all_resolved t (n + count (resolved t n e)) es)
 
 -- an element that is given a value is a variable's
 abbrev pub access_count : Access → ℕ
 access_count a = count_terms a.subscripts + 1
 
 abbrev pub access_resolved : Table → ℕ → Access → Access
-access_resolved t n a = record { ref = numbered t (n + count_terms (all_resolved t n a.subscripts)) a.ref; subscripts = all_resolved t n a.subscripts }
+access_resolved t n a = record {
+  ref = numbered t (n + count_terms (all_resolved t n a.subscripts)) a.ref;
+  subscripts = all_resolved t n a.subscripts;
+}
 
 -- the same of a list, and how many references its expressions have
 abbrev pub list_resolved : Table → ℕ → List Term → List Term
@@ -107,24 +118,34 @@ count_optional None = 0
 count_optional (Some e) = count e
 
 abbrev pub head_of : Table → ℕ → DoHead → Term → Term → Option Term → DoHead
-head_of t n h first last step = record { terminal = h.terminal; variable = numbered t (n + count first + count last + count_optional step) h.variable; first = first; last = last; step = step }
+head_of t n h first last step = record {
+  terminal = h.terminal;
+  variable = numbered t (n + count first + count last + count_optional step) h.variable;
+  first = first;
+  last = last;
+  step = step;
+}
 
 abbrev pub head_from : Table → ℕ → DoHead → Term → Term → DoHead
-head_from t n h first last = head_of t n h first last (option_map (λ e. resolved t (n + count first + count last) e) h.step)
+head_from t n h first last =
+    head_of t n h first last (option_map (λ e. resolved t (n + count first + count last) e) h.step)
 
 abbrev pub head_resolved : Table → ℕ → DoHead → DoHead
-head_resolved t n h = head_from t n h (resolved t n h.first) (resolved t (n + count (resolved t n h.first)) h.last)
+head_resolved t n h =
+    head_from t n h (resolved t n h.first) (resolved t (n + count (resolved t n h.first)) h.last)
 
 abbrev pub head_count : DoHead → ℕ
 head_count h = count h.first + count h.last + count_optional h.step + 1
 
 -- what a statement does
 abbrev pub kind_resolved : Table → ℕ → Kind → Kind
-kind_resolved t n (assign a e) = assign (access_resolved t (n + count (resolved t n e)) a) (resolved t n e)
+kind_resolved t n (assign a e) =
+    assign (access_resolved t (n + count (resolved t n e)) a) (resolved t n e)
 kind_resolved t n (do_loop h) = do_loop (head_resolved t n h)
 kind_resolved t n (block_if e) = block_if (resolved t n e)
 kind_resolved t n (else_if e) = else_if (resolved t n e)
-kind_resolved t n (logical_if e k) = logical_if (resolved t n e) (kind_resolved t (n + count (resolved t n e)) k)
+kind_resolved t n (logical_if e k) =
+    logical_if (resolved t n e) (kind_resolved t (n + count (resolved t n e)) k)
 kind_resolved t n (print items) = print (items_resolved t n items)
 kind_resolved t n (read elements) = read (accesses_resolved t n elements)
 kind_resolved t n k = k
@@ -141,7 +162,8 @@ kind_count k = 0
 
 -- statements one after another
 abbrev pub statement_resolved : Table → ℕ → Statement → Statement
-statement_resolved t n s = record { line = s.line; label = s.label; kind = kind_resolved t n s.kind }
+statement_resolved t n s =
+    record { line = s.line; label = s.label; kind = kind_resolved t n s.kind }
 
 abbrev pub statement_count : Statement → ℕ
 statement_count s = kind_count s.kind

@@ -12,11 +12,15 @@ use Rattle.ast.specs.declared.statement.Kind.{Kind}
 use Rattle.profile_check.specs.Declarations.{constant_named}
 use Rattle.profile_check.specs.DeclaredView.{constants_of}
 use Rattle.ast.specs.Spelling.{intrinsic_named}
-use Rattle.profile_check.specs.Resolving.{Table, access_count, access_resolved, accesses_resolved, all_resolved, alone, count, count_all, count_terms, head_resolved, item_count, item_resolved, items_resolved, kind_resolved, list_at, list_resolved, resolved, total}
+use Rattle.profile_check.specs.Resolving.{Table, access_count, access_resolved, accesses_resolved}
+use Rattle.profile_check.specs.Resolving.{all_resolved, alone, count, count_all, count_terms}
+use Rattle.profile_check.specs.Resolving.{head_resolved, item_count, item_resolved, items_resolved}
+use Rattle.profile_check.specs.Resolving.{kind_resolved, list_at, list_resolved, resolved, total}
 use Rattle.profile_check.specs.declared.declarations.Declarations.{Declarations}
 
 abbrev pub table_of : Declarations → Table
-table_of d = record { names = map letters d.names.keys; constants = constants_of d.constants.entries }
+table_of d =
+    record { names = map letters d.names.keys; constants = constants_of d.constants.entries }
 
 -- an expression resolved by the declarations
 abbrev pub resolved_at : Declarations → ℕ → Term → Term
@@ -52,7 +56,8 @@ alone_at d n r = alone (table_of d) n (ref r) (constant_named (table_of d).const
 
 -- a name whose list is resolved
 abbrev pub named_at : Declarations → ℕ → Access → Term
-named_at d n a = list_at (table_of d) n (ref a.reference) (listed a) (intrinsic_named a.reference.name.letters)
+named_at d n a =
+    list_at (table_of d) n (ref a.reference) (listed a) (intrinsic_named a.reference.name.letters)
 
 -- expressions resolved one after another
 abbrev pub all_at : Declarations → ℕ → List Expr → List Term

@@ -1,20 +1,32 @@
 -- The rules of the profile, each a test of a statement after the statements of a front; the rules
 -- on order, labels, ranges and blocks are those of `structure`.
-use Rattle.std.specs.Prelude.{◌≡◌, ℕ, ◌+◌, Bool, true, false, not, ◌&&◌, ◌||◌, ◌==◌, nat_lt, nat_le, int_lt, if◌then◌else◌, List, [], ◌∷◌, ◌++◌, length, Option, Some, None, is_some, is_none}
+use Rattle.std.specs.Prelude.{◌≡◌, ℕ, ◌+◌, Bool, true, false, not, ◌&&◌, ◌||◌, ◌==◌}
+use Rattle.std.specs.Prelude.{nat_lt, nat_le, int_lt, if◌then◌else◌, List, [], ◌∷◌}
+use Rattle.std.specs.Prelude.{◌++◌, length, Option, Some, None, is_some, is_none}
 use Rattle.std.specs.List.{list_any, list_all}
 use Rattle.indexmap.specs.IndexSet.{insert_all}
 use Rattle.ast.specs.Store.{same_name}
 use Rattle.ast.specs.Symbols.{Extent, most_elements}
-use Rattle.ast.specs.Tree.{Term, PrintItem, value_item, text_item, Bounds, Declarator, Definition, DoHead, Kind, Statement, integer, dimension, parameters, assign, do_loop, block_if, else_if, logical_if, print, read}
+use Rattle.ast.specs.Tree.{Term, PrintItem, value_item, text_item, Bounds, Declarator}
+use Rattle.ast.specs.Tree.{Definition, DoHead, Kind, Statement, integer, dimension, parameters}
+use Rattle.ast.specs.Tree.{assign, do_loop, block_if, else_if, logical_if, print, read}
 use Rattle.ast.specs.Rule.{number_of}
 use Rattle.ast.specs.declared.rule.Rule.{Rule}
-use Rattle.ast.specs.declared.rule.Rule.TheVariants.{NotInteger, DeclaredTwice, WrongSubscripts, ActiveVariable, ChangedConstant, CrossedBounds, LargeProgram, NoValue, WrongKind}
+use Rattle.ast.specs.declared.rule.Rule.TheVariants.{NotInteger, DeclaredTwice, WrongSubscripts}
+use Rattle.ast.specs.declared.rule.Rule.TheVariants.{ActiveVariable, ChangedConstant, CrossedBounds}
+use Rattle.ast.specs.declared.rule.Rule.TheVariants.{LargeProgram, NoValue, WrongKind}
 use Rattle.structure.specs.Open.{Open, is_active, open_after}
 use Rattle.structure.specs.Rules.{checks as order_checks, lowest_broken as lowest_order}
-use Rattle.profile_check.specs.Declarations.{Declared, Constants, Arrays, declared_in, constant_named, constant_value, extent_of, arrays_by, total_elements, dimensions_named, with_constant, objects_by}
+use Rattle.profile_check.specs.Declarations.{Declared, Constants, Arrays, declared_in}
+use Rattle.profile_check.specs.Declarations.{constant_named, constant_value}
+use Rattle.profile_check.specs.Declarations.{extent_of, arrays_by, total_elements}
+use Rattle.profile_check.specs.Declarations.{dimensions_named, with_constant, objects_by}
 use Rattle.profile_check.specs.Kinds.{integral, logical, is_of, are_integral}
 use Rattle.profile_check.specs.TakenBefore.{taken_before}
-use Rattle.profile_check.specs.Uses.{Use, uses, typed_by, bounded_by, dimensioned_by, defined_by, declarator_names, definition_names, program_named_by, is_intrinsic, is_among, is_call, has_its_arguments, names_used, names_mentioned}
+use Rattle.profile_check.specs.Uses.{Use, uses, typed_by, bounded_by, dimensioned_by}
+use Rattle.profile_check.specs.Uses.{defined_by, declarator_names, definition_names}
+use Rattle.profile_check.specs.Uses.{program_named_by, is_intrinsic, is_among, is_call}
+use Rattle.profile_check.specs.Uses.{has_its_arguments, names_used, names_mentioned}
 
 -- The context of a statement: the names that INTEGER statements of the whole program give a type,
 -- how many statements stand before it, the ranges and blocks that are open, what is declared, and
@@ -77,7 +89,8 @@ abbrev pub declares_again : Option (List ℕ) → List (List ℕ) → List (List
 declares_again program typed objects k =
     taken_before typed (declarator_names (typed_by k))
     || (taken_before objects (objects_by k)
-    || (is_some_and (is_other program) (program_named_by k) || list_any (is_other program) (names_mentioned k)))
+    || (is_some_and (is_other program) (program_named_by k)
+    || list_any (is_other program) (names_mentioned k)))
 
 -- ---- `WrongSubscripts`: subscripts and arguments in another number
 
@@ -106,7 +119,8 @@ is_constant cs name = is_some (constant_named cs name)
 
 -- `ChangedConstant`: the statement gives a value to a constant.
 abbrev pub changes_constant : Context → Kind → Bool
-changes_constant c k = list_any (λ u. u.is_given && is_constant c.declared.constants u.name) (uses k)
+changes_constant c k =
+    list_any (λ u. u.is_given && is_constant c.declared.constants u.name) (uses k)
 
 -- ---- `CrossedBounds`: bounds that are crossed, or more than seven dimensions
 
@@ -121,7 +135,8 @@ is_crossed None = false
 
 -- an array with more than seven dimensions, or with bounds that are crossed
 abbrev pub is_ill_bounded : Constants → Declarator → Bool
-is_ill_bounded cs d = nat_lt most_dimensions (length d.bounds) || list_any (λ b. is_crossed (extent_of cs b)) d.bounds
+is_ill_bounded cs d =
+    nat_lt most_dimensions (length d.bounds) || list_any (λ b. is_crossed (extent_of cs b)) d.bounds
 
 -- `CrossedBounds`: the statement declares such an array.
 abbrev pub crosses_bounds : Context → Kind → Bool
@@ -158,13 +173,16 @@ is_larger statements opened k names elements =
 -- blocks open at once, more than 512 names, or more than 1,048,576 elements of arrays.
 abbrev pub is_too_large : Context → Statement → Bool
 is_too_large c s =
-    is_larger c.statements c.opened s.kind (insert_all same_name c.declared.names (names_mentioned s.kind)) (c.elements + total_elements (arrays_by c.declared.constants (bounded_by s.kind)))
+    is_larger c.statements c.opened s.kind
+    (insert_all same_name c.declared.names (names_mentioned s.kind))
+    (c.elements + total_elements (arrays_by c.declared.constants (bounded_by s.kind)))
 
 -- ---- `NoValue`: a constant expression without a value; a logical one, as such, is `WrongKind`
 
 -- one of the bounds of a dimension has no value
 abbrev pub lacks_either : Constants → Bounds → Bool
-lacks_either cs b = is_some_and (λ e. is_none (constant_value cs e)) b.lower || is_none (constant_value cs b.upper)
+lacks_either cs b =
+    is_some_and (λ e. is_none (constant_value cs e)) b.lower || is_none (constant_value cs b.upper)
 
 -- one of the bounds of a declarator has none
 abbrev pub lacks_bound : Constants → Declarator → Bool
@@ -173,7 +191,9 @@ lacks_bound cs d = list_any (lacks_either cs) d.bounds
 -- one of the constants has no value, each by those before it
 abbrev pub lacks_constant : Constants → List Definition → Bool
 lacks_constant cs [] = false
-lacks_constant cs (d ∷ ds) = is_none (constant_value cs d.value) || lacks_constant (with_constant cs d.name (constant_value cs d.value)) ds
+lacks_constant cs (d ∷ ds) =
+    is_none (constant_value cs d.value)
+    || lacks_constant (with_constant cs d.name (constant_value cs d.value)) ds
 
 -- `NoValue`: a bound or a constant of the statement has no value, since a variable, an element or
 -- an intrinsic function stands in its expression, or since the value faults.
@@ -198,7 +218,8 @@ bounds_are_integral b = optional_is_integral b.lower && is_of integral b.upper
 
 -- the parameters of a DO are integer
 abbrev pub head_is_integral : DoHead → Bool
-head_is_integral h = is_of integral h.first && (is_of integral h.last && optional_is_integral h.step)
+head_is_integral h =
+    is_of integral h.first && (is_of integral h.last && optional_is_integral h.step)
 
 -- `WrongKind` is the rule of a statement that isn't this: its conditions are logical; bounds,
 -- values of constants, values that are assigned, subscripts, parameters of a DO and items are
@@ -223,7 +244,10 @@ pub record Check : Type 0 where
 
 -- the checks from `DeclaredTwice` on, in the order of their rules' numbers
 abbrev pub checks_on_values : List Check
-checks_on_values = record { rule = DeclaredTwice; is_broken = λ c s. declares_again c.declared.program c.declared.typed c.declared.objects s.kind }
+checks_on_values = record {
+  rule = DeclaredTwice;
+  is_broken = λ c s. declares_again c.declared.program c.declared.typed c.declared.objects s.kind;
+}
     ∷ record { rule = WrongSubscripts; is_broken = λ c s. miscounts c s.kind }
     ∷ record { rule = ActiveVariable; is_broken = λ c s. changes_active c s.kind }
     ∷ record { rule = ChangedConstant; is_broken = λ c s. changes_constant c s.kind }
@@ -235,7 +259,8 @@ checks_on_values = record { rule = DeclaredTwice; is_broken = λ c s. declares_a
 
 -- all checks of this file, in the order of their rules' numbers
 abbrev pub checks : List Check
-checks = record { rule = NotInteger; is_broken = λ c s. names_real c.typed s.kind } ∷ checks_on_values
+checks =
+    record { rule = NotInteger; is_broken = λ c s. names_real c.typed s.kind } ∷ checks_on_values
 
 -- the first of these rules that a statement breaks, if it breaks one
 abbrev pub lowest_of : List Check → Context → Statement → Option Rule
@@ -260,11 +285,13 @@ typed_in_whole (s ∷ ss) = typed_at_top s.kind ++ typed_in_whole ss
 
 -- the lowest rule that a statement breaks
 abbrev pub rule_broken : List (List ℕ) → List Statement → Statement → Option Rule
-rule_broken typed front s = lower (lowest_order order_checks front s) (lowest_of checks (context_after typed front) s)
+rule_broken typed front s =
+    lower (lowest_order order_checks front s) (lowest_of checks (context_after typed front) s)
 
 -- no statement breaks a rule
 pub record KeepRules (typed : List (List ℕ)) (ss : List Statement) : Type 0 where
-  pub each : (front : List Statement) (s : Statement) (back : List Statement) → ss ≡ front ++ s ∷ back → rule_broken typed front s ≡ None
+  pub each : (front : List Statement) (s : Statement) (back : List Statement)
+      → ss ≡ front ++ s ∷ back → rule_broken typed front s ≡ None
 
 -- the statements keep the rules of the profile
 abbrev pub InProfile : List Statement → Type 0

@@ -1,9 +1,13 @@
 -- The names in the statements of a text, with what follows them in parentheses.
-use Rattle.std.specs.Prelude.{ℕ, Bool, true, false, not, ◌&&◌, nat_lt, nat_le, ◌==◌, if◌then◌else◌, List, [], ◌∷◌, ◌++◌, length, map, codes, Option, Some, None}
+use Rattle.std.specs.Prelude.{ℕ, Bool, true, false, not, ◌&&◌, nat_lt, nat_le, ◌==◌, if◌then◌else◌}
+use Rattle.std.specs.Prelude.{List, [], ◌∷◌, ◌++◌, length, map, codes, Option, Some, None}
 use Rattle.std.specs.List.{list_any, filter}
 use Rattle.ast.specs.Store.{same_name}
 pub use Rattle.ast.specs.Tree.{count_of}
-use Rattle.ast.specs.Tree.{Term, Terms, element, call, parentheses, unary, binary, no_terms, then_term, Access, PrintItem, value_item, text_item, Bounds, Declarator, Definition, DoHead, Kind, program, integer, dimension, parameters, assign, do_loop, block_if, else_if, logical_if, print, read}
+use Rattle.ast.specs.Tree.{Term, Terms, element, call, parentheses, unary, binary, no_terms}
+use Rattle.ast.specs.Tree.{then_term, Access, PrintItem, value_item, text_item, Bounds, Declarator}
+use Rattle.ast.specs.Tree.{Definition, DoHead, Kind, program, integer, dimension, parameters}
+use Rattle.ast.specs.Tree.{assign, do_loop, block_if, else_if, logical_if, print, read}
 
 -- a name that stands in a statement: with how many subscripts or arguments, and whether it is given
 -- a value there
@@ -15,7 +19,8 @@ pub record Use : Type 0 where
 -- the names of an expression, in order of evaluation
 abbrev mutual
   pub term_uses : Term → List Use
-  term_uses (element r es) = terms_uses es ++ record { name = r.name; count = count_of es; is_given = false } ∷ []
+  term_uses (element r es) =
+      terms_uses es ++ record { name = r.name; count = count_of es; is_given = false } ∷ []
   term_uses (call f es) = terms_uses es
   term_uses (parentheses e) = term_uses e
   term_uses (unary p e) = term_uses e
@@ -28,7 +33,9 @@ abbrev mutual
 
 -- the names of an element, its subscripts first
 abbrev pub access_uses : Bool → Access → List Use
-access_uses is_given a = terms_uses a.subscripts ++ record { name = a.ref.name; count = count_of a.subscripts; is_given = is_given } ∷ []
+access_uses is_given a =
+    terms_uses a.subscripts
+    ++ record { name = a.ref.name; count = count_of a.subscripts; is_given = is_given } ∷ []
 
 -- an element that is given a value
 abbrev pub given_uses : Access → List Use
@@ -63,7 +70,9 @@ definition_uses d = term_uses d.value
 
 -- the names of a DO: its parameters, and then its variable, which is given a value
 abbrev pub head_uses : DoHead → List Use
-head_uses h = term_uses h.first ++ term_uses h.last ++ optional_uses h.step ++ record { name = h.variable.name; count = 0; is_given = true } ∷ []
+head_uses h =
+    term_uses h.first ++ term_uses h.last ++ optional_uses h.step
+    ++ record { name = h.variable.name; count = 0; is_given = true } ∷ []
 
 -- the names that a statement uses, in order of evaluation
 abbrev pub uses : Kind → List Use
@@ -130,7 +139,9 @@ definition_names ds = map (λ d. d.name) ds
 
 -- their names, filled with blanks to six letters
 abbrev pub intrinsics : List (List ℕ)
-intrinsics = codes "ABS   " ∷ codes "IABS  " ∷ codes "MAX   " ∷ codes "MAX0  " ∷ codes "MIN   " ∷ codes "MIN0  " ∷ codes "MOD   " ∷ []
+intrinsics =
+    codes "ABS   " ∷ codes "IABS  " ∷ codes "MAX   " ∷ codes "MAX0  " ∷ codes "MIN   "
+    ∷ codes "MIN0  " ∷ codes "MOD   " ∷ []
 
 -- a name is one of these
 abbrev pub is_among : List (List ℕ) → List ℕ → Bool
@@ -158,7 +169,9 @@ takes_two name = same_name name (codes "MOD   ")
 
 -- MAX, MAX0, MIN and MIN0 have two arguments or more
 abbrev pub has_its_arguments : Use → Bool
-has_its_arguments u = if takes_one u.name then u.count == 1 else if takes_two u.name then u.count == 2 else nat_le 2 u.count
+has_its_arguments u =
+    if takes_one u.name then u.count == 1
+    else if takes_two u.name then u.count == 2 else nat_le 2 u.count
 
 -- the names that a statement uses, but for those of functions that it calls
 abbrev pub names_used : Kind → List (List ℕ)
@@ -166,7 +179,9 @@ names_used k = map (λ u. u.name) (filter is_name (uses k))
 
 -- the names that a statement declares or defines, by INTEGER, DIMENSION or PARAMETER
 abbrev pub names_declared : Kind → List (List ℕ)
-names_declared k = declarator_names (typed_by k) ++ declarator_names (dimensioned_by k) ++ definition_names (defined_by k)
+names_declared k =
+    declarator_names (typed_by k) ++ declarator_names (dimensioned_by k)
+    ++ definition_names (defined_by k)
 
 -- the names that a statement names: those that it declares or defines, then those that it uses
 abbrev pub names_mentioned : Kind → List (List ℕ)

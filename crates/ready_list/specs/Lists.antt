@@ -1,5 +1,6 @@
 -- Lists of slots with values: what callers of `Links` see.
-use Rattle.std.specs.Prelude.{ℕ, Option, Some, None, length, ◌+◌, ◌<◌, ◌≤◌, ◌^◌, ◌==◌, if◌then◌else◌, nat_le, List, [], ◌∷◌, get_or, set}
+use Rattle.std.specs.Prelude.{ℕ, Option, Some, None, length, ◌+◌, ◌<◌, ◌≤◌, ◌^◌, ◌==◌}
+use Rattle.std.specs.Prelude.{if◌then◌else◌, nat_le, List, [], ◌∷◌, get_or, set}
 
 -- the slots have the numbers below `slots`; the lists have the numbers 0, 1, 2, .. in order
 pub record Lists : Type 0 where

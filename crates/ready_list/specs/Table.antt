@@ -1,6 +1,7 @@
 -- The table that holds the lists: a node for each slot, then a head for each list. A list is a ring
 -- through its head.
-use Rattle.std.specs.Prelude.{ℕ, zero, suc, ◌≡◌, ◌+◌, ◌-◌, ◌<◌, ◌≤◌, ◌^◌, nat_lt, if◌then◌else◌, List, [], ◌∷◌, length, map, get_or, set, Some, None}
+use Rattle.std.specs.Prelude.{ℕ, zero, suc, ◌≡◌, ◌+◌, ◌-◌, ◌<◌, ◌≤◌, ◌^◌, nat_lt, if◌then◌else◌}
+use Rattle.std.specs.Prelude.{List, [], ◌∷◌, length, map, get_or, set, Some, None}
 use Rattle.std.specs.List.{range_with_len}
 use Rattle.ready_list.specs.declared.table.Node.{Node}
 use Rattle.ready_list.specs.Lists.{Lists, times_in, places_in, InOrder}
@@ -28,18 +29,23 @@ seen_as t n = record { slots = n; lists = lists_of t n }
 abbrev pub Path : List Node → ℕ → ℕ → ℕ → List (ℕ × ℕ) → Type 0
 Path t n l u [] = (node t u).next ≡ n + l
 Path t n l u (x ∷ xs) =
-    ((node t u).next ≡ x.0) × (x.0 < n) × ((node t x.0).owner ≡ Some l) × ((node t x.0).value ≡ x.1) × Path t n l x.0 xs
+    ((node t u).next ≡ x.0) × (x.0 < n) × ((node t x.0).owner ≡ Some l)
+    × ((node t x.0).value ≡ x.1) × Path t n l x.0 xs
 
 -- a table of n slots holds these lists
 pub record Holds (t : List Node) (n : ℕ) (ls : List (List (ℕ × ℕ))) : Type 0 where
   pub countable : n < 2 ^ 64
   pub size : length t ≡ n + length ls
-  pub head : (l : ℕ) → l < length ls → ((node t (n + l)).owner ≡ Some l) × ((node t (n + l)).value ≡ 0)
+  pub head : (l : ℕ) → l < length ls
+      → ((node t (n + l)).owner ≡ Some l) × ((node t (n + l)).value ≡ 0)
   pub path : (l : ℕ) → l < length ls → Path t n l (n + l) (get_or ls l [])
   pub back : (u : ℕ) → u < length t → (node t (node t u).next).previous ≡ u
-  pub within : (u : ℕ) → u < length t → ((node t u).next < length t) × ((node t u).previous < length t)
-  pub free : (s : ℕ) → s < n → (node t s).owner ≡ None → (places_in s ls ≡ 0) × ((node t s).next ≡ s) × ((node t s).previous ≡ s)
-  pub held : (s l : ℕ) → s < n → (node t s).owner ≡ Some l → (l < length ls) × (0 < times_in s (get_or ls l []))
+  pub within : (u : ℕ) → u < length t
+      → ((node t u).next < length t) × ((node t u).previous < length t)
+  pub free : (s : ℕ) → s < n → (node t s).owner ≡ None
+      → (places_in s ls ≡ 0) × ((node t s).next ≡ s) × ((node t s).previous ≡ s)
+  pub held : (s l : ℕ) → s < n → (node t s).owner ≡ Some l
+      → (l < length ls) × (0 < times_in s (get_or ls l []))
   pub once : (s : ℕ) → places_in s ls ≤ 1
   pub ordered : (l : ℕ) → l < length ls → InOrder (get_or ls l [])
   pub fits : (u : ℕ) → (node t u).value < 2 ^ 128

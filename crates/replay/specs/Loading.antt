@@ -19,7 +19,8 @@ HasFrame x q f = frame_at q (point_at x) ≡ Some f
 -- none does, and the work hasn't changed.
 abbrev pub Loads : CoreView → ℕ → Work → Work → Bool → Type 0
 Loads x q old new true = HasLocal x q × HasFrame x q (frame_of new.from) × (new.made ≡ 0)
-Loads x q old new false = (local_in x.code (frame_at q (point_at x)) ≡ false) × (work_of new ≡ work_of old)
+Loads x q old new false =
+    (local_in x.code (frame_at q (point_at x)) ≡ false) × (work_of new ≡ work_of old)
 
 -- local work of any length was handed in
 abbrev pub HandsInWork : CoreView → ℕ → Work → CoreView → Type 0

@@ -2,7 +2,8 @@
 use Rattle.std.specs.Prelude.{◌≡◌, ℕ, List, [], ◌∷◌, Option, Some, None, ⊤}
 use Rattle.machine.specs.Code.{Code}
 use Rattle.machine.specs.State.{Choice, take_main, take_iteration, take_ticket}
-use Rattle.schedules.specs.Schedules.{Act, works, shares, picks_main, picks, takes_ticket, Entry, IsAct}
+use Rattle.schedules.specs.Schedules.{Act, works, shares, picks_main}
+use Rattle.schedules.specs.Schedules.{picks, takes_ticket, Entry, IsAct}
 use Rattle.schedules.specs.declared.entry.Version.{Version}
 use Rattle.schedules.specs.declared.entry.Version.TheVariants.{Second}
 use Rattle.activities.specs.Activities.{code_in, point_in}
@@ -31,7 +32,8 @@ AreNamed _ _ = ⊥
 
 -- What processor q does in an entry leads to this point alone, and an entry of the second version
 -- says the same.
-pub record MadeAs (v : Version) (code : Code) (s : ℕ) (x : Act) (a : Point) (q : ℕ) (y : Act) (b : Point) : Type 0 where
+pub record MadeAs (v : Version) (code : Code) (s : ℕ) (x : Act) (a : Point) (q : ℕ)
+    (y : Act) (b : Point) : Type 0 where
   pub does : Does v code s x a q b
   pub only : (c : Point) → Does v code s x a q c → c ≡ b
   pub named : Does Second code s y a q b
@@ -45,6 +47,7 @@ Made v x q (Some y) old new = MadeAs v (code_in old) old.slots x (point_in old) 
 Made v x q None old new = (b : Point) → Does v (code_in old) old.slots x (point_in old) q b → ⊥
 
 -- entries lead to this point alone
-pub record LeadsOnly (v : Version) (code : Code) (s : ℕ) (a : Point) (es : List Entry) (b : Point) : Type 0 where
+pub record LeadsOnly (v : Version) (code : Code) (s : ℕ) (a : Point) (es : List Entry)
+    (b : Point) : Type 0 where
   pub leads : Leads v code s a es b
   pub only : (c : Point) → Leads v code s a es c → c ≡ b

@@ -40,13 +40,15 @@ pub record IsReplay (code : Code) (input : List ℕ) (x : Schedule) (answer : An
 
 -- What processor q is to do isn't possible, or stands behind the end of the run.
 abbrev pub CannotBeMade : Version → Code → ℕ → Act → Point → ℕ → Flaw → Type 0
-CannotBeMade v code s x a q Impossible = (a.machine.ended ≡ None) × ((b : Point) → Does v code s x a q b → ⊥)
+CannotBeMade v code s x a q Impossible =
+    (a.machine.ended ≡ None) × ((b : Point) → Does v code s x a q b → ⊥)
 CannotBeMade v code s x a q BehindEnd = (e : End) × (a.machine.ended ≡ Some e)
 CannotBeMade v code s x a q _ = ⊥
 
 -- From a point the entries before the one at this line lead to another, where it can't be made. The
 -- first entry stands at line 3.
-pub record StopsAt (v : Version) (code : Code) (s : ℕ) (a : Point) (es : List Entry) (flaw : Flaw) (line : ℕ) : Type 0 where
+pub record StopsAt (v : Version) (code : Code) (s : ℕ) (a : Point) (es : List Entry)
+    (flaw : Flaw) (line : ℕ) : Type 0 where
   pub before : List Entry
   pub entry : Entry
   pub behind : List Entry
@@ -64,7 +66,8 @@ NoneLeads v code s a es = (b : Point) → Leads v code s a es b → ⊥
 
 -- an entry can't be made
 abbrev pub HasStop : Code → List ℕ → Schedule → Flaw → ℕ → Type 0
-HasStop code input x flaw line = StopsAt x.version code x.slots (beginning code input x.slots) x.entries flaw line
+HasStop code input x flaw line =
+    StopsAt x.version code x.slots (beginning code input x.slots) x.entries flaw line
 
 -- all entries are possible, and the run hasn't ended; the line is the last one
 pub record NotEnded (code : Code) (input : List ℕ) (x : Schedule) (line : ℕ) : Type 0 where
@@ -73,14 +76,16 @@ pub record NotEnded (code : Code) (input : List ℕ) (x : Schedule) (line : ℕ)
   pub going : point.machine.ended ≡ None
   pub at : line ≡ 2 + length x.entries
 
--- Why `replay` refuses a schedule: the run hasn't ended behind the last entry, or one can't be made.
+-- Why `replay` refuses a schedule: the run hasn't ended behind the last
+-- entry, or one can't be made.
 abbrev pub GivesNone : Code → List ℕ → Schedule → Flaw → ℕ → Type 0
 GivesNone code input x Unended line = NotEnded code input x line
 GivesNone code input x flaw line = HasStop code input x flaw line
 
 -- the schedule leads to no state that has ended
 abbrev pub NeverEnds : Code → List ℕ → Schedule → Type 0
-NeverEnds code input x = (b : Point) (e : End) → Replays code input x b → b.machine.ended ≡ Some e → ⊥
+NeverEnds code input x =
+    (b : Point) (e : End) → Replays code input x b → b.machine.ended ≡ Some e → ⊥
 
 -- it leads nowhere
 abbrev pub LeadsNowhere : Code → List ℕ → Schedule → Type 0

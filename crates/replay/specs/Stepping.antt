@@ -34,7 +34,8 @@ begun_by take_ticket k = Some k
 begun_by _ k = None
 
 -- processor q has picked, and the pick is its entry
-pub record Picked (x : CoreView) (q : ℕ) (c : Choice) (ticket : Option ℕ) (y : CoreView) : Type 0 where
+pub record Picked (x : CoreView) (q : ℕ) (c : Choice) (ticket : Option ℕ)
+    (y : CoreView) : Type 0 where
   pub after : IsAfter x (record { processor = q; act = pick_of c }) y
   pub step : Picks x.code x.schedule.slots c (point_at x) q (point_at y)
   pub iteration : ticket ≡ begun_by c (point_at x).machine.ticket
@@ -52,7 +53,9 @@ pub record IsStuck (x : CoreView) (q : ℕ) : Type 0 where
 
 -- A shared step of processor q, which picks by the rule where it holds nothing.
 abbrev pub Steps : CoreView → ℕ → Stepped → CoreView → Type 0
-Steps x q (Went ticket) y = Shared x q ticket y ⊎ ((c : Choice) × ByRule x.schedule.slots (point_at x).order c × Picked x q c ticket y)
+Steps x q (Went ticket) y =
+    Shared x q ticket y
+    ⊎ ((c : Choice) × ByRule x.schedule.slots (point_at x).order c × Picked x q c ticket y)
 Steps x q Idle y = (y ≡ x) × IsGoing x × (q < x.schedule.processors → IsStuck x q)
 Steps x q Ended y = (y ≡ x) × HasEnded x
 
@@ -68,7 +71,9 @@ HasShared x q = (b : Point) × Moves x.code x.schedule.slots false (point_at x) 
 
 -- it can take something up by the rule
 abbrev pub HasPick : CoreView → ℕ → Type 0
-HasPick x q = (c : Choice) × (b : Point) × ByRule x.schedule.slots (point_at x).order c × Picks x.code x.schedule.slots c (point_at x) q b
+HasPick x q =
+    (c : Choice) × (b : Point) × ByRule x.schedule.slots (point_at x).order c
+    × Picks x.code x.schedule.slots c (point_at x) q b
 
 -- one of these three is so
 abbrev pub CanGo : CoreView → ℕ → Type 0
@@ -76,7 +81,8 @@ CanGo x q = HasLocal x q ⊎ HasShared x q ⊎ HasPick x q
 
 -- processor q is there, and the machine has a step of it to this state
 abbrev pub MayStep : CoreView → ℕ → Machine → Type 0
-MayStep x q n = (q < x.schedule.processors) × CodeStep x.code x.schedule.slots (point_at x).machine q n
+MayStep x q n =
+    (q < x.schedule.processors) × CodeStep x.code x.schedule.slots (point_at x).machine q n
 
 -- Each processor of which the machine has a step can go on.
 abbrev pub KeepsGoing : CoreView → Type 0
@@ -95,7 +101,9 @@ WentOrLocal x q answer = (n : Machine) → MayStep x q n → HasLocal x q ⊎ Is
 -- A pick of processor q.
 abbrev pub PicksUp : CoreView → ℕ → Choice → Stepped → CoreView → Type 0
 PicksUp x q c (Went ticket) y = Picked x q c ticket y
-PicksUp x q c Idle y = (y ≡ x) × IsGoing x × (q < x.schedule.processors → (b : Point) → Picks x.code x.schedule.slots c (point_at x) q b → ⊥)
+PicksUp x q c Idle y =
+    (y ≡ x) × IsGoing x × (q < x.schedule.processors → (b : Point)
+    → Picks x.code x.schedule.slots c (point_at x) q b → ⊥)
 PicksUp x q c Ended y = (y ≡ x) × HasEnded x
 
 -- processor q holds an activity with this frame, in this code
@@ -103,14 +111,16 @@ abbrev pub IsFrom : CoreView → ℕ → Code → Frame → Type 0
 IsFrom x q code from = (frame_at q (point_at x) ≡ Some from) × (x.code ≡ code)
 
 -- local work of so many instructions was handed in
-pub record HandsIn (x : CoreView) (q : ℕ) (code : Code) (from : Frame) (made : ℕ) (y : CoreView) : Type 0 where
+pub record HandsIn (x : CoreView) (q : ℕ) (code : Code) (from : Frame) (made : ℕ)
+    (y : CoreView) : Type 0 where
   pub going : IsGoing x
   pub is_from : IsFrom x q code from
   pub after : IsAfter x (record { processor = q; act = works made }) y
   pub step : Works x.code x.schedule.slots made (point_at x) q (point_at y)
 
 -- Local work of any length was handed in, in as many entries as it takes.
-pub record HandsInAll (x : CoreView) (q : ℕ) (code : Code) (from : Frame) (made : ℕ) (y : CoreView) : Type 0 where
+pub record HandsInAll (x : CoreView) (q : ℕ) (code : Code) (from : Frame) (made : ℕ)
+    (y : CoreView) : Type 0 where
   pub going : IsGoing x
   pub is_from : IsFrom x q code from
   pub after : IsFurther x (bursts q made) y

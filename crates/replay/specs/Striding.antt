@@ -1,5 +1,6 @@
 -- Steps in place of what a processor holds, whose kinds the code alone tells, with their entries.
-use Rattle.std.specs.Prelude.{◌≡◌, ℕ, suc, ◌+◌, Bool, true, false, if◌then◌else◌, List, [], ◌∷◌, ◌++◌, length, replicate, take}
+use Rattle.std.specs.Prelude.{◌≡◌, ℕ, suc, ◌+◌, Bool, true, false, if◌then◌else◌}
+use Rattle.std.specs.Prelude.{List, [], ◌∷◌, ◌++◌, length, replicate, take}
 use Rattle.std.specs.Coded.{Coded-set, ×_prop, Π_prop, Unit-prop, coded_bool, coded_list, coded_ℕ}
 use Rattle.machine.specs.declared.instr.Instr.{Instr}
 use Rattle.schedules.specs.Noting.{AllNoted}
@@ -14,7 +15,8 @@ use Rattle.replay.specs.declared.stepped.Tally.{Tally}
 
 -- so many steps whose kinds the code tells lead from one place to another
 abbrev pub IsLeg : List Instr → (place n next : ℕ) → Type 0
-IsLeg code p n q = IsPath code n p × ((m : ℕ) → kinds code (n + m) p ≡ kinds code n p ++ kinds code m q)
+IsLeg code p n q =
+    IsPath code n p × ((m : ℕ) → kinds code (n + m) p ≡ kinds code n p ++ kinds code m q)
 
 -- the same of local ones
 pub record IsRun (code : List Instr) (place n next : ℕ) : Type 0 where
@@ -36,7 +38,9 @@ AllLegs code p (leg ∷ legs) = IsLegOf code p leg × AllLegs code (suc p) legs
 pub Legs-prop : (code : List Instr) (p : ℕ) (legs : List Leg) → IsProp (AllLegs code p legs)
 Legs-prop code p [] = Unit-prop
 Legs-prop code p (leg ∷ legs) =
-    ×_prop (×_prop (×_prop (Coded-set coded_ℕ _ _) (Π_prop (λ m. Coded-set (coded_list coded_bool) _ _))) (Coded-set (coded_list coded_bool) _ _)) (Legs-prop code (suc p) legs)
+    ×_prop
+    (×_prop (×_prop (Coded-set coded_ℕ _ _) (Π_prop (λ m. Coded-set (coded_list coded_bool) _ _)))
+    (Coded-set (coded_list coded_bool) _ _)) (Legs-prop code (suc p) legs)
 
 -- how many steps entries make
 abbrev pub steps_in : List Entry → ℕ
@@ -45,10 +49,13 @@ steps_in (e ∷ es) = steps e.act + steps_in es
 
 -- Of steps that were added last only so many are left, the first ones.
 abbrev pub Left : (planned left : ℕ) → Schedule → Schedule → Type 0
-Left planned left old new = (x : Schedule) (q : ℕ) (ks : List Bool) → length ks ≡ planned → AllNoted q ks x old → AllNoted q (take left ks) x new
+Left planned left old new =
+    (x : Schedule) (q : ℕ) (ks : List Bool)
+    → length ks ≡ planned → AllNoted q ks x old → AllNoted q (take left ks) x new
 
 -- So many steps of processor q were made, and added to the schedule.
-pub record IsStrode (q made : ℕ) (a : Activities) (x : Schedule) (t : Tally) (b : Activities) (y : Schedule) (u : Tally) : Type 0 where
+pub record IsStrode (q made : ℕ) (a : Activities) (x : Schedule) (t : Tally) (b : Activities)
+    (y : Schedule) (u : Tally) : Type 0 where
   pub kinds : List Bool
   pub made_is : length kinds ≡ made
   pub step : Makes (code_in a) x.slots kinds (point_in a) q (point_in b)

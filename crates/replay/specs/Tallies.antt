@@ -25,7 +25,8 @@ Again a b m = ((m ≡ 0) × Still a b) ⊎ ((m ≡ 1) × (Still a b → ⊥))
 abbrev pub Tallies : Version → Code → ℕ → Point → List Entry → Point → ℕ → ℕ → Type 0
 Tallies v code s a [] b made again = (a ≡ b) × (made ≡ 0) × (again ≡ 0)
 Tallies v code s a (e ∷ es) b made again =
-    (x : Point) × (m : ℕ) × (n : ℕ) × (k : ℕ) × Does v code s e.act a e.processor x × Again a.machine x.machine k × Tallies v code s x es b m n
+    (x : Point) × (m : ℕ) × (n : ℕ) × (k : ℕ) × Does v code s e.act a e.processor x
+    × Again a.machine x.machine k × Tallies v code s x es b m n
     × (made ≡ steps e.act + m) × (again ≡ k + n)
 
 -- whether who is taken up was parked
@@ -46,5 +47,6 @@ pub record Weighed (code : Code) (p s : ℕ) (m n : Machine) (made again : ℕ) 
 -- of its steps don't weigh.
 abbrev pub AreCounts : Type 0
 AreCounts =
-    (code : Code) (input : List ℕ) (x : Schedule) (b : Point) (made again : ℕ) → IsSchedule x → Tallies x.version code x.slots (beginning code input x.slots) x.entries b made again
+    (code : Code) (input : List ℕ) (x : Schedule) (b : Point) (made again : ℕ) → IsSchedule x
+    → Tallies x.version code x.slots (beginning code input x.slots) x.entries b made again
     → Weighed code x.processors x.slots (Init code input) b.machine made again

@@ -112,8 +112,8 @@ pub fn pick(
 ) -> Result<bool, AllocError>
     requires parts { AreParts activities.old schedule.old tally.old }
     requires processor { q < schedule.old.processors }
-    ensures did { IfOk result (λ did. TakesUp did q (chosen choice) activities.old schedule.old tally.old
-        activities.new schedule.new tally.new) }
+    ensures did { IfOk result (λ did. TakesUp did q (chosen choice)
+        activities.old schedule.old tally.old activities.new schedule.new tally.new) }
     ensures err { OnErr result (IsSame activities.old schedule.old tally.old
         activities.new schedule.new tally.new) }
     ensures parts { AreParts activities.new schedule.new tally.new }

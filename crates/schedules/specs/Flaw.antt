@@ -1,7 +1,8 @@
 -- The numbers by which the refusals of schedules are known.
 use Rattle.std.specs.Prelude.{ℕ}
 use Rattle.schedules.specs.declared.flaw.Flaw.{Flaw}
-use Rattle.schedules.specs.declared.flaw.Flaw.TheVariants.{Header, Entry, Processor, Impossible, Unended, BehindEnd}
+use Rattle.schedules.specs.declared.flaw.Flaw.TheVariants.{Header, Entry, Processor}
+use Rattle.schedules.specs.declared.flaw.Flaw.TheVariants.{Impossible, Unended, BehindEnd}
 
 abbrev pub number_of : Flaw → ℕ
 number_of Header = 51

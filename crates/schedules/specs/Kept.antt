@@ -1,10 +1,13 @@
 -- How the entries of a schedule are kept: each in a few bytes, and the numbers of the iterations
 -- that are picked beside them, in order.
-use Rattle.std.specs.Prelude.{◌≡◌, ℕ, zero, suc, ◌+◌, ◌/◌, ◌%◌, List, [], ◌∷◌, ◌++◌, length, drop, get_or, replicate, Option, Some, None}
-use Rattle.schedules.specs.Schedules.{Entry, Schedule, IsSchedule, longest_burst, works, shares, picks_main, picks, takes_ticket}
+use Rattle.std.specs.Prelude.{◌≡◌, ℕ, zero, suc, ◌+◌, ◌/◌, ◌%◌, List, [], ◌∷◌, ◌++◌}
+use Rattle.std.specs.Prelude.{length, drop, get_or, replicate, Option, Some, None}
+use Rattle.schedules.specs.Schedules.{Entry, Schedule, IsSchedule, longest_burst}
+use Rattle.schedules.specs.Schedules.{works, shares, picks_main, picks, takes_ticket}
 use Rattle.schedules.specs.declared.entry.Version.{Version}
 use Rattle.schedules.specs.declared.short.Short.{Short}
-use Rattle.schedules.specs.declared.short.Short.TheVariants.{Work, Share, PickMain, PickIteration, TakeTicket}
+use Rattle.schedules.specs.declared.short.Short.TheVariants.{Work, Share, PickMain}
+use Rattle.schedules.specs.declared.short.Short.TheVariants.{PickIteration, TakeTicket}
 
 -- the entry of a short one, with the first of the numbers where it picks an iteration
 abbrev pub entry_of : Short → List ℕ → Entry
@@ -43,7 +46,8 @@ last_short q zero = []
 last_short q (suc n) = Work q (suc n) ∷ []
 
 abbrev pub short_bursts : ℕ → ℕ → List Short
-short_bursts q n = replicate (n / longest_burst) (Work q longest_burst) ++ last_short q (n % longest_burst)
+short_bursts q n =
+    replicate (n / longest_burst) (Work q longest_burst) ++ last_short q (n % longest_burst)
 
 abbrev pub seen : Version → ℕ → ℕ → List Short → List ℕ → Schedule
 seen v p s ss ks = record { version = v; processors = p; slots = s; entries = entries_of ss ks }

@@ -18,8 +18,8 @@ pub record IsLonger (q more : ℕ) (x y : Schedule) : Type 0 where
   pub was : x ≡ with_entry before (record { processor = q; act = works count })
   pub is : y ≡ with_entry before (record { processor = q; act = works (count + more) })
 
--- A step of processor q is added: a local instruction, in an entry of its own or in the last one, or
--- a shared step.
+-- A step of processor q is added: a local instruction, in an entry of its own or in the last
+-- one, or a shared step.
 abbrev pub Notes : ℕ → Bool → Schedule → Schedule → Type 0
 Notes q true x y = (y ≡ with_entry x (record { processor = q; act = works 1 })) ⊎ IsLonger q 1 x y
 Notes q false x y = y ≡ with_entry x (record { processor = q; act = shares })

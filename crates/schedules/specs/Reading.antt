@@ -1,9 +1,12 @@
 -- An account of the code: a text is read from the left.
-use Rattle.std.specs.Prelude.{ℕ, zero, suc, ◌+◌, ◌-◌, ◌*◌, ◌^◌, nat_eq, nat_le, nat_lt, ◌&&◌, codes, if◌then◌else◌, List, [], ◌∷◌, length, take, drop, Option, Some, None, Result, Ok, Err}
+use Rattle.std.specs.Prelude.{ℕ, zero, suc, ◌+◌, ◌-◌, ◌*◌, ◌^◌, nat_eq, nat_le}
+use Rattle.std.specs.Prelude.{nat_lt, ◌&&◌, codes, if◌then◌else◌, List, [], ◌∷◌}
+use Rattle.std.specs.Prelude.{length, take, drop, Option, Some, None, Result, Ok, Err}
 use Rattle.std.specs.List.{prefix_len, starts_with}
 use Rattle.machine.specs.State.{most_processors, most_slots}
 use Rattle.schedules.specs.Refusals.{is_digit, is_shortest}
-use Rattle.schedules.specs.Schedules.{Act, works, shares, picks_main, picks, takes_ticket, Entry, longest_burst}
+use Rattle.schedules.specs.Schedules.{Act, works, shares, picks_main, picks}
+use Rattle.schedules.specs.Schedules.{takes_ticket, Entry, longest_burst}
 use Rattle.schedules.specs.declared.entry.Version.{Version}
 use Rattle.schedules.specs.declared.entry.Version.TheVariants.{First, Second}
 use Rattle.schedules.specs.declared.reading.NoEntry.{NoEntry}
@@ -29,7 +32,8 @@ if_some (Some x) next = next x
 
 -- a number, from so many digits, and what stands after it
 abbrev pub number_of : ℕ → List ℕ → Option (Option ℕ × List ℕ)
-number_of n t = if is_shortest (take n t) then Some (in_range (value (take n t)), drop n t) else None
+number_of n t =
+    if is_shortest (take n t) then Some (in_range (value (take n t)), drop n t) else None
 
 -- a number at the beginning of a text, and what stands after it
 abbrev pub number_at : List ℕ → Option (Option ℕ × List ℕ)
@@ -57,12 +61,14 @@ bounded most n = if nat_le 1 n && nat_le n most then Some n else None
 
 -- such a number at the beginning of a text, and what stands after it
 abbrev pub size_at : ℕ → List ℕ → Option (ℕ × List ℕ)
-size_at most t = if_some (number_at t) (λ x. if_some x.0 (λ n. if_some (bounded most n) (λ m. Some (m, x.1))))
+size_at most t =
+    if_some (number_at t) (λ x. if_some x.0 (λ n. if_some (bounded most n) (λ m. Some (m, x.1))))
 
 -- line 2 at the beginning of a text, and what stands behind it
 abbrev pub sizes_at : List ℕ → Option (ℕ × ℕ × List ℕ)
 sizes_at t =
-    if_some (size_at most_processors t) (λ x. if_some (after (codes " ") x.1) (λ u. if_some (size_at most_slots u) (λ y.
+    if_some (size_at most_processors t)
+    (λ x. if_some (after (codes " ") x.1) (λ u. if_some (size_at most_slots u) (λ y.
     if_some (after (codes "\n") y.1) (λ w. Some (x.0, y.0, w)))))
 
 -- the act of a number: a shared step for 0, else so many local instructions, 1,024 at most
@@ -72,7 +78,8 @@ burst_of (suc n) = if_some (bounded longest_burst (suc n)) (λ m. Some (works m)
 
 -- an act that is a number, and what stands behind it
 abbrev pub counted_at : List ℕ → Option (Act × List ℕ)
-counted_at t = if_some (number_at t) (λ x. if_some x.0 (λ n. if_some (burst_of n) (λ a. Some (a, x.1))))
+counted_at t =
+    if_some (number_at t) (λ x. if_some x.0 (λ n. if_some (burst_of n) (λ a. Some (a, x.1))))
 
 -- the first of two, if it is there, or else the second
 abbrev pub or_else : {X : Type 0} → Option X → Option X → Option X
@@ -81,7 +88,9 @@ or_else (Some x) o = Some x
 
 -- the pick of an iteration, and what stands behind it
 abbrev pub iteration_at : List ℕ → Option (Act × List ℕ)
-iteration_at t = if_some (after (codes "I ") t) (λ u. if_some (number_at u) (λ x. if_some x.0 (λ k. Some (picks k, x.1))))
+iteration_at t =
+    if_some (after (codes "I ") t)
+    (λ u. if_some (number_at u) (λ x. if_some x.0 (λ k. Some (picks k, x.1))))
 
 -- this act, where its word was there, and what stands behind it
 abbrev pub named_at : Act → Option (List ℕ) → Option (Act × List ℕ)
@@ -91,7 +100,8 @@ named_at a (Some rest) = Some (a, rest)
 -- a pick of main, of a ticket or of an iteration, and what stands behind it
 abbrev pub picked_at : List ℕ → Option (Act × List ℕ)
 picked_at t =
-    or_else (named_at picks_main (after (codes "M") t)) (or_else (named_at takes_ticket (after (codes "T") t)) (iteration_at t))
+    or_else (named_at picks_main (after (codes "M") t))
+    (or_else (named_at takes_ticket (after (codes "T") t)) (iteration_at t))
 
 -- an act that the version knows, and what stands behind it
 abbrev pub act_at : Version → List ℕ → Option (Act × List ℕ)
@@ -108,7 +118,8 @@ line_at v t =
 -- an entry whose processor is one of the first p
 abbrev pub entry_by : ℕ → Option ℕ → Act → List ℕ → Result (Entry × List ℕ) NoEntry
 entry_by p None a t = Err Processor
-entry_by p (Some q) a t = if nat_lt q p then Ok (record { processor = q; act = a }, t) else Err Processor
+entry_by p (Some q) a t =
+    if nat_lt q p then Ok (record { processor = q; act = a }, t) else Err Processor
 
 -- the entry of such a line, or why there is none
 abbrev pub entry_of : ℕ → Option (Option ℕ × Act × List ℕ) → Result (Entry × List ℕ) NoEntry

@@ -1,9 +1,11 @@
 -- Why bytes are no schedule's text: what is wrong, and the line where it shows, from 1.
-use Rattle.std.specs.Prelude.{◌≡◌, ◌≢◌, ◌≤◌, ◌+◌, ◌⊎◌, nat_le, Bool, true, false, not, ◌&&◌, ◌==◌, ℕ, List, [], ◌∷◌, ◌++◌, length, ⊤}
+use Rattle.std.specs.Prelude.{◌≡◌, ◌≢◌, ◌≤◌, ◌+◌, ◌⊎◌, nat_le, Bool, true, false}
+use Rattle.std.specs.Prelude.{not, ◌&&◌, ◌==◌, ℕ, List, [], ◌∷◌, ◌++◌, length, ⊤}
 use Rattle.std.specs.List.{list_all}
 use Rattle.std.specs.Str.Parse.{digits_value}
 use Rattle.machine.specs.State.{AreSizes}
-use Rattle.schedules.specs.Schedules.{Act, IsAct, Schedule, IsSchedule, act_text, header, line_before, sizes_text, text_before}
+use Rattle.schedules.specs.Schedules.{Act, IsAct, Schedule, IsSchedule, act_text}
+use Rattle.schedules.specs.Schedules.{header, line_before, sizes_text, text_before}
 use Rattle.schedules.specs.declared.entry.Version.{Version}
 use Rattle.schedules.specs.declared.flaw.Flaw.{Flaw}
 use Rattle.schedules.specs.declared.flaw.Flaw.TheVariants as flaws
@@ -53,7 +55,8 @@ pub record NoSizes (bytes : List ℕ) : Type 0 where
   pub version : Version
   pub rest : List ℕ
   pub headed : bytes ≡ line_before (header version) rest
-  pub none : (p s : ℕ) (behind : List ℕ) → AreSizes p s → rest ≡ line_before (sizes_text p s) behind → ⊥
+  pub none : (p s : ℕ) (behind : List ℕ) → AreSizes p s
+      → rest ≡ line_before (sizes_text p s) behind → ⊥
 
 -- what goes on begins with no entry
 pub record NoEntryAt (bytes : List ℕ) (line : ℕ) : Type 0 where

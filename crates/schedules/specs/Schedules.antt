@@ -1,5 +1,6 @@
 -- Schedules: what each processor did, turn by turn, and how that is written.
-use Rattle.std.specs.Prelude.{◌≡◌, ◌≤◌, ◌<◌, ◌^◌, ◌/◌, ◌%◌, ℕ, zero, suc, codes, decimal, List, [], ◌∷◌, ◌++◌, replicate, ⊤}
+use Rattle.std.specs.Prelude.{◌≡◌, ◌≤◌, ◌<◌, ◌^◌, ◌/◌, ◌%◌, ℕ, zero, suc, codes}
+use Rattle.std.specs.Prelude.{decimal, List, [], ◌∷◌, ◌++◌, replicate, ⊤}
 use Rattle.machine.specs.State.{AreSizes}
 use Rattle.schedules.specs.declared.entry.Version.{Version}
 use Rattle.schedules.specs.declared.entry.Version.TheVariants.{First, Second}
@@ -63,7 +64,9 @@ last_burst q (suc n) = record { processor = q; act = works (suc n) } ∷ []
 
 -- So many local instructions of a processor, in entries as long as they may be.
 abbrev pub bursts : ℕ → ℕ → List Entry
-bursts q n = replicate (n / longest_burst) (record { processor = q; act = works longest_burst }) ++ last_burst q (n % longest_burst)
+bursts q n =
+    replicate (n / longest_burst) (record { processor = q; act = works longest_burst })
+    ++ last_burst q (n % longest_burst)
 
 -- ---- the text. Each line ends in LF, numbers are in shortest decimal, parted by one blank.
 
@@ -100,7 +103,8 @@ entries_before (e ∷ es) rest = line_before (entry_text e) (entries_before es r
 -- the text of a schedule before what follows it
 abbrev pub text_before : Schedule → List ℕ → List ℕ
 text_before x rest =
-    line_before (header x.version) (line_before (sizes_text x.processors x.slots) (entries_before x.entries rest))
+    line_before (header x.version)
+    (line_before (sizes_text x.processors x.slots) (entries_before x.entries rest))
 
 -- the whole text of a schedule
 abbrev pub text_of : Schedule → List ℕ

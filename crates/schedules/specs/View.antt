@@ -3,7 +3,8 @@ use Rattle.std.specs.Prelude.{Result, Ok, Err}
 use Rattle.schedules.specs.Schedules as spec
 use Rattle.schedules.specs.Schedules.{works, shares, picks_main, picks, takes_ticket}
 use Rattle.schedules.specs.declared.entry.Act.{Act}
-use Rattle.schedules.specs.declared.entry.Act.TheVariants.{Work, Share, PickMain, PickIteration, TakeTicket}
+use Rattle.schedules.specs.declared.entry.Act.TheVariants.{Work, Share, PickMain}
+use Rattle.schedules.specs.declared.entry.Act.TheVariants.{PickIteration, TakeTicket}
 use Rattle.schedules.specs.declared.entry.Entry.{Entry}
 
 abbrev pub act : Act → spec.Act

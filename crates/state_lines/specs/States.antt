@@ -1,5 +1,7 @@
 -- What is shown of the states of a run that a schedule describes: a block for each line of it.
-use Rattle.std.specs.Prelude.{ℕ, zero, suc, ◌-◌, nat_le, ◌==◌, if◌then◌else◌, Bool, true, false, is_some, codes, decimal, List, [], ◌∷◌, ◌++◌, drop, Option, Some, None, slice_get}
+use Rattle.std.specs.Prelude.{ℕ, zero, suc, ◌-◌, nat_le, ◌==◌, if◌then◌else◌}
+use Rattle.std.specs.Prelude.{Bool, true, false, is_some, codes, decimal, List}
+use Rattle.std.specs.Prelude.{[], ◌∷◌, ◌++◌, drop, Option, Some, None, slice_get}
 use Rattle.ast.specs.declared.fault.Fault.{Fault}
 use Rattle.machine.specs.Code.{Code}
 use Rattle.machine.specs.Frame.{Frame}
@@ -34,17 +36,21 @@ number_words (Some k) = codes " ITERATION " ++ decimal k
 -- which activity has a frame, and where it stands
 abbrev pub activity_words : Code → Option Frame → List ℕ
 activity_words code None = []
-activity_words code (Some f) = number_words f.number ++ codes " PLACE " ++ decimal f.place ++ codes " LINE " ++ decimal (line_of code f)
+activity_words code (Some f) =
+    number_words f.number ++ codes " PLACE " ++ decimal f.place ++ codes " LINE "
+    ++ decimal (line_of code f)
 
 -- ---- counts
 
 -- how many iterations have retired, and which ticket is next
 abbrev pub open_line : Machine → List ℕ
-open_line m = codes " RETIRED " ++ decimal m.retired ++ codes " TICKET " ++ decimal m.ticket ++ 10 ∷ []
+open_line m =
+    codes " RETIRED " ++ decimal m.retired ++ codes " TICKET " ++ decimal m.ticket ++ 10 ∷ []
 
 -- the count of an event, where it isn't 0
 abbrev pub count_line : ℕ → ℕ → List ℕ
-count_line e n = if n == 0 then [] else codes " EVENT " ++ decimal e ++ codes " COUNT " ++ decimal n ++ 10 ∷ []
+count_line e n =
+    if n == 0 then [] else codes " EVENT " ++ decimal e ++ codes " COUNT " ++ decimal n ++ 10 ∷ []
 
 -- those of so many events, of which the first has this number
 abbrev pub count_lines : (ℕ → ℕ) → ℕ → ℕ → List ℕ
@@ -56,7 +62,8 @@ count_lines counts e (suc n) = count_line e (counts e) ++ count_lines counts (su
 -- a processor, with the frame of what it holds, if it holds anything
 abbrev pub held_line : Code → ℕ → Option Frame → List ℕ
 held_line code q None = []
-held_line code q (Some f) = codes " PROCESSOR " ++ decimal q ++ activity_words code (Some f) ++ 10 ∷ []
+held_line code q (Some f) =
+    codes " PROCESSOR " ++ decimal q ++ activity_words code (Some f) ++ 10 ∷ []
 
 -- so many processors, of which the first has this number
 abbrev pub held_lines : Code → Point → ℕ → ℕ → List ℕ
@@ -81,7 +88,8 @@ until_words (until_retired v) = codes " UNTIL RETIRED " ++ decimal v
 -- an activity with its frame, if it is parked
 abbrev pub parked_line : Code → Machine → Option Frame → Option Wait → List ℕ
 parked_line code m f None = []
-parked_line code m f (Some w) = state_word (is_reached m w) ++ activity_words code f ++ until_words w ++ 10 ∷ []
+parked_line code m f (Some w) =
+    state_word (is_reached m w) ++ activity_words code f ++ until_words w ++ 10 ∷ []
 
 abbrev pub main_line : Code → Machine → List ℕ
 main_line code m = parked_line code m (Some m.main) m.waiting
@@ -108,8 +116,10 @@ event_lines m = count_lines m.counts 1 most_events
 -- main first, then the open iterations in their order; and that the run has ended.
 abbrev pub state_lines : Code → ℕ → Point → List ℕ
 state_lines code p x =
-    open_line x.machine ++ event_lines x.machine ++ held_lines code x 0 p ++ main_line code x.machine
-    ++ parked_lines code x.machine x.machine.retired (x.machine.ticket - x.machine.retired) ++ ended_line (is_some x.machine.ended)
+    open_line x.machine ++ event_lines x.machine ++ held_lines code x 0 p
+    ++ main_line code x.machine
+    ++ parked_lines code x.machine x.machine.retired (x.machine.ticket - x.machine.retired)
+    ++ ended_line (is_some x.machine.ended)
 
 -- ---- blocks
 
@@ -132,4 +142,5 @@ first_block code p x = codes "LINE 2\n" ++ state_lines code p x
 
 -- The block of an entry that led to a state: what has gone out behind so many bytes, and the state.
 abbrev pub block : Code → ℕ → ℕ → Entry → ℕ → Point → List ℕ
-block code p line e before x = head_line line e ++ marked true (drop before x.machine.output) ++ state_lines code p x
+block code p line e before x =
+    head_line line e ++ marked true (drop before x.machine.output) ++ state_lines code p x

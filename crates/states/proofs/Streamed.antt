@@ -21,13 +21,13 @@ use Rattle.replay.specs.Replayed.{CannotBeMade}
 use Rattle.engines.proofs.Replayed.{with_run}
 use Rattle.engines.specs.Prepared.{IsNoRun, IsDescribedRun}
 use Rattle.engines.specs.declared.prepared.Run.{Run}
-use Rattle.pages.specs.Outcomes.{outcome_of}
-use Rattle.pages.specs.Shown.{EndShown, no_schedule}
-use Rattle.pages.specs.declared.fault.EngineFault.{EngineFault}
-use Rattle.pages.specs.declared.fault.EngineFault.TheVariants.{Source, Input, Schedule as OfSchedule, Writing, Memory, OutOfRange, NotStarted, Stuck}
-use Rattle.pages.specs.declared.outcomes.Outcome.{Outcome}
-use Rattle.pages.specs.declared.outcomes.Outcome.TheVariants.{NoSchedule}
-use Rattle.pages.specs.declared.page.Page.{Page}
+use Rattle.command_output.specs.Outcomes.{outcome_of}
+use Rattle.command_output.specs.Shown.{EndShown, no_schedule}
+use Rattle.command_output.specs.declared.fault.EngineFault.{EngineFault}
+use Rattle.command_output.specs.declared.fault.EngineFault.TheVariants.{Source, Input, Schedule as OfSchedule, Writing, Memory, OutOfRange, NotStarted, Stuck}
+use Rattle.command_output.specs.declared.outcomes.Outcome.{Outcome}
+use Rattle.command_output.specs.declared.outcomes.Outcome.TheVariants.{NoSchedule}
+use Rattle.command_output.specs.declared.page.Page.{Page}
 use Rattle.state_lines.specs.States.{first_block}
 use Rattle.states.proofs.Showing.{shows_leads}
 use Rattle.states.specs.Followed.{AreShown, IsPartShown, Shows, StopsShown}

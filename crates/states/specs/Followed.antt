@@ -1,7 +1,7 @@
 -- The blocks of a schedule's entries, and what is written where not all are.
 use Rattle.std.specs.Prelude.{◌≡◌, ℕ, suc, ◌+◌, List, [], ◌∷◌, ◌++◌, length, Option}
 use Rattle.std.specs.Io.KnownBytes.{Appends}
-use Rattle.handing.specs.Handing.{AppendsPart, Begins}
+use Rattle.record_writer.specs.Written.{AppendsPart, Begins}
 use Rattle.machine.specs.Code.{Code}
 use Rattle.schedules.specs.Schedules.{Entry, Schedule}
 use Rattle.schedules.specs.declared.entry.Version.{Version}
@@ -22,22 +22,27 @@ abbrev pub Shows : Version → Code → (p s line : ℕ) → Point → List Entr
 Shows v code p s line a [] b text = (a ≡ b) × (text ≡ [])
 Shows v code p s line a (e ∷ es) b text =
     (x : Point) × Does v code s e.act a e.processor x
-    × (rest : List ℕ) × (text ≡ block code p line e (length a.machine.output) x ++ rest) × Shows v code p s (suc line) x es b rest
+    × (rest : List ℕ) × (text ≡ block code p line e (length a.machine.output) x ++ rest)
+    × Shows v code p s (suc line) x es b rest
 
 -- some entries of a schedule, from its first on, were made and shown, and the rest is left
-pub record IsShownTo (x : Schedule) (a : Activities) (rest : List Entry) (b : Point) (text : List ℕ) : Type 0 where
+pub record IsShownTo (x : Schedule) (a : Activities) (rest : List Entry) (b : Point)
+    (text : List ℕ) : Type 0 where
   pub front : List Entry
   pub is : x.entries ≡ front ++ rest
   pub shows : Shows x.version (code_in a) x.processors x.slots 3 (point_in a) front b text
 
 -- all of them were, and that was written behind a first text
-pub record AreShown (first : List ℕ) (x : Schedule) (old new : Activities) (before after : Option (List ℕ)) : Type 0 where
+pub record AreShown (first : List ℕ) (x : Schedule) (old new : Activities)
+    (before after : Option (List ℕ)) : Type 0 where
   pub text : List ℕ
-  pub shows : Shows x.version (code_in old) x.processors x.slots 3 (point_in old) x.entries (point_in new) text
+  pub shows : Shows x.version (code_in old) x.processors x.slots 3 (point_in old) x.entries
+      (point_in new) text
   pub grown : Appends before after (first ++ text)
 
 -- the next one can't be made, and what was shown before it was written
-pub record StopsShown (first : List ℕ) (x : Schedule) (a : Activities) (flaw : Flaw) (line : ℕ) (before after : Option (List ℕ)) : Type 0 where
+pub record StopsShown (first : List ℕ) (x : Schedule) (a : Activities) (flaw : Flaw)
+    (line : ℕ) (before after : Option (List ℕ)) : Type 0 where
   pub entry : Entry
   pub behind : List Entry
   pub point : Point
@@ -48,7 +53,8 @@ pub record StopsShown (first : List ℕ) (x : Schedule) (a : Activities) (flaw :
   pub grown : Appends before after (first ++ text)
 
 -- a beginning of what is shown of some entries was written, or all of it
-pub record IsPartShown (first : List ℕ) (x : Schedule) (a : Activities) (before after : Option (List ℕ)) : Type 0 where
+pub record IsPartShown (first : List ℕ) (x : Schedule) (a : Activities)
+    (before after : Option (List ℕ)) : Type 0 where
   pub rest : List Entry
   pub point : Point
   pub text : List ℕ
@@ -58,9 +64,11 @@ pub record IsPartShown (first : List ℕ) (x : Schedule) (a : Activities) (befor
   pub grown : Appends before after got
 
 -- why not all were shown, and what was written
-abbrev pub Halts : (first : List ℕ) → Schedule → Activities → (before after : Option (List ℕ)) → Halt → Type 0
+abbrev pub Halts : (first : List ℕ) → Schedule → Activities
+    → (before after : Option (List ℕ)) → Halt → Type 0
 Halts first x a before after (Replay Memory) = IsPartShown first x a before after
-Halts first x a before after (Replay (Refused flaw line)) = StopsShown first x a flaw line before after
+Halts first x a before after (Replay (Refused flaw line)) =
+    StopsShown first x a flaw line before after
 Halts first x a before after (Writing e) = IsPartShown first x a before after
 
 -- a text wasn't written: nothing of it for want of memory, or a beginning

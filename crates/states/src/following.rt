@@ -8,7 +8,7 @@ ghost use Rattle.state_lines.specs.States.{block, first_block};
 ghost use Rattle.states.specs.Followed.{AreShown, Falls, Halts};
 
 use activities::Activities;
-use handing::write_all;
+use record_writer::write_all;
 use replay::make_at;
 use schedules::{Entry, FIRST_ENTRY_LINE, ReplayRefusal, Schedule};
 use state_lines::{append_block, append_first};

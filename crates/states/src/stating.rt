@@ -2,16 +2,16 @@
 
 ghost use Rattle.std.specs.Prelude.{◌≡◌, [], Err, IfErr, IfOk, false};
 ghost use Rattle.activities.specs.Activities.{point_in};
-ghost use Rattle.pages.specs.Outcomes.{outcome_of};
-ghost use Rattle.pages.specs.Shown.{EndShown};
-ghost use Rattle.pages.specs.declared.fault.EngineFault.TheVariants as faults;
+ghost use Rattle.command_output.specs.Outcomes.{outcome_of};
+ghost use Rattle.command_output.specs.Shown.{EndShown};
+ghost use Rattle.command_output.specs.declared.fault.EngineFault.TheVariants as faults;
 ghost use Rattle.states.specs.Shown.{IsLast, StatesStream, WrotePage};
 
 use crate::following::{Halt, show};
 use activities::Activities;
 use ast::End;
+use command_output::{EngineFault, Outcome, Page, append_end, outcome};
 use engines::{Described, describe, unscheduled};
-use pages::{EngineFault, Outcome, Page, append_end, outcome};
 use replay::begun;
 use schedules::{Flaw, ReplayRefusal};
 use std::alloc::{AllocError, Global};

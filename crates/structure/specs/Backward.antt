@@ -1,6 +1,7 @@
 -- Where structures end, by what stands behind a place: an account of the code, which goes from the
 -- last statement to the first.
-use Rattle.std.specs.Prelude.{ℕ, List, ◌∷◌, drop, get_or, map, reverse, Option, Some, None, option_map, option_to_list}
+use Rattle.std.specs.Prelude.{ℕ, List, ◌∷◌, drop, get_or, map, reverse}
+use Rattle.std.specs.Prelude.{Option, Some, None, option_map, option_to_list}
 use Rattle.std.specs.Option.{unwrap_or}
 use Rattle.structure.specs.Parts.{Part, do_part, if_part, end_if_part}
 use Rattle.structure.specs.declared.span.Blocks.{Blocks}

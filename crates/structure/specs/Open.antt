@@ -1,5 +1,6 @@
 -- The DO ranges and IF blocks that are open after some statements, the innermost first.
-use Rattle.std.specs.Prelude.{ℕ, Bool, true, false, ◌==◌, List, [], ◌∷◌, Option, Some, None, if◌then◌else◌}
+use Rattle.std.specs.Prelude.{ℕ, Bool, true, false, ◌==◌, List, []}
+use Rattle.std.specs.Prelude.{◌∷◌, Option, Some, None, if◌then◌else◌}
 use Rattle.std.specs.List.{list_any}
 use Rattle.ast.specs.Store.{same_name}
 use Rattle.ast.specs.Tree.{Statement, Kind, do_loop, block_if, else_arm, end_if}
@@ -13,7 +14,8 @@ pub data Open : Type 0 where
 -- a statement with this label ends the innermost ranges that it is the terminal statement of
 abbrev pub ended_by : ℕ → List Open → List Open
 ended_by label [] = []
-ended_by label (do_range terminal x ∷ opened) = if terminal == label then ended_by label opened else do_range terminal x ∷ opened
+ended_by label (do_range terminal x ∷ opened) =
+    if terminal == label then ended_by label opened else do_range terminal x ∷ opened
 ended_by label (if_block is_last ∷ opened) = if_block is_last ∷ opened
 
 -- the same of a statement with a label or without

@@ -1,10 +1,14 @@
 -- The rules on the order of statements, on labels, DO ranges and IF blocks, each a test of a
 -- statement after the statements of a front.
-use Rattle.std.specs.Prelude.{◌≡◌, ℕ, Bool, true, false, not, ◌&&◌, ◌||◌, ◌==◌, if◌then◌else◌, List, [], ◌∷◌, ◌++◌, Option, Some, None}
+use Rattle.std.specs.Prelude.{◌≡◌, ℕ, Bool, true, false, not, ◌&&◌, ◌||◌, ◌==◌}
+use Rattle.std.specs.Prelude.{if◌then◌else◌, List, [], ◌∷◌, ◌++◌, Option, Some, None}
 use Rattle.std.specs.List.{list_any}
-use Rattle.ast.specs.Tree.{Statement, Kind, program, integer, dimension, parameters, assign, do_loop, go_on, block_if, else_if, else_arm, end_if, logical_if, print, read, stop, end}
+use Rattle.ast.specs.Tree.{Statement, Kind, program, integer, dimension}
+use Rattle.ast.specs.Tree.{parameters, assign, do_loop, go_on, block_if, else_if}
+use Rattle.ast.specs.Tree.{else_arm, end_if, logical_if, print, read, stop, end}
 use Rattle.ast.specs.declared.rule.Rule.{Rule}
-use Rattle.ast.specs.declared.rule.Rule.TheVariants.{OutOfOrder, OpenLoop, WrongTerminal, CrossedBlocks, RepeatedLabel}
+use Rattle.ast.specs.declared.rule.Rule.TheVariants.{OutOfOrder, OpenLoop, WrongTerminal}
+use Rattle.ast.specs.declared.rule.Rule.TheVariants.{CrossedBlocks, RepeatedLabel}
 use Rattle.structure.specs.Open.{Open, do_range, if_block, open_after}
 
 -- the check of a rule
@@ -62,7 +66,8 @@ is_block (if_block is_last) = true
 -- whether a range of the label is open around a structure that passes a test
 abbrev pub is_around : (Open → Bool) → ℕ → List Open → Bool
 is_around test label [] = false
-is_around test label (o ∷ opened) = (test o && list_any (is_range_of label) opened) || is_around test label opened
+is_around test label (o ∷ opened) =
+    (test o && list_any (is_range_of label) opened) || is_around test label opened
 
 -- a test of a label and of what is open; a statement without a label passes none, nor does END
 abbrev pub is_some_and : (ℕ → Bool) → Option ℕ → Bool
@@ -103,7 +108,9 @@ may_not_end_a_range _ = false
 -- `WrongTerminal`: the label is that of an open range, and a statement of this kind may not end
 -- one.
 abbrev pub ends_wrongly : List Open → Statement → Bool
-ends_wrongly opened s = may_not_end_a_range s.kind && by_label (λ label around. list_any (is_range_of label) around) opened s
+ends_wrongly opened s =
+    may_not_end_a_range s.kind
+    && by_label (λ label around. list_any (is_range_of label) around) opened s
 
 -- ---- `CrossedBlocks`: parts of IF blocks where they may not stand
 
@@ -138,7 +145,8 @@ holds_wrong_statement _ = false
 abbrev pub breaks_blocks : List Open → Statement → Bool
 breaks_blocks opened s =
     is_misplaced_arm s.kind opened
-    || (by_label (λ label around. is_around is_block label around) opened s || holds_wrong_statement s.kind)
+    || (by_label (λ label around. is_around is_block label around) opened s
+    || holds_wrong_statement s.kind)
 
 -- ---- `RepeatedLabel`: a label that stands before
 
@@ -162,15 +170,18 @@ checks = record { rule = OutOfOrder; is_broken = is_out_of_order }
 -- the rule of the lowest number that a statement breaks
 abbrev pub lowest_broken : List Check → List Statement → Statement → Option Rule
 lowest_broken [] front s = None
-lowest_broken (c ∷ cs) front s = if c.is_broken front s then Some c.rule else lowest_broken cs front s
+lowest_broken (c ∷ cs) front s =
+    if c.is_broken front s then Some c.rule else lowest_broken cs front s
 
 -- the statements break none of the rules
 pub record Keep (checks : List Check) (ss : List Statement) : Type 0 where
-  pub each : (front : List Statement) (s : Statement) (back : List Statement) → ss ≡ front ++ s ∷ back → lowest_broken checks front s ≡ None
+  pub each : (front : List Statement) (s : Statement) (back : List Statement)
+      → ss ≡ front ++ s ∷ back → lowest_broken checks front s ≡ None
 
 -- the first statement that breaks a rule stands at the line, and the lowest rule that it breaks is
 -- the one
-pub record BreakFirst (checks : List Check) (ss : List Statement) (rule : Rule) (line : ℕ) : Type 0 where
+pub record BreakFirst (checks : List Check) (ss : List Statement) (rule : Rule)
+    (line : ℕ) : Type 0 where
   pub front : List Statement
   pub statement : Statement
   pub back : List Statement

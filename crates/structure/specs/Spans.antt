@@ -1,7 +1,8 @@
 -- The spans of DO ranges and IF blocks: the places of their first and their last statement,
 -- statements numbered from 0. A range goes from its DO to the first statement behind it that has
 -- its label, a block from its IF to the END IF that matches it.
-use Rattle.std.specs.Prelude.{ℕ, zero, suc, ◌+◌, ◌-◌, Bool, true, false, if◌then◌else◌, List, [], ◌∷◌, ◌++◌}
+use Rattle.std.specs.Prelude.{ℕ, zero, suc, ◌+◌, ◌-◌, Bool, true, false}
+use Rattle.std.specs.Prelude.{if◌then◌else◌, List, [], ◌∷◌, ◌++◌}
 use Rattle.ast.specs.Tree.{Statement, Kind, do_loop, block_if, end_if}
 use Rattle.structure.specs.Rules.{has_label}
 

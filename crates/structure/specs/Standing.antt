@@ -1,12 +1,15 @@
 -- What the code keeps of the statements before, and the rules by that.
-use Rattle.std.specs.Prelude.{ℕ, Bool, true, not, ◌&&◌, ◌||◌, nat_eq, if◌then◌else◌, List, [], ◌∷◌, ◌++◌, Option, Some, None, map, option_to_list}
+use Rattle.std.specs.Prelude.{ℕ, Bool, true, not, ◌&&◌, ◌||◌, nat_eq, if◌then◌else◌, List}
+use Rattle.std.specs.Prelude.{[], ◌∷◌, ◌++◌, Option, Some, None, map, option_to_list}
 use Rattle.std.specs.List.{list_any}
 use Rattle.indexmap.specs.IndexSet.{insert_all}
 use Rattle.ast.specs.Tree.{Statement}
 use Rattle.ast.specs.declared.rule.Rule.{Rule}
-use Rattle.ast.specs.declared.rule.Rule.TheVariants.{OutOfOrder, OpenLoop, WrongTerminal, CrossedBlocks, RepeatedLabel}
+use Rattle.ast.specs.declared.rule.Rule.TheVariants.{OutOfOrder, OpenLoop, WrongTerminal}
+use Rattle.ast.specs.declared.rule.Rule.TheVariants.{CrossedBlocks, RepeatedLabel}
 use Rattle.structure.specs.Open.{Open, open_after, after}
-use Rattle.structure.specs.Rules.{is_empty, is_program, is_declaration, is_executable, is_some_and, crosses, ends_wrongly, breaks_blocks}
+use Rattle.structure.specs.Rules.{is_empty, is_program, is_declaration, is_executable}
+use Rattle.structure.specs.Rules.{is_some_and, crosses, ends_wrongly, breaks_blocks}
 use Rattle.structure.specs.View.{opened}
 use Rattle.structure.specs.declared.structure.Structure.{Structure}
 
@@ -51,12 +54,15 @@ next t s = record {
 }
 
 abbrev pub rule_of_label : Standing → Statement → Option Rule
-rule_of_label t s = if is_some_and (λ label. list_any (nat_eq label) t.labels) s.label then Some RepeatedLabel else None
+rule_of_label t s =
+    if is_some_and (λ label. list_any (nat_eq label) t.labels) s.label then Some RepeatedLabel
+    else None
 
 -- the lowest rule on order, labels, ranges and blocks that a statement breaks, by what is kept
 abbrev pub rule_by : Standing → Statement → Option Rule
 rule_by t s =
-    if (is_program s.kind && t.begun) || (is_declaration s.kind && t.executable) then Some OutOfOrder
+    if (is_program s.kind && t.begun) || (is_declaration s.kind && t.executable)
+    then Some OutOfOrder
     else if crosses t.opened s then Some OpenLoop
     else if ends_wrongly t.opened s then Some WrongTerminal
     else if breaks_blocks t.opened s then Some CrossedBlocks

@@ -1,10 +1,13 @@
 -- Affine forms of subscripts: c0 + c*I + the sum of u*x over at most 8 other scalars x, where I is
 -- the loop's variable. All numbers are exact; where one is no 64-bit integer, there is no form.
-use Rattle.std.specs.Prelude.{ℕ, ℤ, pos, ◌+ℤ◌, ◌-ℤ◌, ◌*ℤ◌, nat_le, Bool, true, false, not, ◌&&◌, ◌==◌, if◌then◌else◌, List, [], ◌∷◌, ◌++◌, map, filter, length, Option, Some, None}
+use Rattle.std.specs.Prelude.{ℕ, ℤ, pos, ◌+ℤ◌, ◌-ℤ◌, ◌*ℤ◌, nat_le, Bool, true}
+use Rattle.std.specs.Prelude.{false, not, ◌&&◌, ◌==◌, if◌then◌else◌, List, []}
+use Rattle.std.specs.Prelude.{◌∷◌, ◌++◌, map, filter, length, Option, Some, None}
 use Rattle.std.specs.List.{list_any, list_all}
 use Rattle.std.specs.Ordering.{int_eq}
 use Rattle.ast.specs.Exact.{fits}
-use Rattle.ast.specs.Tree.{Ref, Term, Terms, constant, truth, parameter, element, call, parentheses, unary, binary, no_terms, then_term}
+use Rattle.ast.specs.Tree.{Ref, Term, Terms, constant, truth, parameter, element}
+use Rattle.ast.specs.Tree.{call, parentheses, unary, binary, no_terms, then_term}
 use Rattle.ast.specs.declared.expression.Operator.{Operator}
 use Rattle.ast.specs.declared.expression.Operator.TheVariants.{Add, Subtract, Multiply}
 use Rattle.ast.specs.declared.expression.Prefix.{Prefix}
@@ -75,7 +78,8 @@ total true a b = a -ℤ b
 
 -- a share of the first, with the second's of the same scalar
 abbrev pub total_share : Bool → List Share → Share → Share
-total_share minus gs s = record { cell = s.cell; factor = total minus s.factor (factor_in gs s.cell) }
+total_share minus gs s =
+    record { cell = s.cell; factor = total minus s.factor (factor_in gs s.cell) }
 
 -- a share of the second alone
 abbrev pub new_share : Bool → Share → Share
@@ -87,7 +91,8 @@ others fs gs = filter (λ (s : Share). not (has_share s.cell fs)) gs
 
 -- the shares of a sum or a difference
 abbrev pub total_shares : Bool → List Share → List Share → List Share
-total_shares minus fs gs = nonzero (map (total_share minus gs) fs ++ map (new_share minus) (others fs gs))
+total_shares minus fs gs =
+    nonzero (map (total_share minus gs) fs ++ map (new_share minus) (others fs gs))
 
 -- the sum or the difference of two forms
 abbrev pub total_form : Bool → Form → Form → Form
@@ -103,7 +108,8 @@ share_varying l fs gs = list_any (λ (s : Share). varies l s.cell && has_share s
 
 -- the same, where they share no varying scalar and the numbers fit
 abbrev pub total_of : Loop → Bool → Form → Form → Option Form
-total_of l minus f g = if share_varying l f.shares g.shares then None else in_room (total_form minus f g)
+total_of l minus f g =
+    if share_varying l f.shares g.shares then None else in_room (total_form minus f g)
 
 abbrev pub times_share : ℤ → Share → Share
 times_share k s = record { cell = s.cell; factor = k *ℤ s.factor }
@@ -124,7 +130,9 @@ is_constant f = int_eq f.coefficient (pos 0) && are_none f.shares
 
 -- a product with a factor whose form is a constant
 abbrev pub product : Form → Form → Option Form
-product f g = if is_constant f then in_room (times f.constant g) else if is_constant g then in_room (times g.constant f) else None
+product f g =
+    if is_constant f then in_room (times f.constant g)
+    else if is_constant g then in_room (times g.constant f) else None
 
 abbrev pub number_form : ℤ → Form
 number_form n = record { constant = n; coefficient = pos 0; shares = [] }
@@ -134,7 +142,11 @@ variable_form = record { constant = pos 0; coefficient = pos 1; shares = [] }
 
 -- another scalar
 abbrev pub other_form : ℕ → Form
-other_form c = record { constant = pos 0; coefficient = pos 0; shares = record { cell = c; factor = pos 1 } ∷ [] }
+other_form c = record {
+  constant = pos 0;
+  coefficient = pos 0;
+  shares = record { cell = c; factor = pos 1 } ∷ [];
+}
 
 abbrev pub scalar_form : Loop → ℕ → Form
 scalar_form l c = if is_variable l c then variable_form else other_form c
@@ -164,4 +176,5 @@ form_of l (element r es) = element_form l r es
 form_of l (call f es) = None
 form_of l (parentheses e) = form_of l e
 form_of l (unary p e) = if_some (form_of l e) (λ f. prefixed_form l p f)
-form_of l (binary o a b) = if_some (form_of l a) (λ f. if_some (form_of l b) (λ g. binary_form l o f g))
+form_of l (binary o a b) =
+    if_some (form_of l a) (λ f. if_some (form_of l b) (λ g. binary_form l o f g))

@@ -1,7 +1,8 @@
 -- The values that a subscript may have in an iteration, whatever the iterations before have left.
 use Rattle.std.specs.Prelude.{◌≡◌, ℕ, ℤ, pos, ◌+ℤ◌, ◌*ℤ◌, Bool, true, false, List, [], ◌∷◌, Ok, ⊤}
 use Rattle.ast.specs.Exact.{truth_value, prefixed_value, intrinsic_value, value_of}
-use Rattle.ast.specs.Tree.{Term, Terms, constant, truth, parameter, element, call, parentheses, unary, binary, no_terms, then_term}
+use Rattle.ast.specs.Tree.{Term, Terms, constant, truth, parameter, element}
+use Rattle.ast.specs.Tree.{call, parentheses, unary, binary, no_terms, then_term}
 use Rattle.loop_tree.specs.Loops.{Loop}
 use Rattle.subscripts.specs.Forms.{Form, Share, varies, is_variable}
 
@@ -20,16 +21,20 @@ abbrev mutual
   MayBe l steady i (constant n) v = v ≡ n
   MayBe l steady i (truth b) v = v ≡ truth_value b
   MayBe l steady i (parameter x n) v = v ≡ n
-  MayBe l steady i (element r no_terms) v = ScalarMayBe (is_variable l r.cell) (varies l r.cell) i (steady r.cell) v
+  MayBe l steady i (element r no_terms) v =
+      ScalarMayBe (is_variable l r.cell) (varies l r.cell) i (steady r.cell) v
   MayBe l steady i (element r (then_term e es)) v = ⊤
-  MayBe l steady i (call f es) v = (vs : List ℤ) × AllMayBe l steady i es vs × (intrinsic_value f vs ≡ Ok v)
+  MayBe l steady i (call f es) v =
+      (vs : List ℤ) × AllMayBe l steady i es vs × (intrinsic_value f vs ≡ Ok v)
   MayBe l steady i (parentheses e) v = MayBe l steady i e v
   MayBe l steady i (unary p e) v = (x : ℤ) × MayBe l steady i e x × (prefixed_value p x ≡ Ok v)
-  MayBe l steady i (binary o a b) v = (x : ℤ) × (y : ℤ) × MayBe l steady i a x × MayBe l steady i b y × (value_of o x y ≡ Ok v)
+  MayBe l steady i (binary o a b) v =
+      (x : ℤ) × (y : ℤ) × MayBe l steady i a x × MayBe l steady i b y × (value_of o x y ≡ Ok v)
 
   pub AllMayBe : Loop → (ℕ → ℤ) → ℤ → Terms → List ℤ → Type 0
   AllMayBe l steady i no_terms vs = vs ≡ []
-  AllMayBe l steady i (then_term e es) vs = (x : ℤ) × (xs : List ℤ) × (vs ≡ x ∷ xs) × MayBe l steady i e x × AllMayBe l steady i es xs
+  AllMayBe l steady i (then_term e es) vs =
+      (x : ℤ) × (xs : List ℤ) × (vs ≡ x ∷ xs) × MayBe l steady i e x × AllMayBe l steady i es xs
 
 -- the sum of shares by the values of scalars
 abbrev pub sum_of : (ℕ → ℤ) → List Share → ℤ

@@ -7,7 +7,8 @@ use Rattle.subscripts.specs.declared.form.Form.{Form}
 use Rattle.subscripts.specs.SharesView.{share}
 
 abbrev pub form : Form → spec.Form
-form f = record { constant = f.constant; coefficient = f.coefficient; shares = map share f.shares.items }
+form f =
+    record { constant = f.constant; coefficient = f.coefficient; shares = map share f.shares.items }
 
 -- the form, if there is one
 abbrev pub form_in : Affine → Option spec.Form

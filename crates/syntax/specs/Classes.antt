@@ -1,11 +1,15 @@
 -- The class of a statement, by its marks: its text without blanks, folded to upper case, an
 -- apostrophe standing for each character constant. The profile's rules, in their order. A class has
 -- what stands behind its keyword.
-use Rattle.std.specs.Prelude.{ℕ, ◌+◌, ◌-◌, Bool, false, ◌&&◌, ◌||◌, ◌==◌, if◌then◌else◌, List, [], ◌∷◌, ◌++◌, length, drop, Option, Some, None, codes}
+use Rattle.std.specs.Prelude.{ℕ, ◌+◌, ◌-◌, Bool, false, ◌&&◌, ◌||◌, ◌==◌, if◌then◌else◌}
+use Rattle.std.specs.Prelude.{List, [], ◌∷◌, ◌++◌, length, drop, Option, Some, None, codes}
 use Rattle.std.specs.List.{prefix_len}
-use Rattle.expressions.specs.Characters.{is_digit, is_alphanumeric, begins_with, begins_digit, begins_letter, after}
+use Rattle.expressions.specs.Characters.{is_digit, is_alphanumeric, begins_with}
+use Rattle.expressions.specs.Characters.{begins_digit, begins_letter, after}
 use Rattle.syntax.specs.declared.class.Keyword.{Keyword}
-use Rattle.syntax.specs.declared.class.Keyword.TheVariants.{Program, Integer, Dimension, Parameter, Print, Write, Read, ReadUnit, Continue, Else, ElseIf, EndIf, Stop, End, LeftOut}
+use Rattle.syntax.specs.declared.class.Keyword.TheVariants.{Program, Integer, Dimension, Parameter}
+use Rattle.syntax.specs.declared.class.Keyword.TheVariants.{Print, Write, Read, ReadUnit, Continue}
+use Rattle.syntax.specs.declared.class.Keyword.TheVariants.{Else, ElseIf, EndIf, Stop, End, LeftOut}
 
 pub data Class : Type 0 where
   -- the condition of a block IF
@@ -30,7 +34,8 @@ level_after level c = if c == 40 then level + 1 else (if c == 41 then level - 1 
 
 abbrev pub stands_from : ℕ → ℕ → List ℕ → Bool
 stands_from level mark [] = false
-stands_from level mark (c ∷ cs) = ((level == 0) && (c == mark)) || stands_from (level_after level c) mark cs
+stands_from level mark (c ∷ cs) =
+    ((level == 0) && (c == mark)) || stands_from (level_after level c) mark cs
 
 abbrev pub stands_at_level_zero : ℕ → List ℕ → Bool
 stands_at_level_zero mark t = stands_from 0 mark t
@@ -40,7 +45,8 @@ stands_at_level_zero mark t = stands_from 0 mark t
 abbrev pub enclosed_from : ℕ → List ℕ → List ℕ → Option (List ℕ × List ℕ)
 enclosed_from level u [] = None
 enclosed_from level u (c ∷ cs) =
-    if (level == 0) && (c == 41) then Some (u, cs) else enclosed_from (level_after level c) (u ++ c ∷ []) cs
+    if (level == 0) && (c == 41) then Some (u, cs)
+    else enclosed_from (level_after level c) (u ++ c ∷ []) cs
 
 abbrev pub enclosed : List ℕ → Option (List ℕ × List ℕ)
 enclosed t = enclosed_from 0 [] t
@@ -69,8 +75,8 @@ if_class condition rest =
     else (if are_labels rest then worded LeftOut rest
     else logical_if condition rest)
 
--- ---- DO: behind `DO`, digits, an optional comma, a name directly followed by `=`, and a level-zero
--- comma behind that
+-- ---- DO: behind `DO`, digits, an optional comma, a name directly followed by `=`, and a
+-- level-zero comma behind that
 
 abbrev pub without_comma : List ℕ → List ℕ
 without_comma t = elim (after (codes ",") t) [ Some u ↦ u | None ↦ t ]
@@ -122,7 +128,10 @@ simple_class t = if stands_at_level_zero 61 t then assignment t else class_by_ke
 
 -- a statement that is no IF
 abbrev pub other_class : List ℕ → Class
-other_class t = elim (after (codes "DO") t) [ Some u ↦ if is_do u then do_loop u else simple_class t | None ↦ simple_class t ]
+other_class t = elim (after (codes "DO") t) [
+  | Some u ↦ if is_do u then do_loop u else simple_class t
+  | None ↦ simple_class t
+]
 
 -- behind `IF(`: an element of IF is assigned where `=` follows the matching parenthesis
 abbrev pub class_behind_if : List ℕ → List ℕ → Class

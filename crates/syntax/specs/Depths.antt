@@ -1,6 +1,8 @@
 -- How deep a statement is: as deep as the deepest of its expressions, each counted by itself.
 use Rattle.std.specs.Prelude.{ℕ, max, List, [], ◌∷◌, Option, Some, None}
-use Rattle.ast.specs.Tree.{Term, depth, Access, accessed, PrintItem, value_item, text_item, Bounds, Declarator, Definition, DoHead, Kind, integer, dimension, parameters, assign, do_loop, block_if, else_if, logical_if, print, read}
+use Rattle.ast.specs.Tree.{Term, depth, Access, accessed, PrintItem, value_item, text_item}
+use Rattle.ast.specs.Tree.{Bounds, Declarator, Definition, DoHead, Kind, integer, dimension}
+use Rattle.ast.specs.Tree.{parameters, assign, do_loop, block_if, else_if, logical_if, print, read}
 
 -- the greatest of the depths
 abbrev pub greatest : {X : Type 0} → (X → ℕ) → List X → ℕ

@@ -1,7 +1,8 @@
 -- Blanks and character constants. A text is cut into marks, which are the bytes outside character
 -- constants, and character constants: an apostrophe, the constant's text with each apostrophe
 -- doubled, and an apostrophe that no other follows.
-use Rattle.std.specs.Prelude.{◌≡◌, ℕ, ◌-◌, ◌≢◌, ◌&&◌, nat_le, ◌==◌, if◌then◌else◌, List, [], ◌∷◌, ◌++◌}
+use Rattle.std.specs.Prelude.{◌≡◌, ℕ, ◌-◌, ◌≢◌, ◌&&◌, nat_le, ◌==◌}
+use Rattle.std.specs.Prelude.{if◌then◌else◌, List, [], ◌∷◌, ◌++◌}
 
 pub data Piece : Type 0 where
   mark : ℕ → Piece
@@ -19,7 +20,8 @@ NoApostrophe (c ∷ cs) = c ≢ 39
 abbrev pub Cut : List Piece → List ℕ → Type 0
 Cut [] t = t ≡ []
 Cut (mark c ∷ ps) t = (rest : List ℕ) × (t ≡ c ∷ rest) × (c ≢ 39) × Cut ps rest
-Cut (quoted s ∷ ps) t = (rest : List ℕ) × (t ≡ 39 ∷ (doubled s ++ 39 ∷ rest)) × NoApostrophe rest × Cut ps rest
+Cut (quoted s ∷ ps) t =
+    (rest : List ℕ) × (t ≡ 39 ∷ (doubled s ++ 39 ∷ rest)) × NoApostrophe rest × Cut ps rest
 
 -- a mark as a statement reads it: blanks mean nothing, and lower case is folded to upper case
 abbrev pub folded : ℕ → List ℕ

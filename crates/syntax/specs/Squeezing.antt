@@ -1,5 +1,6 @@
 -- Going through a text once, byte by byte: an account of the code, which no public clause names.
-use Rattle.std.specs.Prelude.{ℕ, ◌==◌, if◌then◌else◌, List, [], ◌∷◌, ◌++◌, map, Vec, Option, Some, None, Result, Ok}
+use Rattle.std.specs.Prelude.{ℕ, ◌==◌, if◌then◌else◌, List, [], ◌∷◌, ◌++◌}
+use Rattle.std.specs.Prelude.{map, Vec, Option, Some, None, Result, Ok}
 use Rattle.std.specs.Global.{Global}
 use Rattle.std.specs.Vec.Iter.{into_iter_items}
 use Rattle.std.specs.declared.vec.IntoIter.{IntoIter}
@@ -18,11 +19,16 @@ use Rattle.syntax.specs.ReadingStatements.{statement_at}
 -- read, and the place; nothing where the text ends in a constant
 abbrev pub run : Place → List ℕ → List (List ℕ) → List ℕ → List ℕ → Option (List ℕ × List (List ℕ))
 run Outside ms ks read [] = Some (ms, ks)
-run Outside ms ks read (c ∷ t) = if c == 39 then (run Inside (ms ++ c ∷ []) ks read t) else (run Outside (ms ++ folded c) ks read t)
+run Outside ms ks read (c ∷ t) =
+    if c == 39 then (run Inside (ms ++ c ∷ []) ks read t)
+    else (run Outside (ms ++ folded c) ks read t)
 run Inside ms ks read [] = None
-run Inside ms ks read (c ∷ t) = if c == 39 then (run Closing ms ks read t) else (run Inside ms ks (read ++ c ∷ []) t)
+run Inside ms ks read (c ∷ t) =
+    if c == 39 then (run Closing ms ks read t) else (run Inside ms ks (read ++ c ∷ []) t)
 run Closing ms ks read [] = Some (ms, ks ++ read ∷ [])
-run Closing ms ks read (c ∷ t) = if c == 39 then (run Inside ms ks (read ++ c ∷ []) t) else (run Outside (ms ++ folded c) (ks ++ read ∷ []) [] t)
+run Closing ms ks read (c ∷ t) =
+    if c == 39 then (run Inside ms ks (read ++ c ∷ []) t)
+    else (run Outside (ms ++ folded c) (ks ++ read ∷ []) [] t)
 
 abbrev pub left_of : Squeezing → List ℕ → Option (List ℕ × List (List ℕ))
 left_of s t = run s.place s.marks.items (map (λ v. v.items) s.constants.items) s.open.items t

@@ -1,9 +1,13 @@
 -- The grammar of statements.
-use Rattle.std.specs.Prelude.{◌≡◌, ℕ, ◌<◌, ◌≤◌, Bool, true, false, ◌&&◌, ◌||◌, ◌==◌, nat_le, ◌⊎◌, List, [], ◌∷◌, ◌++◌, length, take, Option, Some, None, codes}
+use Rattle.std.specs.Prelude.{◌≡◌, ℕ, ◌<◌, ◌≤◌, Bool, true, false, ◌&&◌, ◌||◌, ◌==◌, nat_le}
+use Rattle.std.specs.Prelude.{◌⊎◌, List, [], ◌∷◌, ◌++◌, length, take, Option, Some, None, codes}
 use Rattle.std.specs.List.{list_all}
 use Rattle.fixed_form.specs.Limits.{text_width}
 use Rattle.fixed_form.specs.Line.{is_end}
-use Rattle.ast.specs.Tree.{Term, PrintItem, value_item, text_item, Bounds, Declarator, Definition, DoHead, Kind, program, integer, dimension, parameters, assign, do_loop, go_on, block_if, else_if, else_arm, end_if, logical_if, print, read, stop, end, Statement}
+use Rattle.ast.specs.Tree.{Term, PrintItem, value_item, text_item, Bounds, Declarator}
+use Rattle.ast.specs.Tree.{Definition, DoHead, Kind, program, integer, dimension}
+use Rattle.ast.specs.Tree.{parameters, assign, do_loop, go_on, block_if, else_if, else_arm}
+use Rattle.ast.specs.Tree.{end_if, logical_if, print, read, stop, end, Statement}
 use Rattle.expressions.specs.Characters.{is_digit, value}
 use Rattle.expressions.specs.Grammar.{IsName, IsReference, IsAccess, Spells, depth_limit}
 use Rattle.expressions.specs.Levels.{top}
@@ -19,12 +23,14 @@ use Rattle.syntax.specs.Pieces.{Piece, Cut, marks, constants}
 -- further parts of a list, each behind a comma, and what ends the list
 abbrev pub AreFurther : {X : Type 0} → (X → List ℕ → Type 0) → List ℕ → List X → List ℕ → Type 0
 AreFurther Is ending [] t = t ≡ ending
-AreFurther Is ending (x ∷ xs) t = (u : List ℕ) × (v : List ℕ) × (t ≡ codes "," ++ u ++ v) × Is x u × AreFurther Is ending xs v
+AreFurther Is ending (x ∷ xs) t =
+    (u : List ℕ) × (v : List ℕ) × (t ≡ codes "," ++ u ++ v) × Is x u × AreFurther Is ending xs v
 
 -- a list: one part or more, parted by commas, and what ends the list
 abbrev pub AreParts : {X : Type 0} → (X → List ℕ → Type 0) → List ℕ → List X → List ℕ → Type 0
 AreParts Is ending [] t = ⊥
-AreParts Is ending (x ∷ xs) t = (u : List ℕ) × (v : List ℕ) × (t ≡ u ++ v) × Is x u × AreFurther Is ending xs v
+AreParts Is ending (x ∷ xs) t =
+    (u : List ℕ) × (v : List ℕ) × (t ≡ u ++ v) × Is x u × AreFurther Is ending xs v
 
 -- what ends a list in parentheses, and one that goes to the end of the text
 abbrev pub closing : List ℕ
@@ -48,7 +54,9 @@ AreBehindComma Are (x ∷ xs) t = (u : List ℕ) × (t ≡ codes "," ++ u) × Ar
 -- bounds: `[expression:] expression`
 abbrev pub HaveBounds : Option Term → Term → List ℕ → Type 0
 HaveBounds None upper t = Spells top upper t
-HaveBounds (Some lower) upper t = (u : List ℕ) × (v : List ℕ) × (t ≡ u ++ (codes ":" ++ v)) × Spells top lower u × Spells top upper v
+HaveBounds (Some lower) upper t =
+    (u : List ℕ) × (v : List ℕ) × (t ≡ u ++ (codes ":" ++ v)) × Spells top lower u
+    × Spells top upper v
 
 abbrev pub IsBounds : Bounds → List ℕ → Type 0
 IsBounds b t = HaveBounds b.lower b.upper t
@@ -60,7 +68,8 @@ IsBoundsList (b ∷ bs) t = (u : List ℕ) × (t ≡ codes "(" ++ u) × AreParts
 
 -- a name, or a name with bounds
 abbrev pub IsDeclarator : Declarator → List ℕ → Type 0
-IsDeclarator d t = (u : List ℕ) × (v : List ℕ) × (t ≡ u ++ v) × IsName d.name u × IsBoundsList d.bounds v
+IsDeclarator d t =
+    (u : List ℕ) × (v : List ℕ) × (t ≡ u ++ v) × IsName d.name u × IsBoundsList d.bounds v
 
 -- a name with bounds
 abbrev pub IsArray : Declarator → List ℕ → Type 0
@@ -68,7 +77,9 @@ IsArray d t = (0 < length d.bounds) × IsDeclarator d t
 
 -- a name, `=` and an expression
 abbrev pub IsDefinition : Definition → List ℕ → Type 0
-IsDefinition d t = (u : List ℕ) × (v : List ℕ) × (t ≡ u ++ (codes "=" ++ v)) × IsName d.name u × Spells top d.value v
+IsDefinition d t =
+    (u : List ℕ) × (v : List ℕ) × (t ≡ u ++ (codes "=" ++ v)) × IsName d.name u
+    × Spells top d.value v
 
 -- the greatest number of digits of a label and of a STOP
 abbrev pub most_digits : ℕ
@@ -76,7 +87,8 @@ most_digits = 5
 
 -- a label: one to five digits
 abbrev pub IsLabel : ℕ → List ℕ → Type 0
-IsLabel n t = (0 < length t) × (list_all is_digit t ≡ true) × (length t ≤ most_digits) × (n ≡ value t)
+IsLabel n t =
+    (0 < length t) × (list_all is_digit t ≡ true) × (length t ≤ most_digits) × (n ≡ value t)
 
 -- nothing, or a comma and an expression
 abbrev pub IsStep : Option Term → List ℕ → Type 0
@@ -85,7 +97,9 @@ IsStep (Some e) t = (u : List ℕ) × (t ≡ codes "," ++ u) × Spells top e u
 
 -- the parameters of a DO
 abbrev pub AreParameters : DoHead → List ℕ → Type 0
-AreParameters h t = (u : List ℕ) × (v : List ℕ) × (w : List ℕ) × (t ≡ u ++ (codes "," ++ (v ++ w))) × Spells top h.first u × Spells top h.last v × IsStep h.step w
+AreParameters h t =
+    (u : List ℕ) × (v : List ℕ) × (w : List ℕ) × (t ≡ u ++ (codes "," ++ (v ++ w)))
+    × Spells top h.first u × Spells top h.last v × IsStep h.step w
 
 abbrev pub IsComma : List ℕ → Type 0
 IsComma t = (t ≡ []) ⊎ (t ≡ codes ",")
@@ -93,7 +107,9 @@ IsComma t = (t ≡ []) ⊎ (t ≡ codes ",")
 -- behind `DO`: a label, an optional comma, the variable, `=` and the parameters
 abbrev pub IsDoHead : DoHead → List ℕ → Type 0
 IsDoHead h t =
-    (u : List ℕ) × (c : List ℕ) × (v : List ℕ) × (w : List ℕ) × (t ≡ u ++ (c ++ (v ++ (codes "=" ++ w)))) × IsLabel h.terminal u × IsComma c × IsReference h.variable v × AreParameters h w
+    (u : List ℕ) × (c : List ℕ) × (v : List ℕ) × (w : List ℕ)
+    × (t ≡ u ++ (c ++ (v ++ (codes "=" ++ w)))) × IsLabel h.terminal u × IsComma c
+    × IsReference h.variable v × AreParameters h w
 
 -- ---- character constants, which are taken in turn, one for each apostrophe
 
@@ -104,12 +120,16 @@ IsItem (text_item s) t cs left = (t ≡ codes "'") × (cs ≡ s ∷ left) × (0 
 
 abbrev pub AreFurtherItems : List (List ℕ) → List PrintItem → List ℕ → Type 0
 AreFurtherItems cs [] t = t ≡ []
-AreFurtherItems cs (i ∷ is) t = (u : List ℕ) × (v : List ℕ) × (left : List (List ℕ)) × (t ≡ codes "," ++ u ++ v) × IsItem i u cs left × AreFurtherItems left is v
+AreFurtherItems cs (i ∷ is) t =
+    (u : List ℕ) × (v : List ℕ) × (left : List (List ℕ)) × (t ≡ codes "," ++ u ++ v)
+    × IsItem i u cs left × AreFurtherItems left is v
 
 -- items, parted by commas
 abbrev pub AreItems : List (List ℕ) → List PrintItem → List ℕ → Type 0
 AreItems cs [] t = ⊥
-AreItems cs (i ∷ is) t = (u : List ℕ) × (v : List ℕ) × (left : List (List ℕ)) × (t ≡ u ++ v) × IsItem i u cs left × AreFurtherItems left is v
+AreItems cs (i ∷ is) t =
+    (u : List ℕ) × (v : List ℕ) × (left : List (List ℕ)) × (t ≡ u ++ v) × IsItem i u cs left
+    × AreFurtherItems left is v
 
 abbrev pub has_text : List (List ℕ) → Bool
 has_text [] = false
@@ -131,19 +151,31 @@ Begins keyword u t = class_of t ≡ worded keyword u
 -- The marks and the character constants are a statement's that does this.
 abbrev pub IsKind : Kind → List ℕ → List (List ℕ) → Type 0
 IsKind (program x) t cs = (u : List ℕ) × Begins keywords.Program u t × IsName x u
-IsKind (integer ds) t cs = (u : List ℕ) × Begins keywords.Integer u t × AreParts IsDeclarator nothing ds u
-IsKind (dimension ds) t cs = (u : List ℕ) × Begins keywords.Dimension u t × AreParts IsArray nothing ds u
-IsKind (parameters ds) t cs = (u : List ℕ) × Begins keywords.Parameter (codes "(" ++ u) t × AreParts IsDefinition closing ds u
-IsKind (assign a e) t cs = (u : List ℕ) × (v : List ℕ) × (class_of t ≡ classes.assignment (u ++ (codes "=" ++ v))) × IsAccess a u × Spells top e v
+IsKind (integer ds) t cs =
+    (u : List ℕ) × Begins keywords.Integer u t × AreParts IsDeclarator nothing ds u
+IsKind (dimension ds) t cs =
+    (u : List ℕ) × Begins keywords.Dimension u t × AreParts IsArray nothing ds u
+IsKind (parameters ds) t cs =
+    (u : List ℕ) × Begins keywords.Parameter (codes "(" ++ u) t × AreParts IsDefinition closing ds u
+IsKind (assign a e) t cs =
+    (u : List ℕ) × (v : List ℕ) × (class_of t ≡ classes.assignment (u ++ (codes "=" ++ v)))
+    × IsAccess a u × Spells top e v
 IsKind (do_loop h) t cs = (u : List ℕ) × (class_of t ≡ classes.do_loop u) × IsDoHead h u
 IsKind go_on t cs = Begins keywords.Continue [] t
 IsKind (block_if e) t cs = (u : List ℕ) × (class_of t ≡ classes.block_if u) × Spells top e u
-IsKind (else_if e) t cs = (u : List ℕ) × Begins keywords.ElseIf (codes "(" ++ u ++ codes ")THEN") t × Spells top e u
+IsKind (else_if e) t cs =
+    (u : List ℕ) × Begins keywords.ElseIf (codes "(" ++ u ++ codes ")THEN") t × Spells top e u
 IsKind else_arm t cs = Begins keywords.Else [] t
 IsKind end_if t cs = Begins keywords.EndIf [] t
-IsKind (logical_if e k) t cs = (u : List ℕ) × (v : List ℕ) × (class_of t ≡ classes.logical_if u v) × Spells top e u × IsKind k v cs
-IsKind (print is) t cs = (u : List ℕ) × ((Begins keywords.Print u t × AreBehindComma (AreItems cs) is u) ⊎ (Begins keywords.Write u t × AreOptional (AreItems cs) is u))
-IsKind (read es) t cs = (u : List ℕ) × ((Begins keywords.Read u t × AreBehindComma (AreParts IsAccess nothing) es u) ⊎ (Begins keywords.ReadUnit u t × AreOptional (AreParts IsAccess nothing) es u))
+IsKind (logical_if e k) t cs =
+    (u : List ℕ) × (v : List ℕ) × (class_of t ≡ classes.logical_if u v)
+    × Spells top e u × IsKind k v cs
+IsKind (print is) t cs =
+    (u : List ℕ) × ((Begins keywords.Print u t × AreBehindComma (AreItems cs) is u)
+    ⊎ (Begins keywords.Write u t × AreOptional (AreItems cs) is u))
+IsKind (read es) t cs =
+    (u : List ℕ) × ((Begins keywords.Read u t × AreBehindComma (AreParts IsAccess nothing) es u)
+    ⊎ (Begins keywords.ReadUnit u t × AreOptional (AreParts IsAccess nothing) es u))
 IsKind stop t cs = (u : List ℕ) × Begins keywords.Stop u t × (is_stop_text u cs ≡ true)
 IsKind end t cs = Begins keywords.End [] t
 

@@ -1,7 +1,8 @@
 -- The class that a value of the code stands for.
 use Rattle.syntax.specs.Classes as classes
 use Rattle.syntax.specs.declared.class.Class.{Class}
-use Rattle.syntax.specs.declared.class.Class.TheVariants.{BlockIf, LogicalIf, Do, Assignment, Worded, Unclosed, Unknown}
+use Rattle.syntax.specs.declared.class.Class.TheVariants.{BlockIf, LogicalIf, Do, Assignment}
+use Rattle.syntax.specs.declared.class.Class.TheVariants.{Worded, Unclosed, Unknown}
 
 abbrev pub class : Class → classes.Class
 class (BlockIf u) = classes.block_if u.now

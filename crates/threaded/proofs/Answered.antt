@@ -31,11 +31,11 @@ use Rattle.replay.specs.Replays.{Replays}
 use Rattle.replay.specs.Stepping.{HasLocal, IsWent}
 use Rattle.replay.specs.declared.stepped.Stepped.{Stepped}
 use Rattle.schedules.specs.Schedules.{IsSchedule, SchedText, Schedule}
-use Rattle.pages.specs.Outcomes.{outcome_of}
-use Rattle.pages.specs.Shown.{EndShown, Extends, Row, row_of}
-use Rattle.pages.specs.View.{rows_from}
-use Rattle.pages.specs.declared.outcomes.Outcome.{Outcome}
-use Rattle.pages.proofs.StoreRows.{rows_whole}
+use Rattle.command_output.specs.Outcomes.{outcome_of}
+use Rattle.command_output.specs.Shown.{EndShown, Extends, Row, row_of}
+use Rattle.command_output.specs.View.{rows_from}
+use Rattle.command_output.specs.declared.outcomes.Outcome.{Outcome}
+use Rattle.command_output.proofs.StoreRows.{rows_whole}
 use Rattle.engines.specs.Engines.{ShowsRun}
 use Rattle.engines.specs.declared.given.Wants.{Wants}
 use Rattle.threaded.specs.Joined.{AnswersAreSequential, GoesOn, IsSequential, NoAnswerIsStuck, NoRunIsStuck, ReplaysAreSequential, RunsAreSequential}

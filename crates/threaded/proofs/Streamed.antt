@@ -14,11 +14,11 @@ use Rattle.codegen.specs.Headline.{Headline}
 use Rattle.codegen.specs.Program.{IsCompiled}
 use Rattle.machine.specs.Code.{Code}
 use Rattle.machine.specs.State.{AreSizes, Machine}
-use Rattle.handing.proofs.Onward.{part_got}
-use Rattle.handing.specs.Handing.{AppendsPart, Begins, FallsShort}
-use Rattle.pages.specs.declared.fault.EngineFault.{EngineFault}
-use Rattle.pages.specs.declared.fault.EngineFault.TheVariants as faults
-use Rattle.pages.specs.declared.outcomes.Outcome.{Outcome}
+use Rattle.record_writer.proofs.Onward.{part_got}
+use Rattle.record_writer.specs.Written.{AppendsPart, Begins, FallsShort}
+use Rattle.command_output.specs.declared.fault.EngineFault.{EngineFault}
+use Rattle.command_output.specs.declared.fault.EngineFault.TheVariants as faults
+use Rattle.command_output.specs.declared.outcomes.Outcome.{Outcome}
 use Rattle.processors.specs.Reached.{IsAnswerOf, IsUnanswered}
 use Rattle.processors.specs.Telling.{Shows as HandsOn, WritesNone}
 use Rattle.unrecorded.specs.View.{IsReached}

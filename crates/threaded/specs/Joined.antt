@@ -23,7 +23,8 @@ use Rattle.schedules.specs.Schedules.{IsSchedule, Schedule}
 abbrev pub IsGiven : ProgramTree → Code → Type 0
 IsGiven t code = IsCompiled t code × Headline code t
 
--- An answer is the sequential program's: its output and its end, and, where that is Done, its store.
+-- An answer is the sequential program's: its output and its end, and, where
+-- that is Done, its store.
 pub record IsSequential (t : ProgramTree) (input : List ℕ) (answer : Answer) : Type 0 where
   pub output : answer.output.items ≡ (seq t input).output
   pub end : answer.end ≡ (seq t input).end
@@ -32,27 +33,36 @@ pub record IsSequential (t : ProgramTree) (input : List ℕ) (answer : Answer) :
 -- What `replay` answers is the sequential program's.
 abbrev pub ReplaysAreSequential : Type 0
 ReplaysAreSequential =
-    (t : ProgramTree) (code : Code) (input : List ℕ) (x : Schedule) (answer : Answer) → IsGiven t code → IsSchedule x → IsReplay code input x answer → IsSequential t input answer
+    (t : ProgramTree) (code : Code) (input : List ℕ) (x : Schedule) (answer : Answer)
+    → IsGiven t code → IsSchedule x → IsReplay code input x answer → IsSequential t input answer
 
 -- So is what `run` answers, with a schedule and without one.
 abbrev pub RunsAreSequential : Type 0
 RunsAreSequential =
-    (t : ProgramTree) (code : Code) (input : List ℕ) (p s : ℕ) (answer : Answer) (x : Schedule) → IsGiven t code → IsRunOf code input p s answer x → IsSequential t input answer
+    (t : ProgramTree) (code : Code) (input : List ℕ) (p s : ℕ) (answer : Answer) (x : Schedule)
+    → IsGiven t code → IsRunOf code input p s answer x → IsSequential t input answer
 
 abbrev pub AnswersAreSequential : Type 0
 AnswersAreSequential =
-    (t : ProgramTree) (code : Code) (input : List ℕ) (p s : ℕ) (answer : Answer) → IsGiven t code → IsAnswerOf code input p s answer → IsSequential t input answer
+    (t : ProgramTree) (code : Code) (input : List ℕ) (p s : ℕ) (answer : Answer) → IsGiven t code
+    → IsAnswerOf code input p s answer → IsSequential t input answer
 
 -- Neither answers 59.
 abbrev pub NoRunIsStuck : Type 0
-NoRunIsStuck = (t : ProgramTree) (code : Code) (input : List ℕ) (p s : ℕ) → IsGiven t code → IsRefused code input p s Stuck → ⊥
+NoRunIsStuck =
+    (t : ProgramTree) (code : Code) (input : List ℕ) (p s : ℕ)
+    → IsGiven t code → IsRefused code input p s Stuck → ⊥
 
 abbrev pub NoAnswerIsStuck : Type 0
-NoAnswerIsStuck = (t : ProgramTree) (code : Code) (input : List ℕ) (p s : ℕ) → IsGiven t code → IsUnanswered code input p s Stuck → ⊥
+NoAnswerIsStuck =
+    (t : ProgramTree) (code : Code) (input : List ℕ) (p s : ℕ)
+    → IsGiven t code → IsUnanswered code input p s Stuck → ⊥
 
 -- There is a processor whose `step` answers Went, or of which a local instruction stands next.
 abbrev pub SomeGoes : CoreView → Type 0
-SomeGoes x = (q : ℕ) × (q < x.schedule.processors) × ((answer : Stepped) → WentOrLocal x q answer → IsWent answer ⊎ HasLocal x q)
+SomeGoes x =
+    (q : ℕ) × (q < x.schedule.processors)
+    × ((answer : Stepped) → WentOrLocal x q answer → IsWent answer ⊎ HasLocal x q)
 
 -- So it is of a core that runs a program's code, as long as the run hasn't ended.
 abbrev pub GoesOn : CoreView → Type 0

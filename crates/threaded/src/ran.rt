@@ -1,14 +1,14 @@
 //! What came of a run, and how it is written.
 
 ghost use Rattle.std.specs.Prelude.{Err, IfErr, OnOk};
-ghost use Rattle.pages.specs.Outcomes.{IsWriting};
-ghost use Rattle.pages.specs.declared.fault.EngineFault.TheVariants as faults;
+ghost use Rattle.command_output.specs.Outcomes.{IsWriting};
+ghost use Rattle.command_output.specs.declared.fault.EngineFault.TheVariants as faults;
 ghost use Rattle.threaded.specs.Running.{Grows, GrowsPart, WritesText, text_of};
 
 use crate::figures::Figures;
-use handing::write_all;
-use pages::{EngineFault, Outcome, Page};
+use command_output::{EngineFault, Outcome, Page};
 use processors::StartFailure;
+use record_writer::write_all;
 use std::io::Write;
 
 /// A run that came to its end.

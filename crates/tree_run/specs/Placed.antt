@@ -4,7 +4,9 @@ use Rattle.std.specs.List.{AllByRecursion}
 use Rattle.ast.specs.Program.{is_placed}
 use Rattle.ast.specs.References.{optional, items_expressions, kind_expressions, head_expressions}
 use Rattle.ast.specs.Symbols.{Symbol}
-use Rattle.ast.specs.Tree.{Access, DoHead, Kind, PrintItem, Term, accessed, Terms, element, call, parentheses, unary, binary, no_terms, then_term, Node, plain, loop, choose, Block, no_nodes, then_node, Arms, no_arms, then_arm}
+use Rattle.ast.specs.Tree.{Access, DoHead, Kind, PrintItem, Term, accessed, Terms, element}
+use Rattle.ast.specs.Tree.{call, parentheses, unary, binary, no_terms, then_term, Node, plain}
+use Rattle.ast.specs.Tree.{loop, choose, Block, no_nodes, then_node, Arms, no_arms, then_arm}
 
 abbrev mutual
   pub PlacedTerm : List Symbol → Term → Type 0
@@ -35,7 +37,8 @@ abbrev mutual
 
   pub PlacedArms : List Symbol → Arms → Type 0
   PlacedArms ss no_arms = ⊤
-  PlacedArms ss (then_arm l c b more) = AllPlaced ss (optional c) × PlacedBlock ss b × PlacedArms ss more
+  PlacedArms ss (then_arm l c b more) =
+      AllPlaced ss (optional c) × PlacedBlock ss b × PlacedArms ss more
 
 abbrev pub PlacedItems : List Symbol → List PrintItem → Type 0
 PlacedItems ss items = AllPlaced ss (items_expressions items)

@@ -17,7 +17,12 @@ left i = drop i.given i.integers.items
 
 -- where a machine's run stands
 abbrev pub run_of : Machine → End → Run
-run_of m end = record { store = store_in m.memory; input = m.input.records; output = m.output.items; end = end }
+run_of m end = record {
+  store = store_in m.memory;
+  input = m.input.records;
+  output = m.output.items;
+  end = end;
+}
 
 -- the symbols of the program that a machine runs
 abbrev pub symbols_of : Machine → List Symbol
@@ -48,7 +53,8 @@ Gives (Err (Fails f l)) line left meant = (meant ≡ Err f) × (l ≡ line)
 Gives (Err (Stops l)) line left meant = ⊥
 
 -- the same of a call that answers an integer
-abbrev pub GivesInteger : Result ℤ Stop → ℕ → List ℤ → List (List ℕ) → Result (ℤ × List ℤ × List (List ℕ)) Fault → Type 0
+abbrev pub GivesInteger : Result ℤ Stop → ℕ → List ℤ → List (List ℕ)
+    → Result (ℤ × List ℤ × List (List ℕ)) Fault → Type 0
 GivesInteger (Ok n) line xs rs meant = meant ≡ Ok (n, xs, rs)
 GivesInteger (Err (Memory e)) line xs rs meant = Unit {0}
 GivesInteger (Err (Fails f l)) line xs rs meant = (meant ≡ Err f) × (l ≡ line)

@@ -1,12 +1,14 @@
 -- Accounts of the code, which the laws of proofs/ join to the program's meaning.
-use Rattle.std.specs.Prelude.{ℕ, ℤ, ◌+◌, ◌*◌, pos, unsigned_abs, ◌-ℤ◌, if◌then◌else◌, List, [], ◌∷◌, Option, Some, None, Result, Ok, Err}
+use Rattle.std.specs.Prelude.{ℕ, ℤ, ◌+◌, ◌*◌, pos, unsigned_abs, ◌-ℤ◌, if◌then◌else◌}
+use Rattle.std.specs.Prelude.{List, [], ◌∷◌, Option, Some, None, Result, Ok, Err}
 use Rattle.ast.specs.Exact.{greater, less, remainder, absolute}
 use Rattle.ast.specs.Meaning.{LookUp, value}
 use Rattle.ast.specs.Results.{◌>>=◌}
 use Rattle.ast.specs.Symbols.{Extent, elements, is_within, width}
 use Rattle.ast.specs.Tree.{Terms, no_terms, then_term}
 use Rattle.ast.specs.declared.expression.Intrinsic.{Intrinsic}
-use Rattle.ast.specs.declared.expression.Intrinsic.TheVariants.{Abs, Iabs, Max, Max0, Min, Min0, Mod}
+use Rattle.ast.specs.declared.expression.Intrinsic.TheVariants.{Abs, Iabs, Max, Max0}
+use Rattle.ast.specs.declared.expression.Intrinsic.TheVariants.{Min, Min0, Mod}
 use Rattle.ast.specs.declared.fault.Fault.{Fault}
 use Rattle.ast.specs.declared.fault.Fault.TheVariants.{Index}
 
@@ -31,7 +33,8 @@ abbrev pub opening : List Extent → Way
 opening ds = record { rest = ds; stride = 1; place = Some 0 }
 
 abbrev pub further : ℕ → Extent → ℤ → ℕ → Option ℕ
-further stride d x p = if is_within d x then Some (p + stride * unsigned_abs (x -ℤ d.lower)) else None
+further stride d x p =
+    if is_within d x then Some (p + stride * unsigned_abs (x -ℤ d.lower)) else None
 
 abbrev pub further_from : ℕ → Extent → ℤ → Option ℕ → Option ℕ
 further_from stride d x None = None
@@ -39,7 +42,8 @@ further_from stride d x (Some p) = further stride d x p
 
 abbrev pub step_on : List Extent → ℕ → Option ℕ → ℤ → Way
 step_on [] stride place x = record { rest = []; stride = stride; place = place }
-step_on (d ∷ ds) stride place x = record { rest = ds; stride = stride * width d; place = further_from stride d x place }
+step_on (d ∷ ds) stride place x =
+    record { rest = ds; stride = stride * width d; place = further_from stride d x place }
 
 abbrev pub stepped : Way → ℤ → Way
 stepped w x = step_on w.rest w.stride w.place x

@@ -64,7 +64,8 @@ Shares did x q y = Did did (λ a b. Moves x.code x.slots false a q b) x y
 -- it stood.
 abbrev pub Labours : Bool → RunView → ℕ → RunView → Type 0
 Labours true x q y = IsSameRun x y × Moves x.code x.slots true (point_at x) q (point_at y)
-Labours false x q y = IsSameRun x y × (point_at y ≡ point_at x) × NoLocal x.code x.slots (point_at x) q
+Labours false x q y =
+    IsSameRun x y × (point_at y ≡ point_at x) × NoLocal x.code x.slots (point_at x) q
 
 -- processor q takes this up
 abbrev pub TakesUp : Bool → RunView → ℕ → Choice → RunView → Type 0

@@ -11,4 +11,10 @@ pub record IsWhole (input : List ℕ) (a : Activities) : Type 0 where
 
 -- what a run of these parts is seen as
 abbrev pub seen_as : List ℕ → Activities → RunView
-seen_as input a = record { code = code_in a; input = input; processors = length a.held.items; slots = a.slots; kept = kept_in a }
+seen_as input a = record {
+  code = code_in a;
+  input = input;
+  processors = length a.held.items;
+  slots = a.slots;
+  kept = kept_in a;
+}

@@ -290,9 +290,9 @@ impl<'c> Run<'c> {
         Ok(())
     }
 
-    /// Writes the counts of events, from event 0 on, as far as there are some and there is room, for
-    /// those who are to pass awaits by them. No clause says that they are right: `commit` compares
-    /// them.
+    /// Writes the counts of events, from event 0 on, as far as there are some and there is room,
+    /// for those who are to pass awaits by them. No clause says that they are right: `commit`
+    /// compares them.
     pub fn see_counts(&self, seen: &mut [u128]) {
         self.activities.see_counts(seen);
     }

@@ -1,5 +1,6 @@
 -- Accounts of the scanner, which the laws of proofs/ join to the integers of a record.
-use Rattle.std.specs.Prelude.{ℕ, ℤ, suc, ◌+◌, ◌-◌, ◌*◌, Bool, true, false, ◌&&◌, nat_le, if◌then◌else◌, List, [], ◌∷◌, ◌++◌, length, Option, Some, None}
+use Rattle.std.specs.Prelude.{ℕ, ℤ, suc, ◌+◌, ◌-◌, ◌*◌, Bool, true, false, ◌&&◌, nat_le}
+use Rattle.std.specs.Prelude.{if◌then◌else◌, List, [], ◌∷◌, ◌++◌, length, Option, Some, None}
 use Rattle.std.specs.Borrow.{Bor}
 use Rattle.std.specs.Char.{is_ascii_digit}
 use Rattle.ast.specs.Input.{cut_at, integer_in, is_blank, is_comma, is_empty}
@@ -24,7 +25,10 @@ pieces separator (Some text) = cut_at (passing separator) text.now
 abbrev pub magnitude_from : ℕ → ℕ → List ℕ → Option ℕ
 magnitude_from limit n [] = Some n
 magnitude_from limit n (c ∷ cs) =
-    if is_ascii_digit c then (if nat_le (n * 10 + (c - 48)) limit then magnitude_from limit (n * 10 + (c - 48)) cs else None) else None
+    if is_ascii_digit c
+    then (if nat_le (n * 10 + (c - 48)) limit then magnitude_from limit (n * 10 + (c - 48)) cs
+    else None)
+    else None
 
 abbrev pub magnitude_in : ℕ → List ℕ → Option ℕ
 magnitude_in limit digits = if is_empty digits then None else magnitude_from limit 0 digits
@@ -49,11 +53,13 @@ words_onto xs (w ∷ ws) = if_some (word_onto xs w) (λ ys. words_onto ys ws)
 -- the same of a part between commas, which has an integer
 abbrev pub part_onto : Bool → List ℤ → List ℕ → Option (List ℤ)
 part_onto beside_comma xs part =
-    if_some (words_onto xs (cut_at is_blank part)) (λ ys. if beside_comma && nat_le (length ys) (length xs) then None else Some ys)
+    if_some (words_onto xs (cut_at is_blank part))
+    (λ ys. if beside_comma && nat_le (length ys) (length xs) then None else Some ys)
 
 abbrev pub parts_onto : Bool → List ℤ → List (List ℕ) → Option (List ℤ)
 parts_onto beside_comma xs [] = Some xs
-parts_onto beside_comma xs (p ∷ ps) = if_some (part_onto beside_comma xs p) (λ ys. parts_onto beside_comma ys ps)
+parts_onto beside_comma xs (p ∷ ps) =
+    if_some (part_onto beside_comma xs p) (λ ys. parts_onto beside_comma ys ps)
 
 -- what a call leaves, if it says that it went well
 abbrev pub kept : Bool → List ℤ → Option (List ℤ)

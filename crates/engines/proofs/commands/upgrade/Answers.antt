@@ -1,6 +1,6 @@
 use Rattle.std.proofs.Common.{◌≡◌, Err, rules}
-use Rattle.pages.specs.Outcomes.{status_of}
-use Rattle.pages.specs.Status.{number_of}
+use Rattle.command_output.specs.Outcomes.{status_of}
+use Rattle.command_output.specs.Status.{number_of}
 use Rattle.engines.proofs.Faults.{on_fault}
 use Rattle.engines.proofs.Upgrading.{given_as, given_err}
 use Rattle.engines.proofs.commands.upgrade.Goals as goal

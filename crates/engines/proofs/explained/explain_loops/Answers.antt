@@ -1,4 +1,4 @@
-use Rattle.pages.specs.declared.fault.EngineFault.TheVariants.{Memory}
+use Rattle.command_output.specs.declared.fault.EngineFault.TheVariants.{Memory}
 use Rattle.engines.proofs.Explaining.{each_breaks, end_breaks, none_written, streams_fault}
 use Rattle.engines.proofs.explained.explain_loops.Goals as goal
 

@@ -2,7 +2,7 @@ use Rattle.std.proofs.Common.{◌∙◌, [], sym}
 use Rattle.std.proofs.KnownBytes.{Appends-nil}
 use Rattle.ast.specs.Meaning.{seq}
 use Rattle.ast.specs.ProgramView.{program as program_of}
-use Rattle.handing.proofs.Onward.{part_got}
+use Rattle.record_writer.proofs.Onward.{part_got}
 use Rattle.interpreter.proofs.run.run_plain.Goals as goal
 
 pub returns-in-Err : goal.returns-in-Err

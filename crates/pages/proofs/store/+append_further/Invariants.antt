@@ -1,5 +1,0 @@
-use Rattle.std.proofs.Common.{length}
-use Rattle.pages.proofs.store.+append_further.Given as goal
-
-abbrev pub decreases-append_further : goal.decreases-append_further
-decreases-append_further l = length l.dimensions.now
