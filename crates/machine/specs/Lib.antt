@@ -1,6 +1,4 @@
-mod ActCode
 pub mod Courses
-pub mod Alike
 pub mod Code
 pub mod CodeView
 pub mod Formulas

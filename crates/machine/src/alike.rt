@@ -1,99 +1,11 @@
 //! Whether the codes of two programs are equal.
 
-ghost use Rattle.std.specs.Prelude.{◌≡◌, map, pos};
+ghost use Rattle.std.specs.Prelude.{◌≡◌, map};
 ghost use Rattle.std.specs.Bool.{Decides};
-ghost use Rattle.machine.specs.Alike.{content, numbered};
 ghost use Rattle.machine.specs.CodeView.{code_of, loop_of, part};
 
 use crate::code::{Await, Code, Loop, Piece, Variable};
 use crate::instr::{Act, Axis, Instr};
-use ast::{Operator, Prefix};
-
-/// What an instruction is made of: the number of its form, and what it has besides.
-#[derive(Clone, Copy)]
-struct Written {
-    form: u8,
-    number: i64,
-    axis: Axis,
-    operator: Operator,
-    prefix: Prefix,
-}
-
-/// A form with a number.
-#[inline(always)]
-fn numbered(form: u8, number: i64) -> Written
-    ensures { result ≡ numbered form number }
-{
-    Written {
-        form,
-        number,
-        axis: Axis {
-            lower: 0,
-            width: 0,
-            stride: 0,
-        },
-        operator: Operator::Add,
-        prefix: Prefix::Plus,
-    }
-}
-
-/// A form with the number of what it stands for.
-#[inline(always)]
-fn counted(form: u8, number: u32) -> Written
-    ensures { result ≡ numbered form (pos number) }
-{
-    numbered(form, i64::from(number))
-}
-
-/// What an instruction is made of.
-#[inline(always)]
-fn content(act: Act) -> Written
-    ensures { result ≡ content act }
-{
-    match act {
-        Act::Constant(value) => numbered(0, value),
-        Act::Private(number) => counted(1, number),
-        Act::SetPrivate(number) => counted(2, number),
-        Act::Index => counted(3, 0),
-        Act::Binary(operator) => Written {
-            operator,
-            ..counted(4, 0)
-        },
-        Act::Modulo => counted(5, 0),
-        Act::Greatest => counted(6, 0),
-        Act::Least => counted(7, 0),
-        Act::Unary(prefix) => Written {
-            prefix,
-            ..counted(8, 0)
-        },
-        Act::Absolute => counted(9, 0),
-        Act::Check(above, axis) => Written {
-            axis,
-            ..counted(10, above)
-        },
-        Act::Skip(count) => counted(11, count),
-        Act::SkipUnless(count) => counted(12, count),
-        Act::Back(count) => counted(13, count),
-        Act::SetUp => counted(14, 0),
-        Act::CountDown(count) => counted(15, count),
-        Act::Step => counted(16, 0),
-        Act::Load(number) => counted(17, number),
-        Act::LoadElement(number) => counted(18, number),
-        Act::Store(number) => counted(19, number),
-        Act::StoreElement(number) => counted(20, number),
-        Act::Print(number) => counted(21, number),
-        Act::TakeRecord => counted(22, 0),
-        Act::TakeValue => counted(23, 0),
-        Act::DropRecord => counted(24, 0),
-        Act::Await(number) => counted(25, number),
-        Act::Advance(event) => counted(26, event),
-        Act::Open(number) => counted(27, number),
-        Act::Join => counted(28, 0),
-        Act::Retire(number) => counted(29, number),
-        Act::Stop => counted(30, 0),
-        Act::Halt => counted(31, 0),
-    }
-}
 
 #[inline(always)]
 fn same_axis(a: Axis, b: Axis) -> bool
@@ -102,22 +14,53 @@ fn same_axis(a: Axis, b: Axis) -> bool
     a == b
 }
 
+/// Whether two instructions do the same.
 #[inline(always)]
-fn same_content(a: Written, b: Written) -> bool
+fn same_act(a: Act, b: Act) -> bool
     ensures { Decides result (a ≡ b) }
 {
-    a.form == b.form
-        && a.number == b.number
-        && same_axis(a.axis, b.axis)
-        && a.operator == b.operator
-        && a.prefix == b.prefix
+    match (a, b) {
+        (Act::Constant(a), Act::Constant(b)) => a == b,
+        (Act::Private(a), Act::Private(b)) => a == b,
+        (Act::SetPrivate(a), Act::SetPrivate(b)) => a == b,
+        (Act::Binary(a), Act::Binary(b)) => a == b,
+        (Act::Unary(a), Act::Unary(b)) => a == b,
+        (Act::Check(a, c), Act::Check(b, d)) => a == b && same_axis(c, d),
+        (Act::Skip(a), Act::Skip(b)) => a == b,
+        (Act::SkipUnless(a), Act::SkipUnless(b)) => a == b,
+        (Act::Back(a), Act::Back(b)) => a == b,
+        (Act::CountDown(a), Act::CountDown(b)) => a == b,
+        (Act::Load(a), Act::Load(b)) => a == b,
+        (Act::LoadElement(a), Act::LoadElement(b)) => a == b,
+        (Act::Store(a), Act::Store(b)) => a == b,
+        (Act::StoreElement(a), Act::StoreElement(b)) => a == b,
+        (Act::Print(a), Act::Print(b)) => a == b,
+        (Act::Await(a), Act::Await(b)) => a == b,
+        (Act::Advance(a), Act::Advance(b)) => a == b,
+        (Act::Open(a), Act::Open(b)) => a == b,
+        (Act::Retire(a), Act::Retire(b)) => a == b,
+        (Act::Index, Act::Index)
+        | (Act::Modulo, Act::Modulo)
+        | (Act::Greatest, Act::Greatest)
+        | (Act::Least, Act::Least)
+        | (Act::Absolute, Act::Absolute)
+        | (Act::SetUp, Act::SetUp)
+        | (Act::Step, Act::Step)
+        | (Act::TakeRecord, Act::TakeRecord)
+        | (Act::TakeValue, Act::TakeValue)
+        | (Act::DropRecord, Act::DropRecord)
+        | (Act::Join, Act::Join)
+        | (Act::Stop, Act::Stop)
+        | (Act::Halt, Act::Halt) => true,
+        _ => false,
+    }
 }
 
 #[inline(always)]
 fn same_instruction(a: Instr, b: Instr) -> bool
     ensures { Decides result (a ≡ b) }
 {
-    a.line == b.line && same_content(content(a.act), content(b.act))
+    a.line == b.line && same_act(a.act, b.act)
 }
 
 fn same_instructions(a: &[Instr], b: &[Instr]) -> bool
