@@ -22,3 +22,4 @@ pub use input::Input;
 pub use kinds::{Ahead, ahead_at};
 pub use parts::{Iteration, Main, Shared, Until};
 pub use picking::index_of;
+pub use proceeding::Drafted;

@@ -8,10 +8,11 @@ use crate::holding::{Activities, Holder};
 use crate::parts::Iteration;
 use crate::picking::begin;
 use crate::sharing::{keep, synchronize};
+use crate::striding::commit_to;
 use crate::told::{Counts, Told};
 use crate::turn::Outcome;
 use machine::Open;
-use stretches::{Stale, stride_noting};
+use stretches::{Stale, Stretch, stride_noting};
 
 /// How far an iteration came.
 #[derive(Clone, Copy, PartialEq, Eq)]
@@ -20,6 +21,27 @@ struct Came {
     made: u32,
     /// What the last of them came to.
     outcome: Outcome,
+}
+
+/// What became of an iteration that a stretch was made of before it began: how many steps were the
+/// stretch's, and how many others, with its beginning; none where it didn't begin.
+#[derive(Clone, Copy)]
+pub struct Drafted {
+    pub followed: u32,
+    pub more: u32,
+}
+
+impl Default for Drafted {
+    ghost use Rattle.std.specs.Prelude.{◌≡◌};
+
+    ghost is_default = { λ d. d ≡ record { followed = 0; more = 0 } };
+
+    fn default() -> Drafted {
+        Drafted {
+            followed: 0,
+            more: 0,
+        }
+    }
 }
 
 /// How many steps were made.
@@ -35,7 +57,8 @@ fn steps_of(outcome: Outcome) -> u32
 }
 
 impl<'c> Activities<'c> {
-    ghost use Rattle.std.specs.Prelude.{◌≡◌, ◌≤◌, ◌<◌, ◌%◌, IfSome, None, get_or, length, true};
+    ghost use Rattle.std.specs.Prelude.{◌≡◌, ◌≤◌, ◌<◌, ◌+◌, ◌%◌, IfSome, None, get_or, length, true};
+    ghost use Rattle.machine.specs.CodeView.{code_of};
     ghost use Rattle.activities.specs.Activities.{AreActivities, Stays, code_in, kept_in, point_in};
     ghost use Rattle.activities.specs.Parts.{held_of};
     ghost use Rattle.activities.specs.Points.{Proceeds, Steps};
@@ -187,6 +210,76 @@ impl<'c> Activities<'c> {
         let Came { made, outcome } = self.go_through(q, place, &mut iteration, n - 1, stale);
         self.put_iteration_down(q, place, iteration, outcome);
         made + 1
+    }
+
+    /// The steps of a stretch are made of an iteration that processor `q` has begun, if the stretch
+    /// is right; how many.
+    #[inline(always)]
+    fn follow(
+        &mut self,
+        q: usize,
+        place: usize,
+        iteration: &mut Iteration,
+        stretch: &mut Stretch<'_>,
+    ) -> u32
+        requires seated { AreActivities (seated q place iteration.old self.old) }
+        requires going { self.old.shared.ended ≡ None }
+        requires own { code_of stretch.old.code.now ≡ code_in self.old }
+        requires processor { q < length self.old.held.items }
+        requires place { place ≡ iteration.old.number % self.old.slots }
+        ensures made { Steps (code_in self.old) self.old.slots result
+            (point_in (seated q place iteration.old self.old)) q
+            (point_in (seated q place iteration.new self.new)) }
+        ensures few { result ≤ stretch.old.made }
+        ensures seated { AreActivities (seated q place iteration.new self.new) }
+        ensures number { iteration.new.number ≡ iteration.old.number }
+        ensures going { self.new.shared.ended ≡ None }
+        ensures others { self.new ≡ record self.old { shared = self.new.shared } }
+        ensures code { code_of stretch.new.code.now ≡ code_of stretch.old.code.now }
+    {
+        let shared = &mut self.shared;
+        commit_to(iteration, &mut shared.cells, &shared.kernel, stretch)
+    }
+
+    /// Processor `q` begins the next iteration, where it holds nothing, an iteration may begin and
+    /// no activity is ready, makes the steps of a stretch of it, if that is right, and then others,
+    /// at most `n` with its beginning. An iteration that retires among them stands in no place.
+    pub fn run_draft(
+        &mut self,
+        q: usize,
+        stretch: &mut Stretch<'_>,
+        n: u32,
+        stale: &mut Stale,
+    ) -> Drafted
+        requires stand { AreActivities self.old }
+        requires processor { q < length self.old.held.items }
+        requires own { code_of stretch.old.code.now ≡ code_in self.old }
+        ensures made { Proceeds true (code_in self.old) self.old.slots
+            (result.more + result.followed) (point_in self.old) q (point_in self.new) }
+        ensures few { (result.followed ≤ stretch.old.made) × (result.more ≤ n) }
+        ensures stand { AreActivities self.new }
+        ensures stays { Stays self.old self.new }
+        ensures code { code_of stretch.new.code.now ≡ code_of stretch.old.code.now }
+    {
+        if n == 0 || !self.is_free(q) {
+            return Drafted::default();
+        }
+        let Some(opened) = self.next_open() else {
+            return Drafted::default();
+        };
+        let next = self.shared.kernel.next_ticket();
+        let Ok(mut iteration) = begin(&mut self.shared.spare, self.code, opened, next) else {
+            return Drafted::default();
+        };
+        let number = self.shared.kernel.ticket();
+        let place = self.place_of(number);
+        let followed = self.follow(q, place, &mut iteration, stretch);
+        let Came { made, outcome } = self.go_through(q, place, &mut iteration, n - 1, stale);
+        self.put_iteration_down(q, place, iteration, outcome);
+        Drafted {
+            followed,
+            more: made + 1,
+        }
     }
 
     /// Steps of what processor `q` holds; or, where it holds nothing and may begin an iteration,

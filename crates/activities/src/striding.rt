@@ -1,6 +1,6 @@
 //! Steps of what processors hold, in its own place.
 
-ghost use Rattle.std.specs.Prelude.{◌≡◌, ◌≤◌, IfSome, length, option_map, true};
+ghost use Rattle.std.specs.Prelude.{◌≡◌, ◌≤◌, IfSome, Some, length, option_map, true};
 ghost use Rattle.machine.specs.CodeView.{code_of};
 ghost use Rattle.machine.specs.FrameView.{frame_of};
 ghost use Rattle.stretches.specs.Reached.{AreReached, passed_by};
@@ -70,8 +70,31 @@ fn are_reached(seen: &[u128], kernel: &Kernel) -> bool
     true
 }
 
-/// The same of what stands in a place, where it is the stretch's iteration and the counts that the
-/// stretch saw are reached.
+/// The same of an iteration, where it is the stretch's and the counts that the stretch saw are
+/// reached.
+#[inline(always)]
+pub fn commit_to(
+    iteration: &mut Iteration,
+    cells: &mut Vec<i64>,
+    kernel: &Kernel,
+    stretch: &mut Stretch<'_>,
+) -> u32
+    requires counts { length kernel.now.counts ≡ 65 }
+    ensures made { StrodeAt (code_of stretch.old.code.now) kernel.now.counts result
+        cells.old.items (standing_of iteration.old) cells.new.items
+        (Some (standing_of iteration.new)) }
+    ensures few { result ≤ stretch.old.made }
+    ensures cells { length cells.new.items ≡ length cells.old.items }
+    ensures code { code_of stretch.new.code.now ≡ code_of stretch.old.code.now }
+{
+    let seen = &stretch.reached;
+    if seen.number != iteration.number || !are_reached(&seen.counts, kernel) {
+        return 0;
+    }
+    commit_on(&mut iteration.frame, cells, stretch)
+}
+
+/// The same of what stands in a place.
 fn commit_at(
     place: &mut Option<Iteration>,
     cells: &mut Vec<i64>,
@@ -87,13 +110,7 @@ fn commit_at(
     ensures code { code_of stretch.new.code.now ≡ code_of stretch.old.code.now }
 {
     match place {
-        Some(iteration) => {
-            let seen = &stretch.reached;
-            if seen.number != iteration.number || !are_reached(&seen.counts, kernel) {
-                return 0;
-            }
-            commit_on(&mut iteration.frame, cells, stretch)
-        }
+        Some(iteration) => commit_to(iteration, cells, kernel, stretch),
         None => 0,
     }
 }
@@ -232,9 +249,9 @@ impl<'c> Activities<'c> {
         )
     }
 
-    /// Writes the counts of events, from event 0 on, as far as there are some and there is room, for
-    /// those who are to pass awaits by them. No clause says that they are right: `commit` compares
-    /// them.
+    /// Writes the counts of events, from event 0 on, as far as there are some and there is room,
+    /// for those who are to pass awaits by them. No clause says that they are right: `commit`
+    /// compares them.
     pub fn see_counts(&self, seen: &mut [u128])
         requires stand { AreActivities self.now }
     {

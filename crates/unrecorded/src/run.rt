@@ -2,7 +2,7 @@
 
 ghost use Rattle.std.specs.Prelude.{◌≡◌};
 
-use activities::{Activities, Choice, Holder, Shared};
+use activities::{Activities, Choice, Drafted, Holder, Shared};
 use ast::Answer;
 use machine::{Code, Frame, Next, Open, Work, stands_local, stands_next};
 use replay::{CoreRefusal, HandIn, answer};
@@ -50,7 +50,7 @@ impl<'c> Model for Run<'c> {
 
 impl<'c> Run<'c> {
     ghost use Rattle.std.specs.Bool.{Decides};
-    ghost use Rattle.std.specs.Prelude.{◌≡◌, ◌<◌, ◌≤◌, ◌-◌, IfOk, IfErr, IfSome, OnErr, OnOk};
+    ghost use Rattle.std.specs.Prelude.{◌≡◌, ◌<◌, ◌≤◌, ◌+◌, ◌-◌, IfOk, IfErr, IfSome, OnErr, OnOk};
     ghost use Rattle.std.specs.Prelude.{None, is_some, option_map, true};
     ghost use Rattle.ec_kernel.specs.View.{first_of};
     ghost use Rattle.machine.specs.CodeView.{code_of};
@@ -360,6 +360,25 @@ impl<'c> Run<'c> {
         ensures code { code_of stretch.new.code.now ≡ code_of stretch.old.code.now }
     {
         self.activities.commit(q, stretch)
+    }
+
+    /// Processor `q` begins the next iteration, where it holds nothing, an iteration may begin and
+    /// no activity is ready, makes the steps of a stretch of it, if all that was guessed is right,
+    /// and then others, at most `n` with its beginning. A stretch that is wrong changes nothing.
+    pub fn run_draft(
+        &mut self,
+        q: usize,
+        stretch: &mut Stretch<'_>,
+        n: u32,
+        stale: &mut Stale,
+    ) -> Drafted
+        requires processor { q < self.old.processors }
+        requires own { code_of stretch.old.code.now ≡ self.old.code }
+        ensures made { GoesOn true self.old q (result.more + result.followed) self.new }
+        ensures few { (result.followed ≤ stretch.old.made) × (result.more ≤ n) }
+        ensures code { code_of stretch.new.code.now ≡ code_of stretch.old.code.now }
+    {
+        self.activities.run_draft(q, stretch, n, stale)
     }
 
     /// A mirror is to show the true values of all stale cells.

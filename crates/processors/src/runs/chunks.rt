@@ -5,6 +5,7 @@ use crate::chunk::MOST_DRAFTS;
 use crate::driven::{Handed, Pace};
 use crate::runs::{MOST_ALONE, Unrecorded};
 use crate::work::{Loaded, Own};
+use activities::Drafted;
 use machine::Open;
 use replay::{Choice, HandIn};
 use stretches::Stretch;
@@ -112,52 +113,38 @@ impl<'c, C: Call> Unrecorded<'c, C> {
         true
     }
 
-    /// Processor `q` draws the next ticket, and makes the steps of the iteration's draft, and
-    /// others in place.
-    ///
-    /// # Errors
-    ///
-    /// Want of memory.
-    fn commit_draft(
-        &mut self,
-        q: usize,
-        stretch: &mut Stretch<'_>,
-        handed: &mut Handed,
-    ) -> Result<(), HandIn>
+    /// Processor `q` begins the next iteration, and makes the steps of its draft, and others in
+    /// place. Where the draft isn't wanted the mirror is mended.
+    fn commit_draft(&mut self, q: usize, stretch: &mut Stretch<'_>, handed: &mut Handed)
         requires own { code_of stretch.old.code.now ≡ C.code }
         ensures code { code_of stretch.new.code.now ≡ code_of stretch.old.code.now }
     {
-        if q >= self.run.processors() || !self.run.pick(q, Choice::Ticket)? {
-            self.run.mend(stretch);
-            return Ok(());
+        if q >= self.run.processors() {
+            return;
         }
-        let made = self.run.commit(q, stretch);
-        if made == 0 {
+        let Drafted { followed, more } = self.run.run_draft(q, stretch, MOST_ALONE, &mut self.stale);
+        if followed == 0 {
             self.run.mend(stretch);
         }
-        let more = self.run.proceed(q, MOST_ALONE, false, &mut self.stale);
-        handed.begin(made, more);
-        Ok(())
+        if more > 0 {
+            handed.begin(followed, more - 1);
+        }
     }
 
     /// Processor `q` commits its drafts, one behind the other, as long as it is their turn. Where a
     /// draft isn't wanted the mirror is mended.
-    ///
-    /// # Errors
-    ///
-    /// Want of memory.
-    fn commit_drafts(&mut self, q: usize, own: &mut Own<'_, C>) -> Result<Handed, HandIn> {
+    fn commit_drafts(&mut self, q: usize, own: &mut Own<'_, C>) -> Handed {
         let mut k = own.chunk.first();
         let mut handed = Handed::default();
         for draft in own.chunk.take_drafts() {
             if k == self.run.next_ticket() && self.is_free(q) {
-                self.commit_draft(q, &mut draft.stretch, &mut handed)?;
+                self.commit_draft(q, &mut draft.stretch, &mut handed);
             } else {
                 self.run.mend(&draft.stretch);
             }
             k = k.saturating_add(1);
         }
-        Ok(handed)
+        handed
     }
 
     /// A processor's drafts are forgotten, since those before it are late. The mirror is mended,
@@ -174,7 +161,7 @@ impl<'c, C: Call> Unrecorded<'c, C> {
     ///
     /// # Errors
     ///
-    /// `Ended` where the run has ended; and want of memory.
+    /// `Ended` where the run has ended.
     pub(super) fn commit_chunk(
         &mut self,
         q: usize,
@@ -187,7 +174,7 @@ impl<'c, C: Call> Unrecorded<'c, C> {
             self.forget(own);
             return Ok(Handed::default());
         }
-        let handed = self.commit_drafts(q, own)?;
+        let handed = self.commit_drafts(q, own);
         self.pass(own);
         Ok(handed)
     }
