@@ -2,14 +2,14 @@
 use Rattle.std.proofs.Common.{◌≡◌, ◌∙◌, sym, ap, ℕ, Vec, Global, List, map, rules}
 use Rattle.ast.specs.Tree as tree
 use Rattle.ast.specs.Tree.{plain, loop, arms as arms_of, choose}
-use Rattle.ast.specs.View.{arm_step, node as node_of, node_step, statement, block_view, head as head_of, arm as arm_of, optional_term}
+use Rattle.ast.specs.View.{arm_step, node as node_of, node_step, plain_statement, block_view, head as head_of, arm as arm_of, optional_term}
 use Rattle.ast.specs.declared.statement.DoHead.{DoHead}
-use Rattle.ast.specs.declared.statement.Stmt.{Stmt}
+use Rattle.ast.specs.declared.plain.PlainStatement.{PlainStatement}
 use Rattle.ast.specs.declared.tree.Arm.{Arm, fold_out-Arm}
 use Rattle.ast.specs.declared.tree.Node.{Node, Node-F, fold-roll-Node}
 use Rattle.ast.specs.declared.tree.Node.TheVariants.{Plain, rolls-Plain, Loop, rolls-Loop, Choice, rolls-Choice}
 
-pub plain_of : (n : Node) (s : Stmt) → n ≡ Plain s → node_of n ≡ plain (statement s)
+pub plain_of : (n : Node) (s : PlainStatement) → n ≡ Plain s → node_of n ≡ plain (plain_statement s)
 plain_of n s is = ap node_of is ∙ ap node_of (sym (rolls-Plain s)) ∙ fold-roll-Node tree.Node tree.Arm node_step arm_step (Node-F.Plain s)
 
 -- the same with parts that stand elsewhere

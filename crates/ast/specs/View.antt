@@ -11,6 +11,11 @@ use Rattle.ast.specs.declared.expression.Expr.{Expr, fold-Expr}
 use Rattle.ast.specs.declared.expression.Expr.TheOpen.{Expr-F, Access-F}
 use Rattle.ast.specs.declared.expression.Access.{Access, fold-Access}
 use Rattle.ast.specs.declared.expression.Reference.{Reference}
+use Rattle.ast.specs.declared.plain.Action.{Action}
+use Rattle.ast.specs.declared.plain.Action.TheVariants as actions
+use Rattle.ast.specs.declared.plain.Inert.{Inert}
+use Rattle.ast.specs.declared.plain.Inert.TheVariants as inerts
+use Rattle.ast.specs.declared.plain.PlainStatement.{PlainStatement}
 use Rattle.ast.specs.declared.program.Dimension.{Dimension}
 use Rattle.ast.specs.declared.program.Symbol.{Symbol}
 use Rattle.ast.specs.declared.program.SymbolKind.{SymbolKind}
@@ -123,8 +128,29 @@ statement s = record { line = s.line; label = s.label; kind = kind s.kind }
 
 -- ---- programs
 
+-- a statement that does nothing when it is run
+abbrev pub inert : Inert → tree.Kind
+inert (inerts.Program x) = tree.program x.letters
+inert (inerts.Integer ds) = tree.integer (map declarator ds.items)
+inert (inerts.Dimension ds) = tree.dimension (map declarator ds.items)
+inert (inerts.Parameter ds) = tree.parameters (map definition ds.items)
+inert inerts.Continue = tree.go_on
+inert inerts.End = tree.end
+
+-- what a statement does that holds no others
+abbrev pub action : Action → tree.Kind
+action (actions.Assign a e) = tree.assign (access a) (term e)
+action (actions.Print items) = tree.print (map item items.items)
+action (actions.Read elements) = tree.read (map access elements.items)
+action actions.Stop = tree.stop
+action (actions.Inert i) = inert i
+
+-- a statement that holds no others
+abbrev pub plain_statement : PlainStatement → Statement
+plain_statement s = record { line = s.line; label = s.label; kind = action s.action }
+
 abbrev pub node_step : Node-F tree.Node tree.Arm → tree.Node
-node_step (Node-F.Plain s) = tree.plain (statement s)
+node_step (Node-F.Plain s) = tree.plain (plain_statement s)
 node_step (Node-F.Loop l h b) = tree.loop l (head h) (block b.items)
 node_step (Node-F.Choice a) = tree.choose (arms a.items)
 

@@ -5,14 +5,14 @@ ghost use Rattle.ast.specs.Meaning.{is_last_stop_of};
 ghost use Rattle.ast.specs.Stops.{is_end, is_stop};
 ghost use Rattle.ast.specs.View.{block_view, node as node_of};
 
-use crate::statement::Kind;
+use crate::plain::{Action, Inert};
 use crate::tree::Node;
 
 fn is_stop(node: &Node) -> bool
     ensures { result ≡ is_stop (node_of node.now) }
 {
     match node {
-        Node::Plain(statement) => matches!(statement.kind, Kind::Stop),
+        Node::Plain(statement) => matches!(statement.action, Action::Stop),
         Node::Loop(_, _, _) | Node::Choice(_) => false,
     }
 }
@@ -21,7 +21,7 @@ fn is_end(node: &Node) -> bool
     ensures { result ≡ is_end (node_of node.now) }
 {
     match node {
-        Node::Plain(statement) => matches!(statement.kind, Kind::End),
+        Node::Plain(statement) => matches!(statement.action, Action::Inert(Inert::End)),
         Node::Loop(_, _, _) | Node::Choice(_) => false,
     }
 }

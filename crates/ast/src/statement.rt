@@ -1,8 +1,7 @@
 //! Statements, as the text has them: one after another, loops and blocks by their heads and ends.
 
 ghost use Rattle.std.specs.Prelude.{◌≡◌, IfOk, map};
-ghost use Rattle.ast.specs.View.{access, bounds, declarator, definition, item, kind, optional_term};
-ghost use Rattle.ast.specs.View.{statement, head};
+ghost use Rattle.ast.specs.View.{access, bounds, declarator, definition, item, optional_term};
 
 use crate::expression::{Access, Expr, Reference};
 use crate::name::Name;
@@ -213,62 +212,8 @@ impl DoHead {
     }
 }
 
-impl Kind {
-    ghost use Rattle.std.specs.Prelude.{◌≡◌, IfOk};
-    ghost use Rattle.ast.specs.View.{kind};
-
-    /// An equal kind, or `AllocError` where memory is refused.
-    pub fn try_copy(&self, alloc: Global) -> Result<Kind, AllocError>
-        ensures { IfOk result (λ copy. kind copy ≡ kind self.now) }
-    {
-        match self {
-            Kind::Program(name) => Ok(Kind::Program(*name)),
-            Kind::Integer(declared) => Ok(Kind::Integer(copies_of_declarators(alloc, declared)?)),
-            Kind::Dimension(declared) => {
-                Ok(Kind::Dimension(copies_of_declarators(alloc, declared)?))
-            }
-            Kind::Parameter(defined) => Ok(Kind::Parameter(copies_of_definitions(alloc, defined)?)),
-            Kind::Assign(target, value) => {
-                let target = target.try_copy(alloc)?;
-                Ok(Kind::Assign(target, value.try_copy(alloc)?))
-            }
-            Kind::Do(head) => Ok(Kind::Do(head.try_copy(alloc)?)),
-            Kind::Continue => Ok(Kind::Continue),
-            Kind::If(condition) => Ok(Kind::If(condition.try_copy(alloc)?)),
-            Kind::ElseIf(condition) => Ok(Kind::ElseIf(condition.try_copy(alloc)?)),
-            Kind::Else => Ok(Kind::Else),
-            Kind::EndIf => Ok(Kind::EndIf),
-            Kind::LogicalIf(condition, inner) => {
-                let copy = inner.try_copy(alloc)?;
-                let inner = Box::new(alloc, copy)?;
-                Ok(Kind::LogicalIf(condition.try_copy(alloc)?, inner))
-            }
-            Kind::Print(items) => Ok(Kind::Print(copies_of_items(alloc, items)?)),
-            Kind::Read(elements) => Ok(Kind::Read(copies_of_elements(alloc, elements)?)),
-            Kind::Stop => Ok(Kind::Stop),
-            Kind::End => Ok(Kind::End),
-        }
-    }
-}
-
-impl Stmt {
-    ghost use Rattle.std.specs.Prelude.{◌≡◌, IfOk};
-    ghost use Rattle.ast.specs.View.{statement};
-
-    /// An equal statement, or `AllocError` where memory is refused.
-    pub fn try_copy(&self, alloc: Global) -> Result<Stmt, AllocError>
-        ensures { IfOk result (λ copy. statement copy ≡ statement self.now) }
-    {
-        let kind = self.kind.try_copy(alloc)?;
-        Ok(Stmt {
-            line: self.line,
-            label: self.label,
-            kind,
-        })
-    }
-}
-
-fn copies_of_items(alloc: Global, items: &[Item]) -> Result<Vec<Item>, AllocError>
+/// Equal items, or `AllocError` where memory is refused.
+pub fn copies_of_items(alloc: Global, items: &[Item]) -> Result<Vec<Item>, AllocError>
     ensures { IfOk result (λ copies. map item copies.items ≡ map item items.now) }
 {
     let mut copies = Vec::with_capacity(alloc, items.len())?;
@@ -288,7 +233,8 @@ fn copies_of_bounds(alloc: Global, given: &[Bounds]) -> Result<Vec<Bounds>, Allo
     Ok(copies)
 }
 
-fn copies_of_declarators(
+/// Equal declarators, or `AllocError` where memory is refused.
+pub fn copies_of_declarators(
     alloc: Global,
     declared: &[Declarator],
 ) -> Result<Vec<Declarator>, AllocError>
@@ -301,7 +247,8 @@ fn copies_of_declarators(
     Ok(copies)
 }
 
-fn copies_of_definitions(
+/// Equal definitions, or `AllocError` where memory is refused.
+pub fn copies_of_definitions(
     alloc: Global,
     defined: &[Definition],
 ) -> Result<Vec<Definition>, AllocError>
@@ -314,7 +261,8 @@ fn copies_of_definitions(
     Ok(copies)
 }
 
-fn copies_of_elements(alloc: Global, elements: &[Access]) -> Result<Vec<Access>, AllocError>
+/// Equal variables and elements, or `AllocError` where memory is refused.
+pub fn copies_of_elements(alloc: Global, elements: &[Access]) -> Result<Vec<Access>, AllocError>
     ensures { IfOk result (λ copies. map access copies.items ≡ map access elements.now) }
 {
     let mut copies = Vec::with_capacity(alloc, elements.len())?;

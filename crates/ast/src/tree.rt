@@ -4,14 +4,15 @@ ghost use Rattle.std.specs.Prelude.{◌≡◌, IfOk, map};
 ghost use Rattle.ast.specs.View.{arm, node};
 
 use crate::expression::Expr;
-use crate::statement::{DoHead, Line, Stmt, copy_of_optional};
+use crate::plain::PlainStatement;
+use crate::statement::{DoHead, Line, copy_of_optional};
 use std::alloc::{AllocError, Global};
 
 /// A statement of a program with what belongs to it.
 #[cycle(tree)]
 pub enum Node {
     /// A statement that holds no others.
-    Plain(Stmt),
+    Plain(PlainStatement),
     /// A loop: the line of its DO, what that says, and its range, the terminal statement included.
     Loop(Line, DoHead, Vec<Node>),
     /// An IF with its arms. A logical IF has one.

@@ -174,7 +174,7 @@ fn emit_node(
     match node {
         Node::Plain(statement) => {
             let places = on(places, statement.line);
-            emit_plain(alloc, &statement.kind, &places, records, code)
+            emit_plain(alloc, &statement.action, &places, records, code)
         }
         Node::Loop(line, head, range) => {
             emit_loop(alloc, *line, head, range, opened, places, records, code)

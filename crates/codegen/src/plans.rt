@@ -18,7 +18,7 @@ ghost use Rattle.machine.specs.declared.instr.Act.TheVariants as acts;
 use crate::loops::{emit_head, end_trip};
 use crate::skips::{Pending, close, end_body};
 use crate::statements::{emit_plain, on, put};
-use ast::{DoHead, Kind, Line, Reference};
+use ast::{Action, DoHead, Inert, Line, Reference};
 use dependence::{PlanArm, PlanStmt};
 use expr_code::{Places, emit, short};
 use machine::{Act, Await, Instr, Piece};
@@ -28,7 +28,7 @@ fn is_stop(statement: &PlanStmt) -> bool
     ensures { result ≡ is_plan_stop (plan_node statement.now) }
 {
     match statement {
-        PlanStmt::Plain(statement) => matches!(statement.kind, Kind::Stop),
+        PlanStmt::Plain(statement) => matches!(statement.action, Action::Stop),
         PlanStmt::Await(_, _)
         | PlanStmt::Advance(_)
         | PlanStmt::Loop(_, _, _)
@@ -40,7 +40,7 @@ fn is_end(statement: &PlanStmt) -> bool
     ensures { result ≡ is_plan_end (plan_node statement.now) }
 {
     match statement {
-        PlanStmt::Plain(statement) => matches!(statement.kind, Kind::End),
+        PlanStmt::Plain(statement) => matches!(statement.action, Action::Inert(Inert::End)),
         PlanStmt::Await(_, _)
         | PlanStmt::Advance(_)
         | PlanStmt::Loop(_, _, _)
@@ -243,7 +243,7 @@ fn emit_statement(
         PlanStmt::Advance(event) => put(code, places.line, Act::Advance(short(*event))),
         PlanStmt::Plain(statement) => {
             let places = on(places, statement.line);
-            emit_plain(alloc, &statement.kind, &places, records, code)
+            emit_plain(alloc, &statement.action, &places, records, code)
         }
         PlanStmt::Loop(line, head, range) => {
             emit_loop(alloc, *line, head, range, places, records, awaits, code)

@@ -3,9 +3,9 @@
 
 ghost use Rattle.std.specs.Prelude.{◌≡◌, map, ℕ};
 ghost use Rattle.ast.specs.Tree.{arms as arms_tree, assign};
-ghost use Rattle.ast.specs.View.{access as access_of, arm as arm_of, block_view, head as head_of};
-ghost use Rattle.ast.specs.View.{item as item_of, kind as kind_of, node as node_of, optional_term};
-ghost use Rattle.ast.specs.View.{term};
+ghost use Rattle.ast.specs.View.{access as access_of, action as action_of, arm as arm_of};
+ghost use Rattle.ast.specs.View.{block_view, head as head_of, item as item_of, node as node_of};
+ghost use Rattle.ast.specs.View.{optional_term, term};
 ghost use Rattle.codegen.specs.Blocks.{arm_loops, arm_room, item_room};
 ghost use Rattle.codegen.specs.Plain.{plain_arms, plain_block, plain_node};
 ghost use Rattle.codegen.specs.Room.{arms_loops, arms_room, block_loops, block_room, elements_room};
@@ -13,7 +13,7 @@ ghost use Rattle.codegen.specs.Room.{head_room, items_room, kind_room, node_loop
 ghost use Rattle.codegen.specs.Room.{step_room};
 ghost use Rattle.expr_code.specs.Emitted.{short};
 
-use ast::{Access, Arm, DoHead, Expr, Item, Kind, Node};
+use ast::{Access, Action, Arm, DoHead, Expr, Item, Node};
 use expr_code::room::{greater, more};
 use expr_code::{operands, operands_of_place};
 
@@ -64,26 +64,14 @@ fn of_assignment(target: &Access, expression: &Expr) -> u32
 }
 
 /// A statement that holds no others.
-fn of_kind(kind: &Kind) -> u32
-    ensures { result ≡ short (kind_room (kind_of kind.now)) }
+fn of_kind(action: &Action) -> u32
+    ensures { result ≡ short (kind_room (action_of action.now)) }
 {
-    match kind {
-        Kind::Assign(target, expression) => of_assignment(target, expression),
-        Kind::Print(items) => of_items(items),
-        Kind::Read(elements) => of_elements(elements),
-        Kind::Stop
-        | Kind::Program(_)
-        | Kind::Integer(_)
-        | Kind::Dimension(_)
-        | Kind::Parameter(_)
-        | Kind::Do(_)
-        | Kind::Continue
-        | Kind::If(_)
-        | Kind::ElseIf(_)
-        | Kind::Else
-        | Kind::EndIf
-        | Kind::LogicalIf(_, _)
-        | Kind::End => 0,
+    match action {
+        Action::Assign(target, expression) => of_assignment(target, expression),
+        Action::Print(items) => of_items(items),
+        Action::Read(elements) => of_elements(elements),
+        Action::Stop | Action::Inert(_) => 0,
     }
 }
 
@@ -113,7 +101,7 @@ fn of_node(node: &Node) -> u32
     ensures { result ≡ short (node_room (plain_node (node_of node.now))) }
 {
     match node {
-        Node::Plain(statement) => of_kind(&statement.kind),
+        Node::Plain(statement) => of_kind(&statement.action),
         Node::Loop(_, head, range) => {
             let range = greater(2, of_block(range));
             greater(of_head(head), range)

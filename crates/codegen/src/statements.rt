@@ -1,7 +1,7 @@
 //! Code of statements that hold no others.
 
 ghost use Rattle.std.specs.Prelude.{◌≡◌, ◌++◌, ◌∷◌, [], IfOk, OnOk, length, map};
-ghost use Rattle.ast.specs.View.{access as access_of, item as item_of, kind as kind_of, term};
+ghost use Rattle.ast.specs.View.{access as access_of, action as action_of, item as item_of, term};
 ghost use Rattle.codegen.specs.Emitted.{elements_code, items_code, kind_code, kind_records};
 ghost use Rattle.codegen.specs.Emitted.{parts_of, stored_code};
 ghost use Rattle.codegen.specs.Records.{pieces_of, records_of};
@@ -10,7 +10,7 @@ ghost use Rattle.machine.specs.CodeView.{part};
 ghost use Rattle.machine.specs.declared.instr.Act.TheVariants.{DropRecord, Print, TakeRecord};
 ghost use Rattle.expr_code.specs.PlacesView.{places_of};
 
-use ast::{Access, Expr, Item, Kind, Line};
+use ast::{Access, Action, Expr, Item, Line};
 use expr_code::{Places, emit, emit_place, short};
 use machine::{Act, Instr, Piece};
 use std::alloc::{AllocError, Global};
@@ -145,32 +145,21 @@ fn read(targets: &[Access], places: &Places<'_>, code: &mut Vec<Instr>) -> Resul
 /// PRINT. Other statements have none.
 pub fn emit_plain(
     alloc: Global,
-    kind: &Kind,
+    action: &Action,
     places: &Places<'_>,
     records: &mut Vec<Vec<Piece>>,
     code: &mut Vec<Instr>,
 ) -> Result<(), AllocError>
     ensures code { OnOk result (code.new.items ≡ code.old.items
-        ++ kind_code (places_of places.now) (length records.old.items) (kind_of kind.now)) }
+        ++ kind_code (places_of places.now) (length records.old.items) (action_of action.now)) }
     ensures records { OnOk result (records_of records.new ≡ records_of records.old
-        ++ kind_records (kind_of kind.now)) }
+        ++ kind_records (action_of action.now)) }
 {
-    match kind {
-        Kind::Assign(target, expression) => assign(target, expression, places, code),
-        Kind::Print(items) => print(alloc, items, places, records, code),
-        Kind::Read(targets) => read(targets, places, code),
-        Kind::Stop => put(code, places.line, Act::Stop),
-        Kind::Program(_)
-        | Kind::Integer(_)
-        | Kind::Dimension(_)
-        | Kind::Parameter(_)
-        | Kind::Do(_)
-        | Kind::Continue
-        | Kind::If(_)
-        | Kind::ElseIf(_)
-        | Kind::Else
-        | Kind::EndIf
-        | Kind::LogicalIf(_, _)
-        | Kind::End => Ok(()),
+    match action {
+        Action::Assign(target, expression) => assign(target, expression, places, code),
+        Action::Print(items) => print(alloc, items, places, records, code),
+        Action::Read(targets) => read(targets, places, code),
+        Action::Stop => put(code, places.line, Act::Stop),
+        Action::Inert(_) => Ok(()),
     }
 }

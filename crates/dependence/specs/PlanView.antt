@@ -1,7 +1,7 @@
 -- The plain plan that a plan stands for.
 use Rattle.std.specs.Prelude.{ℕ, List, [], ◌∷◌, map, Option, Some, None}
 use Rattle.ast.specs.Tree.{Term}
-use Rattle.ast.specs.View.{head, letters, optional_term, statement}
+use Rattle.ast.specs.View.{head, letters, optional_term, plain_statement}
 use Rattle.dependence.specs.Plan as plan
 use Rattle.dependence.specs.Plan.{PlanNode, PlanBlock, PlanArms, PlanTree, no_nodes}
 use Rattle.dependence.specs.Plan.{then_node, no_arms, made_else, then_arm}
@@ -38,7 +38,7 @@ nodes_of view (Some x) = Some (view x)
 abbrev pub node_step : PlanStmt-F PlanNode ArmOf → PlanNode
 node_step (PlanStmt-F.Await e d) = plan.awaits e d
 node_step (PlanStmt-F.Advance e) = plan.advances e
-node_step (PlanStmt-F.Plain s) = plan.plain (statement s)
+node_step (PlanStmt-F.Plain s) = plan.plain (plain_statement s)
 node_step (PlanStmt-F.Loop l h b) = plan.loop l (head h) (block b.items)
 node_step (PlanStmt-F.Choice a made) =
     plan.choose (arms a.items (last_arm (nodes_of (λ v. v.items) made)))

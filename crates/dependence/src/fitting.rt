@@ -2,36 +2,22 @@
 
 ghost use Rattle.std.specs.Prelude.{◌≡◌, map};
 ghost use Rattle.ast.specs.Tree.{arms as arms_of};
-ghost use Rattle.ast.specs.View.{arm as arm_of, block_view, kind as kind_of, letters};
+ghost use Rattle.ast.specs.View.{action as action_of, arm as arm_of, block_view, letters};
 ghost use Rattle.ast.specs.View.{node as node_of};
 ghost use Rattle.dependence.specs.Fitting as spec;
 ghost use Rattle.dependence.specs.Hiding.{has_name as is_among, hides};
 ghost use Rattle.dependence.specs.Kept.{block_reads, is_read};
 ghost use Rattle.loop_tree.specs.TreeView.{seen};
 
-use ast::{Arm, Kind, Name, Node};
+use ast::{Action, Arm, Name, Node};
 use loop_tree::LoopView;
 
-fn is_read(kind: &Kind) -> bool
-    ensures { result ≡ is_read (kind_of kind.now) }
+fn is_read(action: &Action) -> bool
+    ensures { result ≡ is_read (action_of action.now) }
 {
-    match kind {
-        Kind::Read(_) => true,
-        Kind::Assign(_, _)
-        | Kind::Program(_)
-        | Kind::Integer(_)
-        | Kind::Dimension(_)
-        | Kind::Parameter(_)
-        | Kind::Do(_)
-        | Kind::Continue
-        | Kind::If(_)
-        | Kind::ElseIf(_)
-        | Kind::Else
-        | Kind::EndIf
-        | Kind::LogicalIf(_, _)
-        | Kind::Print(_)
-        | Kind::Stop
-        | Kind::End => false,
+    match action {
+        Action::Read(_) => true,
+        Action::Assign(_, _) | Action::Print(_) | Action::Stop | Action::Inert(_) => false,
     }
 }
 
@@ -52,7 +38,7 @@ fn node_reads(node: &Node) -> bool
     ensures { result ≡ spec.node_reads (node_of node.now) }
 {
     match node {
-        Node::Plain(statement) => is_read(&statement.kind),
+        Node::Plain(statement) => is_read(&statement.action),
         Node::Loop(_, _, range) => reads(range),
         Node::Choice(arms) => arms_read(arms),
     }

@@ -2,7 +2,7 @@
 
 use crate::relations::Relations;
 use crate::serial::SerialReason;
-use ast::{DoHead, Expr, Line, Stmt};
+use ast::{DoHead, Expr, Line, PlainStatement};
 use loop_tree::ScalarSet;
 
 /// A statement of a plan's body.
@@ -13,7 +13,7 @@ pub enum PlanStmt {
     /// Advances the event.
     Advance(usize),
     /// A statement that holds no others.
-    Plain(Stmt),
+    Plain(PlainStatement),
     /// A loop: the line of its DO, what that says, and its range.
     Loop(Line, DoHead, Vec<PlanStmt>),
     /// An IF: its arms, and, where it has no ELSE, the body of one that was made for it.

@@ -4,8 +4,9 @@ ghost use Rattle.std.specs.Prelude.{◌≡◌, ◌∷◌, codes};
 
 use crate::nests::trees_of;
 use ast::{
-    Access, Bounds, Declarator, Definition, Dimension, DoHead, Expr, Intrinsic, Item, Kind, Line,
-    Name, Operator, Prefix, Program, RefId, Reference, Stmt, Store, Symbol, SymbolKind,
+    Access, Action, Bounds, Declarator, Definition, Dimension, Expr, Inert, Intrinsic, Item, Line,
+    Name, Operator, PlainStatement, Prefix, Program, RefId, Reference, Refusal, Stmt, Store,
+    Symbol, SymbolKind,
 };
 use expressions::reference_to;
 use std::alloc::{AllocError, Global};
@@ -129,23 +130,17 @@ fn want_of_memory_in_expressions(rt: HostRuntime) -> Result<(), Fail> {
 
 // ---- statements, each on a line of its own, and labelled by twice that
 
-/// A statement of each kind. Those that begin and end ranges and blocks stand alone, as copies do.
+/// A statement of each kind that holds no others.
 const STATEMENTS: &[u8] = b"    2 PROGRAM P
     4 INTEGER A(-9:1)
     6 DIMENSION A(-9:1)
     8 PARAMETER (N=-9)
    10 A(-9)=-9
-   12 DO 30 K=-9,3,-9
-   14 CONTINUE
-   16 IF (-9) THEN
-   18 ELSE IF (-9) THEN
-   20 ELSE
-   22 END IF
-   24 IF (-9) STOP
-   26 PRINT *,-9,'OK'
-   28 READ *,A(-9)
-   30 STOP
-   32 END
+   12 CONTINUE
+   14 PRINT *,-9,'OK'
+   16 READ *,A(-9)
+   18 STOP
+   20 END
 ";
 
 /// A(-9:1)
@@ -177,17 +172,6 @@ fn is_assignment(target: &Access, value: &Expr) -> bool {
     is_element(target, reference_to(name(b'A'))) && is_minus_nine(value)
 }
 
-fn is_head(head: &DoHead) -> bool {
-    head.terminal == 30
-        && head.variable == reference_to(name(b'K'))
-        && is_minus_nine(&head.first)
-        && matches!(&head.last, Expr::Constant(3))
-        && match &head.step {
-            Some(step) => is_minus_nine(step),
-            None => false,
-        }
-}
-
 fn are_items(items: &[Item]) -> bool {
     match items {
         [Item::Value(value), Item::Text(text)] => is_minus_nine(value)
@@ -204,53 +188,71 @@ fn are_elements(elements: &[Access]) -> bool {
 }
 
 /// Whether this is what stands on its line.
-fn is_kind(line: Line, kind: &Kind) -> bool {
-    match kind {
-        Kind::Program(own) => line == 1 && *own == name(b'P'),
-        Kind::Integer(declared) => line == 2 && is_declarator(declared),
-        Kind::Dimension(declared) => line == 3 && is_declarator(declared),
-        Kind::Parameter(defined) => line == 4 && is_definition(defined),
-        Kind::Assign(target, value) => line == 5 && is_assignment(target, value),
-        Kind::Do(head) => line == 6 && is_head(head),
-        Kind::Continue => line == 7,
-        Kind::If(condition) => line == 8 && is_minus_nine(condition),
-        Kind::ElseIf(condition) => line == 9 && is_minus_nine(condition),
-        Kind::Else => line == 10,
-        Kind::EndIf => line == 11,
-        Kind::LogicalIf(condition, inner) => line == 12
-            && is_minus_nine(condition)
-            && matches!(&**inner, Kind::Stop),
-        Kind::Print(items) => line == 13 && are_items(items),
-        Kind::Read(elements) => line == 14 && are_elements(elements),
-        Kind::Stop => line == 15,
-        Kind::End => line == 16,
+fn is_inert(line: Line, inert: &Inert) -> bool {
+    match inert {
+        Inert::Program(own) => line == 1 && *own == name(b'P'),
+        Inert::Integer(declared) => line == 2 && is_declarator(declared),
+        Inert::Dimension(declared) => line == 3 && is_declarator(declared),
+        Inert::Parameter(defined) => line == 4 && is_definition(defined),
+        Inert::Continue => line == 6,
+        Inert::End => line == 10,
     }
 }
 
-fn is_statement(stmt: &Stmt) -> bool {
-    stmt.label == Some(stmt.line.wrapping_mul(2)) && is_kind(stmt.line, &stmt.kind)
+/// Whether this is what stands on its line.
+fn is_action(line: Line, action: &Action) -> bool {
+    match action {
+        Action::Assign(target, value) => line == 5 && is_assignment(target, value),
+        Action::Print(items) => line == 7 && are_items(items),
+        Action::Read(elements) => line == 8 && are_elements(elements),
+        Action::Stop => line == 9,
+        Action::Inert(inert) => is_inert(line, inert),
+    }
+}
+
+fn is_statement(statement: &PlainStatement) -> bool {
+    statement.label == Some(statement.line.wrapping_mul(2))
+        && is_action(statement.line, &statement.action)
+}
+
+/// The statements of [`STATEMENTS`].
+fn plain_statements(alloc: Global) -> Result<Vec<PlainStatement>, Refusal> {
+    let mut list = Vec::new(alloc);
+    for stmt in trees_of(alloc, STATEMENTS)? {
+        let Stmt { line, label, kind } = stmt;
+        list.push(PlainStatement {
+            line,
+            label,
+            action: Action::of(kind),
+        })?;
+    }
+    Ok(list)
 }
 
 /// Adds copies of statements.
-fn add_copies(alloc: Global, list: &[Stmt], made: &mut Vec<Stmt>) -> Result<(), AllocError> {
-    for stmt in list {
-        made.push(stmt.try_copy(alloc)?)?;
+fn add_copies(
+    alloc: Global,
+    list: &[PlainStatement],
+    made: &mut Vec<PlainStatement>,
+) -> Result<(), AllocError> {
+    for statement in list {
+        made.push(statement.try_copy(alloc)?)?;
     }
     Ok(())
 }
 
-fn are_right(given: &[Stmt], count: usize) -> bool {
+fn are_right(given: &[PlainStatement], count: usize) -> bool {
     given.len() == count && given.iter().all(is_statement)
 }
 
 /// Whether copies of statements are right.
-fn are_copied(alloc: Global, list: &[Stmt]) -> Result<bool, AllocError> {
+fn are_copied(alloc: Global, list: &[PlainStatement]) -> Result<bool, AllocError> {
     let mut made = Vec::with_capacity(alloc, list.len())?;
     add_copies(alloc, list, &mut made)?;
     Ok(are_right(&made, list.len()))
 }
 
-fn copy_each(rt: &impl Abort, alloc: Global, list: &[Stmt]) -> Result<(), AllocError> {
+fn copy_each(rt: &impl Abort, alloc: Global, list: &[PlainStatement]) -> Result<(), AllocError> {
     match are_copied(alloc, list) {
         Ok(is_right) => assert!(*rt; is_right),
         Err(error) => {
@@ -263,8 +265,8 @@ fn copy_each(rt: &impl Abort, alloc: Global, list: &[Stmt]) -> Result<(), AllocE
 
 #[test]
 fn want_of_memory_in_statements(rt: HostRuntime) -> Result<(), Fail> {
-    let list = trees_of(rt.alloc(), STATEMENTS)?;
-    assert!(&rt; list.len() == 16);
+    let list = plain_statements(rt.alloc())?;
+    assert!(&rt; list.len() == 10);
     Ok(copy_each(&rt, rt.alloc(), &list)?)
 }
 

@@ -2,7 +2,7 @@
 
 use crate::calls::{check, loop_of, loops, plan, program};
 use crate::looks::{Places, elements_at};
-use ast::{Access, Expr, Kind, Name, Program, RefId, Reference, Stmt};
+use ast::{Access, Action, Expr, Name, PlainStatement, Program, RefId, Reference};
 use dependence::{LoopPlan, PlanStmt, Relation, Relations, SerialReason};
 use loop_tree::LoopView;
 use plan_check::PlanFault;
@@ -90,7 +90,7 @@ fn put_made_else(body: &mut [PlanStmt], place: usize, new: Option<Vec<PlanStmt>>
 }
 
 /// K=1, as if it stood where the END IF stands. No reference of a program has this number.
-fn assignment(alloc: Global) -> Stmt {
+fn assignment(alloc: Global) -> PlainStatement {
     let target = Access {
         reference: Reference {
             name: K,
@@ -99,10 +99,10 @@ fn assignment(alloc: Global) -> Stmt {
         },
         subscripts: Vec::new(alloc),
     };
-    Stmt {
+    PlainStatement {
         line: 5,
         label: None,
-        kind: Kind::Assign(target, Expr::Constant(1)),
+        action: Action::Assign(target, Expr::Constant(1)),
     }
 }
 

@@ -2,14 +2,14 @@
 
 ghost use Rattle.std.specs.Prelude.{◌≡◌, OnOk, map};
 ghost use Rattle.ast.specs.Tree.{arms as arms_of, terms};
-ghost use Rattle.ast.specs.View.{access as access_of, arm as arm_of, block_view, kind as kind_of};
-ghost use Rattle.ast.specs.View.{node as node_of, ref, term};
+ghost use Rattle.ast.specs.View.{access as access_of, action as action_of, arm as arm_of};
+ghost use Rattle.ast.specs.View.{block_view, node as node_of, ref, term};
 ghost use Rattle.loop_tree.specs.Loops.{with_arms, with_block, with_kind, with_named, with_node};
 ghost use Rattle.loop_tree.specs.Loops.{with_scalar, with_target, with_targets};
 ghost use Rattle.loop_tree.specs.ScalarsView.{scalars as scalars_of};
 
 use crate::scalars::Scalars;
-use ast::{Access, Arm, Expr, Kind, Node, Reference};
+use ast::{Access, Action, Arm, Expr, Node, Reference};
 use std::alloc::AllocError;
 
 /// Adds a name that is given a value, if it has no subscripts.
@@ -46,27 +46,14 @@ fn add_targets(scalars: &mut Scalars, targets: &[Access]) -> Result<(), AllocErr
 }
 
 /// Adds the scalars that a statement gives values.
-fn add_kind(scalars: &mut Scalars, kind: &Kind) -> Result<(), AllocError>
+fn add_kind(scalars: &mut Scalars, action: &Action) -> Result<(), AllocError>
     ensures { OnOk result (scalars_of scalars.new
-        ≡ with_kind (scalars_of scalars.old) (kind_of kind.now)) }
+        ≡ with_kind (scalars_of scalars.old) (action_of action.now)) }
 {
-    match kind {
-        Kind::Assign(target, _) => add_target(scalars, target),
-        Kind::Read(targets) => add_targets(scalars, targets),
-        Kind::Program(_)
-        | Kind::Integer(_)
-        | Kind::Dimension(_)
-        | Kind::Parameter(_)
-        | Kind::Do(_)
-        | Kind::Continue
-        | Kind::If(_)
-        | Kind::ElseIf(_)
-        | Kind::Else
-        | Kind::EndIf
-        | Kind::LogicalIf(_, _)
-        | Kind::Print(_)
-        | Kind::Stop
-        | Kind::End => Ok(()),
+    match action {
+        Action::Assign(target, _) => add_target(scalars, target),
+        Action::Read(targets) => add_targets(scalars, targets),
+        Action::Print(_) | Action::Stop | Action::Inert(_) => Ok(()),
     }
 }
 
@@ -97,7 +84,7 @@ fn add_node(scalars: &mut Scalars, node: &Node) -> Result<(), AllocError>
         ≡ with_node (scalars_of scalars.old) (node_of node.now)) }
 {
     match node {
-        Node::Plain(statement) => add_kind(scalars, &statement.kind),
+        Node::Plain(statement) => add_kind(scalars, &statement.action),
         Node::Loop(_, head, range) => add_range(scalars, head.variable, range),
         Node::Choice(arms) => add_arms(scalars, arms),
     }

@@ -3,7 +3,7 @@
 ghost use Rattle.std.specs.Prelude.{◌≡◌, IfOk, None, OnOk, map};
 ghost use Rattle.ast.specs.Tree.{arms as arms_of, choose, loop, plain};
 ghost use Rattle.ast.specs.View.{arm as arm_of, block_view, head as head_of, node as node_of};
-ghost use Rattle.ast.specs.View.{statement as statement_of};
+ghost use Rattle.ast.specs.View.{plain_statement as statement_of};
 ghost use Rattle.loop_tree.specs.Collecting as spec;
 ghost use Rattle.loop_tree.specs.CollectedView.{collected, span};
 ghost use Rattle.loop_tree.specs.Occurrences.{first_line};
@@ -12,7 +12,7 @@ use crate::assigned::add_assigned;
 use crate::constants::{step_of, trips_of};
 use crate::occurrence::{Occurrence, add_head, add_kind, add_optional};
 use crate::scalars::Scalars;
-use ast::{Arm, DoHead, Line, Node, Stmt};
+use ast::{Arm, DoHead, Line, Node, PlainStatement};
 use std::alloc::{AllocError, Global};
 
 /// What is known of a loop.
@@ -143,14 +143,14 @@ fn end_range(parts: &mut Collected<'_>, place: usize)
 fn add_plain<'p>(
     parts: &mut Collected<'p>,
     around: Option<usize>,
-    statement: &'p Stmt,
+    statement: &'p PlainStatement,
 ) -> Result<(), AllocError>
     ensures { OnOk result (collected parts.new
         ≡ spec.after_node around (plain (statement_of statement.now)) (collected parts.old)) }
 {
     let number = parts.lines.len();
     add_line(parts, statement.line)?;
-    add_kind(&mut parts.references, number, &statement.kind)
+    add_kind(&mut parts.references, number, &statement.action)
 }
 
 /// The line of an IF, by its arms.

@@ -2,12 +2,12 @@
 
 ghost use Rattle.std.specs.Prelude.{◌≡◌, ◌∷◌, ◌++◌, [], OnOk, map};
 ghost use Rattle.ast.specs.Tree.{accessed, terms};
-ghost use Rattle.ast.specs.View.{access as access_of, head as head_of, item as item_of};
-ghost use Rattle.ast.specs.View.{kind as kind_of, optional_term, term};
+ghost use Rattle.ast.specs.View.{access as access_of, action as action_of, head as head_of};
+ghost use Rattle.ast.specs.View.{item as item_of, optional_term, term};
 ghost use Rattle.loop_tree.specs.Occurrences as spec;
 ghost use Rattle.loop_tree.specs.View.{occurrence};
 
-use ast::{Access, DoHead, Expr, Item, Kind, Reference};
+use ast::{Access, Action, DoHead, Expr, Item, Reference};
 use std::alloc::AllocError;
 
 /// A place of a program where a variable is read or assigned.
@@ -196,28 +196,16 @@ fn add_assignment<'p>(
 pub fn add_kind<'p>(
     list: &mut Vec<Occurrence<'p>>,
     statement: usize,
-    kind: &'p Kind,
+    action: &'p Action,
 ) -> Result<(), AllocError>
     ensures { OnOk result (map occurrence list.new.items ≡ map occurrence list.old.items
-        ++ spec.kind_occurrences statement (kind_of kind.now)) }
+        ++ spec.kind_occurrences statement (action_of action.now)) }
 {
-    match kind {
-        Kind::Assign(target, value) => add_assignment(list, statement, target, value),
-        Kind::Print(items) => add_items(list, statement, items),
-        Kind::Read(elements) => add_targets(list, statement, elements),
-        Kind::Program(_)
-        | Kind::Integer(_)
-        | Kind::Dimension(_)
-        | Kind::Parameter(_)
-        | Kind::Do(_)
-        | Kind::Continue
-        | Kind::If(_)
-        | Kind::ElseIf(_)
-        | Kind::Else
-        | Kind::EndIf
-        | Kind::LogicalIf(_, _)
-        | Kind::Stop
-        | Kind::End => Ok(()),
+    match action {
+        Action::Assign(target, value) => add_assignment(list, statement, target, value),
+        Action::Print(items) => add_items(list, statement, items),
+        Action::Read(elements) => add_targets(list, statement, elements),
+        Action::Stop | Action::Inert(_) => Ok(()),
     }
 }
 

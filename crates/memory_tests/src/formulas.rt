@@ -3,7 +3,7 @@
 use crate::calls::{add_code, expr, loops};
 use crate::programs::program_of;
 use crate::rows::{AGAIN, OTHERWISE, rows};
-use ast::{Expr, Kind, Node, Operator, Program, Refusal};
+use ast::{Action, Expr, Node, Operator, Program, Refusal};
 use expr_code::Places;
 use loop_tree::{LoopView, ScalarSet};
 use machine::{Act as Does, Axis, Instr};
@@ -119,8 +119,8 @@ static CODE: [&[Does]; 4] = [
 /// The expression that is assigned first in a body.
 fn assigned(body: &[Node]) -> Option<&Expr> {
     match body {
-        [Node::Plain(first), ..] => match &first.kind {
-            Kind::Assign(_, value) => Some(value),
+        [Node::Plain(first), ..] => match &first.action {
+            Action::Assign(_, value) => Some(value),
             _ => None,
         },
         _ => None,

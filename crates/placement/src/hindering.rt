@@ -8,33 +8,19 @@ ghost use Rattle.loop_tree.specs.TreeView.{seen};
 ghost use Rattle.placement.specs.Hindering as spec;
 
 use crate::origins::sources;
-use ast::{Arm, Kind, Line, MOST_EVENTS, Name, Node, Stmt};
+use ast::{Action, Arm, Line, MOST_EVENTS, Name, Node, PlainStatement};
 use dependence::has_name;
 use loop_tree::LoopView;
 use privatise::private_scalars;
 use std::alloc::{AllocError, Global};
 
 /// The line of a statement that is a READ.
-fn line_of_read(statement: &Stmt) -> Option<Line>
-    ensures { result ≡ spec.line_of_read (tree.statement statement.now) }
+fn line_of_read(statement: &PlainStatement) -> Option<Line>
+    ensures { result ≡ spec.line_of_read (tree.plain_statement statement.now) }
 {
-    match &statement.kind {
-        Kind::Read(_) => Some(statement.line),
-        Kind::Assign(_, _)
-        | Kind::Program(_)
-        | Kind::Integer(_)
-        | Kind::Dimension(_)
-        | Kind::Parameter(_)
-        | Kind::Do(_)
-        | Kind::Continue
-        | Kind::If(_)
-        | Kind::ElseIf(_)
-        | Kind::Else
-        | Kind::EndIf
-        | Kind::LogicalIf(_, _)
-        | Kind::Print(_)
-        | Kind::Stop
-        | Kind::End => None,
+    match &statement.action {
+        Action::Read(_) => Some(statement.line),
+        Action::Assign(_, _) | Action::Print(_) | Action::Stop | Action::Inert(_) => None,
     }
 }
 

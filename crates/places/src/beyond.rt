@@ -2,7 +2,7 @@
 
 use crate::visible::Visible;
 use ast::{
-    Access, Arm, Dimension, DoHead, Expr, Intrinsic, Item, Kind, Line, Name, Node, Program, Store,
+    Access, Action, Arm, Dimension, DoHead, Expr, Intrinsic, Item, Line, Name, Node, Program, Store,
 };
 use std::alloc::Global;
 use std::fmt::{Display, Formatter, Result as FmtResult, Write};
@@ -78,7 +78,7 @@ impl<'a> Snapshot<'a> {
     #[cycle(nodes)]
     fn node(&self, node: &Node, line: Line) -> Option<Beyond> {
         match node {
-            Node::Plain(statement) if statement.line == line => self.kind(&statement.kind),
+            Node::Plain(statement) if statement.line == line => self.action(&statement.action),
             Node::Plain(_) => None,
             Node::Loop(own, head, _) if *own == line => self.head(head),
             Node::Loop(_, _, range) => self.nodes(range, line),
@@ -114,17 +114,17 @@ impl<'a> Snapshot<'a> {
         }
     }
 
-    fn kind(&self, kind: &Kind) -> Option<Beyond> {
-        match kind {
-            Kind::Assign(target, expression) => {
+    fn action(&self, action: &Action) -> Option<Beyond> {
+        match action {
+            Action::Assign(target, expression) => {
                 hindrance(self.value(expression)).or(hindrance(self.element(target)))
             }
-            Kind::Print(items) => self.items(items),
-            Kind::Read(elements) => match elements.as_slice() {
+            Action::Print(items) => self.items(items),
+            Action::Read(elements) => match elements.as_slice() {
                 [element] => hindrance(self.element(element)),
                 _ => None,
             },
-            _ => None,
+            Action::Stop | Action::Inert(_) => None,
         }
     }
 

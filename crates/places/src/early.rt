@@ -1,6 +1,6 @@
 //! Where a path through a loop's range uses a scalar before it gives that a value.
 
-use ast::{Access, Arm, DoHead, Expr, Item, Kind, Line, Name, Node, Stmt};
+use ast::{Access, Action, Arm, DoHead, Expr, Item, Line, Name, Node, PlainStatement};
 
 /// What all paths to a place have done with a scalar.
 #[derive(Clone, Copy)]
@@ -82,17 +82,17 @@ fn follow_targets(trail: &mut Trail, line: Line, targets: &[Access]) {
     }
 }
 
-fn follow_statement(trail: &mut Trail, statement: &Stmt) {
+fn follow_statement(trail: &mut Trail, statement: &PlainStatement) {
     let line = statement.line;
-    match &statement.kind {
-        Kind::Assign(target, value) => {
+    match &statement.action {
+        Action::Assign(target, value) => {
             follow_expression(trail, line, value);
             follow_target(trail, line, target);
         }
-        Kind::Print(items) => follow_items(trail, line, items),
-        Kind::Read(targets) => follow_targets(trail, line, targets),
-        Kind::Stop => trail.defined = true,
-        _ => {}
+        Action::Print(items) => follow_items(trail, line, items),
+        Action::Read(targets) => follow_targets(trail, line, targets),
+        Action::Stop => trail.defined = true,
+        Action::Inert(_) => {}
     }
 }
 

@@ -4,9 +4,9 @@ use Rattle.std.proofs.lemmas.List.{drop_all, drop_more}
 use Rattle.std.specs.Bool.{Decides}
 use Rattle.ast.specs.Tree as tree
 use Rattle.ast.specs.Tree.{Term}
-use Rattle.ast.specs.View.{arm as arm_of, arm_step, block_view, head, node as node_of, node_step, optional_term, statement}
+use Rattle.ast.specs.View.{arm as arm_of, arm_step, block_view, head, node as node_of, node_step, optional_term, plain_statement}
 use Rattle.ast.specs.declared.statement.DoHead.{DoHead}
-use Rattle.ast.specs.declared.statement.Stmt.{Stmt}
+use Rattle.ast.specs.declared.plain.PlainStatement.{PlainStatement}
 use Rattle.ast.specs.declared.tree.Arm.{Arm, fold_out-Arm}
 use Rattle.ast.specs.declared.tree.Node.{Node, Node-F, out-Node, roll-Node, roll-out-Node}
 use Rattle.ast.specs.declared.tree.Node.TheVariants as tree_node
@@ -120,7 +120,7 @@ not_event n m (inr (e, is)) = by_trees _ _ _ _ false (advance_of n e is) refl ((
 
 -- a node of a range, told by what it stands for
 abbrev Told : Node → tree.Node → Type 0
-Told m (tree.plain s) = (x : Stmt) × (m ≡ tree_node.Plain x)
+Told m (tree.plain s) = (x : PlainStatement) × (m ≡ tree_node.Plain x)
 Told m (tree.loop l h b) = (k : ℕ) × (x : DoHead) × (y : Vec Node Global) × (m ≡ tree_node.Loop k x y)
 Told m (tree.choose a) = (x : Vec Arm Global) × (m ≡ tree_node.Choice x)
 
@@ -136,10 +136,10 @@ told_of : (m : Node) (t : tree.Node) → node_of m ≡ t → Told m t
 told_of m t is = subst (λ z. Told m z) is (told_by m (out-Node m) (sym (roll-out-Node m)))
 
 -- a node that isn't of the kind of the plan's statement
-pub no_plain : (n : PlanStmt) (m : Node) (s : Stmt) → n ≡ Plain s → ((x : Stmt) → m ≡ tree_node.Plain x → ⊥) → Decides false (IsNode (plan_node n) (node_of m))
+pub no_plain : (n : PlanStmt) (m : Node) (s : PlainStatement) → n ≡ Plain s → ((x : PlainStatement) → m ≡ tree_node.Plain x → ⊥) → Decides false (IsNode (plan_node n) (node_of m))
 no_plain n m s is other = by_trees _ _ _ _ false (plain_of n s is) refl (
   (λ h. cc),
-  (λ h. let o = told_of m (tree.plain (statement s)) (sym (one_node _ _ _ _ h)) in absurd (other o.0 o.1)),
+  (λ h. let o = told_of m (tree.plain (plain_statement s)) (sym (one_node _ _ _ _ h)) in absurd (other o.0 o.1)),
 )
 
 pub no_loop : (n : PlanStmt) (m : Node) (l : ℕ) (x : DoHead) (b : Vec PlanStmt Global) → n ≡ Loop l x b → ((k : ℕ) (y : DoHead) (c : Vec Node Global) → m ≡ tree_node.Loop k y c → ⊥) → Decides false (IsNode (plan_node n) (node_of m))
@@ -156,7 +156,7 @@ no_choice n m cs made is other =
       (λ h. let o = told_of m (tree.choose (stripped_arms (arms (map arm_view cs.items) choice.0))) (sym (one_node _ _ _ _ h)) in absurd (other o.0 o.1)),
     )
 
-pub same_plain : (n : PlanStmt) (m : Node) (s o : Stmt) (b : Bool) → n ≡ Plain s → m ≡ tree_node.Plain o → Decides b (statement s ≡ statement o) → Decides b (IsNode (plan_node n) (node_of m))
+pub same_plain : (n : PlanStmt) (m : Node) (s o : PlainStatement) (b : Bool) → n ≡ Plain s → m ≡ tree_node.Plain o → Decides b (plain_statement s ≡ plain_statement o) → Decides b (IsNode (plan_node n) (node_of m))
 same_plain n m s o b e f d =
     by_trees _ _ _ _ b (plain_of n s e) (node_plain m o f) (
       (λ h. ap (λ (x : tree.Statement). tree.then_node (tree.plain x) tree.no_nodes) (d.0 h)),

@@ -23,7 +23,6 @@ pub mod Reading
 pub mod Rows
 pub mod Sound
 pub mod Stripped
-pub mod Telling
 pub mod Tested
 pub mod Tokens
 pub mod Turning

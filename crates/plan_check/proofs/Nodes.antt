@@ -4,9 +4,9 @@ use Rattle.std.specs.Prelude.{OnOk}
 use Rattle.std.proofs.lemmas.List.{drop_all, drop_more}
 use Rattle.std.proofs.lemmas.Result.{on_ok_weaker}
 use Rattle.ast.specs.Tree.{Term}
-use Rattle.ast.specs.View.{head, statement}
+use Rattle.ast.specs.View.{head, plain_statement}
 use Rattle.ast.specs.declared.statement.DoHead.{DoHead}
-use Rattle.ast.specs.declared.statement.Stmt.{Stmt}
+use Rattle.ast.specs.declared.plain.PlainStatement.{PlainStatement}
 use Rattle.dependence.specs.Plan.{PlanNode, PlanBlock, PlanArms, awaits, advances, plain, loop, choose, no_arms, made_else, then_arm}
 use Rattle.dependence.specs.PlanView.{ArmOf, arm_step, arm_view, arms, node_step, plan_block, plan_node}
 use Rattle.dependence.specs.declared.plan.PlanArm.{PlanArm}
@@ -20,7 +20,7 @@ await_of n e d is = ap plan_node is ∙ ap plan_node (sym (rolls-Await e d)) ∙
 pub advance_of : (n : PlanStmt) (e : ℕ) → n ≡ Advance e → plan_node n ≡ advances e
 advance_of n e is = ap plan_node is ∙ ap plan_node (sym (rolls-Advance e)) ∙ fold-roll-PlanStmt PlanNode ArmOf node_step arm_step (PlanStmt-F.Advance e)
 
-pub plain_of : (n : PlanStmt) (s : Stmt) → n ≡ Plain s → plan_node n ≡ plain (statement s)
+pub plain_of : (n : PlanStmt) (s : PlainStatement) → n ≡ Plain s → plan_node n ≡ plain (plain_statement s)
 plain_of n s is = ap plan_node is ∙ ap plan_node (sym (rolls-Plain s)) ∙ fold-roll-PlanStmt PlanNode ArmOf node_step arm_step (PlanStmt-F.Plain s)
 
 pub loop_of : (n : PlanStmt) (l : ℕ) (h : DoHead) (b : Vec PlanStmt Global) (ns : List PlanStmt) → n ≡ Loop l h b → ns ≡ b.items → plan_node n ≡ loop l (head h) (plan_block ns)

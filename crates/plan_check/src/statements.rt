@@ -3,13 +3,16 @@
 ghost use Rattle.std.specs.Prelude.{◌≡◌, map};
 ghost use Rattle.std.specs.Bool.{Decides};
 ghost use Rattle.ast.specs.Tree as tree;
-ghost use Rattle.ast.specs.View.{access, bounds, declarator, definition, head as head_of};
-ghost use Rattle.ast.specs.View.{item as item_of, kind as kind_of, statement as statement_of, term};
+ghost use Rattle.ast.specs.View.{access, action as action_of, bounds, declarator, definition};
+ghost use Rattle.ast.specs.View.{head as head_of, inert as inert_of, item as item_of};
+ghost use Rattle.ast.specs.View.{plain_statement as statement_of, term};
 
 use crate::expressions::{
     is_same_access, is_same_expression, is_same_name, is_same_optional, is_same_reference,
 };
-use ast::{Access, Bounds, Declarator, Definition, DoHead, Expr, Item, Kind, Name, Stmt};
+use ast::{
+    Access, Action, Bounds, Declarator, Definition, DoHead, Expr, Inert, Item, Name, PlainStatement,
+};
 
 fn is_same_text(a: &[u8], b: &[u8]) -> bool
     ensures { Decides result (a.now ≡ b.now) }
@@ -131,144 +134,127 @@ pub fn is_same_head(a: &DoHead, b: &DoHead) -> bool
         && is_same_optional(&a.step, &b.step)
 }
 
-fn is_assignment(kind: &Kind, target: &Access, value: &Expr) -> bool
-    ensures { Decides result (tree.assign (access target.now) (term value.now) ≡ kind_of kind.now) }
+fn is_assignment(action: &Action, target: &Access, value: &Expr) -> bool
+    ensures { Decides result (tree.assign (access target.now) (term value.now)
+        ≡ action_of action.now) }
 {
-    match kind {
-        Kind::Assign(other, other_value) => {
+    match action {
+        Action::Assign(other, other_value) => {
             is_same_access(target, other) && is_same_expression(value, other_value)
         }
-        _ => false,
+        Action::Print(_) | Action::Read(_) | Action::Stop | Action::Inert(_) => false,
     }
 }
 
-fn is_program(kind: &Kind, name: Name) -> bool
-    ensures { Decides result (tree.program name.letters ≡ kind_of kind.now) }
+fn is_program(inert: &Inert, name: Name) -> bool
+    ensures { Decides result (tree.program name.letters ≡ inert_of inert.now) }
 {
-    match kind {
-        Kind::Program(other) => is_same_name(name, *other),
-        _ => false,
+    match inert {
+        Inert::Program(other) => is_same_name(name, *other),
+        Inert::Integer(_)
+        | Inert::Dimension(_)
+        | Inert::Parameter(_)
+        | Inert::Continue
+        | Inert::End => false,
     }
 }
 
-fn is_integer(kind: &Kind, declarators: &[Declarator]) -> bool
-    ensures { Decides result (tree.integer (map declarator declarators.now) ≡ kind_of kind.now) }
+fn is_integer(inert: &Inert, declarators: &[Declarator]) -> bool
+    ensures { Decides result (tree.integer (map declarator declarators.now) ≡ inert_of inert.now) }
 {
-    match kind {
-        Kind::Integer(other) => are_same_declarators(declarators, other),
-        _ => false,
+    match inert {
+        Inert::Integer(other) => are_same_declarators(declarators, other),
+        Inert::Program(_)
+        | Inert::Dimension(_)
+        | Inert::Parameter(_)
+        | Inert::Continue
+        | Inert::End => false,
     }
 }
 
-fn is_dimension(kind: &Kind, declarators: &[Declarator]) -> bool
-    ensures { Decides result (tree.dimension (map declarator declarators.now) ≡ kind_of kind.now) }
+fn is_dimension(inert: &Inert, declarators: &[Declarator]) -> bool
+    ensures { Decides result (tree.dimension (map declarator declarators.now)
+        ≡ inert_of inert.now) }
 {
-    match kind {
-        Kind::Dimension(other) => are_same_declarators(declarators, other),
-        _ => false,
+    match inert {
+        Inert::Dimension(other) => are_same_declarators(declarators, other),
+        Inert::Program(_)
+        | Inert::Integer(_)
+        | Inert::Parameter(_)
+        | Inert::Continue
+        | Inert::End => false,
     }
 }
 
-fn is_parameter(kind: &Kind, definitions: &[Definition]) -> bool
-    ensures { Decides result (tree.parameters (map definition definitions.now) ≡ kind_of kind.now) }
+fn is_parameter(inert: &Inert, definitions: &[Definition]) -> bool
+    ensures { Decides result (tree.parameters (map definition definitions.now)
+        ≡ inert_of inert.now) }
 {
-    match kind {
-        Kind::Parameter(other) => are_same_definitions(definitions, other),
-        _ => false,
+    match inert {
+        Inert::Parameter(other) => are_same_definitions(definitions, other),
+        Inert::Program(_)
+        | Inert::Integer(_)
+        | Inert::Dimension(_)
+        | Inert::Continue
+        | Inert::End => false,
     }
 }
 
-fn is_do(kind: &Kind, head: &DoHead) -> bool
-    ensures { Decides result (tree.do_loop (head_of head.now) ≡ kind_of kind.now) }
+fn is_print(action: &Action, items: &[Item]) -> bool
+    ensures { Decides result (tree.print (map item_of items.now) ≡ action_of action.now) }
 {
-    match kind {
-        Kind::Do(other) => is_same_head(head, other),
-        _ => false,
+    match action {
+        Action::Print(other) => are_same_items(items, other),
+        Action::Assign(_, _) | Action::Read(_) | Action::Stop | Action::Inert(_) => false,
     }
 }
 
-fn is_if(kind: &Kind, condition: &Expr) -> bool
-    ensures { Decides result (tree.block_if (term condition.now) ≡ kind_of kind.now) }
+fn is_read(action: &Action, elements: &[Access]) -> bool
+    ensures { Decides result (tree.read (map access elements.now) ≡ action_of action.now) }
 {
-    match kind {
-        Kind::If(other) => is_same_expression(condition, other),
-        _ => false,
+    match action {
+        Action::Read(other) => are_same_targets(elements, other),
+        Action::Assign(_, _) | Action::Print(_) | Action::Stop | Action::Inert(_) => false,
     }
 }
 
-fn is_else_if(kind: &Kind, condition: &Expr) -> bool
-    ensures { Decides result (tree.else_if (term condition.now) ≡ kind_of kind.now) }
-{
-    match kind {
-        Kind::ElseIf(other) => is_same_expression(condition, other),
-        _ => false,
-    }
-}
-
-fn is_print(kind: &Kind, items: &[Item]) -> bool
-    ensures { Decides result (tree.print (map item_of items.now) ≡ kind_of kind.now) }
-{
-    match kind {
-        Kind::Print(other) => are_same_items(items, other),
-        _ => false,
-    }
-}
-
-fn is_read(kind: &Kind, elements: &[Access]) -> bool
-    ensures { Decides result (tree.read (map access elements.now) ≡ kind_of kind.now) }
-{
-    match kind {
-        Kind::Read(other) => are_same_targets(elements, other),
-        _ => false,
-    }
-}
-
-fn is_same_kind(a: &Kind, b: &Kind) -> bool
-    ensures { Decides result (kind_of a.now ≡ kind_of b.now) }
+fn is_same_inert(a: &Inert, b: &Inert) -> bool
+    ensures { Decides result (inert_of a.now ≡ inert_of b.now) }
 {
     match a {
-        Kind::Assign(target, value) => is_assignment(b, target, value),
-        Kind::Program(name) => is_program(b, *name),
-        Kind::Integer(declarators) => is_integer(b, declarators),
-        Kind::Dimension(declarators) => is_dimension(b, declarators),
-        Kind::Parameter(definitions) => is_parameter(b, definitions),
-        Kind::Do(head) => is_do(b, head),
-        Kind::If(condition) => is_if(b, condition),
-        Kind::ElseIf(condition) => is_else_if(b, condition),
-        Kind::Print(items) => is_print(b, items),
-        Kind::Read(elements) => is_read(b, elements),
-        Kind::LogicalIf(condition, inner) => match b {
-            Kind::LogicalIf(other, other_inner) => {
-                is_same_expression(condition, other) && is_same_kind(inner, other_inner)
-            }
-            _ => false,
-        },
-        Kind::Continue => match b {
-            Kind::Continue => true,
-            _ => false,
-        },
-        Kind::Else => match b {
-            Kind::Else => true,
-            _ => false,
-        },
-        Kind::EndIf => match b {
-            Kind::EndIf => true,
-            _ => false,
-        },
-        Kind::Stop => match b {
-            Kind::Stop => true,
-            _ => false,
-        },
-        Kind::End => match b {
-            Kind::End => true,
-            _ => false,
-        },
+        Inert::Program(name) => is_program(b, *name),
+        Inert::Integer(declarators) => is_integer(b, declarators),
+        Inert::Dimension(declarators) => is_dimension(b, declarators),
+        Inert::Parameter(definitions) => is_parameter(b, definitions),
+        Inert::Continue => matches!(b, Inert::Continue),
+        Inert::End => matches!(b, Inert::End),
+    }
+}
+
+fn is_inert(action: &Action, inert: &Inert) -> bool
+    ensures { Decides result (inert_of inert.now ≡ action_of action.now) }
+{
+    match action {
+        Action::Inert(other) => is_same_inert(inert, other),
+        Action::Assign(_, _) | Action::Print(_) | Action::Read(_) | Action::Stop => false,
+    }
+}
+
+fn is_same_action(a: &Action, b: &Action) -> bool
+    ensures { Decides result (action_of a.now ≡ action_of b.now) }
+{
+    match a {
+        Action::Assign(target, value) => is_assignment(b, target, value),
+        Action::Print(items) => is_print(b, items),
+        Action::Read(elements) => is_read(b, elements),
+        Action::Stop => matches!(b, Action::Stop),
+        Action::Inert(inert) => is_inert(b, inert),
     }
 }
 
 /// Whether two statements are equal, their lines and labels included.
-pub fn is_same_statement(a: &Stmt, b: &Stmt) -> bool
+pub fn is_same_statement(a: &PlainStatement, b: &PlainStatement) -> bool
     ensures { Decides result (statement_of a.now ≡ statement_of b.now) }
 {
-    a.line == b.line && a.label == b.label && is_same_kind(&a.kind, &b.kind)
+    a.line == b.line && a.label == b.label && is_same_action(&a.action, &b.action)
 }

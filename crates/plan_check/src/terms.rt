@@ -2,15 +2,15 @@
 
 ghost use Rattle.std.specs.Prelude.{◌≡◌, OnOk, map};
 ghost use Rattle.ast.specs.Tree.{accessed, terms};
-ghost use Rattle.ast.specs.View.{access as access_of, head as head_of, item as item_of};
-ghost use Rattle.ast.specs.View.{kind as kind_of, letters, optional_term, term};
+ghost use Rattle.ast.specs.View.{access as access_of, action as action_of, head as head_of};
+ghost use Rattle.ast.specs.View.{item as item_of, letters, optional_term, term};
 ghost use Rattle.plan_check.specs.KnownView.{known as known_of};
 ghost use Rattle.plan_check.specs.SeenView.{seen as seen_of};
 ghost use Rattle.plan_check.specs.Walking as spec;
 
 use crate::known::Known;
 use crate::seen::{Seen, note_definition, note_use};
-use ast::{Access, DoHead, Expr, Item, Kind, Name};
+use ast::{Access, Action, DoHead, Expr, Item, Name};
 use std::alloc::{AllocError, Global};
 
 /// Notes the references of expressions, one after another.
@@ -149,39 +149,27 @@ pub fn pass_kind(
     known: &mut Known,
     seen: &mut Seen,
     privates: &[Name],
-    kind: &Kind,
+    action: &Action,
 ) -> Result<(), AllocError>
     ensures seen { OnOk result (seen_of seen.new
-        ≡ spec.seen_kind (map letters privates.now) (kind_of kind.now) (known_of known.old)
+        ≡ spec.seen_kind (map letters privates.now) (action_of action.now) (known_of known.old)
         (seen_of seen.old)) }
     ensures known { OnOk result (known_of known.new
-        ≡ spec.known_kind (map letters privates.now) (kind_of kind.now) (known_of known.old)) }
+        ≡ spec.known_kind (map letters privates.now) (action_of action.now) (known_of known.old)) }
 {
-    match kind {
-        Kind::Assign(target, value) => {
+    match action {
+        Action::Assign(target, value) => {
             pass_term(alloc, seen, privates, value, known)?;
             pass_target(alloc, seen, privates, target, known)?;
             known.define(target.reference.cell);
             Ok(())
         }
-        Kind::Print(items) => pass_items(alloc, seen, privates, items, known),
-        Kind::Stop => {
+        Action::Print(items) => pass_items(alloc, seen, privates, items, known),
+        Action::Stop => {
             known.end();
             Ok(())
         }
-        Kind::Read(_)
-        | Kind::Program(_)
-        | Kind::Integer(_)
-        | Kind::Dimension(_)
-        | Kind::Parameter(_)
-        | Kind::Do(_)
-        | Kind::Continue
-        | Kind::If(_)
-        | Kind::ElseIf(_)
-        | Kind::Else
-        | Kind::EndIf
-        | Kind::LogicalIf(_, _)
-        | Kind::End => Ok(()),
+        Action::Read(_) | Action::Inert(_) => Ok(()),
     }
 }
 

@@ -104,7 +104,7 @@ fn pass_node(
             known.advance_event(*event);
             Ok(())
         }
-        PlanStmt::Plain(statement) => pass_kind(alloc, known, seen, privates, &statement.kind),
+        PlanStmt::Plain(statement) => pass_kind(alloc, known, seen, privates, &statement.action),
         PlanStmt::Loop(_, head, range) => pass_loop(alloc, known, seen, privates, head, range),
         PlanStmt::Choice(arms, made) => {
             let mut ended = known.try_copy(alloc)?;

@@ -4,9 +4,9 @@ use Rattle.std.specs.Prelude.{OnOk}
 use Rattle.std.proofs.lemmas.List.{drop_all, drop_more}
 use Rattle.ast.specs.Tree as tree
 use Rattle.ast.specs.Tree.{Arms, Block, Term, arms as arms_of, then_arm}
-use Rattle.ast.specs.View.{arm as arm_of, block_view, node as node_of, optional_term, statement, term}
+use Rattle.ast.specs.View.{arm as arm_of, block_view, node as node_of, optional_term, plain_statement, term}
 use Rattle.ast.specs.declared.expression.Expr.{Expr}
-use Rattle.ast.specs.declared.statement.Stmt.{Stmt}
+use Rattle.ast.specs.declared.plain.PlainStatement.{PlainStatement}
 use Rattle.ast.specs.declared.tree.Arm.{Arm}
 use Rattle.ast.specs.declared.tree.Node.{Node}
 use Rattle.ast.specs.declared.tree.Node.TheVariants.{Plain}
@@ -18,7 +18,7 @@ use Rattle.privatise.specs.declared.walk.Walk.{Walk}
 pub of_tree : {X E : Type 0} (r : Result X E) (new old : List Walk) (t u : tree.Node) → t ≡ u → OnOk r (new ≡ after_node u old) → OnOk r (new ≡ after_node t old)
 of_tree r new old t u is h = subst (λ (x : tree.Node). OnOk r (new ≡ after_node x old)) (sym is) h
 
-pub plain_passed : (n : Node) (s : Stmt) (old new : List Walk) → n ≡ Plain s → new ≡ after_kind (statement s).kind old → new ≡ after_node (node_of n) old
+pub plain_passed : (n : Node) (s : PlainStatement) (old new : List Walk) → n ≡ Plain s → new ≡ after_kind (plain_statement s).kind old → new ≡ after_node (node_of n) old
 plain_passed n s old new is done = done ∙ ap (λ (t : tree.Node). after_node t old) (sym (plain_of n s is))
 
 -- a loop's range may be left out

@@ -66,7 +66,7 @@ fn pass_node(alloc: Global, walks: &mut [Walk], node: &Node) -> Result<(), Alloc
 {
     match node {
         Node::Plain(statement) => {
-            pass_kind(walks, &statement.kind);
+            pass_kind(walks, &statement.action);
             Ok(())
         }
         Node::Loop(_, head, range) => pass_loop(alloc, walks, head, range),

@@ -2,13 +2,13 @@
 
 ghost use Rattle.std.specs.Prelude.{◌≡◌, map};
 ghost use Rattle.ast.specs.Tree.{accessed, terms};
-ghost use Rattle.ast.specs.View.{access as access_of, head as head_of, item as item_of};
-ghost use Rattle.ast.specs.View.{kind as kind_of, optional_term, term};
+ghost use Rattle.ast.specs.View.{access as access_of, action as action_of, head as head_of};
+ghost use Rattle.ast.specs.View.{item as item_of, optional_term, term};
 ghost use Rattle.privatise.specs.Flow as spec;
 
 use crate::cells::{go_on, stop};
 use crate::walk::Walk;
-use ast::{Access, DoHead, Expr, Item, Kind};
+use ast::{Access, Action, DoHead, Expr, Item};
 
 #[cycle(terms)]
 fn pass_terms(walks: &mut [Walk], expressions: &[Expr])
@@ -88,29 +88,18 @@ fn pass_targets(walks: &mut [Walk], targets: &[Access])
 }
 
 /// A statement that holds no others. No path goes on after a STOP.
-pub fn pass_kind(walks: &mut [Walk], kind: &Kind)
-    ensures { walks.new ≡ spec.after_kind (kind_of kind.now) walks.old }
+pub fn pass_kind(walks: &mut [Walk], action: &Action)
+    ensures { walks.new ≡ spec.after_kind (action_of action.now) walks.old }
 {
-    match kind {
-        Kind::Assign(target, value) => {
+    match action {
+        Action::Assign(target, value) => {
             pass_term(walks, value);
             pass_target(walks, target);
         }
-        Kind::Print(items) => pass_items(walks, items),
-        Kind::Read(targets) => pass_targets(walks, targets),
-        Kind::Stop => stop(walks),
-        Kind::Program(_)
-        | Kind::Integer(_)
-        | Kind::Dimension(_)
-        | Kind::Parameter(_)
-        | Kind::Do(_)
-        | Kind::Continue
-        | Kind::If(_)
-        | Kind::ElseIf(_)
-        | Kind::Else
-        | Kind::EndIf
-        | Kind::LogicalIf(_, _)
-        | Kind::End => {}
+        Action::Print(items) => pass_items(walks, items),
+        Action::Read(targets) => pass_targets(walks, targets),
+        Action::Stop => stop(walks),
+        Action::Inert(_) => {}
     }
 }
 

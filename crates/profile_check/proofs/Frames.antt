@@ -56,26 +56,31 @@ in-block (in_block done line c before ∷ frames) h = tt
 misplaced : (opened : List Open) (s : Statement) → breaks_blocks opened s ≡ false → is_misplaced_arm s.kind opened ≡ false
 misplaced opened s h = (or_parts (is_misplaced_arm s.kind opened) (by_label (λ label around. is_around is_block label around) opened s || holds_wrong_statement s.kind) h).0
 
-may-stand : (k : Kind) (frames : List Frame) → is_misplaced_arm k (shapes frames) ≡ false → MayStand k frames
-may-stand (else_if c) frames h = in-block-arm frames (is-not (begins_with may_go_on (shapes frames)) h)
-may-stand else_arm frames h = in-block-arm frames (is-not (begins_with may_go_on (shapes frames)) h)
-may-stand end_if frames h = in-block frames (is-not (begins_with is_block (shapes frames)) h)
-may-stand (do_loop d) frames h = tt
-may-stand (block_if c) frames h = tt
-may-stand (logical_if c k) frames h = tt
-may-stand (program x) frames h = tt
-may-stand (integer ds) frames h = tt
-may-stand (dimension ds) frames h = tt
-may-stand (parameters ds) frames h = tt
-may-stand (assign a v) frames h = tt
-may-stand go_on frames h = tt
-may-stand (print items) frames h = tt
-may-stand (read elements) frames h = tt
-may-stand stop frames h = tt
-may-stand end frames h = tt
+pub held : (opened : List Open) (s : Statement) → breaks_blocks opened s ≡ false → holds_wrong_statement s.kind ≡ false
+held opened s h =
+    let inside = by_label (λ label around. is_around is_block label around) opened s in
+    (or_parts inside (holds_wrong_statement s.kind) (or_parts (is_misplaced_arm s.kind opened) (inside || holds_wrong_statement s.kind) h).1).1
+
+may-stand : (k : Kind) (frames : List Frame) → is_misplaced_arm k (shapes frames) ≡ false → holds_wrong_statement k ≡ false → MayStand k frames
+may-stand (else_if c) frames h w = in-block-arm frames (is-not (begins_with may_go_on (shapes frames)) h)
+may-stand else_arm frames h w = in-block-arm frames (is-not (begins_with may_go_on (shapes frames)) h)
+may-stand end_if frames h w = in-block frames (is-not (begins_with is_block (shapes frames)) h)
+may-stand (do_loop d) frames h w = tt
+may-stand (block_if c) frames h w = tt
+may-stand (logical_if c k) frames h w = w
+may-stand (program x) frames h w = tt
+may-stand (integer ds) frames h w = tt
+may-stand (dimension ds) frames h w = tt
+may-stand (parameters ds) frames h w = tt
+may-stand (assign a v) frames h w = tt
+may-stand go_on frames h w = tt
+may-stand (print items) frames h w = tt
+may-stand (read elements) frames h w = tt
+may-stand stop frames h w = tt
+may-stand end frames h w = tt
 
 pub may_stand : (frames : List Frame) (s : Statement) → Kept (shapes frames) s → MayStand s.kind frames
-may_stand frames s k = may-stand s.kind frames (misplaced (shapes frames) s k.blocks)
+may_stand frames s k = may-stand s.kind frames (misplaced (shapes frames) s k.blocks) (held (shapes frames) s k.blocks)
 
 -- ---- what is open after one more statement
 

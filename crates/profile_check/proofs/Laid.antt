@@ -1,9 +1,11 @@
 -- What is nested statement by statement lays out as the statements stand.
-use Rattle.std.proofs.Common.{◌≡◌, ◌∙◌, ℕ, Bool, true, false, List, [], ◌∷◌, ◌++◌, refl, ap, sym, subst, Option, Some, None, append_assoc, inl, inr}
+use Rattle.std.proofs.Common.{◌≡◌, ◌∙◌, ℕ, Bool, true, false, not, List, [], ◌∷◌, ◌++◌, refl, ap, sym, subst, Option, Some, None, append_assoc, inl, inr}
 use Rattle.std.specs.Prelude.{◌==◌, if◌then◌else◌, ⊤}
 use Rattle.std.proofs.lemmas.Bool.{eqb-true}
 use Rattle.std.proofs.lemmas.List.{append-nil}
+use Rattle.ast.specs.Alone.{alone}
 use Rattle.ast.specs.Tree.{Term, Statement, Kind, DoHead, do_loop, block_if, else_if, else_arm, end_if, logical_if, program, integer, dimension, parameters, assign, go_on, print, read, stop, end, Node, plain, loop, choose, block, Arm, arms, then_arm}
+use Rattle.structure.specs.Rules.{may_stand_in_if}
 use Rattle.profile_check.specs.Layout.{stands_alone, EndsWith, arm_head, Lays, LaysNode, LaysIf, LaysArms}
 use Rattle.profile_check.specs.Nesting.{Frame, in_range, in_block, Nest, nest, arm_of, next_arm, end_block, end_ranges, ended, own_node, with_kind}
 
@@ -156,8 +158,18 @@ one-statement s k e = ap (λ (x : Statement). x ∷ []) (as-fields s k e)
 own-plain : (s : Statement) (k : Kind) → s.kind ≡ k → stands_alone k ≡ true → LaysNode (plain (record { line = s.line; label = s.label; kind = k })) (s ∷ [])
 own-plain s k e h = (one-statement s k e, h)
 
-own-logical : (s : Statement) (c : Term) (k : Kind) → s.kind ≡ logical_if c k → LaysNode (own_node s (logical_if c k)) (s ∷ [])
-own-logical s c k e = inr (s.label, one-statement s (logical_if c k) e, refl, refl)
+-- what may stand in a logical IF may stand alone
+pub may-be-alone : (k : Kind) → not (may_stand_in_if k) ≡ false → alone k ≡ k
+may-be-alone (do_loop h) w = absurd cc
+may-be-alone (block_if c) w = absurd cc
+may-be-alone (else_if c) w = absurd cc
+may-be-alone else_arm w = absurd cc
+may-be-alone end_if w = absurd cc
+may-be-alone (logical_if c k) w = absurd cc
+may-be-alone k w = refl
+
+own-logical : (s : Statement) (c : Term) (k : Kind) → s.kind ≡ logical_if c k → alone k ≡ k → LaysNode (own_node s (logical_if c k)) (s ∷ [])
+own-logical s c k e same = inr (s.label, one-statement s (logical_if c (alone k)) (e ∙ ap (λ (x : Kind). logical_if c x) (sym same)), refl, refl)
 
 ended-lays : (label : Option ℕ) (frames : List Frame) (ns : List Node) (n : Node) (ss : List Statement) (s : Statement) → s.label ≡ label
     → LaysNest frames ns ss → LaysNode n (s ∷ []) → LaysNest (ended label frames (ns ++ n ∷ [])).frames (ended label frames (ns ++ n ∷ [])).nodes (ss ++ s ∷ [])
@@ -195,11 +207,12 @@ block-lays (in_block done line k before ∷ frames) ns ss s e b h =
     subst (λ (zs : List Statement). LaysNest frames (before ++ choose (arms (done ++ arm_of line k ns ∷ [])) ∷ []) zs) q
     (add frames before (choose (arms (done ++ arm_of line k ns ∷ []))) h.0 x h.4 (inl (if-end done line k ns h.1 h.2 s.line s.label h.5 h.6)))
 
--- what a part of an IF block needs
+-- what a part of an IF block needs, and what a logical IF
 abbrev pub MayStand : Kind → List Frame → Type 0
 MayStand (else_if c) frames = IsInBlock frames
 MayStand else_arm frames = IsInBlock frames
 MayStand end_if frames = IsInBlock frames
+MayStand (logical_if c k) frames = not (may_stand_in_if k) ≡ false
 MayStand _ frames = ⊤
 
 range-lays : (n : Nest) (ss : List Statement) (s : Statement) (h : DoHead) → s.kind ≡ do_loop h → LaysNest n.frames n.nodes ss → LaysNest (in_range s.line h n.nodes ∷ n.frames) [] (ss ++ s ∷ [])
@@ -215,7 +228,7 @@ kind-lays n ss s (block_if c) e m l = if-lays n ss s c e l
 kind-lays n ss s (else_if c) e m l = next-lays n.frames n.nodes ss s (Some c) e m l
 kind-lays n ss s else_arm e m l = next-lays n.frames n.nodes ss s None e m l
 kind-lays n ss s end_if e m l = block-lays n.frames n.nodes ss s e m l
-kind-lays n ss s (logical_if c k) e m l = ended-lays s.label n.frames n.nodes (own_node s (logical_if c k)) ss s refl l (own-logical s c k e)
+kind-lays n ss s (logical_if c k) e m l = ended-lays s.label n.frames n.nodes (own_node s (logical_if c k)) ss s refl l (own-logical s c k e (may-be-alone k m))
 kind-lays n ss s (program x) e m l = ended-lays s.label n.frames n.nodes (own_node s (program x)) ss s refl l (own-plain s (program x) e refl)
 kind-lays n ss s (integer ds) e m l = ended-lays s.label n.frames n.nodes (own_node s (integer ds)) ss s refl l (own-plain s (integer ds) e refl)
 kind-lays n ss s (dimension ds) e m l = ended-lays s.label n.frames n.nodes (own_node s (dimension ds)) ss s refl l (own-plain s (dimension ds) e refl)

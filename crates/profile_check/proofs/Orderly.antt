@@ -4,6 +4,7 @@ use Rattle.std.specs.Prelude.{◌&&◌, ◌||◌, ◌==◌, if◌then◌else◌,
 use Rattle.std.specs.List.{list_any, list_all}
 use Rattle.std.proofs.lemmas.Bool.{or_parts, and_parts, and_from, not-true, or_from}
 use Rattle.std.proofs.lemmas.List.Folds.{list_any-append}
+use Rattle.ast.specs.Alone.{alone}
 use Rattle.ast.specs.Regular.{given_by, is_none_of, node_keeps, block_keeps, arms_keep, node_has_end, block_has_end, arms_have_end, holds_end, ends_outside}
 use Rattle.ast.specs.Stops.{is_end_kind}
 use Rattle.ast.specs.Store.{same_name}
@@ -12,6 +13,7 @@ use Rattle.ast.proofs.Lists.{all_joined}
 use Rattle.structure.specs.Open.{Open, open_after, is_active}
 use Rattle.structure.specs.Rules.{holds_wrong_statement, may_stand_in_if, checks, Keep}
 use Rattle.profile_check.proofs.Frames.{Kept, kept, shapes, all-ended}
+use Rattle.profile_check.proofs.Laid.{may-be-alone}
 use Rattle.profile_check.proofs.SameShape.{Nested, nested-one, kept-alike, alike, EndsInEnd}
 use Rattle.profile_check.specs.Nesting.{Frame, in_range, in_block, Nest, nest, arm_of, next_arm, end_block, end_ranges, ended, own_node, logical_node, with_kind, with_statement, nested_from, nested}
 use Rattle.profile_check.specs.Resolving.{Table, kind_resolved, accesses_resolved, statement_resolved, statements_resolved, statement_count, access_count, access_resolved}
@@ -129,14 +131,10 @@ own_given (do_loop h) = h.variable.name ∷ []
 own_given (logical_if c k) = given_by k
 own_given k = given_by k
 
-abbrev own_end : Kind → Bool
-own_end (logical_if c k) = is_end_kind k
-own_end k = false
-
 -- a statement that may follow
 record Follows (frames : List Frame) (k : Kind) : Type 0 where
   gives : list_all (is_none_of (variables frames)) (own_given k) ≡ true
-  inner : own_end k ≡ false
+  inner : holds_wrong_statement k ≡ false
   outside : (is_end_kind k ≡ false) ⊎ (frames ≡ [])
 
 a-statement : (frames : List Frame) (s : Statement) → list_all (is_none_of (variables frames)) (given_by s.kind) ≡ true → (is_end_kind s.kind ≡ false) ⊎ (frames ≡ []) → stands frames (plain s) ≡ true
@@ -144,7 +142,11 @@ a-statement [] s g o = and_from (list_all (is_none_of []) (given_by s.kind)) tru
 a-statement (f ∷ frames) s g (inl e) = and_from (list_all (is_none_of (variables (f ∷ frames))) (given_by s.kind)) _ g (ap not e)
 a-statement (f ∷ frames) s g (inr e) = absurd cc
 
-a-logical : (frames : List Frame) (line : ℕ) (c : Term) (k : Kind) → list_all (is_none_of (variables frames)) (given_by k) ≡ true → is_end_kind k ≡ false → stands frames (logical_node line c k) ≡ true
+no-end : (k : Kind) → not (may_stand_in_if k) ≡ false → is_end_kind k ≡ false
+no-end end h = absurd cc
+no-end k h = refl
+
+a-logical : (frames : List Frame) (line : ℕ) (c : Term) (k : Kind) → list_all (is_none_of (variables frames)) (given_by (alone k)) ≡ true → is_end_kind (alone k) ≡ false → stands frames (logical_node line c k) ≡ true
 a-logical [] line c k g e = and_from _ _ (and_from _ true (and_from _ true g refl) refl) (ap (λ (b : Bool). not ((b || false) || false)) e)
 a-logical (f ∷ frames) line c k g e = and_from _ _ (and_from _ true (and_from _ true g refl) refl) (ap (λ (b : Bool). not ((b || false) || false)) e)
 
@@ -154,7 +156,10 @@ kind-orderly n s (block_if c) f h = record { nodes = refl; around = (refl, h.nod
 kind-orderly n s (else_if c) f h = next-orderly s.line (Some c) n.frames n.nodes h
 kind-orderly n s else_arm f h = next-orderly s.line None n.frames n.nodes h
 kind-orderly n s end_if f h = end-orderly n.frames n.nodes h
-kind-orderly n s (logical_if c k) f h = ended-orderly s.label n.frames n.nodes (own_node s (logical_if c k)) h (a-logical n.frames s.line c k f.gives f.inner)
+kind-orderly n s (logical_if c k) f h =
+    let same = may-be-alone k f.inner in
+    let gives = ap (λ (x : Kind). list_all (is_none_of (variables n.frames)) (given_by x)) same ∙ f.gives in
+    ended-orderly s.label n.frames n.nodes (own_node s (logical_if c k)) h (a-logical n.frames s.line c k gives (ap is_end_kind same ∙ no-end k f.inner))
 kind-orderly n s (program x) f h = ended-orderly s.label n.frames n.nodes (own_node s (program x)) h (a-statement n.frames _ f.gives f.outside)
 kind-orderly n s (integer ds) f h = ended-orderly s.label n.frames n.nodes (own_node s (integer ds)) h (a-statement n.frames _ f.gives f.outside)
 kind-orderly n s (dimension ds) f h = ended-orderly s.label n.frames n.nodes (own_node s (dimension ds)) h (a-statement n.frames _ f.gives f.outside)
@@ -233,30 +238,6 @@ given-alike t n (logical_if e k) = inner-alike t _ k
 given-alike t n (print items) = refl
 given-alike t n k = refl
 
-end-alike : (t : Table) (n : ℕ) (k : Kind) → is_end_kind (kind_resolved t n k) ≡ is_end_kind k
-end-alike t n (assign a e) = refl
-end-alike t n (read es) = refl
-end-alike t n (do_loop h) = refl
-end-alike t n (block_if e) = refl
-end-alike t n (else_if e) = refl
-end-alike t n (logical_if e k) = refl
-end-alike t n (print items) = refl
-end-alike t n k = refl
-
-no-end : (k : Kind) → not (may_stand_in_if k) ≡ false → is_end_kind k ≡ false
-no-end end h = absurd cc
-no-end k h = refl
-
-inner-end : (t : Table) (n : ℕ) (k : Kind) → holds_wrong_statement k ≡ false → own_end (kind_resolved t n k) ≡ false
-inner-end t n (logical_if e k) h = end-alike t _ k ∙ no-end k h
-inner-end t n (assign a e) h = refl
-inner-end t n (read es) h = refl
-inner-end t n (do_loop d) h = refl
-inner-end t n (block_if e) h = refl
-inner-end t n (else_if e) h = refl
-inner-end t n (print items) h = refl
-inner-end t n k h = refl
-
 is-end : (k : Kind) → is_end_kind k ≡ true → k ≡ end
 is-end end h = refl
 is-end k h = absurd cc
@@ -274,7 +255,7 @@ follows t m frames opened s shaped q h =
     (λ i. list_any (λ (u : Use). u.is_given && a u.name i) (uses s.kind)) ∙ h.active in
     record {
       gives = subst (λ (xs : List (List ℕ)). list_all (is_none_of (variables frames)) xs ≡ true) (sym (given-alike t m s.kind)) (kind-given (λ x. list_any (same_name x) (variables frames)) s.kind none);
-      inner = inner-end t m s.kind h.alone;
+      inner = (alike t m s.kind).inner ∙ h.alone;
       outside = by (is_end_kind (kind_resolved t m s.kind)) refl;
     }
   where

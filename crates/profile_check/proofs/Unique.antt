@@ -12,9 +12,12 @@ use Rattle.ast.proofs.Lists.{not_empty}
 use Rattle.ast.proofs.Numbers.{equal_itself}
 use Rattle.profile_check.specs.Layout.{stands_alone, EndsWith, arm_head, Lays, LaysNode, LaysIf, LaysArms, LaysLogicalIf}
 use Rattle.profile_check.specs.Nesting.{Frame, in_range, in_block, Nest, nest, arm_of, begins_with_range_of, end_ranges, ended, with_kind, with_statement, nested_from}
+use Rattle.profile_check.proofs.Frames.{held, kept}
 use Rattle.profile_check.proofs.Fresh.{none-first}
+use Rattle.profile_check.proofs.Laid.{may-be-alone}
+use Rattle.ast.specs.Alone.{alone}
 use Rattle.structure.specs.Open.{Open, do_range, if_block, begun, after, open_from, open_after, ended as spec_ended}
-use Rattle.structure.specs.Rules.{is_out_of_order, is_end, is_range_of, is_some_and, has_label, is_label_again, crosses, ends_wrongly, breaks_blocks, may_not_end_a_range, checks, lowest_broken, Keep}
+use Rattle.structure.specs.Rules.{is_out_of_order, is_end, is_range_of, is_some_and, has_label, is_label_again, crosses, ends_wrongly, breaks_blocks, may_not_end_a_range, holds_wrong_statement, checks, lowest_broken, Keep}
 use Rattle.structure.specs.Spans.{is_end_if}
 
 -- ---- lists
@@ -37,6 +40,13 @@ split (z ∷ xs) x (f ∷ front) y back e =
 pub record Fine (u : List Statement) : Type 0 where
   pub distinct : (f g k : List Statement) (s t : Statement) (l : ℕ) → u ≡ f ++ s ∷ (g ++ t ∷ k) → s.label ≡ Some l → t.label ≡ Some l → ⊥
   pub ends : (f g k : List Statement) (d t : Statement) (h : DoHead) → u ≡ f ++ d ∷ (g ++ t ∷ k) → d.kind ≡ do_loop h → t.label ≡ Some h.terminal → is_end_if t.kind ≡ false
+  pub holds : (f k : List Statement) (s : Statement) → u ≡ f ++ s ∷ k → holds_wrong_statement s.kind ≡ false
+
+inside-one : (a b u f k : List Statement) (s : Statement) → u ≡ f ++ s ∷ k → a ++ (u ++ b) ≡ (a ++ f) ++ s ∷ (k ++ b)
+inside-one a b u f k s e =
+    ap (λ (xs : List Statement). a ++ (xs ++ b)) e
+    ∙ ap (λ (xs : List Statement). a ++ xs) (append_assoc f (s ∷ k) b)
+    ∙ sym (append_assoc a f (s ∷ (k ++ b)))
 
 inside : (a b u f g k : List Statement) (s t : Statement) → u ≡ f ++ s ∷ (g ++ t ∷ k) → a ++ (u ++ b) ≡ (a ++ f) ++ s ∷ (g ++ t ∷ (k ++ b))
 inside a b u f g k s t e =
@@ -48,6 +58,7 @@ fine-part : (a u b w : List Statement) → w ≡ a ++ (u ++ b) → Fine w → Fi
 fine-part a u b w q h = record {
   distinct = λ f g k s t l e. h.distinct (a ++ f) g (k ++ b) s t l (q ∙ inside a b u f g k s t e);
   ends = λ f g k d t head e. h.ends (a ++ f) g (k ++ b) d t head (q ∙ inside a b u f g k d t e);
+  holds = λ f k s e. h.holds (a ++ f) (k ++ b) s (q ∙ inside-one a b u f k s e);
 }
 
 fine-left : (u v w : List Statement) → w ≡ u ++ v → Fine w → Fine u
@@ -267,14 +278,15 @@ if-nests line label c b more x v u e body rest closed = λ frames ns.
     ∙ ap (λ (a : Arms). nest frames (ns ++ choose a ∷ [])) (arms-same (then_arm line (Some c) b more))
     ∙ ap (λ (l : Option ℕ). ended l frames (ns ++ choose (then_arm line (Some c) b more) ∷ [])) (sym ((closed-more head x v u e closed).3))
 
-logical-nests : (a : Arms) (u : List Statement) → LaysLogicalIf a u → NestsNode u (choose a)
-logical-nests (then_arm line (Some c) (then_node (plain s) no_nodes) no_arms) u h = λ frames ns.
+logical-nests : (a : Arms) (u : List Statement) → LaysLogicalIf a u → Fine u → NestsNode u (choose a)
+logical-nests (then_arm line (Some c) (then_node (plain s) no_nodes) no_arms) u h fine = λ frames ns.
     let whole : Statement = record { line = line; label = h.0; kind = logical_if c s.kind } in
-    let same : record { line = line; label = None; kind = s.kind } ≡ s = λ i. record { line = sym h.2 i; label = sym h.3 i; kind = s.kind } in
+    let only = may-be-alone s.kind (fine.holds [] [] whole h.1) in
+    let same : record { line = line; label = None; kind = alone s.kind } ≡ s = λ i. record { line = sym h.2 i; label = sym h.3 i; kind = only i } in
     ap (λ (xs : List Statement). nested_from (nest frames ns) xs) h.1
     ∙ ap (λ (t : Statement). ended h.0 frames (ns ++ choose (then_arm line (Some c) (then_node (plain t) no_nodes) no_arms) ∷ [])) same
     ∙ ap (λ (l : Option ℕ). ended l frames (ns ++ choose (then_arm line (Some c) (then_node (plain s) no_nodes) no_arms) ∷ [])) (sym (ap closing h.1))
-logical-nests _ u h = absurd h
+logical-nests _ u h fine = absurd h
 
 one-nests : (s : Statement) (u : List Statement) → u ≡ s ∷ [] → stands_alone s.kind ≡ true → NestsNode u (plain s)
 one-nests s u e h = λ frames ns.
@@ -296,7 +308,7 @@ mutual
       subst (λ (xs : List Statement). NestsNode xs (loop line d b)) (sym h.2)
       (loop-nests line h.0 d b h.1 (subst Fine h.2 fine) h.4 (block-nests b h.1 h.3 (fine-right (head ∷ []) h.1 u h.2 fine)))
   node-nests (choose a) u (inl h) fine = if-arms-nest a u h fine
-  node-nests (choose a) u (inr h) fine = logical-nests a u h
+  node-nests (choose a) u (inr h) fine = logical-nests a u h fine
 
   if-arms-nest : (a : Arms) (u : List Statement) → LaysIf a u → Fine u → NestsNode u (choose a)
   if-arms-nest no_arms u h fine = absurd h
@@ -408,7 +420,7 @@ not-end-if end_if h = absurd cc
 not-end-if _ h = refl
 
 pub fine-kept : (ss : List Statement) → Keep checks ss → Fine ss
-fine-kept ss keep = record { distinct = distinct; ends = ends }
+fine-kept ss keep = record { distinct = distinct; ends = ends; holds = λ f k s e. held (open_after f) s (kept f s (keep.each f s k e)).blocks }
   where
     known : (f g k : List Statement) (s t : Statement) → ss ≡ f ++ s ∷ (g ++ t ∷ k) → Unbroken (f ++ s ∷ g) t
     known f g k s t e = unbroken (f ++ s ∷ g) t (keep.each (f ++ s ∷ g) t k (e ∙ sym (append_assoc f (s ∷ g) (t ∷ k))))

@@ -1,6 +1,7 @@
 -- Nesting statement by statement: an account of the code, which the laws of proofs/ join to `Lays`.
 use Rattle.std.specs.Prelude.{ℕ, Bool, true, false, ◌==◌, if◌then◌else◌}
 use Rattle.std.specs.Prelude.{List, [], ◌∷◌, ◌++◌, Option, Some, None}
+use Rattle.ast.specs.Alone.{alone}
 use Rattle.ast.specs.Tree.{Term, Statement, Kind, DoHead, do_loop, block_if, else_if}
 use Rattle.ast.specs.Tree.{else_arm, end_if, logical_if, Node, plain, loop, choose}
 use Rattle.ast.specs.Tree.{no_nodes, then_node, block, Arm, arms, no_arms, then_arm}
@@ -56,15 +57,17 @@ abbrev pub ended : Option ℕ → List Frame → List Node → Nest
 ended None frames nodes = nest frames nodes
 ended (Some label) frames nodes = end_ranges label frames nodes
 
--- the node of a logical IF, and of a statement that holds no others
+-- the node of a statement that holds no others, and of a logical IF
+abbrev pub plain_node : ℕ → Option ℕ → Kind → Node
+plain_node line label k = plain (record { line = line; label = label; kind = alone k })
+
 abbrev pub logical_node : ℕ → Term → Kind → Node
 logical_node line c k =
-    choose (then_arm line (Some c)
-    (then_node (plain (record { line = line; label = None; kind = k })) no_nodes) no_arms)
+    choose (then_arm line (Some c) (then_node (plain_node line None k) no_nodes) no_arms)
 
 abbrev pub own_node : Statement → Kind → Node
 own_node s (logical_if c k) = logical_node s.line c k
-own_node s k = plain (record { line = s.line; label = s.label; kind = k })
+own_node s k = plain_node s.line s.label k
 
 -- one more statement
 abbrev pub with_kind : Nest → Statement → Kind → Nest

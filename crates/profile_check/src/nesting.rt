@@ -5,7 +5,7 @@ ghost use Rattle.ast.specs.View.{arm, kind as kind_of, node, optional_term, stat
 ghost use Rattle.profile_check.specs.Nesting as spec;
 ghost use Rattle.profile_check.specs.NestingView.{frame, nest_of};
 
-use ast::{Arm, DoHead, Expr, Kind, Label, Line, Node, Stmt};
+use ast::{Action, Arm, DoHead, Expr, Kind, Label, Line, Node, PlainStatement, Stmt};
 use std::alloc::{AllocError, Global};
 
 /// A structure that is open, with the nodes that stand before it.
@@ -151,16 +151,23 @@ fn end_ranges(nest: Nest, label: Label) -> Result<Nest, AllocError>
     }
 }
 
+/// The node of a statement that holds no others.
+fn plain_node(line: Line, label: Option<Label>, kind: Kind) -> Node
+    ensures { node result ≡ spec.plain_node line label (kind_of kind) }
+{
+    Node::Plain(PlainStatement {
+        line,
+        label,
+        action: Action::of(kind),
+    })
+}
+
 /// The node of a logical IF: a block with one arm.
 fn logical_if(alloc: Global, line: Line, condition: Expr, inner: Kind) -> Result<Node, AllocError>
     ensures { IfOk result (λ n. node n ≡ spec.logical_node line (term condition) (kind_of inner)) }
 {
     let mut body = Vec::new(alloc);
-    body.push(Node::Plain(Stmt {
-        line,
-        label: None,
-        kind: inner,
-    }))?;
+    body.push(plain_node(line, None, inner))?;
     let mut arms = Vec::new(alloc);
     arms.push(arm_of(line, Some(condition), body))?;
     Ok(Node::Choice(arms))
@@ -224,7 +231,7 @@ impl Nest {
             | Kind::Print(_)
             | Kind::Read(_)
             | Kind::Stop
-            | Kind::End) => with_labelled(self, label, Node::Plain(Stmt { line, label, kind })),
+            | Kind::End) => with_labelled(self, label, plain_node(line, label, kind)),
         }
     }
 

@@ -2,7 +2,7 @@
 
 use crate::course::{Amount, Stretch};
 use crate::fixed::is_one_place;
-use ast::{Arm, Kind, Line, Name, Node, RefId, Reference};
+use ast::{Action, Arm, Inert, Line, Name, Node, RefId, Reference};
 use codegen::LoopReport;
 use dependence::{Relation, Relations, Run};
 use explanations::append_number;
@@ -184,7 +184,10 @@ fn count_arms(arms: &[Arm]) -> usize {
 #[cycle(counted)]
 fn count_node(node: &Node) -> usize {
     match node {
-        Node::Plain(statement) => usize::from(!matches!(statement.kind, Kind::Continue)),
+        Node::Plain(statement) => usize::from(!matches!(
+            statement.action,
+            Action::Inert(Inert::Continue)
+        )),
         Node::Loop(_, _, range) => count_nodes(range).saturating_add(1),
         Node::Choice(arms) => count_arms(arms).saturating_add(1),
     }

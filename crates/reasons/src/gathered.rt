@@ -2,7 +2,7 @@
 
 use crate::fixed::{are_alike, are_fixed, are_same};
 use crate::spelled::append_reference;
-use ast::{Access, Arm, Expr, Intrinsic, Kind, Line, Name, Node, Operator, Stmt};
+use ast::{Access, Action, Arm, Expr, Intrinsic, Line, Name, Node, Operator, PlainStatement};
 use explanations::append_number;
 use loop_tree::LoopView;
 use std::alloc::{AllocError, Global};
@@ -121,9 +121,9 @@ fn gathers(
 fn add_statement<'p>(
     alloc: Global,
     found: &mut Vec<Gatherer<'p>>,
-    statement: &'p Stmt,
+    statement: &'p PlainStatement,
 ) -> Result<(), AllocError> {
-    let Kind::Assign(target, value) = &statement.kind else {
+    let Action::Assign(target, value) = &statement.action else {
         return Ok(());
     };
     match form_of(value) {
@@ -137,7 +137,7 @@ fn add_statement<'p>(
 /// Adds a statement that gathers this in its target.
 fn add<'p>(
     found: &mut Vec<Gatherer<'p>>,
-    statement: &Stmt,
+    statement: &PlainStatement,
     target: &'p Access,
     gathering: Gathering,
 ) -> Result<(), AllocError> {
@@ -193,9 +193,9 @@ fn add_chosen<'p>(
     alloc: Global,
     found: &mut Vec<Gatherer<'p>>,
     condition: &Expr,
-    statement: &'p Stmt,
+    statement: &'p PlainStatement,
 ) -> Result<(), AllocError> {
-    let Kind::Assign(target, value) = &statement.kind else {
+    let Action::Assign(target, value) = &statement.action else {
         return Ok(());
     };
     match chosen(alloc, condition, target, value)? {

@@ -1,7 +1,7 @@
 //! How a program uses its names.
 
 use ast::{
-    Access, Arm, Bounds, Declarator, DoHead, Expr, Item, Kind, Line, Name, Node, Program,
+    Access, Action, Arm, Bounds, Declarator, DoHead, Expr, Inert, Item, Line, Name, Node, Program,
     SymbolKind,
 };
 use std::alloc::{AllocError, Global};
@@ -64,7 +64,7 @@ impl Usage {
     fn see_nodes(&mut self, nodes: &[Node]) {
         for node in nodes {
             match node {
-                Node::Plain(statement) => self.see_kind(statement.line, &statement.kind),
+                Node::Plain(statement) => self.see_action(statement.line, &statement.action),
                 Node::Loop(line, head, range) => {
                     self.see_head(*line, head);
                     self.see_nodes(range);
@@ -93,36 +93,35 @@ impl Usage {
         self.give(head.variable.cell);
     }
 
-    #[cycle(kinds)]
-    fn see_kind(&mut self, line: Line, kind: &Kind) {
-        match kind {
-            Kind::Integer(declarators) | Kind::Dimension(declarators) => {
-                self.see_declarators(line, declarators)
-            }
-            Kind::Parameter(definitions) => {
-                for definition in definitions {
-                    self.see(line, &definition.value);
-                }
-            }
-            Kind::Assign(target, value) => {
+    fn see_action(&mut self, line: Line, action: &Action) {
+        match action {
+            Action::Assign(target, value) => {
                 self.see(line, value);
                 self.see_target(line, target);
                 self.assign(target.reference.cell, line);
             }
-            Kind::Do(head) => self.see_head(line, head),
-            Kind::If(condition) | Kind::ElseIf(condition) => self.see(line, condition),
-            Kind::LogicalIf(condition, inner) => {
-                self.see(line, condition);
-                self.see_kind(line, inner);
-            }
-            Kind::Print(items) => self.see_items(line, items),
-            Kind::Read(targets) => {
+            Action::Print(items) => self.see_items(line, items),
+            Action::Read(targets) => {
                 for target in targets {
                     self.see_target(line, target);
                 }
             }
-            Kind::Program(_) | Kind::Continue | Kind::Else | Kind::EndIf | Kind::Stop | Kind::End =>
-                {}
+            Action::Stop => {}
+            Action::Inert(inert) => self.see_inert(line, inert),
+        }
+    }
+
+    fn see_inert(&mut self, line: Line, inert: &Inert) {
+        match inert {
+            Inert::Integer(declarators) | Inert::Dimension(declarators) => {
+                self.see_declarators(line, declarators)
+            }
+            Inert::Parameter(definitions) => {
+                for definition in definitions {
+                    self.see(line, &definition.value);
+                }
+            }
+            Inert::Program(_) | Inert::Continue | Inert::End => {}
         }
     }
 

@@ -4,7 +4,7 @@ use crate::columns::{is_comment, is_cut, names_card, unread};
 use crate::squeezed::{Squeezed, behind_parentheses};
 use crate::tokens::{front, past};
 use crate::usage::{Seen, Usage};
-use ast::{Kind, LONGEST_NAME, Label, Line, Name, Node, Program, Symbol, SymbolKind};
+use ast::{Action, Inert, LONGEST_NAME, Label, Line, Name, Node, Program, Symbol, SymbolKind};
 use bstr::ByteSlice;
 use places::{Place, Visible, line_at};
 use std::alloc::AllocError;
@@ -201,16 +201,18 @@ fn warn_of_labels<R: Eprint + AllocGlobal>(
 /// The line where a name is declared, 0 where it isn't.
 fn declared_at(body: &[Node], name: Name) -> Line {
     let found = body.iter().find_map(|node| match node {
-        Node::Plain(statement) => declares(&statement.kind, name).then_some(statement.line),
+        Node::Plain(statement) => declares(&statement.action, name).then_some(statement.line),
         _ => None,
     });
     found.unwrap_or(0)
 }
 
-fn declares(kind: &Kind, name: Name) -> bool {
-    match kind {
-        Kind::Integer(list) | Kind::Dimension(list) => list.iter().any(|one| one.name == name),
-        Kind::Parameter(list) => list.iter().any(|one| one.name == name),
+fn declares(action: &Action, name: Name) -> bool {
+    match action {
+        Action::Inert(Inert::Integer(list) | Inert::Dimension(list)) => {
+            list.iter().any(|one| one.name == name)
+        }
+        Action::Inert(Inert::Parameter(list)) => list.iter().any(|one| one.name == name),
         _ => false,
     }
 }

@@ -6,8 +6,8 @@ ghost use Rattle.ast.specs.Meaning.{read_elements, target, step_value, then_do, 
 ghost use Rattle.ast.specs.Program.{is_placed};
 ghost use Rattle.ast.specs.Tree.{arms as arms_tree, assign, loop, read};
 ghost use Rattle.ast.specs.View.{access as access_of, arm, block_view, head as head_of};
-ghost use Rattle.ast.specs.View.{node as node_of, optional_term, ref, statement as statement_of};
-ghost use Rattle.ast.specs.View.{term};
+ghost use Rattle.ast.specs.View.{node as node_of, optional_term, plain_statement as statement_of};
+ghost use Rattle.ast.specs.View.{ref, term};
 ghost use Rattle.ast.specs.declared.fault.End.TheVariants.{Done};
 ghost use Rattle.tree_run.specs.Executing.{holds_at};
 ghost use Rattle.tree_run.specs.Placed.{PlacedAccess, PlacedAccesses, PlacedArms, PlacedBlock};
@@ -21,7 +21,9 @@ use crate::machine::Machine;
 use crate::memory::Memory;
 use crate::print::print;
 use crate::stop::Stop;
-use ast::{Access, Arm, DoHead, Expr, Fault, Kind, Line, Node, Reference, Stmt, is_last_stop};
+use ast::{
+    Access, Action, Arm, DoHead, Expr, Fault, Line, Node, PlainStatement, Reference, is_last_stop,
+};
 use values::{add, trips};
 
 /// Gives an element another value.
@@ -85,7 +87,7 @@ fn read(machine: &mut Machine<'_>, line: Line, elements: &[Access]) -> Result<()
 }
 
 /// Executes a statement that holds no others.
-fn exec_plain(machine: &mut Machine<'_>, statement: &Stmt) -> Result<(), Stop>
+fn exec_plain(machine: &mut Machine<'_>, statement: &PlainStatement) -> Result<(), Stop>
     requires placed { PlacedKind (symbols_of machine.old) (statement_of statement.now).kind }
     ensures reached { Reaches result (run_of machine.new)
         (exec_plain (symbols_of machine.old) statement.now.line
@@ -93,23 +95,12 @@ fn exec_plain(machine: &mut Machine<'_>, statement: &Stmt) -> Result<(), Stop>
     ensures symbols { symbols_of machine.new ≡ symbols_of machine.old }
 {
     let line = statement.line;
-    match &statement.kind {
-        Kind::Assign(element, expression) => assign(machine, line, element, expression),
-        Kind::Print(items) => print(machine, line, items),
-        Kind::Read(elements) => read(machine, line, elements),
-        Kind::Stop => Err(Stop::Stopped(line)),
-        Kind::Program(_)
-        | Kind::Integer(_)
-        | Kind::Dimension(_)
-        | Kind::Parameter(_)
-        | Kind::Do(_)
-        | Kind::Continue
-        | Kind::If(_)
-        | Kind::ElseIf(_)
-        | Kind::Else
-        | Kind::EndIf
-        | Kind::LogicalIf(_, _)
-        | Kind::End => Ok(()),
+    match &statement.action {
+        Action::Assign(element, expression) => assign(machine, line, element, expression),
+        Action::Print(items) => print(machine, line, items),
+        Action::Read(elements) => read(machine, line, elements),
+        Action::Stop => Err(Stop::Stopped(line)),
+        Action::Inert(_) => Ok(()),
     }
 }
 
