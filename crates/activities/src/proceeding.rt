@@ -271,8 +271,8 @@ impl<'c> Activities<'c> {
         let Ok(mut iteration) = begin(&mut self.shared.spare, self.code, opened, next) else {
             return Drafted::default();
         };
-        let number = self.shared.kernel.ticket();
-        let place = self.place_of(number);
+        let drawn = self.shared.kernel.ticket();
+        let place = self.place_of(drawn);
         let followed = self.follow(q, place, &mut iteration, stretch);
         let Came { made, outcome } = self.go_through(q, place, &mut iteration, n - 1, stale);
         self.put_iteration_down(q, place, iteration, outcome);

@@ -1,5 +1,6 @@
 pub mod Actions
 pub mod Along
+pub mod Dots
 pub mod Privates
 pub mod Stacks
 pub mod Runs

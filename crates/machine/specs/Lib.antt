@@ -1,4 +1,5 @@
 pub mod Courses
+pub mod Dots
 pub mod Code
 pub mod CodeView
 pub mod Formulas

@@ -29,6 +29,7 @@ mod stack;
 mod statement;
 mod stating;
 mod striding;
+mod summing;
 mod sweeping;
 mod taking;
 mod touches;

@@ -14,8 +14,8 @@ use Rattle.activities.proofs.holding.Activities.run_draft.Goals as goal
 pub follow-followed-requires-clause-seated : goal.follow-followed-requires-clause-seated
 follow-followed-requires-clause-seated c =
     let idle : held_of (kept_in c.args.self.now).held c.args.q ≡ None = search rules in
-    (taken_seated c.args.q c.place_of-place.result c.ticket-number.result c.next_ticket-next.result c.in-Some.opened c.ticket-number.new.self c.begin.new.spare c.in-Ok.iteration c.args.self.now c.requires.stand idle c.requires.processor c.in-Some.ensures
-    c.next_ticket-next.ensures c.ticket-number.ensures.ticket c.place_of-place.ensures c.ticket-number.ensures.kernel c.in-Ok.ensures c.ticket-number.ensures.kept).1
+    (taken_seated c.args.q c.place_of-place.result c.ticket-drawn.result c.next_ticket-next.result c.in-Some.opened c.ticket-drawn.new.self c.begin.new.spare c.in-Ok.iteration c.args.self.now c.requires.stand idle c.requires.processor c.in-Some.ensures
+    c.next_ticket-next.ensures c.ticket-drawn.ensures.ticket c.place_of-place.ensures c.ticket-drawn.ensures.kernel c.in-Ok.ensures c.ticket-drawn.ensures.kept).1
 
 pub put_iteration_down-requires-clause-free : goal.put_iteration_down-requires-clause-free
 put_iteration_down-requires-clause-free c =
@@ -23,7 +23,7 @@ put_iteration_down-requires-clause-free c =
     let may : MayBegin old c.in-Some.opened = c.in-Some.ensures in
     ap (λ (a : Activities). get_or (standings a.iterations.items) c.place_of-place.result None) c.go_through-made.ensures.others
     ∙ ap (λ (a : Activities). get_or (standings a.iterations.items) c.place_of-place.result None) c.follow-followed.ensures.others
-    ∙ ap (λ (i : ℕ). get_or (kept_in old).iterations i None) (c.place_of-place.ensures ∙ ap (λ (n : ℕ). n % old.slots) c.ticket-number.ensures.ticket)
+    ∙ ap (λ (i : ℕ). get_or (kept_in old).iterations i None) (c.place_of-place.ensures ∙ ap (λ (n : ℕ). n % old.slots) c.ticket-drawn.ensures.ticket)
     ∙ place_free (code_in old) old.slots (kept_in old) c.requires.stand.core may.near
 
 pub returns-clause-made : goal.returns-clause-made
@@ -33,11 +33,11 @@ returns-clause-made c =
     let place = c.place_of-place.result in
     let may : MayBegin old c.in-Some.opened = c.in-Some.ensures in
     let idle : held_of (kept_in old).held q ≡ None = search rules in
-    let drawn = with_ticket_drawn c.ticket-number.new.self c.begin.new.spare old in
+    let drawn = with_ticket_drawn c.ticket-drawn.new.self c.begin.new.spare old in
     let follow = c.follow-followed in
     let go = c.go_through-made in
-    let taken = taken_seated q place c.ticket-number.result c.next_ticket-next.result c.in-Some.opened c.ticket-number.new.self c.begin.new.spare c.in-Ok.iteration old c.requires.stand idle c.requires.processor may
-    c.next_ticket-next.ensures c.ticket-number.ensures.ticket c.place_of-place.ensures c.ticket-number.ensures.kernel c.in-Ok.ensures c.ticket-number.ensures.kept in
+    let taken = taken_seated q place c.ticket-drawn.result c.next_ticket-next.result c.in-Some.opened c.ticket-drawn.new.self c.begin.new.spare c.in-Ok.iteration old c.requires.stand idle c.requires.processor may
+    c.next_ticket-next.ensures c.ticket-drawn.ensures.ticket c.place_of-place.ensures c.ticket-drawn.ensures.kernel c.in-Ok.ensures c.ticket-drawn.ensures.kept in
     let there = same_point go.new.self c.put_iteration_down.new.self c.put_iteration_down.ensures.stays ∙ ap (λ (y : Kept). point_of (code_in go.new.self).variables go.new.self.slots y) c.put_iteration_down.ensures.kept in
     let begun_at : Point = point_in (seated q place c.in-Ok.iteration drawn) in
     let both = went_on follow.result go.result.made q place go.result.outcome c.in-Ok.iteration follow.new.iteration go.new.iteration drawn follow.new.self go.new.self follow.ensures.others follow.ensures.made go.ensures.made in
