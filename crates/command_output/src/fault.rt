@@ -93,14 +93,12 @@ impl EngineFault {
         ensures { result ≡ fault_status self.now }
     {
         match self {
-            EngineFault::Source(_) => Status::FileFailed,
-            EngineFault::Input(_) => Status::FileFailed,
-            EngineFault::Schedule(_) => Status::FileFailed,
-            EngineFault::Writing(_) => Status::FileFailed,
-            EngineFault::Memory => Status::NoMemory,
+            EngineFault::Source(_)
+            | EngineFault::Input(_)
+            | EngineFault::Schedule(_)
+            | EngineFault::Writing(_) => Status::FileFailed,
             EngineFault::OutOfRange => Status::WrongCommand,
-            EngineFault::NotStarted => Status::NoMemory,
-            EngineFault::Stuck => Status::NoMemory,
+            EngineFault::Memory | EngineFault::NotStarted | EngineFault::Stuck => Status::NoMemory,
         }
     }
 }

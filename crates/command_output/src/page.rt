@@ -47,8 +47,7 @@ pub fn outcome(end: End) -> Outcome
     ensures { result ≡ outcome_of end }
 {
     match end {
-        End::Done => Outcome::Completed,
-        End::Stopped(_) => Outcome::Completed,
+        End::Done | End::Stopped(_) => Outcome::Completed,
         End::Fault(fault, line) => Outcome::Faulted { fault, line },
     }
 }

@@ -26,7 +26,7 @@ pub fn begun<'c>(
     Ok(Some(Activities::new(alloc, code, input, processors, slots)?))
 }
 
-/// The one processor of a run does what it does next, and whether it did something.
+/// The one processor of a run does what it does next; whether it did something.
 fn go_on(activities: &mut Activities<'_>) -> Result<bool, AllocError>
     requires stand { AreActivities activities.old }
     ensures stand { AreActivities activities.new }

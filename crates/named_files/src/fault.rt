@@ -37,8 +37,7 @@ impl FileFault {
         ensures { result ≡ file_status self.now }
     {
         match self {
-            FileFault::Opening(_) => Status::FileFailed,
-            FileFault::Reading(_) => Status::FileFailed,
+            FileFault::Opening(_) | FileFault::Reading(_) => Status::FileFailed,
             FileFault::Memory => Status::NoMemory,
         }
     }
