@@ -94,3 +94,8 @@ pub noted_leg : (code : List Instr) (q start place planned : ℕ) (leg : Leg) (x
 noted_leg code q start place planned leg x y z g l h i =
     let all : kinds code planned start ++ kinds_of leg ≡ kinds code (planned + leg.steps) start = ap (λ (ks : List Bool). kinds code planned start ++ ks) (sym l.1) ∙ sym (g.1 leg.steps) in
     subst (λ (ks : List Bool). AllNoted q ks x z) all (noted_on q (kinds code planned start) (kinds_of leg) x y z h i)
+
+-- a schedule is as short as one to which steps have been added, or as it was before the first
+pub few_before : (q n p m k : ℕ) (code : List Instr) (x z : Schedule) → AllNoted q (kinds code n p) x z → (1 ≤ n → length x.entries < m) → length z.entries < m → 1 ≤ n + k → length x.entries < m
+few_before q zero p m k code x z noted few here some = subst (λ (y : Schedule). length y.entries < m) (sym noted) here
+few_before q (suc n) p m k code x z noted few here some = few (omega arith)

@@ -78,8 +78,6 @@ pub fn share(
     ensures parts { AreParts activities.new schedule.new tally.new }
     ensures stays { Stays activities.old activities.new }
 {
-    // Its contract says that there are fewer than 2^63 entries: the tally has room for more.
-    let _ = schedule.len();
     schedule.push(Entry {
         processor: q as u8,
         act: Act::Share,
@@ -119,8 +117,6 @@ pub fn pick(
     ensures parts { AreParts activities.new schedule.new tally.new }
     ensures stays { Stays activities.old activities.new }
 {
-    // Its contract says that there are fewer than 2^63 entries: the tally has room for more.
-    let _ = schedule.len();
     schedule.push(Entry {
         processor: q as u8,
         act: pick_of(choice),
@@ -165,8 +161,6 @@ pub fn put(
     ensures parts { AreParts activities.new schedule.new tally.new }
     ensures stays { Stays activities.old activities.new }
 {
-    // Its contract says that there are fewer than 2^63 entries: the tally has room for more.
-    let _ = schedule.len();
     schedule.push(Entry {
         processor: q as u8,
         act: Act::Work(made as u16),
@@ -201,8 +195,6 @@ pub fn put_all(
     ensures parts { AreParts activities.new schedule.new tally.new }
     ensures stays { Stays activities.old activities.new }
 {
-    // Its contract says that there are fewer than 2^63 entries: the tally has room for more.
-    let _ = schedule.len();
     schedule.push_work(q as u8, made)?;
     activities.put(q, to);
     tally.count(made, false);
@@ -233,8 +225,6 @@ pub fn labour(
     ensures parts { AreParts activities.new schedule.new tally.new }
     ensures stays { Stays activities.old activities.new }
 {
-    // Its contract says that there are fewer than 2^63 entries: the tally has room for more.
-    let _ = schedule.len();
     // Instructions aren't taken back, so the entry has its room before they are made.
     schedule.push(Entry {
         processor: q as u8,

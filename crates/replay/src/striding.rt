@@ -1,6 +1,7 @@
 //! Strides of activities with their entries in a schedule.
 
-ghost use Rattle.std.specs.Prelude.{◌≡◌, ◌≤◌, ◌<◌, IfOk, OnOk, OnErr, false, true, replicate};
+ghost use Rattle.std.specs.Prelude.{◌≡◌, ◌≤◌, ◌<◌, ◌^◌, IfOk, OnOk, OnErr, false, true};
+ghost use Rattle.std.specs.Prelude.{length, replicate};
 ghost use Rattle.machine.specs.CodeView.{code_of};
 ghost use Rattle.schedules.specs.Noting.{AllNoted, Notes};
 ghost use Rattle.schedules.specs.Schedules.{IsSchedule};
@@ -25,6 +26,7 @@ fn note_run(schedule: &mut Schedule, q: usize, steps: u32) -> Result<(), AllocEr
     ensures ok { OnOk result (AllNoted q (replicate steps true) schedule.old schedule.new) }
     ensures err { OnErr result (schedule.new ≡ schedule.old) }
     ensures kept { IsSchedule schedule.new }
+    ensures few { length schedule.old.entries < 2 ^ 63 }
 {
     let processor = q as u8;
     if schedule.lengthen(processor, steps as u16) {
@@ -44,6 +46,7 @@ fn note_share(schedule: &mut Schedule, q: usize) -> Result<(), AllocError>
     ensures ok { OnOk result (Notes q false schedule.old schedule.new) }
     ensures err { OnErr result (schedule.new ≡ schedule.old) }
     ensures kept { IsSchedule schedule.new }
+    ensures few { length schedule.old.entries < 2 ^ 63 }
 {
     schedule.push(Entry {
         processor: q as u8,
@@ -60,6 +63,7 @@ fn note_leg(schedule: &mut Schedule, q: usize, leg: Leg) -> Result<(), AllocErro
     ensures ok { OnOk result (AllNoted q (kinds_of leg) schedule.old schedule.new) }
     ensures err { OnErr result (schedule.new ≡ schedule.old) }
     ensures kept { IsSchedule schedule.new }
+    ensures few { length schedule.old.entries < 2 ^ 63 }
 {
     if leg.shared {
         note_share(schedule, q)
@@ -100,6 +104,8 @@ fn plan(
     ensures few { IfOk result (λ n. n ≤ most) }
     ensures err { OnErr result (schedule.new ≡ schedule.old) }
     ensures kept { IsSchedule schedule.new }
+    ensures some { IfOk result (λ n. 1 ≤ n → length schedule.old.entries < 2 ^ 63) }
+    ensures none { IfOk result (λ n. n ≡ 0 → schedule.new ≡ schedule.old) }
 {
     let mut place = start;
     let mut planned = 0;
@@ -142,14 +148,15 @@ pub fn stride(
     ensures parts { AreParts activities.new schedule.new tally.new }
     ensures stays { Stays activities.old activities.new }
 {
-    // Its contract says that there are fewer than 2^63 entries: the tally has room for more.
-    let _ = schedule.len();
     let Some(frame) = activities.frame(q) else {
         return Ok(0);
     };
     let place = frame.stands_at();
     // Steps aren't taken back, so their entries have room before they are made.
     let planned = plan(legs, schedule, q, place, n)?;
+    if planned == 0 {
+        return Ok(0);
+    }
     let made = activities.stride(q, planned);
     cut(schedule, planned, made);
     tally.count(made, false);

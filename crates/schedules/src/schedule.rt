@@ -200,11 +200,13 @@ impl Schedule {
 
     /// The processor of the entry that was added last, and how many local instructions it has, if
     /// it is of local instructions.
+    #[tactic(auto, using(crate::proofs::Keeping::length_entries))]
     fn last_burst(&self) -> Option<(u8, u16)>
         ensures some { IfSome result (λ r. EndsIn r.0 r.1 self.now) }
         ensures none { (x : ScheduleOf) (q n : ℕ)
             → self.now ≡ with_entry x (record { processor = q; act = works n })
             → result ≡ Some (q, n) }
+        ensures few { length self.now.entries < 2 ^ 63 }
     {
         let len = self.shorts.len();
         if len == 0 {
@@ -220,6 +222,7 @@ impl Schedule {
         ensures longer { result ≡ true → IsLonger processor more self.old self.new }
         ensures same { result ≡ false → self.new ≡ self.old }
         ensures kept { result ≡ true → IsSchedule self.new }
+        ensures few { length self.old.entries < 2 ^ 63 }
     {
         let Some((last, count)) = self.last_burst() else {
             return false;
@@ -249,12 +252,14 @@ impl Schedule {
 
     /// Adds an entry at the end. Where memory is refused nothing has changed.
     #[inline(always)]
+    #[tactic(auto, using(crate::proofs::Keeping::length_entries))]
     pub fn push(&mut self, entry: Entry) -> Result<(), AllocError>
         requires below { entry.processor < self.old.processors }
         requires allowed { IsAct self.old.version (act_view entry.act) }
         ensures ok { OnOk result (self.new ≡ with_entry self.old (entry_view entry)) }
         ensures kept { IsSchedule self.new }
         ensures err { OnErr result (self.new ≡ self.old) }
+        ensures few { length self.old.entries < 2 ^ 63 }
     {
         let processor = entry.processor;
         match entry.act {
@@ -267,6 +272,7 @@ impl Schedule {
     }
 
     #[inline(always)]
+    #[tactic(auto, using(crate::proofs::Keeping::length_entries))]
     fn keep(&mut self, short: Short) -> Result<(), AllocError>
         requires plain { taken short ≡ 0 }
         requires below { (entry_of short []).processor < self.old.processors }
@@ -274,6 +280,7 @@ impl Schedule {
         ensures ok { OnOk result (self.new ≡ with_entry self.old (entry_of short [])) }
         ensures kept { IsSchedule self.new }
         ensures err { OnErr result (self.new ≡ self.old) }
+        ensures few { length self.old.entries < 2 ^ 63 }
     {
         self.shorts.push(short)?;
         Ok(())
@@ -281,16 +288,19 @@ impl Schedule {
 
     /// Adds entries of so many local instructions of a processor, each as long as it may be. Where
     /// memory is refused nothing has changed.
+    #[tactic(auto, using(crate::proofs::Keeping::length_entries))]
     pub fn push_work(&mut self, processor: u8, made: u32) -> Result<(), AllocError>
         requires below { processor < self.old.processors }
         ensures ok { OnOk result (self.new ≡ with_entries self.old (bursts processor made)) }
         ensures kept { IsSchedule self.new }
         ensures err { OnErr result (self.new ≡ self.old) }
+        ensures few { length self.old.entries < 2 ^ 63 }
     {
         append_bursts(&mut self.shorts, processor, made)?;
         Ok(())
     }
 
+    #[tactic(auto, using(crate::proofs::Keeping::length_entries))]
     fn push_pick(&mut self, processor: u8, iteration: u128) -> Result<(), AllocError>
         requires below { processor < self.old.processors }
         requires allowed { IsAct self.old.version (picks iteration) }
@@ -298,6 +308,7 @@ impl Schedule {
             ≡ with_entry self.old (record { processor = processor; act = picks iteration })) }
         ensures kept { IsSchedule self.new }
         ensures err { OnErr result (self.new ≡ self.old) }
+        ensures few { length self.old.entries < 2 ^ 63 }
     {
         self.picked.push(iteration)?;
         match self.shorts.push(Short::PickIteration { processor }) {
