@@ -1,5 +1,5 @@
 -- The last entry of a schedule, as it is kept.
-use Rattle.std.proofs.Common.{◌≡◌, ◌∙◌, ℕ, zero, suc, ◌<◌, List, [], ◌∷◌, ◌++◌, length, Option, Some, None, refl, sym, ap, subst, arith}
+use Rattle.std.proofs.Common.{◌≡◌, ◌∙◌, ℕ, zero, suc, ◌<◌, List, [], ◌∷◌, ◌++◌, length, Some, refl, sym, ap, subst, arith}
 use Rattle.std.specs.Prelude.{IfSome, ◌-◌, get_or}
 use Rattle.std.proofs.lemmas.List.{append-nil}
 use Rattle.schedules.specs.Kept.{IsKept, burst_of, entries_of, entry_of, seen}
@@ -11,7 +11,7 @@ use Rattle.schedules.specs.declared.short.Short.TheVariants.{Work, Share, PickMa
 use Rattle.schedules.proofs.Bursts.{burst}
 use Rattle.schedules.proofs.Keeping.{seen_kept}
 use Rattle.schedules.proofs.Recounting.{ending, last_is, last_same}
-use Rattle.schedules.proofs.Taking.{kept_back, some_seen}
+use Rattle.schedules.proofs.Taking.{kept_back}
 
 at_last : (ss : List Short) (s : Short) (i : ℕ) → length ss ≡ suc i → s ≡ get_or ss i s → (rs : List Short) × (ss ≡ rs ++ s ∷ [])
 at_last [] s i h e = absurd (omega (arith, h))

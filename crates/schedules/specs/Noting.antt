@@ -1,5 +1,5 @@
 -- A schedule that is added to step by step.
-use Rattle.std.specs.Prelude.{◌≡◌, ◌≤◌, ◌+◌, ◌⊎◌, ℕ, suc, Bool, true, false, List, [], ◌∷◌}
+use Rattle.std.specs.Prelude.{◌≡◌, ◌≤◌, ◌+◌, ◌⊎◌, ℕ, Bool, true, false, List, [], ◌∷◌}
 use Rattle.schedules.specs.Schedules.{Schedule, longest_burst, shares, with_entry, works}
 
 -- its last entry is of so many local instructions of a processor

@@ -1,7 +1,6 @@
 use Rattle.std.proofs.Common.{refl, subst}
 use Rattle.machine.specs.Code.{Code}
 use Rattle.activities.specs.Activities.{code_in, kept_in}
-use Rattle.activities.specs.Parts.{Standing}
 use Rattle.activities.specs.PartsView.{standing_of}
 use Rattle.activities.specs.Sharing.{StrodeAt}
 use Rattle.activities.specs.declared.turn.Outcome.TheVariants as outcomes

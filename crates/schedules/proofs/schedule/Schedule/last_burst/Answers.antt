@@ -1,4 +1,4 @@
-use Rattle.std.proofs.Common.{◌≡◌, ℕ, Option, ap, arith, length, sym, subst, ◌∙◌}
+use Rattle.std.proofs.Common.{◌≡◌, ℕ, Option, arith, sym, subst, ◌∙◌}
 use Rattle.std.specs.Prelude.{IfSome, ◌-◌, get_or}
 use Rattle.schedules.specs.Noting.{EndsIn}
 use Rattle.schedules.proofs.Lasting.{ends_in, ends_so, none_kept}
