@@ -57,7 +57,8 @@ fn steps_of(outcome: Outcome) -> u32
 }
 
 impl<'c> Activities<'c> {
-    ghost use Rattle.std.specs.Prelude.{◌≡◌, ◌≤◌, ◌<◌, ◌+◌, ◌%◌, IfSome, None, get_or, length, true};
+    ghost use Rattle.std.specs.Prelude.{◌≡◌, ◌≤◌, ◌<◌, ◌+◌, ◌%◌, IfSome};
+    ghost use Rattle.std.specs.Prelude.{None, get_or, length, true};
     ghost use Rattle.machine.specs.CodeView.{code_of};
     ghost use Rattle.activities.specs.Activities.{AreActivities, Stays, code_in, kept_in, point_in};
     ghost use Rattle.activities.specs.Parts.{held_of};
