@@ -122,7 +122,9 @@ impl<'c, C: Call> Unrecorded<'c, C> {
         if q >= self.run.processors() {
             return;
         }
-        let Drafted { followed, more } = self.run.run_draft(q, stretch, MOST_ALONE, &mut self.stale);
+        let Drafted { followed, more } = self
+            .run
+            .run_draft(q, stretch, MOST_ALONE, &mut self.stale);
         if followed == 0 {
             self.run.mend(stretch);
         }
